@@ -3,14 +3,22 @@
 
 mod adapters;
 mod clocks;
-mod memory;
+mod calls;
+mod mem_sink;
+mod mem_source;
+mod remaining;
+mod sure_sink;
+mod sure_source;
 mod names;
 mod sinks;
 mod sources;
 
 pub use adapters::{StdSink, StdSource};
 pub use clocks::{Clock, MemClock};
-pub use memory::{MemSink, MemSource, SureSink, SureSource};
+pub use mem_sink::MemSink;
+pub use mem_source::MemSource;
+pub use sure_sink::SureSink;
+pub use sure_source::SureSource;
 pub use names::{Name, Stream};
 pub use sinks::{Put, Sink, WriteFault, write_all};
 pub use sources::{Got, Source};
