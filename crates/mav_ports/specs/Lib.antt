@@ -6,3 +6,4 @@ pub mod MemWrites
 pub mod Puts
 pub mod SureReads
 pub mod SureWrites
+pub mod Units

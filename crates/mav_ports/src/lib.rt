@@ -1,55 +1,42 @@
-//! Sources, sinks and clocks: what the program takes from outside and hands there, with counts of faults.
+//! Sources, sinks and clocks: all that the program takes from outside, and all that it hands there.
+//!
+//! [`Source`], [`Sink`] and [`Clock`] promise which bytes moved, and that a call failed only where a
+//! count of faults rose. The ports over memory say besides what each call answers, for tests and
+//! runs without a system; the `Std` ports stand over the real things and promise nothing of what
+//! these hold. Nothing here takes memory but the constructors that answer [`NoMemory`].
 #![tactic(auto)]
 
-mod adapters;
-mod clocks;
 mod calls;
+mod clocks;
+mod mem_clock;
 mod mem_sink;
 mod mem_source;
-mod remaining;
-mod sure_sink;
-mod sure_source;
 mod names;
+mod remaining;
 mod sinks;
 mod sources;
+mod std_clock;
+mod std_sink;
+mod std_source;
+mod sure_sink;
+mod sure_source;
 
-pub use adapters::{StdSink, StdSource};
-pub use clocks::{Clock, MemClock};
+#[cfg(test)]
+mod tests;
+
+pub use clocks::Clock;
+pub use mem_clock::MemClock;
 pub use mem_sink::MemSink;
 pub use mem_source::MemSource;
-pub use sure_sink::SureSink;
-pub use sure_source::SureSource;
 pub use names::{Name, Stream};
 pub use sinks::{Put, Sink, WriteFault, write_all};
 pub use sources::{Got, Source};
 use std::alloc::AllocError;
+pub use std_clock::StdClock;
+pub use std_sink::StdSink;
+pub use std_source::StdSource;
+pub use sure_sink::SureSink;
+pub use sure_source::SureSource;
 
+/// There was no memory.
 pub type NoMemory = AllocError;
-
-#[cfg(test)]
-mod tests {
-    use super::*;
-    use std::test::Fail;
-
-    #[test]
-    fn a_source_fails_and_idles_at_its_calls(rt: HostRuntime) -> Result<(), Fail> {
-        let alloc = rt.alloc();
-        let bytes = b"abc".to_vec(alloc)?;
-        let mut source = MemSource::new(bytes, 2, vec![in alloc; 1u64]?, vec![in alloc; 0u64, 1]?);
-        let mut buf = [0u8; 8];
-        let mut given = vec![in alloc]?;
-        for _turn in 0..6 {
-            given.push(source.read(&mut buf))?;
-        }
-        let wanted = [
-            Got::Idle,
-            Got::Failed,
-            Got::Bytes(2),
-            Got::Bytes(1),
-            Got::End,
-            Got::End,
-        ];
-        assert_eq!(rt; given.as_slice(), wanted.as_slice());
-        Ok(())
-    }
-}

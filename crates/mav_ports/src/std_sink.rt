@@ -1,0 +1,37 @@
+// A sink over the real thing.
+ghost use Rattle.std.specs.Prelude.{◌≡◌, None};
+
+use crate::{Put, Sink};
+use std::io::Write;
+
+/// A sink over any writer. It says nothing of the bytes, and counts as a fault each error of the
+/// writer and each write that takes none. It doesn't flush: hand it a writer without a buffer.
+#[derive(Drop)]
+pub struct StdSink<W: Write + Drop> {
+    writer: W,
+    faults: u64,
+}
+
+impl<W: Write + Drop> StdSink<W> {
+    pub fn new(writer: W) -> StdSink<W>
+        ensures { ⟦<StdSink<W> as Sink>⟧.faults result ≡ 0 }
+    {
+        StdSink { writer, faults: 0 }
+    }
+}
+
+impl<W: Write + Drop> Sink for StdSink<W> {
+    ghost sent = { λ s. None };
+
+    ghost faults = { λ s. s.faults };
+
+    fn write(&mut self, bytes: &[u8]) -> Put {
+        match self.writer.write(bytes) {
+            Ok(count) if count > 0 => Put::Took(count),
+            _ => {
+                self.faults = self.faults.saturating_add(1);
+                Put::Failed
+            }
+        }
+    }
+}

@@ -1,0 +1,58 @@
+// A source over the real thing.
+ghost use Rattle.std.specs.Prelude.{◌≡◌, None, IsTrue};
+
+use crate::{Got, Source};
+use std::io::Read;
+
+/// A source over any reader. It says nothing of the bytes, counts each error of the reader as a
+/// fault, and never idles. Over no reader, as for a file that couldn't be opened, each read fails.
+#[derive(Drop)]
+pub struct StdSource<R: Read + Drop> {
+    reader: Option<R>,
+    faults: u64,
+    ended: bool,
+}
+
+impl<R: Read + Drop> StdSource<R> {
+    pub fn new(reader: Option<R>) -> StdSource<R>
+        ensures faults { ⟦<StdSource<R> as Source>⟧.faults result ≡ 0 }
+        ensures open { ¬ ⟦<StdSource<R> as Source>⟧.has_ended result }
+    {
+        StdSource {
+            reader,
+            faults: 0,
+            ended: false,
+        }
+    }
+}
+
+impl<R: Read + Drop> Source for StdSource<R> {
+    ghost left = { λ s. None };
+
+    ghost faults = { λ s. s.faults };
+
+    ghost idles = { λ s. 0 };
+
+    ghost has_ended = { λ s. IsTrue s.ended };
+
+    fn read(&mut self, buf: &mut [u8]) -> Got {
+        if self.ended {
+            return Got::End;
+        }
+        let count = match &mut self.reader {
+            Some(reader) => reader.read(buf).ok(),
+            None => None,
+        };
+        match count {
+            Some(0) => {
+                self.ended = true;
+                Got::End
+            }
+            Some(count) => Got::Bytes(count),
+            None => {
+                self.faults = self.faults.saturating_add(1);
+                Got::Failed
+            }
+        }
+    }
+}
