@@ -26,12 +26,12 @@ impl Model for MemSink {
     ghost Value = { MemWrites };
 
     ghost view = { λ s. record {
-        sent = s.sent.items;
-        room = s.room;
-        chunk = s.chunk;
-        fails = s.fails.items;
-        call = s.call;
-        faults = s.faults;
+      sent = s.sent.items;
+      room = s.room;
+      chunk = s.chunk;
+      fails = s.fails.items;
+      call = s.call;
+      faults = s.faults;
     } };
 
     ghost invariant = { λ s. (0 < s.chunk) × (vec_len s.sent ≤ s.room) × (s.room ≤ vec_capacity s.sent) };
@@ -40,7 +40,12 @@ impl Model for MemSink {
 impl MemSink {
     /// It has room for `room` bytes, for which it takes the memory here, and takes at most `chunk`
     /// bytes a call. Calls are numbered from 0: it fails at those in `fails`.
-    pub fn new(alloc: Global, room: usize, chunk: usize, fails: Vec<u64>) -> Result<MemSink, NoMemory>
+    pub fn new(
+        alloc: Global,
+        room: usize,
+        chunk: usize,
+        fails: Vec<u64>,
+    ) -> Result<MemSink, NoMemory>
         requires { 0 < chunk }
         ensures start { IfOk result (λ sink. sink ≡ writes_from_start room chunk fails.items) }
         ensures sent { IfOk result (λ sink. ⟦<MemSink as Sink>⟧.sent sink ≡ Some []) }

@@ -28,14 +28,14 @@ impl Model for MemSource {
     ghost Value = { MemReads };
 
     ghost view = { λ s. record {
-        left = s.left;
-        chunk = s.chunk;
-        fails = s.fails.items;
-        idles = s.idles.items;
-        call = s.call;
-        faults = s.faults;
-        idled = s.idled;
-        ended = s.ended;
+      left = s.left;
+      chunk = s.chunk;
+      fails = s.fails.items;
+      idles = s.idles.items;
+      call = s.call;
+      faults = s.faults;
+      idled = s.idled;
+      ended = s.ended;
     } };
 
     ghost invariant = { λ s. (0 < s.chunk) × (IsTrue s.ended → s.left ≡ []) };

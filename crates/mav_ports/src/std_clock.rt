@@ -4,10 +4,9 @@ ghost use Rattle.std.specs.Time.{system_time_nanos};
 ghost use Rattle.mav_ports.specs.Units.{units_at};
 
 use crate::Clock;
-use std::io;
 use std::marker::Model;
-use std::time;
 use std::time::{Duration, SystemTime};
+use std::{io, time};
 
 // 2015-01-01 00:00 GMT, in seconds since 1970.
 const START_OF_2015: u64 = 1_420_070_400;
