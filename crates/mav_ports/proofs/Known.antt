@@ -5,14 +5,17 @@ use Rattle.std.specs.declared.option.Option.{Option}
 use Rattle.std.specs.Io.KnownBytes.{append_known, prepend_known}
 use Rattle.mav_ports.specs.Puts.{Sent}
 
+-- what is put in front twice is put there joined
 pub prepend_known_twice : (known : Option (List ℕ)) (xs ys : List ℕ) → prepend_known xs (prepend_known ys known) ≡ prepend_known (xs ++ ys) known
 prepend_known_twice None xs ys = refl
 prepend_known_twice (Some zs) xs ys = ap Some (sym (append_assoc xs ys zs))
 
+-- what is appended twice is appended joined
 pub append_known_twice : (known : Option (List ℕ)) (xs ys : List ℕ) → append_known (append_known known xs) ys ≡ append_known known (xs ++ ys)
 append_known_twice None xs ys = refl
 append_known_twice (Some zs) xs ys = ap Some (append_assoc zs xs ys)
 
+-- to append nothing changes nothing
 pub append_known_nil : (known : Option (List ℕ)) → known ≡ append_known known []
 append_known_nil None = refl
 append_known_nil (Some zs) = ap Some (sym (append-nil zs))
@@ -41,6 +44,7 @@ sent_in before middle after text next rest more first second = record {
 pub sent_piece : (before after : Option (List ℕ)) (piece : List ℕ) → after ≡ append_known before piece → Sent before after piece []
 sent_piece before after piece e = record { part = piece; whole = append-nil piece; appended = e }
 
+-- what is appended now is the next piece of what lacks
 pub sent_step : (before middle after : Option (List ℕ)) (text next rest : List ℕ) → Sent before middle text (next ++ rest) → after ≡ append_known middle next → Sent before after text rest
 sent_step before middle after text next rest first e = sent_in before middle after text next rest [] first (sent_piece middle after next e)
 
@@ -54,6 +58,7 @@ sent_more before middle after bytes done n first e =
     let parted : take n (drop done bytes) ++ drop (done + n) bytes ≡ drop done bytes = ap (λ xs. take n (drop done bytes) ++ xs) (sym (drop-drop n done bytes)) ∙ take-append-drop n (drop done bytes) in
     sent_step before middle after bytes (take n (drop done bytes)) (drop (done + n) bytes) (subst (λ xs. Sent before middle bytes xs) (sym parted) first) e
 
+-- to put nothing in front changes nothing
 pub prepend_known_nil : (known : Option (List ℕ)) → prepend_known [] known ≡ known
 prepend_known_nil None = refl
 prepend_known_nil (Some xs) = refl

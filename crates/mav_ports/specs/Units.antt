@@ -1,4 +1,4 @@
--- Units of 10 microseconds since 2015-01-01 00:00 GMT (MAVLink guide, Message Signing: Timestamp).
+-- Units of 10 microseconds since 2015-01-01 00:00 GMT (MAVLink guide, Message Signing: Timestamp Handling).
 use Rattle.std.specs.Prelude.{◌-◌, ◌*◌, ◌/◌, ◌^◌, ◌&&◌, ℕ, nat_le, nat_lt, Some, None, if◌then◌else◌}
 use Rattle.std.specs.declared.option.Option.{Option}
 

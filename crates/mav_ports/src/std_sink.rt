@@ -14,7 +14,8 @@ pub struct StdSink<W: Write + Drop> {
 
 impl<W: Write + Drop> StdSink<W> {
     pub fn new(writer: W) -> StdSink<W>
-        ensures { ⟦<StdSink<W> as Sink>⟧.faults result ≡ 0 }
+        ensures over { result.writer ≡ writer }
+        ensures faults { ⟦<StdSink<W> as Sink>⟧.faults result ≡ 0 }
     {
         StdSink { writer, faults: 0 }
     }

@@ -1,5 +1,6 @@
 // A source over the real thing.
-ghost use Rattle.std.specs.Prelude.{◌≡◌, None, IsTrue};
+ghost use Rattle.std.specs.Prelude.{◌≡◌, ◌<◌, None, IsTrue, IsSome, IsNone, length};
+ghost use Rattle.mav_ports.specs.Gets.{GivesWithin, CountsFault, idles_after};
 
 use crate::{Got, Source};
 use std::io::Read;
@@ -11,10 +12,12 @@ pub struct StdSource<R: Read + Drop> {
     reader: Option<R>,
     faults: u64,
     ended: bool,
+    ghost opened: { IsTrue ended → IsSome reader },
 }
 
 impl<R: Read + Drop> StdSource<R> {
     pub fn new(reader: Option<R>) -> StdSource<R>
+        ensures over { result.reader ≡ reader }
         ensures faults { ⟦<StdSource<R> as Source>⟧.faults result ≡ 0 }
         ensures open { ¬ ⟦<StdSource<R> as Source>⟧.has_ended result }
     {
@@ -35,7 +38,18 @@ impl<R: Read + Drop> Source for StdSource<R> {
 
     ghost has_ended = { λ s. IsTrue s.ended };
 
-    fn read(&mut self, buf: &mut [u8]) -> Got {
+    fn read(&mut self, buf: &mut [u8]) -> Got
+        requires { 0 < length buf.old }
+        // What every source promises.
+        ensures within { GivesWithin result buf.new }
+        ensures faults { CountsFault result self.old.faults self.new.faults }
+        ensures idles { 0 ≡ idles_after result 0 }
+        ensures end { result ≡ Got.End → IsTrue self.new.ended }
+        ensures stays { IsTrue self.old.ended → result ≡ Got.End }
+
+        // Over no reader each read fails.
+        ensures unopened { IsNone self.old.reader → (result ≡ Got.Failed) × IsNone self.new.reader }
+    {
         if self.ended {
             return Got::End;
         }
