@@ -1,0 +1,21 @@
+//! Plans: the items of missions, fences and rally points, the messages that carry them, and the
+//! tests that an item and a whole plan must pass before a drone installs it.
+//!
+//! `check_item` and `check_plan` answer exactly the first fault of the validation table. Nothing
+//! here sends, stores or flies a plan, and a `Plan` takes memory only in `with_room` and `push`.
+#![tactic(auto)]
+
+mod common;
+mod items;
+mod kinds;
+mod messages;
+mod plans;
+
+pub use common::{MavCommand, MavFrame, MissionResult};
+pub use items::Item;
+pub use kinds::PlanKind;
+pub use messages::PlanMsg;
+pub use plans::Plan;
+use std::alloc::AllocError;
+
+pub type NoMemory = AllocError;
