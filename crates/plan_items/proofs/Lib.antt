@@ -1,0 +1,2 @@
+pub mod SmallWords
+pub mod Tables

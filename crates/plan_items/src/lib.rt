@@ -10,12 +10,14 @@ mod items;
 mod kinds;
 mod messages;
 mod plans;
+mod words;
 
 pub use common::{MavCommand, MavFrame, MissionResult};
 pub use items::Item;
 pub use kinds::PlanKind;
 pub use messages::PlanMsg;
 pub use plans::Plan;
+pub use words::{GREATEST_SMALL, small_word, word_small};
 use std::alloc::AllocError;
 
 pub type NoMemory = AllocError;
