@@ -10,6 +10,7 @@ mod items;
 mod kinds;
 mod messages;
 mod plans;
+mod validation;
 mod words;
 
 pub use common::{MavCommand, MavFrame, MissionResult};
@@ -17,6 +18,7 @@ pub use items::Item;
 pub use kinds::PlanKind;
 pub use messages::PlanMsg;
 pub use plans::Plan;
+pub use validation::{PlanFault, check_item, code};
 pub use words::{GREATEST_SMALL, small_word, word_small};
 use std::alloc::AllocError;
 

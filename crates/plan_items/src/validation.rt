@@ -1,0 +1,155 @@
+// The tests of items and of whole plans.
+ghost use Rattle.std.specs.Prelude.{◌≡◌, ◌||◌, ◌==◌, ◌^◌, pos, not, Some, length, take};
+ghost use Rattle.std.specs.Result.{result_err};
+ghost use Rattle.std.specs.List.{list_all};
+ghost use Rattle.plan_items.specs.Kinds.{number_of};
+ghost use Rattle.plan_items.specs.Plans.{items_of};
+ghost use Rattle.plan_items.specs.Validation.{is_global, goes_to_place, is_frame_supported, is_vertex, is_command_supported, is_within, is_in_range, param1_of, vertex_count, has_count, item_fault, group_len_of, is_like, is_grouped, whole_fault, first_fault, plan_fault, code_of};
+
+use crate::{Item, MavCommand, MavFrame, MissionResult, Plan, PlanKind, word_small};
+
+// 90 degrees in units of 1e-7 degrees.
+const MAX_LATITUDE: i32 = 900_000_000;
+
+// 180 degrees in units of 1e-7 degrees.
+const MAX_LONGITUDE: i32 = 1_800_000_000;
+
+const MIN_VERTICES: u8 = 3;
+
+/// Why an item or a plan isn't valid, in the order of the tests.
+#[derive(Clone, Copy, Debug, PartialEq, Eq)]
+pub enum PlanFault {
+    /// A frame that the kind of plan doesn't have, or that the command can't have.
+    UnsupportedFrame,
+    /// A command that the kind of plan doesn't have.
+    Unsupported,
+    /// A latitude beyond 90 degrees.
+    InvalidX,
+    /// A longitude beyond 180 degrees.
+    InvalidY,
+    /// A polygon vertex whose param1 isn't a number of vertices.
+    InvalidParam1,
+    /// A fence with a polygon that lacks vertices or mixes them with others.
+    Invalid,
+}
+
+/// The result code with which a drone answers the fault, one of `MissionResult`.
+pub fn code(fault: PlanFault) -> u8
+    ensures { result ≡ code_of fault }
+{
+    match fault {
+        PlanFault::UnsupportedFrame => MissionResult::UNSUPPORTED_FRAME,
+        PlanFault::Unsupported => MissionResult::UNSUPPORTED,
+        PlanFault::InvalidX => MissionResult::INVALID_X,
+        PlanFault::InvalidY => MissionResult::INVALID_Y,
+        PlanFault::InvalidParam1 => MissionResult::INVALID_PARAM1,
+        PlanFault::Invalid => MissionResult::INVALID,
+    }
+}
+
+fn is_place_command(command: u16) -> bool
+    ensures { result ≡ goes_to_place command }
+{
+    matches!(
+        command,
+        MavCommand::NAV_WAYPOINT | MavCommand::NAV_LAND | MavCommand::NAV_TAKEOFF
+    )
+}
+
+fn is_global_frame(frame: u8) -> bool
+    ensures { result ≡ is_global frame }
+{
+    matches!(
+        frame,
+        MavFrame::GLOBAL
+            | MavFrame::GLOBAL_RELATIVE_ALT
+            | MavFrame::GLOBAL_INT
+            | MavFrame::GLOBAL_RELATIVE_ALT_INT
+    )
+}
+
+fn supports_frame(kind: PlanKind, item: &Item) -> bool
+    ensures { result ≡ is_frame_supported (number_of kind) item.now }
+{
+    if is_global_frame(item.frame) {
+        return true;
+    }
+    matches!(kind, PlanKind::Mission)
+        && item.frame == MavFrame::MISSION
+        && !is_place_command(item.command)
+}
+
+fn is_polygon_vertex(command: u16) -> bool
+    ensures { result ≡ is_vertex command }
+{
+    matches!(
+        command,
+        MavCommand::FENCE_POLYGON_INCLUSION | MavCommand::FENCE_POLYGON_EXCLUSION
+    )
+}
+
+fn supports_command(kind: PlanKind, command: u16) -> bool
+    ensures { result ≡ is_command_supported (number_of kind) command }
+{
+    match kind {
+        PlanKind::Mission => {
+            is_place_command(command)
+                || command == MavCommand::NAV_RETURN_TO_LAUNCH
+                || command == MavCommand::IMAGE_START_CAPTURE
+        }
+        PlanKind::Fence => {
+            command == MavCommand::FENCE_RETURN_POINT || is_polygon_vertex(command)
+        }
+        PlanKind::Rally => command == MavCommand::RALLY_POINT,
+    }
+}
+
+fn has_latitude(item: &Item) -> bool
+    ensures { result ≡ is_in_range item.now 900000000 item.now.x }
+{
+    item.frame == MavFrame::MISSION || (-MAX_LATITUDE <= item.x && item.x <= MAX_LATITUDE)
+}
+
+fn has_longitude(item: &Item) -> bool
+    ensures { result ≡ is_in_range item.now 1800000000 item.now.y }
+{
+    item.frame == MavFrame::MISSION || (-MAX_LONGITUDE <= item.y && item.y <= MAX_LONGITUDE)
+}
+
+// The number of vertices of the polygon that a word of param1 names.
+fn polygon_len(word: u32) -> Option<u8>
+    ensures { result ≡ vertex_count word }
+{
+    match word_small(word) {
+        Some(count) if count >= MIN_VERTICES => Some(count),
+        _ => None,
+    }
+}
+
+fn has_polygon_len(item: &Item) -> bool
+    ensures { result ≡ has_count item.now }
+{
+    !is_polygon_vertex(item.command) || polygon_len(item.p[0]).is_some()
+}
+
+/// The first fault of an item in a plan of this kind.
+pub fn check_item(kind: PlanKind, item: &Item) -> Result<(), PlanFault>
+    ensures { result_err result ≡ item_fault (number_of kind) item.now }
+{
+    if !supports_frame(kind, item) {
+        return Err(PlanFault::UnsupportedFrame);
+    }
+    if !supports_command(kind, item.command) {
+        return Err(PlanFault::Unsupported);
+    }
+    if !has_latitude(item) {
+        return Err(PlanFault::InvalidX);
+    }
+    if !has_longitude(item) {
+        return Err(PlanFault::InvalidY);
+    }
+    if !has_polygon_len(item) {
+        return Err(PlanFault::InvalidParam1);
+    }
+    Ok(())
+}
