@@ -1,3 +1,4 @@
+pub mod Groups
 pub mod Rows
 pub mod SmallWords
 pub mod Tables

@@ -18,7 +18,7 @@ pub use items::Item;
 pub use kinds::PlanKind;
 pub use messages::PlanMsg;
 pub use plans::Plan;
-pub use validation::{PlanFault, check_item, code};
+pub use validation::{PlanFault, check_item, check_plan, code};
 pub use words::{GREATEST_SMALL, small_word, word_small};
 use std::alloc::AllocError;
 

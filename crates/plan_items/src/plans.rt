@@ -81,6 +81,12 @@ impl Plan {
         self.items.is_empty()
     }
 
+    pub fn as_slice(&self) -> &[Item]
+        ensures { result.now ≡ items_of self.now }
+    {
+        self.items.as_slice()
+    }
+
     /// The item at `at`, counted from 0.
     pub fn get(&self, at: usize) -> Option<Item>
         ensures item { result ≡ slice_get (items_of self.now) at }

@@ -153,3 +153,81 @@ pub fn check_item(kind: PlanKind, item: &Item) -> Result<(), PlanFault>
     }
     Ok(())
 }
+
+// How many items the group that begins with this one has.
+fn group_len(first: &Item) -> Option<u8>
+    ensures { result ≡ group_len_of first.now }
+{
+    if is_polygon_vertex(first.command) {
+        polygon_len(first.p[0])
+    } else {
+        Some(1)
+    }
+}
+
+fn is_same_group(first: &Item, item: &Item) -> bool
+    ensures { result ≡ is_like first.now item.now }
+{
+    item.command == first.command && item.p[0] == first.p[0]
+}
+
+fn is_one_group(first: &Item, items: &[Item]) -> bool
+    ensures { result ≡ list_all (is_like first.now) items.now }
+{
+    items.iter().all(|item| is_same_group(first, item))
+}
+
+// Whether the items are whole groups, one behind the other.
+fn is_whole(items: &[Item]) -> bool
+    ensures { result ≡ is_grouped 0 items.now }
+{
+    let mut rest = items;
+    while let Some(first) = rest.first() {
+        let Some(len) = group_len(first) else {
+            return false;
+        };
+        let len = usize::from(len);
+        if rest.len() < len || !is_one_group(first, &rest[..len]) {
+            return false;
+        }
+        rest = &rest[len..];
+    }
+    true
+}
+
+#[tactic(auto, unfolding(crate::specs::Validation::whole_fault))]
+fn check_whole(kind: PlanKind, items: &[Item]) -> Result<(), PlanFault>
+    ensures { result_err result ≡ whole_fault (number_of kind) items.now }
+{
+    match kind {
+        PlanKind::Fence => {
+            if is_whole(items) {
+                Ok(())
+            } else {
+                Err(PlanFault::Invalid)
+            }
+        }
+        PlanKind::Mission | PlanKind::Rally => Ok(()),
+    }
+}
+
+fn check_items(kind: PlanKind, items: &[Item]) -> Result<(), PlanFault>
+    ensures { result_err result ≡ first_fault (number_of kind) items.now }
+{
+    for item in items {
+        if let Err(fault) = check_item(kind, item) {
+            return Err(fault);
+        }
+    }
+    Ok(())
+}
+
+/// The fault of the first item that has one, and else that of the whole plan.
+#[tactic(auto, unfolding(crate::specs::Validation::plan_fault))]
+pub fn check_plan(kind: PlanKind, plan: &Plan) -> Result<(), PlanFault>
+    ensures { result_err result ≡ plan_fault (number_of kind) (items_of plan.now) }
+{
+    let items = plan.as_slice();
+    check_items(kind, items)?;
+    check_whole(kind, items)
+}
