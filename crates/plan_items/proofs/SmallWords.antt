@@ -104,4 +104,4 @@ parts-small_word_of word k exponent shift nonzero small is exponent_is shift_is 
     let shift_at : shift ≡ 23 - (word / 8388608 - 127) = shift_is ∙ ap (λ (z : ℕ). 23 - z) exponent_is in
     ap (λ (z : ℕ). (word % 8388608 + 8388608) / 2 ^ z) shift_at
     ∙ (sym (ap (λ b. if b then 0 else (word % 8388608 + 8388608) / 2 ^ (23 - (word / 8388608 - 127))) (nonzero_test word nonzero))
-      ∙ (ap whole_part is ∙ whole_part-small_word_of k small))
+    ∙ (ap whole_part is ∙ whole_part-small_word_of k small))

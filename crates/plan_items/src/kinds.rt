@@ -11,6 +11,9 @@ pub enum PlanKind {
 }
 
 impl PlanKind {
+    /// The number that stands for all kinds in a clear, MAV_MISSION_TYPE_ALL.
+    pub const ALL: u8 = 255;
+
     /// The most items that a plan of this kind has.
     pub fn limit(self) -> u16
         ensures { result ≡ limit_of (number_of self) }
@@ -33,7 +36,7 @@ impl PlanKind {
         }
     }
 
-    /// The kind with this number. None for any number above 2, as 255, which stands for all kinds.
+    /// The kind with this number. None for every number above 2, `ALL` among them.
     pub fn of(number: u8) -> Option<PlanKind>
         ensures { result ≡ kind_of number }
     {
@@ -43,5 +46,21 @@ impl PlanKind {
             2 => Some(PlanKind::Rally),
             _ => None,
         }
+    }
+}
+
+#[cfg(test)]
+mod tests {
+    use super::*;
+
+    #[test]
+    fn kinds_have_numbers_and_limits(rt: HostRuntime) {
+        assert_eq!(rt;
+            PlanKind::of(PlanKind::Fence.number()),
+            Some(PlanKind::Fence)
+        );
+        assert_eq!(rt; PlanKind::of(3), None);
+        assert_eq!(rt; PlanKind::of(PlanKind::ALL), None);
+        assert_eq!(rt; PlanKind::Rally.limit(), 50);
     }
 }

@@ -5,7 +5,7 @@
 //! here sends, stores or flies a plan, and a `Plan` takes memory only in `with_room` and `push`.
 #![tactic(auto)]
 
-mod common;
+mod codes;
 mod items;
 mod kinds;
 mod messages;
@@ -13,13 +13,13 @@ mod plans;
 mod validation;
 mod words;
 
-pub use common::{MavCommand, MavFrame, MissionResult};
+pub use codes::{MavCommand, MavFrame, MissionResult};
 pub use items::Item;
 pub use kinds::PlanKind;
 pub use messages::PlanMsg;
 pub use plans::Plan;
+use std::alloc::AllocError;
 pub use validation::{PlanFault, check_item, check_plan, code};
 pub use words::{GREATEST_SMALL, small_word, word_small};
-use std::alloc::AllocError;
 
 pub type NoMemory = AllocError;

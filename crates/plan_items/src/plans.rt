@@ -5,6 +5,9 @@ ghost use Rattle.plan_items.specs.Plans.{items_of, spare_of, room_of};
 use crate::{Item, NoMemory};
 use std::alloc::Global;
 
+#[cfg(test)]
+mod tests;
+
 /// The items of a plan of any kind, first to last.
 #[derive(Drop)]
 pub struct Plan {
@@ -46,6 +49,7 @@ impl Plan {
         requires { 0 < spare_of self.old }
         ensures items { items_of self.new ≡ items_of self.old ++ item ∷ [] }
         ensures spare { spare_of self.old ≤ spare_of self.new + 1 }
+        ensures room { room_of self.old ≤ room_of self.new }
     {
         self.items.push_reserved(item);
     }

@@ -1,4 +1,4 @@
-// Values of the enumerations that plans use (MAVLink common messages).
+// Numbers that plans carry, by their names in the MAVLink common messages.
 
 /// Result codes of missions (MAVLink common messages, MAV_MISSION_RESULT).
 pub struct MissionResult;
