@@ -1,6 +1,5 @@
 -- A table of tests, the first that fails: how one row is passed or answers.
 use Rattle.std.proofs.Common.{◌≡◌, Bool, true, false, not, if◌then◌else◌, refl, sym, ◌∙◌}
-use Rattle.std.specs.Prelude.{Option, Some, None}
 
 -- a row whose test fails answers
 pub row_fails : {X : Type 0} {answer : X} (rest : X) (test known : Bool) → known ≡ test → known ≡ false → answer ≡ (if not test then answer else rest)

@@ -5,8 +5,8 @@ use Rattle.std.specs.List.{list_all}
 use Rattle.plan_items.specs.Kinds.{limit_of}
 use Rattle.plan_items.specs.Words.{word_number}
 use Rattle.plan_items.specs.declared.items.Item.{Item}
-use Rattle.plan_items.specs.declared.validation.PlanFault.{PlanFault}
-use Rattle.plan_items.specs.declared.validation.PlanFault.TheVariants.{UnsupportedFrame, Unsupported, InvalidX, InvalidY, InvalidParam1, Invalid}
+use Rattle.plan_items.specs.declared.faults.PlanFault.{PlanFault}
+use Rattle.plan_items.specs.declared.faults.PlanFault.TheVariants.{UnsupportedFrame, Unsupported, InvalidX, InvalidY, InvalidParam1, Invalid}
 
 -- the frames of items that have a place: MAV_FRAME_GLOBAL, GLOBAL_RELATIVE_ALT, GLOBAL_INT, GLOBAL_RELATIVE_ALT_INT
 abbrev pub is_global : ℕ → Bool

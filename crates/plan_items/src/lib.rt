@@ -6,6 +6,7 @@
 #![tactic(auto)]
 
 mod codes;
+mod faults;
 mod items;
 mod kinds;
 mod messages;
@@ -14,12 +15,13 @@ mod validation;
 mod words;
 
 pub use codes::{MavCommand, MavFrame, MissionResult};
+pub use faults::{PlanFault, code};
 pub use items::Item;
 pub use kinds::PlanKind;
 pub use messages::PlanMsg;
 pub use plans::Plan;
 use std::alloc::AllocError;
-pub use validation::{PlanFault, check_item, check_plan, code};
+pub use validation::{check_item, check_plan};
 pub use words::{GREATEST_SMALL, small_word, word_small};
 
 pub type NoMemory = AllocError;

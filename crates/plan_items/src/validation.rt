@@ -1,12 +1,12 @@
 // The tests of items and of whole plans.
-ghost use Rattle.std.specs.Prelude.{◌≡◌, ◌||◌, ◌==◌, ◌^◌, pos, not, Some, length, take};
+ghost use Rattle.std.specs.Prelude.{◌≡◌};
 ghost use Rattle.std.specs.Result.{result_err};
 ghost use Rattle.std.specs.List.{list_all};
 ghost use Rattle.plan_items.specs.Kinds.{number_of};
 ghost use Rattle.plan_items.specs.Plans.{items_of};
-ghost use Rattle.plan_items.specs.Validation.{is_global, goes_to_place, is_frame_supported, is_vertex, is_command_supported, is_within, is_in_range, param1_of, vertex_count, has_count, item_fault, group_len_of, is_like, is_grouped, whole_fault, first_fault, plan_fault, code_of};
+ghost use Rattle.plan_items.specs.Validation.{is_global, goes_to_place, is_frame_supported, is_vertex, is_command_supported, is_in_range, vertex_count, has_count, item_fault, group_len_of, is_like, is_grouped, whole_fault, first_fault, plan_fault};
 
-use crate::{Item, MavCommand, MavFrame, MissionResult, Plan, PlanKind, word_small};
+use crate::{Item, MavCommand, MavFrame, Plan, PlanFault, PlanKind, word_small};
 
 #[cfg(test)]
 mod tests;
@@ -18,37 +18,6 @@ const MAX_LATITUDE: i32 = 900_000_000;
 const MAX_LONGITUDE: i32 = 1_800_000_000;
 
 const MIN_VERTICES: u8 = 3;
-
-/// Why an item or a plan isn't valid, in the order of the tests.
-#[derive(Clone, Copy, Debug, PartialEq, Eq)]
-pub enum PlanFault {
-    /// A frame that the kind of plan doesn't have, or that the command can't have.
-    UnsupportedFrame,
-    /// A command that the kind of plan doesn't have.
-    Unsupported,
-    /// A latitude beyond 90 degrees.
-    InvalidX,
-    /// A longitude beyond 180 degrees.
-    InvalidY,
-    /// A polygon vertex whose param1 isn't a number of vertices.
-    InvalidParam1,
-    /// A fence with a polygon that lacks vertices or mixes them with others.
-    Invalid,
-}
-
-/// The result code with which a drone answers the fault, one of `MissionResult`.
-pub fn code(fault: PlanFault) -> u8
-    ensures { result ≡ code_of fault }
-{
-    match fault {
-        PlanFault::UnsupportedFrame => MissionResult::UNSUPPORTED_FRAME,
-        PlanFault::Unsupported => MissionResult::UNSUPPORTED,
-        PlanFault::InvalidX => MissionResult::INVALID_X,
-        PlanFault::InvalidY => MissionResult::INVALID_Y,
-        PlanFault::InvalidParam1 => MissionResult::INVALID_PARAM1,
-        PlanFault::Invalid => MissionResult::INVALID,
-    }
-}
 
 fn is_place_command(command: u16) -> bool
     ensures { result ≡ goes_to_place command }

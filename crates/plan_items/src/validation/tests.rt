@@ -1,6 +1,6 @@
 // Rows of the table of faults, and fences whole and broken.
 use super::*;
-use crate::NoMemory;
+use crate::{NoMemory, code};
 use std::alloc::Global;
 use std::test::Fail;
 

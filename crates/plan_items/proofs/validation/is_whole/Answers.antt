@@ -1,4 +1,4 @@
-use Rattle.std.proofs.Common.{◌≡◌, ◌≤◌, ◌∙◌, sym, ap, length, true, arith}
+use Rattle.std.proofs.Common.{◌≡◌, ◌∙◌, sym, ap}
 use Rattle.std.specs.Prelude.{Some}
 use Rattle.plan_items.specs.Validation.{group_len_of}
 use Rattle.plan_items.proofs.Groups.{is_grouped-rest}

@@ -1,4 +1,4 @@
-use Rattle.std.proofs.Common.{◌≡◌, ℕ, length}
+use Rattle.std.proofs.Common.{◌≡◌, length}
 use Rattle.plan_items.specs.Validation.{is_grouped}
 use Rattle.plan_items.proofs.validation.is_whole.Given as goal
 

@@ -1,4 +1,4 @@
-use Rattle.std.proofs.Common.{◌≡◌, ℕ, ◌<◌, ◌∙◌, sym, ap, subst, refl, arith}
+use Rattle.std.proofs.Common.{ℕ, ◌<◌, ◌∙◌, sym, ap, subst, refl, arith}
 use Rattle.plan_items.specs.Words.{small_word_of}
 use Rattle.plan_items.proofs.SmallWords.{shifted, shifted-small_word_of}
 use Rattle.plan_items.proofs.words.small_word.Goals as goal

@@ -1,5 +1,4 @@
 use Rattle.std.proofs.Common.{◌≡◌, ◌≤◌, ◌∙◌, sym, ap, arith}
-use Rattle.std.specs.Prelude.{Some}
 use Rattle.plan_items.specs.Words.{small_word_of, word_number}
 use Rattle.plan_items.proofs.SmallWords.{word_number-none, word_number-small_word_of}
 use Rattle.plan_items.proofs.words.word_small.Goals as goal

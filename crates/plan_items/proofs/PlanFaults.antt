@@ -1,12 +1,12 @@
 -- What the codes and the faults of plans are.
-use Rattle.std.proofs.Common.{◌≡◌, ◌≢◌, ℕ, zero, suc, ◌+◌, ◌<◌, ◌≤◌, ◌==◌, ◌&&◌, not, Bool, true, false, if◌then◌else◌, List, [], ◌∷◌, length, get_or, refl, sym, ◌∙◌, ap, arith}
+use Rattle.std.proofs.Common.{◌≡◌, ◌≢◌, ℕ, zero, suc, ◌<◌, ◌≤◌, ◌==◌, ◌&&◌, not, true, false, if◌then◌else◌, List, [], ◌∷◌, length, get_or, refl, ◌∙◌, ap, arith}
 use Rattle.std.specs.Prelude.{Option, Some, None, All}
 use Rattle.std.specs.Option.{option_or}
 use Rattle.std.proofs.lemmas.Bool.Decides.{nat_tests}
 use Rattle.plan_items.specs.declared.items.Item.{Item}
 use Rattle.plan_items.specs.declared.kinds.PlanKind.{PlanKind}
-use Rattle.plan_items.specs.declared.validation.PlanFault.{PlanFault}
-use Rattle.plan_items.specs.declared.validation.PlanFault.TheVariants.{UnsupportedFrame, Unsupported, InvalidX, InvalidY, InvalidParam1, Invalid}
+use Rattle.plan_items.specs.declared.faults.PlanFault.{PlanFault}
+use Rattle.plan_items.specs.declared.faults.PlanFault.TheVariants.{UnsupportedFrame, Unsupported, InvalidX, InvalidY, InvalidParam1, Invalid}
 use Rattle.plan_items.specs.Kinds.{number_of, limit_of, kind_of}
 use Rattle.plan_items.specs.Validation.{code_of, item_fault, whole_fault, first_fault, plan_fault, is_grouped, IsValid}
 use Rattle.plan_items.proofs.KindNumbers.{number_of-kind_of}
