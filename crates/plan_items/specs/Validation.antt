@@ -32,10 +32,11 @@ is_command_supported kind command =
     else if kind == 1 then (command == 5000) || is_vertex command
     else (command == 5100)
 
+-- at most `bound` either way from 0
 abbrev pub is_within : ℕ → ℤ → Bool
 is_within bound place = int_le (neg_ℤ (pos bound)) place && int_le place (pos bound)
 
--- a coordinate is at most `bound` either way from 0, where the frame has a place
+-- a coordinate is within its bound, where the frame has a place
 abbrev pub is_in_range : Item → ℕ → ℤ → Bool
 is_in_range item bound place = (item.frame == 2) || is_within bound place
 
@@ -43,6 +44,7 @@ is_in_range item bound place = (item.frame == 2) || is_within bound place
 abbrev pub param1_of : Item → ℕ
 param1_of item = slice_index item.p 0
 
+-- the number, where it is 3 or more
 abbrev pub from_three : Option ℕ → Option ℕ
 from_three None = None
 from_three (Some count) = if nat_le 3 count then Some count else None

@@ -69,3 +69,10 @@ fn a_struct_keeps_the_room_of_its_plan(rt: HostRuntime) -> Result<(), Fail> {
     assert!(rt; gathered.add(item(1)));
     Ok(())
 }
+
+fn moves_between_threads<T: Send + Drop>(_value: T) {}
+
+#[test]
+fn plans_move_between_threads(rt: HostRuntime) {
+    moves_between_threads(Plan::new(rt.alloc()));
+}
