@@ -1,0 +1,4 @@
+pub mod Kinds
+pub mod Plans
+pub mod Validation
+pub mod Words

@@ -1,0 +1,50 @@
+// The messages of the mission protocol.
+use crate::Item;
+use mav_ports::Name;
+
+/// A message about a plan, for the node `to` (MAVLink guide, Mission Protocol). `kind` is the
+/// number of a kind as it was sent, of none too, and `PlanKind::ALL` stands for all kinds.
+#[derive(Clone, Copy, Debug, PartialEq, Eq)]
+pub enum PlanMsg {
+    /// MISSION_COUNT
+    Count {
+        to: Name,
+        count: u16,
+        kind: u8,
+    },
+    /// MISSION_REQUEST_INT
+    Request {
+        to: Name,
+        seq: u16,
+        kind: u8,
+    },
+    /// MISSION_ITEM_INT
+    Item {
+        to: Name,
+        seq: u16,
+        kind: u8,
+        item: Item,
+    },
+    /// MISSION_ACK, with one of the codes of `MissionResult`
+    Ack {
+        to: Name,
+        code: u8,
+        kind: u8,
+    },
+    /// MISSION_REQUEST_LIST
+    List {
+        to: Name,
+        kind: u8,
+    },
+    /// MISSION_CLEAR_ALL
+    Clear {
+        to: Name,
+        kind: u8,
+    },
+    /// PING
+    Ping {
+        to: Name,
+        usec: u64,
+        seq: u32,
+    },
+}
