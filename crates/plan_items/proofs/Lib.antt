@@ -1,5 +1,6 @@
 pub mod Groups
 pub mod KindNumbers
+pub mod LastItems
 pub mod PlanFaults
 pub mod Rows
 pub mod SmallWords

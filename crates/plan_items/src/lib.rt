@@ -21,7 +21,7 @@ pub use kinds::PlanKind;
 pub use messages::PlanMsg;
 pub use plans::Plan;
 use std::alloc::AllocError;
-pub use validation::{check_item, check_plan};
+pub use validation::{check_item, check_plan, check_whole_with};
 pub use words::{GREATEST_SMALL, small_word, word_small};
 
 pub type NoMemory = AllocError;

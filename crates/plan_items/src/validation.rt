@@ -1,5 +1,5 @@
 // The tests of items and of whole plans.
-ghost use Rattle.std.specs.Prelude.{◌≡◌};
+ghost use Rattle.std.specs.Prelude.{◌≡◌, ◌+◌, ◌<◌, ◌==◌, ◌&&◌, [], ◌∷◌, ◌++◌, length};
 ghost use Rattle.std.specs.Result.{result_err};
 ghost use Rattle.std.specs.List.{list_all};
 ghost use Rattle.plan_items.specs.Kinds.{number_of};
@@ -167,6 +167,38 @@ fn is_whole(items: &[Item]) -> bool
     true
 }
 
+// Whether the items and one more behind them are a group of this length.
+fn is_group_with(first: &Item, items: &[Item], last: &Item, len: usize) -> bool
+    requires { length items.now < len }
+    ensures { result ≡ ((length items.now + 1 == len) && list_all (is_like first.now) items.now && is_like first.now last.now) }
+{
+    if items.len() + 1 != len || !is_one_group(first, items) {
+        return false;
+    }
+    is_same_group(first, last)
+}
+
+// Whether the items with one more behind them are whole groups.
+fn is_whole_with(items: &[Item], last: &Item) -> bool
+    ensures { result ≡ is_grouped 0 (items.now ++ last.now ∷ []) }
+{
+    let mut rest = items;
+    while let Some(first) = rest.first() {
+        let Some(len) = group_len(first) else {
+            return false;
+        };
+        let len = usize::from(len);
+        if rest.len() < len {
+            return is_group_with(first, rest, last, len);
+        }
+        if !is_one_group(first, &rest[..len]) {
+            return false;
+        }
+        rest = &rest[len..];
+    }
+    !is_polygon_vertex(last.command)
+}
+
 #[tactic(auto, unfolding(crate::specs::Validation::whole_fault))]
 fn check_whole(kind: PlanKind, items: &[Item]) -> Result<(), PlanFault>
     ensures { result_err result ≡ whole_fault (number_of kind) items.now }
@@ -202,4 +234,22 @@ pub fn check_plan(kind: PlanKind, plan: &Plan) -> Result<(), PlanFault>
     let items = plan.as_slice();
     check_items(kind, items)?;
     check_whole(kind, items)
+}
+
+/// The fault of the whole that the plan would have with one more item at its end. Only a fence can have
+/// one, so other plans aren't read.
+#[tactic(auto, unfolding(crate::specs::Validation::whole_fault))]
+pub fn check_whole_with(kind: PlanKind, plan: &Plan, last: &Item) -> Result<(), PlanFault>
+    ensures { result_err result ≡ whole_fault (number_of kind) (items_of plan.now ++ last.now ∷ []) }
+{
+    match kind {
+        PlanKind::Fence => {
+            if is_whole_with(plan.as_slice(), last) {
+                Ok(())
+            } else {
+                Err(PlanFault::Invalid)
+            }
+        }
+        PlanKind::Mission | PlanKind::Rally => Ok(()),
+    }
 }
