@@ -1,0 +1,10 @@
+pub mod Names
+pub mod Placing
+pub mod Walking
+pub mod FirstField
+pub mod Bytes
+pub mod Truncation
+pub mod Serialised
+pub mod Decoding
+pub mod Faultless
+pub mod Unique

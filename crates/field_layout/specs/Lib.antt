@@ -1,0 +1,10 @@
+pub mod Types
+pub mod Definition
+pub mod WireOrder
+pub mod CrcExtra
+pub mod Faults
+pub mod Target
+pub mod Tables
+pub mod Payload
+pub mod Words
+pub mod Reading

@@ -1,0 +1,14 @@
+pub mod Leading
+pub mod Giving
+pub mod Beginnings
+pub mod DraftItems
+pub mod ItemLines
+pub mod WordDigits
+pub mod Digits
+pub mod Names
+pub mod WireWords
+pub mod NameLookups
+pub mod ReadWords
+pub mod ReadItems
+pub mod Forms
+pub mod WholeLines

@@ -1,0 +1,12 @@
+pub mod Words
+pub mod Scene
+pub mod Grammar
+pub mod Reasons
+pub mod Readings
+pub mod Permits
+pub mod Faults
+pub mod Events
+pub mod Steps
+pub mod Hearing
+pub mod Beginning
+pub mod Scenario

@@ -1,0 +1,116 @@
+-- A scenario's bytes as lines, and what the lines lead to: the scene, the report, and why it stopped.
+use Rattle.std.specs.Prelude.{ℕ, ◌+◌, ◌-◌, ◌==◌, nat_lt, Bool, true, false, if◌then◌else◌, List, [], ◌∷◌, ◌++◌, length, take, slice_index, Option, Some, None, Ok, Err}
+use Rattle.std.specs.declared.result.Result.{Result}
+use Rattle.std.specs.List.{slice_split}
+use Rattle.fleet_world.specs.declared.faults.Bound.{Bound}
+use Rattle.fleet_world.specs.declared.faults.Reason.{Reason}
+use Rattle.fleet_world.specs.declared.faults.Reason.TheVariants.{Long}
+use Rattle.fleet_world.specs.declared.lines.Line.{Line}
+use Rattle.fleet_world.specs.Scene.{Scene, empty_scene}
+use Rattle.fleet_world.specs.Grammar.{line_of, most_line_bytes}
+use Rattle.fleet_world.specs.Reasons.{reason_against}
+use Rattle.fleet_world.specs.Events.{Event, events_text}
+use Rattle.fleet_world.specs.Steps.{Step, after_line, closing_text}
+
+-- lines end with LF
+abbrev pub is_newline : ℕ → Bool
+is_newline b = b == 10
+
+-- the parts but the last, and the last
+abbrev pub but_last : List (List ℕ) → List (List ℕ)
+but_last [] = []
+but_last (part ∷ []) = []
+but_last (part ∷ next ∷ more) = part ∷ but_last (next ∷ more)
+
+abbrev pub last_part : List (List ℕ) → List ℕ
+last_part [] = []
+last_part (part ∷ []) = part
+last_part (part ∷ next ∷ more) = last_part (next ∷ more)
+
+-- the whole lines of some bytes, without their LF, and what stands behind the last LF
+abbrev pub whole_lines : List ℕ → List (List ℕ)
+whole_lines bytes = but_last (slice_split is_newline bytes)
+
+abbrev pub unfinished : List ℕ → List ℕ
+unfinished bytes = last_part (slice_split is_newline bytes)
+
+-- a CR before the LF is no part of what the line says
+abbrev pub without_cr : List ℕ → List ℕ
+without_cr raw = if slice_index raw (length raw - 1) == 13 then take (length raw - 1) raw else raw
+
+-- why a scenario stops before its end
+pub data Stop : Type 0 where
+  Bad : (line : ℕ) (reason : Reason) → Stop
+  Too_many_lines : Stop
+  At_limit : (limit : Bound) → Stop
+
+pub record Played : Type 0 where
+  pub scene : Scene
+  pub events : List Event
+  pub stop : Option Stop
+
+abbrev pub most_lines : ℕ
+most_lines = 100000
+
+-- line `number`, which spells `text`: what happened up to it, and then its own step
+abbrev pub stopped : Played → Stop → Played
+stopped p stop = record p { stop = Some stop }
+
+abbrev pub goes_on : Played → Result Step Bound → Played
+goes_on p (Ok t) = record { scene = t.scene; events = p.events ++ t.events; stop = None }
+goes_on p (Err limit) = stopped p (At_limit limit)
+
+abbrev pub judged : Played → ℕ → List ℕ → Option Reason → Played
+judged p number text (Some reason) = stopped p (Bad number reason)
+judged p number text None = goes_on p (after_line p.scene (line_of text))
+
+-- line `number`, with its CR: it is done once it is whole
+abbrev pub line_played : Played → ℕ → List ℕ → Played
+line_played p number raw =
+    if nat_lt most_lines number then stopped p Too_many_lines
+    else if nat_lt most_line_bytes (length raw) then stopped p (Bad number Long)
+    else judged p number (without_cr raw) (reason_against p.scene (without_cr raw))
+
+-- the lines from `number` on, up to the first at which the scenario stops
+abbrev pub unless_stopped : Option Stop → Played → Played → Played
+unless_stopped None p next = next
+unless_stopped (Some stop) p next = p
+
+abbrev pub lines_played : Played → ℕ → List (List ℕ) → Played
+lines_played p number [] = p
+lines_played p number (raw ∷ more) = unless_stopped p.stop p (lines_played (line_played p number raw) (number + 1) more)
+
+abbrev pub at_start : Played
+at_start = record { scene = empty_scene; events = []; stop = None }
+
+-- a last line without LF keeps its CR, and counts where it isn't empty
+abbrev pub last_played : Played → ℕ → List ℕ → Played
+last_played p number [] = p
+last_played p number (b ∷ bs) =
+    if nat_lt most_lines number then stopped p Too_many_lines
+    else if nat_lt most_line_bytes (length (b ∷ bs)) then stopped p (Bad number Long)
+    else judged p number (b ∷ bs) (reason_against p.scene (b ∷ bs))
+
+-- an unfinished line stops a scenario as soon as it is too long
+abbrev pub part_played : Played → ℕ → List ℕ → Played
+part_played p number part =
+    if nat_lt most_line_bytes (length part)
+    then (if nat_lt most_lines number then stopped p Too_many_lines else stopped p (Bad number Long))
+    else p
+
+-- what the bytes that were taken lead to; `ended` says whether the input ended behind them
+abbrev pub rest_played : Bool → Played → ℕ → List ℕ → Played
+rest_played true p number rest = last_played p number rest
+rest_played false p number rest = part_played p number rest
+
+abbrev pub played : Bool → List ℕ → Played
+played ended bytes =
+    let lines = lines_played at_start 1 (whole_lines bytes) in
+    unless_stopped lines.stop lines (rest_played ended lines (length (whole_lines bytes) + 1) (unfinished bytes))
+
+-- the report of what was played, and that of a whole scenario with its closing plans
+abbrev pub report_of : Played → List ℕ
+report_of p = events_text p.events
+
+abbrev pub whole_report : Played → List ℕ
+whole_report p = events_text p.events ++ closing_text p.scene.nodes

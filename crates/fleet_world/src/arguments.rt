@@ -1,0 +1,79 @@
+// What a word of a line has to be, and the reason against one that isn't.
+ghost use Rattle.std.specs.Prelude.{◌≤◌, IfOk};
+
+use crate::Reason;
+use crate::numbers::{integer, number, wire_word};
+use crate::spellings::kind;
+use crate::words::Words;
+use plan_items::{Item, PlanKind};
+
+impl Words<'_> {
+    ghost use Rattle.std.specs.Prelude.{◌≡◌, ◌<◌};
+    ghost use Rattle.fleet_world.specs.Readings.{whole, signed, signed_or_zero, wire_or_zero, plan_kind, read_item};
+
+    pub(crate) fn whole(&self, place: usize, low: u64, high: u64) -> Result<u64, Reason>
+        ensures exact { result ≡ whole self.now place low high }
+        ensures least { IfOk result (λ n. low ≤ n) }
+        ensures most { IfOk result (λ n. n ≤ high) }
+    {
+        number(self.at(place), low, high).ok_or(Reason::Number)
+    }
+
+    pub(crate) fn signed(&self, place: usize) -> Result<i32, Reason>
+        ensures { result ≡ signed self.now place }
+    {
+        integer(self.at(place)).ok_or(Reason::Number)
+    }
+
+    pub(crate) fn signed_or_zero(&self, place: usize) -> Result<i32, Reason>
+        ensures { result ≡ signed_or_zero self.now place }
+    {
+        if place < self.len() {
+            self.signed(place)
+        } else {
+            Ok(0)
+        }
+    }
+
+    pub(crate) fn wire_or_zero(&self, place: usize) -> Result<u32, Reason>
+        ensures { result ≡ wire_or_zero self.now place }
+    {
+        if place < self.len() {
+            wire_word(self.at(place)).ok_or(Reason::Hex)
+        } else {
+            Ok(0)
+        }
+    }
+
+    pub(crate) fn kind(&self, place: usize) -> Result<PlanKind, Reason>
+        ensures { result ≡ plan_kind self.now place }
+    {
+        kind(self.at(place)).ok_or(Reason::Kind)
+    }
+
+    /// The item whose frame is the word at `place`.
+    pub(crate) fn item(&self, place: usize) -> Result<Item, Reason>
+        requires { place < 100 }
+        ensures { result ≡ read_item self.now place }
+    {
+        let frame = self.whole(place, 0, 255)? as u8;
+        let command = self.whole(place + 1, 0, 65535)? as u16;
+        let x = self.signed(place + 2)?;
+        let y = self.signed(place + 3)?;
+        let z = self.wire_or_zero(place + 4)?;
+        let p1 = self.wire_or_zero(place + 5)?;
+        let p2 = self.wire_or_zero(place + 6)?;
+        let p3 = self.wire_or_zero(place + 7)?;
+        let p4 = self.wire_or_zero(place + 8)?;
+        Ok(Item {
+            frame,
+            command,
+            current: 0,
+            autocontinue: 1,
+            p: [p1, p2, p3, p4],
+            x,
+            y,
+            z,
+        })
+    }
+}

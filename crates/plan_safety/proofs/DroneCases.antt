@@ -1,0 +1,298 @@
+-- The drone, at a Count, a cancel and a Clear of the station that it has admitted.
+use Rattle.std.proofs.Common.{◌≡◌, ◌≢◌, ℕ, ◌<◌, ◌≤◌, ◌⊎◌, inl, inr, Bool, true, false, if◌then◌else◌, ◌==◌, ◌&&◌, nat_lt, List, [], ◌∷◌, length, Option, Some, None, refl, sym, arith, ◌∙◌}
+use Rattle.std.specs.Prelude.{not}
+use Rattle.mav_ports.specs.declared.names.Stream.{Stream}
+use Rattle.plan_items.specs.declared.items.Item.{Item}
+use Rattle.plan_items.specs.declared.messages.PlanMsg.{PlanMsg}
+use Rattle.plan_items.specs.Kinds.{limit_of}
+use Rattle.plan_upload.specs.Addresses.{same_stream}
+use Rattle.plan_upload.specs.Plans.{every_kind, without_plan}
+use Rattle.plan_upload.specs.Drone.{Download, UploadResult, DroneStep, Empties, answers, ack, ask, closed, is_own, is_other, opened, has_no_room, count_comes, cancel_code, cancel_comes, clear_comes, result_of, with_result, download_without}
+use Rattle.plan_safety.proofs.Keys.{by_test, same, apart, stream_eq, flag_true, flag_false, zero_or}
+use Rattle.plan_safety.proofs.Pair.{Pair, Facts, SentByDrone, speaks, acks, opens, opens_first, closes, an_ack, a_request}
+use Rattle.plan_safety.proofs.DroneSide as side
+use Rattle.plan_safety.proofs.Part.{Shows, Copies, IsClear, kind_of, shown_of, Part, Moments, pair_of, Gathers, Inv, Keeps, result_number}
+use Rattle.plan_safety.proofs.Leaf.{Own, said_part, drone_said}
+
+-- results
+pub result_same : (rs : List UploadResult) (s : Stream) (b : Bool) → result_of (with_result rs s b) s ≡ Some b
+result_same [] s b = rw (same s) refl
+result_same (r ∷ rs) s b = by_both (same_stream r.stream s) refl (result_same rs s b)
+  where
+    by_both : (x : Bool) → same_stream r.stream s ≡ x → result_of (with_result rs s b) s ≡ Some b → result_of (if x then record { stream = r.stream; installed = b } ∷ rs else r ∷ with_result rs s b) s ≡ Some b
+    by_both true e i = rw e refl
+    by_both false e i = rw e i
+
+pub result_apart : (rs : List UploadResult) (t s : Stream) (b : Bool) → t ≢ s → result_of (with_result rs t b) s ≡ result_of rs s
+result_apart [] t s b h = rw (apart t s h) refl
+result_apart (r ∷ rs) t s b h = by_both (same_stream r.stream t) refl (result_apart rs t s b h)
+  where
+    by_both : (x : Bool) → same_stream r.stream t ≡ x → result_of (with_result rs t b) s ≡ result_of rs s → result_of (if x then record { stream = r.stream; installed = b } ∷ rs else r ∷ with_result rs t b) s ≡ (if same_stream r.stream s then Some r.installed else result_of rs s)
+    by_both true e i = let z : same_stream r.stream s ≡ false = apart r.stream s (λ y. h (sym (stream_eq r.stream t e) ∙ y)) in rw z refl
+    by_both false e i = rw i refl
+
+-- a code that answers no cancel
+abbrev pub IsRefusal : ℕ → Type 0
+IsRefusal c = (c ≢ 0) × (c ≢ 15)
+
+-- when an Ack disturbs nothing; z is the latest verdict after it
+pub record CanAck (p : Pair) (z : ℕ) : Type 0 where
+  pub sending : p.phase ≡ 3 → 0 < p.first_open → p.stage < 2
+  pub attempt : 0 < p.first_reply → p.result ≡ 2 → p.phase ≡ 2
+  pub early : 0 < p.first_reply → p.result ≡ 2 → p.last_ack ≤ p.first_reply
+  pub late : 0 < p.first_reply → p.result ≡ 2 → p.last_cancel ≤ p.drone_last
+  pub more : p.last_verdict ≤ z
+  pub sent : z ≤ p.drone_next
+  pub clearing : 3 < p.phase → p.station_last < z → p.last_job ≤ p.drone_last
+  pub first : 3 < p.phase → p.last_verdict ≤ p.station_last
+  pub listed : 4 < p.phase → 0 < p.now_shown → z ≤ p.station_last
+  pub quiet : p.work ≡ 0 → p.synced ≡ 1 → z ≤ p.station_last
+  pub zero : 0 < p.first_reply → p.last_verdict ≤ p.first_reply
+  pub second : 0 < p.first_reply → p.first_reply < z → p.phase ≡ 2
+  pub after : 0 < p.first_reply → p.first_reply < z → p.last_cancel ≤ p.drone_last
+  pub shut : 0 < p.first_reply → p.first_reply < z → p.has_open ≡ 0
+  pub alone : 0 < p.first_reply → p.first_reply < z → p.last_ack ≤ p.first_reply
+
+-- when a refusal disturbs nothing
+pub record CanRefuse (p : Pair) : Type 0 where
+  pub attempt : p.first_reply ≡ 0
+  pub sending : p.phase ≡ 3 → 0 < p.first_open → p.stage < 2
+  pub clearing : 3 < p.phase → p.last_job ≤ p.drone_last
+  pub first : 3 < p.phase → p.last_verdict ≤ p.station_last
+  pub unlisted : 4 < p.phase → p.now_shown ≡ 0
+  pub work : 0 < p.work
+
+-- a refusal is such an Ack
+pub refuse_ack : (p : Pair) → Facts p → CanRefuse p → CanAck p p.drone_next
+refuse_ack p f h = grind arith
+
+-- what is true of a refusal that is sent
+refused : (p : Pair) (c k : ℕ) → IsRefusal c → Facts p → CanRefuse p → SentByDrone (acks p p.drone_next) p.drone_next (an_ack c k)
+refused p c k r f h = grind arith
+
+-- and of one that closes the upload
+closes_refused : (p : Pair) (c k : ℕ) → IsRefusal c → Facts p → CanRefuse p → SentByDrone (closes p p.drone_next) p.drone_next (an_ack c k)
+closes_refused p c k r f h = grind arith
+
+-- the facts after an Ack
+pub acks_ok : (p : Pair) (z : ℕ) → Facts p → CanAck p z → Facts (acks p z)
+acks_ok p z f h = side.acks_facts p z f h.sending h.attempt h.early h.late h.more h.sent h.clearing h.first h.listed h.quiet h.zero h.second h.after h.shut h.alone
+
+-- what was true of each message is true after an Ack, and after one that closes the upload
+pub keeps_acks : (p : Pair) (z : ℕ) → Facts p → CanAck p z → Keeps p (acks p z)
+keeps_acks p z f h = record { drone_next = omega arith; station_next = omega arith; shows = λ a b. (a, refl); drone = λ u x. side.acks_drone p z u x f h.sending h.attempt h.early h.late h.more h.sent h.clearing h.first h.listed h.quiet h.zero h.second h.after h.shut h.alone; station = λ ck k t l u x. side.acks_station p z ck k t l u x f h.sending h.attempt h.early h.late h.more h.sent h.clearing h.first h.listed h.quiet h.zero h.second h.after h.shut h.alone }
+
+pub keeps_closes : (p : Pair) (z : ℕ) → Facts p → 0 < p.has_open → p.last_verdict ≤ z → z ≤ p.drone_next → (0 < p.first_reply → z ≡ p.last_verdict) → Keeps p (closes p z)
+keeps_closes p z f h a b c = record { drone_next = omega arith; station_next = omega arith; shows = λ a b. (a, refl); drone = λ u x. side.closes_drone p z u x f h a b c; station = λ ck k t l u x. side.closes_station p z ck k t l u x f h a b c }
+
+-- the latest Ack but 13 is at t, and the latest verdict at z
+abbrev pub acked : Moments → ℕ → ℕ → Moments
+acked g t z = record g { last_ack = t; last_verdict = z }
+
+module _ (d s : Stream) (ne : d ≢ s) where
+  -- an answer that changes nothing and is no Ack, or Ack 13
+  pub on_answer : (p : Part) (g : Moments) (a : PlanMsg) → Inv d s p g → SentByDrone (speaks (pair_of s p g)) p.drone_next (Some a) → Shows (speaks (pair_of s p g)) (kind_of p.opening) (shown_of p.opening) p.drone_next (Some a) → Inv d s (said_part d p p.drone a) g
+  on_answer p g a i n sh =
+      let q : Pair = pair_of s p g in
+      drone_said d s ne p g g p.drone a (speaks q) i refl (side.speaks_facts q i.facts)
+      (record { drone_next = omega arith; station_next = omega arith; shows = λ a b. (a, refl); drone = λ u x. side.speaks_drone q u x i.facts; station = λ ck k t l u x. side.speaks_station q ck k t l u x i.facts })
+      (λ _. n) (omega arith) i.upload refl (λ _. sh) (λ k l z. z)
+
+  -- an Ack, where at most the own download is closed
+  pub on_ack : (p : Part) (g : Moments) (w : Option Download) (c k z : ℕ) → ((k : ℕ) (x : List Item) → Copies s k x p.drone.download → Copies s k x w) → Inv d s p g → CanAck (pair_of s p g) z → SentByDrone (acks (pair_of s p g) z) p.drone_next (an_ack c k) → Inv d s (said_part d p (record p.drone { download = w }) (ack s c k)) (acked g p.drone_next z)
+  on_ack p g w c k z cp i h n = let q : Pair = pair_of s p g in drone_said d s ne p g (acked g p.drone_next z) (record p.drone { download = w }) (ack s c k) (acks q z) i refl (acks_ok q z i.facts h) (keeps_acks q z i.facts h) (λ _. n) (omega arith) i.upload refl (λ _. tt) cp
+
+  -- the own upload is closed
+  pub on_close : (p : Part) (g : Moments) (w : Option Download) (c k z : ℕ) → ((k : ℕ) (x : List Item) → Copies s k x p.drone.download → Copies s k x w) → Inv d s p g → 0 < (pair_of s p g).has_open → g.last_verdict ≤ z → z ≤ p.drone_next → (0 < g.first_reply → z ≡ g.last_verdict) → SentByDrone (closes (pair_of s p g) z) p.drone_next (an_ack c k) → Inv d s (said_part d p (record p.drone { upload = None; results = with_result p.drone.results s false; download = w }) (ack s c k)) (acked g p.drone_next z)
+  on_close p g w c k z cp i h a b x n =
+      let q : Pair = pair_of s p g in
+      drone_said d s ne p g (acked g p.drone_next z) (record p.drone { upload = None; results = with_result p.drone.results s false; download = w }) (ack s c k) (closes q z) i (rw (result_same p.drone.results s false) refl) (side.closes_facts q z i.facts h a b x) (keeps_closes q z i.facts h a b x) (λ _. n) (omega arith) tt refl (λ _. tt) cp
+
+  -- the own upload is closed with a refusal
+  pub on_refusal : (p : Part) (g : Moments) (c k : ℕ) → Inv d s p g → IsRefusal c → CanRefuse (pair_of s p g) → Own d s p (answers (closed p.drone s) (ack s c k))
+  on_refusal p g c k i r h =
+      let q : Pair = pair_of s p g in
+      let l : q.last_verdict ≤ q.drone_next = (let z = i.facts.last_verdict_sent in omega arith) in
+      by_test (λ e. Own d s p (answers e (ack s c k))) (is_own p.drone.upload s) _ _
+      (λ own. record { needs = tt; moments = acked g p.drone_next p.drone_next; inv = on_close p g p.drone.download c k p.drone_next (λ k l z. z) i (let z : q.has_open ≡ 1 = flag_true _ own in omega arith) l (omega arith) (λ x. absurd (let z = h.attempt in omega arith)) (closes_refused q c k r i.facts h) })
+      (λ other. record { needs = tt; moments = acked g p.drone_next p.drone_next; inv = on_ack p g p.drone.download c k p.drone_next (λ k l z. z) i (refuse_ack q i.facts h) (refused q c k r i.facts h) })
+
+  -- a refusal that changes nothing
+  pub on_denial : (p : Part) (g : Moments) (c k : ℕ) → Inv d s p g → IsRefusal c → CanRefuse (pair_of s p g) → Own d s p (answers p.drone (ack s c k))
+  on_denial p g c k i r h =
+      let q : Pair = pair_of s p g in
+      record { needs = tt; moments = acked g p.drone_next p.drone_next; inv = on_ack p g p.drone.download c k p.drone_next (λ k l z. z) i (refuse_ack q i.facts h) (refused q c k r i.facts h) }
+
+-- what is known of a cancel that was admitted
+pub record Cancelled (p : Pair) : Type 0 where
+  pub cancel : p.drone_last ≤ p.last_cancel
+  pub clearing : 3 < p.phase → p.result < 2
+  pub quiet : p.work ≡ 0 → p.synced ≡ 1 → p.result < 2
+  pub early : 0 < p.first_reply → p.result ≡ 2 → p.last_ack ≤ p.first_reply
+  pub zero : 0 < p.first_reply → p.last_verdict ≤ p.first_reply
+  pub only : 0 < p.first_ping → p.first_ping ≤ p.drone_last → p.drone_last ≡ p.last_cancel
+  pub first : 3 < p.phase → p.last_verdict ≤ p.station_last
+
+-- what is true of the answer to a cancel that closes the own upload, and of one that finds none open
+pub cancel_own : (p : Pair) (k : ℕ) → Facts p → 0 < p.has_open → SentByDrone (closes p p.last_verdict) p.drone_next (an_ack 15 k)
+cancel_own p k f h = grind arith
+
+abbrev pub CodeOf : ℕ → ℕ → Type 0
+CodeOf kept c = ((kept ≡ 0) × (c ≡ 1)) ⊎ (((kept ≡ 2) × (c ≡ 0)) ⊎ ((kept ≡ 1) × (c ≡ 15)))
+
+cancel_other : (p : Pair) (k c z : ℕ) → Facts p → Cancelled p → p.has_open ≡ 0 → CodeOf p.result c → (c ≡ 0 → z ≡ p.drone_next) → (c ≢ 0 → z ≡ p.last_verdict) → SentByDrone (acks p z) p.drone_next (an_ack c k)
+cancel_other p k c z f x h kept a b = grind arith
+
+-- the latter disturbs nothing
+cancel_can : (p : Pair) (c z : ℕ) → Facts p → Cancelled p → CodeOf p.result c → (c ≡ 0 → z ≡ p.drone_next) → (c ≢ 0 → z ≡ p.last_verdict) → CanAck p z
+cancel_can p c z f x kept a b = grind arith
+
+-- the latest verdict after the answer to a cancel
+latest_zero : (c t u : ℕ) → c ≡ 0 → (if c == 0 then t else u) ≡ t
+latest_zero c t u e = grind arith
+
+latest_other : (c t u : ℕ) → c ≢ 0 → (if c == 0 then t else u) ≡ u
+latest_other c t u e = grind arith
+
+-- the code that answers a cancel tells the result
+cancel_code_of : (o : Option Bool) → CodeOf (result_number o) (cancel_code o)
+cancel_code_of None = inl (refl, refl)
+cancel_code_of (Some true) = inr (inl (refl, refl))
+cancel_code_of (Some false) = inr (inr (refl, refl))
+
+-- what is known of a Count that was admitted
+pub record Counted (p : Pair) : Type 0 where
+  pub count : p.drone_last ≤ p.last_count
+  pub counted : 0 < p.first_count
+  pub own : p.first_count ≤ p.drone_last
+
+-- a Count may be refused, and so may a Clear or a List
+count_refuses : (p : Pair) → Facts p → Counted p → CanRefuse p
+count_refuses p f h = grind arith
+
+-- what is known of a Clear or a Listing that was admitted
+pub record Clearing (p : Pair) : Type 0 where
+  pub job : p.drone_last ≤ p.last_job
+  pub begun : 0 < p.first_job
+  pub last : 3 < p.phase → p.drone_last ≡ p.last_job
+  pub first : 3 < p.phase → p.last_verdict ≤ p.station_last
+  pub unlisted : 4 < p.phase → p.now_shown ≡ 0
+
+pub clear_refuses : (p : Pair) → Facts p → Clearing p → CanRefuse p
+clear_refuses p f h = grind arith
+
+-- what is true of the answer to a Clear, and of the first Request of an upload
+clear_new : (p : Pair) (k : ℕ) → Facts p → Clearing p → SentByDrone (acks p p.drone_next) p.drone_next (an_ack 0 k)
+clear_new p k f h = grind arith
+
+opens_new : (p : Pair) (k : ℕ) → Facts p → 0 < p.first_open → SentByDrone (opens p) p.drone_next (a_request 0 k)
+opens_new p k f h = grind arith
+
+opens_first_new : (p : Pair) (k : ℕ) → Facts p → SentByDrone (opens_first p) p.drone_next (a_request 0 k)
+opens_first_new p k f = grind arith
+
+-- the codes of refusals
+pub three : IsRefusal 3
+three = (λ e. absurd (omega arith), λ e. absurd (omega arith))
+
+four : IsRefusal 4
+four = (λ e. absurd (omega arith), λ e. absurd (omega arith))
+
+five : IsRefusal 5
+five = (λ e. absurd (omega arith), λ e. absurd (omega arith))
+
+pub denied : IsRefusal 14
+denied = (λ e. absurd (omega arith), λ e. absurd (omega arith))
+
+-- a number that isn't 0
+eq_zero : (n : ℕ) → (n == 0) ≡ false → 0 < n
+eq_zero n e = grind arith
+
+-- closing the own download keeps what it was a copy of
+pub left_copies : (s : Stream) (k : ℕ) (x : List Item) (c : Option Download) → Copies s k x c → Copies s k x (download_without c s)
+left_copies s k x None h = tt
+left_copies s k x (Some c) h = by_test (Copies s k x) (same_stream c.stream s) None (Some c) (λ _. tt) (λ _. h)
+
+module _ (d s : Stream) (ne : d ≢ s) where
+  -- a cancel
+  pub on_cancel : (p : Part) (g : Moments) (k : ℕ) → Inv d s p g → Cancelled (pair_of s p g) → Own d s p (cancel_comes p.drone s k)
+  on_cancel p g k i x =
+      let q : Pair = pair_of s p g in
+      by_test (λ e. Own d s p (answers e (ack s (cancel_code (result_of e.results s)) k))) (is_own p.drone.upload s) _ _
+      (λ own. record { needs = tt; moments = acked g p.drone_next g.last_verdict; inv = rw (result_same p.drone.results s false) (on_close d s ne p g (download_without p.drone.download s) 15 k g.last_verdict (λ k x z. left_copies s k x p.drone.download z) i (let z : q.has_open ≡ 1 = flag_true _ own in omega arith) (omega arith) (let z = i.facts.last_verdict_sent in omega arith) (λ _. refl) (cancel_own q k i.facts (let z : q.has_open ≡ 1 = flag_true _ own in omega arith))) })
+      (λ other.
+      let c = cancel_code (result_of p.drone.results s) in
+      let z : ℕ = if c == 0 then p.drone_next else g.last_verdict in
+      record {
+        needs = tt;
+        moments = acked g p.drone_next z;
+        inv = on_ack d s ne p g (download_without p.drone.download s) c k z (λ k x z. left_copies s k x p.drone.download z) i
+            (cancel_can q c z i.facts x (cancel_code_of (result_of p.drone.results s)) (latest_zero c p.drone_next g.last_verdict) (latest_other c p.drone_next g.last_verdict))
+            (cancel_other q k c z i.facts x (flag_false _ other) (cancel_code_of (result_of p.drone.results s)) (latest_zero c p.drone_next g.last_verdict) (latest_other c p.drone_next g.last_verdict));
+      })
+
+  -- an upload that is opened has gathered nothing
+  begun : (p : Part) (k n : ℕ) → k ≡ p.transaction.kind → n ≡ length p.transaction.plan → 0 < length p.transaction.plan → Gathers d s p.sent p.transaction (Some (record { stream = s; kind = k; total = n; items = []; idle = 0 }))
+  begun p k n a b c = λ _. record { kind = a; total = b; short = c; same = refl; said = λ i x l y. absurd (omega arith) }
+
+  -- an upload is opened, for the first time or again
+  pub on_open : (p : Part) (g : Moments) (k n : ℕ) → Inv d s p g → Counted (pair_of s p g) → k ≡ p.transaction.kind → n ≡ length p.transaction.plan → 0 < n → Own d s p (answers (opened p.drone s k n) (ask s k 0))
+  on_open p g k n i b ek en some =
+      let q : Pair = pair_of s p g in
+      let u : Gathers d s p.sent p.transaction (opened p.drone s k n).upload = begun p k n ek en (rw (← en) some) in
+      elim (zero_or g.first_open) [
+        | inl none ↦ record {
+          needs = tt;
+          moments = record g { first_open = p.drone_next; last_request = p.drone_next };
+          inv =
+              drone_said d s ne p g (record g { first_open = p.drone_next; last_request = p.drone_next }) (opened p.drone s k n) (ask s k 0) (opens_first q) i (rw (same s, result_same p.drone.results s false) refl)
+              (side.opens_first_facts q i.facts b.count b.counted b.own none)
+              (record { drone_next = omega arith; station_next = omega arith; shows = λ a b. (a, refl); drone = λ v x. side.opens_first_drone q v x i.facts b.count b.counted b.own none; station = λ ck kk t l v x. side.opens_first_station q ck kk t l v x i.facts b.count b.counted b.own none })
+              (λ _. opens_first_new q k i.facts) (omega arith) u refl (λ _. tt) (λ k l z. z);
+        }
+        | inr ever ↦ record {
+          needs = tt;
+          moments = record g { last_request = p.drone_next };
+          inv =
+              drone_said d s ne p g (record g { last_request = p.drone_next }) (opened p.drone s k n) (ask s k 0) (opens q) i (rw (same s, result_same p.drone.results s false) refl)
+              (side.opens_facts q i.facts b.count b.own ever)
+              (record { drone_next = omega arith; station_next = omega arith; shows = λ a b. (a, refl); drone = λ v x. side.opens_drone q v x i.facts b.count b.own ever; station = λ ck kk t l v x. side.opens_station q ck kk t l v x i.facts b.count b.own ever })
+              (λ _. opens_new q k i.facts ever) (omega arith) u refl (λ _. tt) (λ k l z. z);
+        }
+      ]
+
+  -- MISSION_COUNT
+  pub on_count : (p : Part) (g : Moments) (k n : ℕ) → Inv d s p g → Counted (pair_of s p g) → k ≡ p.transaction.kind → n ≡ length p.transaction.plan → Own d s p (count_comes p.drone s n k)
+  on_count p g k n i b ek en =
+      let P : DroneStep → Type 0 = Own d s p in
+      let can = count_refuses (pair_of s p g) i.facts b in
+      by_test P (nat_lt 2 k) _ _ (λ _. on_refusal d s ne p g 3 k i three can) (λ _.
+      by_test P (is_other p.drone.upload s) _ _ (λ _. on_denial d s ne p g 14 k i denied can) (λ _.
+      by_test P (n == 0) _ _ (λ _. on_refusal d s ne p g 5 k i five can) (λ some.
+      by_test P (nat_lt (limit_of k) n) _ _ (λ _. on_refusal d s ne p g 4 k i four can) (λ _.
+      by_test P (has_no_room p.drone s) _ _ (λ _. on_denial d s ne p g 14 k i denied can) (λ _.
+      on_open p g k n i b ek en (eq_zero n some))))))
+
+  -- MISSION_CLEAR_ALL
+  pub on_clear : (keeps : Bool) (p : Part) (g : Moments) (k : ℕ) → Inv d s p g → Clearing (pair_of s p g) → IsClear k p.opening → Own d s p (clear_comes keeps p.drone s k)
+  on_clear keeps p g k i b e =
+      let P : DroneStep → Type 0 = Own d s p in
+      let q : Pair = pair_of s p g in
+      let can = clear_refuses q i.facts b in
+      by_test P (nat_lt 2 k && not (k == every_kind)) _ _ (λ _. on_denial d s ne p g 3 k i three can) (λ _.
+      by_test P (is_other p.drone.upload s) _ _ (λ _. on_denial d s ne p g 14 k i denied can) (λ _.
+      by_test P keeps _ _ (λ _.
+      by_test (λ x. Own d s p (record { drone = record x { plans = without_plan p.drone.plans k }; answer = Some (ack s 0 k); event = Empties s k })) (is_own p.drone.upload s) _ _
+      (λ own. absurd (shut q i.facts b (flag_true _ own)))
+      (λ _. record {
+        needs = (refl, e);
+        moments = acked g p.drone_next p.drone_next;
+        inv =
+            drone_said d s ne p g (acked g p.drone_next p.drone_next) (record p.drone { plans = without_plan p.drone.plans k }) (ack s 0 k) (acks q p.drone_next) i refl
+            (acks_ok q p.drone_next i.facts (refuse_ack q i.facts can)) (keeps_acks q p.drone_next i.facts (refuse_ack q i.facts can))
+            (λ _. clear_new q k i.facts b) (omega arith) i.upload refl (λ _. tt) (λ k l z. z);
+      }))
+      (λ _. on_denial d s ne p g 14 k i denied can)))
+    where
+      shut : (p : Pair) → Facts p → Clearing p → p.has_open ≡ 1 → ⊥
+      shut p f h o = grind arith

@@ -1,0 +1,19 @@
+use Rattle.plan_safety.proofs.Shown as shown
+use Rattle.plan_safety.proofs.examples.small_executions.Goals as goal
+
+pub returns : goal.returns
+returns c = record {
+  names_tell_apart = shown.distinct;
+  installs = shown.installs;
+  tells_installed = shown.tells;
+  clears = shown.clears;
+  tells_cleared = shown.tells_cleared;
+  downloads = shown.downloads;
+  refuses = shown.refuses;
+  loses_an_installed_one = shown.unknown_installed;
+  loses_an_open_one = shown.unknown_lost;
+  ends = shown.ends;
+  first_uploads = shown.alternates.0;
+  second_replaces = shown.alternates.1;
+  first_uploads_again = shown.alternates.2;
+}

@@ -1,0 +1,5 @@
+use Rattle.plan_safety.proofs.OutcomeLaws as laws
+use Rattle.plan_safety.proofs.outcomes.every_outcome.Goals as goal
+
+pub returns : goal.returns
+returns c = record { not_installed = laws.not_installed_law; unknown = laws.unknown_law; ended = laws.ended_law }

@@ -1,0 +1,78 @@
+// Who a plan message comes from and whom it is for.
+ghost use Rattle.std.specs.Prelude.{◌≡◌};
+ghost use Rattle.plan_upload.specs.Addresses.{same_stream, same_name, node_of, everyone, is_for_drone};
+ghost use Rattle.plan_upload.specs.Drone.{ack, ask};
+ghost use Rattle.plan_upload.specs.Station.{addressee};
+
+use mav_ports::{Name, Stream};
+use plan_items::PlanMsg;
+
+// A drone is this component of its system (MAVLink common messages, MAV_COMP_ID_AUTOPILOT1).
+pub const AUTOPILOT: u8 = 1;
+
+pub fn is_same_stream(a: Stream, b: Stream) -> bool
+    ensures { result ≡ same_stream a b }
+{
+    a.sys == b.sys && (a.comp == b.comp && a.link == b.link)
+}
+
+pub fn is_same_name(a: Name, b: Name) -> bool
+    ensures { result ≡ same_name a b }
+{
+    a.sys == b.sys && a.comp == b.comp
+}
+
+pub fn node(stream: Stream) -> Name
+    ensures { result ≡ node_of stream }
+{
+    Name {
+        sys: stream.sys,
+        comp: stream.comp,
+    }
+}
+
+pub fn broadcast() -> Name
+    ensures { result ≡ everyone }
+{
+    Name { sys: 0, comp: 0 }
+}
+
+pub fn is_for_autopilot(sys: u8, to: Name) -> bool
+    ensures { result ≡ is_for_drone sys to }
+{
+    to.sys == sys && (to.comp == AUTOPILOT || to.comp == 0)
+}
+
+pub fn receiver(msg: &PlanMsg) -> Name
+    ensures { result ≡ addressee msg.now }
+{
+    match *msg {
+        PlanMsg::Ping { to, .. } => to,
+        PlanMsg::Count { to, .. } => to,
+        PlanMsg::Request { to, .. } => to,
+        PlanMsg::Item { to, .. } => to,
+        PlanMsg::Ack { to, .. } => to,
+        PlanMsg::List { to, .. } => to,
+        PlanMsg::Clear { to, .. } => to,
+    }
+}
+
+pub fn acknowledge(stream: Stream, code: u8, kind: u8) -> PlanMsg
+    ensures { result ≡ ack stream code kind }
+{
+    PlanMsg::Ack {
+        to: node(stream),
+        code,
+        kind,
+    }
+}
+
+pub fn request(stream: Stream, kind: u8, seq: u16) -> PlanMsg
+    ensures { result ≡ ask stream kind seq }
+{
+    PlanMsg::Request {
+        to: node(stream),
+        seq,
+        kind,
+    }
+}

@@ -1,0 +1,12 @@
+// What a plan message would do to a drone's plans.
+use plan_items::PlanKind;
+
+/// What a step would do to the plans.
+#[derive(Clone, Copy, Debug, PartialEq, Eq)]
+pub enum Change {
+    Same,
+    /// The gathered items would become the plan of this kind.
+    Install(PlanKind),
+    /// The plan of this kind, or with None all three, would become empty, also where it is so already.
+    Empty(Option<PlanKind>),
+}

@@ -1,0 +1,186 @@
+// What a drone does at each message that is for it.
+ghost use Rattle.std.specs.Prelude.{◌≡◌, ◌<◌, ◌≤◌, Some, IsTrue, true};
+ghost use Rattle.plan_items.specs.Kinds.{number_of, limit_of};
+ghost use Rattle.plan_upload.specs.Changes.{change_by};
+ghost use Rattle.plan_upload.specs.Drone.{closed, opened, count_comes, item_comes, ack_comes, cancel_comes, clear_comes, list_comes, request_comes, is_own};
+ghost use Rattle.plan_upload.specs.Gathering.{is_sound_with, installed_by};
+ghost use Rattle.plan_upload.specs.Room.{has_place};
+
+use super::Drone;
+use crate::addresses::{acknowledge, node, request};
+use crate::changes::Change;
+use crate::verdicts::Verdict;
+use mav_ports::Stream;
+use plan_items::{Item, MissionResult, PlanKind, PlanMsg};
+
+/// The number that stands for every kind in a clear (MAVLink common messages, MAV_MISSION_TYPE_ALL).
+pub const ALL_KINDS: u8 = 255;
+
+impl Drone {
+    // Drops what the stream's own upload gathered.
+    fn close(&mut self, from: Stream)
+        ensures { self.new ≡ closed self.old from }
+    {
+        if self.upload.is_of(from) {
+            self.upload.close();
+            self.results.set(from, false);
+        }
+    }
+
+    fn open_upload(&mut self, from: Stream, kind: PlanKind, count: u16)
+        requires some { 0 < count }
+        requires fits { count ≤ limit_of (number_of kind) }
+        requires place { IsTrue (has_place self.old.results from) }
+        ensures { self.new ≡ opened self.old from (number_of kind) count }
+    {
+        self.upload.open(from, kind, count);
+        self.results.set(from, false);
+    }
+
+    pub(crate) fn count(&mut self, from: Stream, count: u16, kind: u8) -> PlanMsg
+        ensures drone { self.new ≡ (count_comes self.old from count kind).drone }
+        ensures answer { Some result ≡ (count_comes self.old from count kind).answer }
+    {
+        let Some(known) = PlanKind::of(kind) else {
+            self.close(from);
+            return acknowledge(from, MissionResult::UNSUPPORTED, kind);
+        };
+        if self.upload.is_of_other(from) {
+            return acknowledge(from, MissionResult::DENIED, kind);
+        }
+        if count == 0 {
+            self.close(from);
+            return acknowledge(from, MissionResult::INVALID, kind);
+        }
+        if count > known.limit() {
+            self.close(from);
+            return acknowledge(from, MissionResult::NO_SPACE, kind);
+        }
+        if !self.results.has_place(from) {
+            return acknowledge(from, MissionResult::DENIED, kind);
+        }
+        self.open_upload(from, known, count);
+        request(from, kind, 0)
+    }
+
+    // The gathered items and this last one become the plan of their kind.
+    fn install(&mut self, from: Stream, item: Item)
+        requires own { IsTrue (is_own self.old.upload from) }
+        requires sound { IsTrue (is_sound_with self.old.upload item) }
+        ensures { self.new ≡ installed_by self.old from self.old.upload item }
+    {
+        self.upload.finish(item, &mut self.plans);
+        self.results.set(from, true);
+        self.installs = self.installs.saturating_add(1);
+    }
+
+    pub(crate) fn item(&mut self, from: Stream, seq: u16, kind: u8, item: &Item) -> Option<PlanMsg>
+        ensures drone { self.new ≡ (item_comes true self.old from self.old.upload seq kind item.now).drone }
+        ensures answer { result ≡ (item_comes true self.old from self.old.upload seq kind item.now).answer }
+    {
+        match self.upload.judge(from, seq, kind, item) {
+            Verdict::NotOwn => None,
+            Verdict::AskAgain => self.upload.asked(from),
+            Verdict::Refuse(code) => {
+                let answer = self.upload.acked(from, code);
+                self.close(from);
+                answer
+            }
+            Verdict::Gather => {
+                self.upload.gather(*item);
+                self.upload.asked(from)
+            }
+            Verdict::Install => {
+                let answer = self.upload.acked(from, MissionResult::ACCEPTED);
+                self.install(from, *item);
+                answer
+            }
+        }
+    }
+
+    fn cancel(&mut self, from: Stream, kind: u8) -> PlanMsg
+        ensures drone { self.new ≡ (cancel_comes self.old from kind).drone }
+        ensures answer { Some result ≡ (cancel_comes self.old from kind).answer }
+    {
+        self.download.close_own(from);
+        self.close(from);
+        let code = match self.results.of(from) {
+            Some(true) => MissionResult::ACCEPTED,
+            Some(false) => MissionResult::OPERATION_CANCELLED,
+            None => MissionResult::ERROR,
+        };
+        acknowledge(from, code, kind)
+    }
+
+    pub(crate) fn ack(&mut self, from: Stream, code: u8, kind: u8) -> Option<PlanMsg>
+        ensures drone { self.new ≡ (ack_comes self.old from code kind).drone }
+        ensures answer { result ≡ (ack_comes self.old from code kind).answer }
+    {
+        if code == MissionResult::OPERATION_CANCELLED {
+            return Some(self.cancel(from, kind));
+        }
+        self.download.close_own(from);
+        None
+    }
+
+    pub(crate) fn clear(&mut self, from: Stream, kind: u8) -> PlanMsg
+        ensures drone { self.new ≡ (clear_comes true self.old from kind).drone }
+        ensures answer { Some result ≡ (clear_comes true self.old from kind).answer }
+    {
+        let known = PlanKind::of(kind);
+        if known.is_none() && kind != ALL_KINDS {
+            return acknowledge(from, MissionResult::UNSUPPORTED, kind);
+        }
+        if self.upload.is_of_other(from) {
+            return acknowledge(from, MissionResult::DENIED, kind);
+        }
+        self.close(from);
+        self.plans.empty(known);
+        acknowledge(from, MissionResult::ACCEPTED, kind)
+    }
+
+    pub(crate) fn list(&mut self, from: Stream, kind: u8) -> PlanMsg
+        ensures drone { self.new ≡ (list_comes self.old from kind).drone }
+        ensures answer { Some result ≡ (list_comes self.old from kind).answer }
+    {
+        let Some(known) = PlanKind::of(kind) else {
+            return acknowledge(from, MissionResult::UNSUPPORTED, kind);
+        };
+        if self.download.is_of_other(from) {
+            return acknowledge(from, MissionResult::DENIED, kind);
+        }
+        let plan = self.plans.of(known);
+        self.download.copy(from, known, plan);
+        PlanMsg::Count {
+            to: node(from),
+            count: plan.len() as u16,
+            kind,
+        }
+    }
+
+    pub(crate) fn request(&mut self, from: Stream, seq: u16, kind: u8) -> PlanMsg
+        ensures drone { self.new ≡ (request_comes self.old from self.old.download seq kind).drone }
+        ensures answer { Some result ≡ (request_comes self.old from self.old.download seq kind).answer }
+    {
+        self.download.give(from, seq, kind)
+    }
+
+    pub(crate) fn change_by_item(&self, from: Stream, seq: u16, kind: u8, item: &Item) -> Change
+        ensures { result ≡ change_by (item_comes true self.now from self.now.upload seq kind item.now).event }
+    {
+        match (self.upload.judge(from, seq, kind, item), self.upload.kind()) {
+            (Verdict::Install, Some(kind)) => Change::Install(kind),
+            _ => Change::Same,
+        }
+    }
+
+    pub(crate) fn change_by_clear(&self, from: Stream, kind: u8) -> Change
+        ensures { result ≡ change_by (clear_comes true self.now from kind).event }
+    {
+        let known = PlanKind::of(kind);
+        if known.is_none() && kind != ALL_KINDS || self.upload.is_of_other(from) {
+            return Change::Same;
+        }
+        Change::Empty(known)
+    }
+}

@@ -1,0 +1,30 @@
+//! The two ends of the mission protocol for plans, as machines without links, clocks or files:
+//! a `Drone` that holds a plan of each kind, and a `Station` that uploads, clears and downloads them.
+//! Plan messages and ticks go in, plan messages and outcomes come out. What each does is stated by
+//! one total step function in specs/ (`drone_step`, `drone_tick`, `station_step`, `station_tick`),
+//! and no call but the constructors and `Station::get` takes memory.
+#![tactic(auto)]
+
+mod addresses;
+mod buffers;
+mod changes;
+mod downloads;
+mod drone;
+mod faults;
+mod held;
+mod operations;
+mod outcomes;
+mod results;
+mod station;
+mod synced;
+mod uploads;
+mod verdicts;
+
+pub use changes::Change;
+pub use drone::Drone;
+pub use faults::{BeginFault, OpFault};
+pub use outcomes::Outcome;
+pub use station::Station;
+use std::alloc::AllocError;
+
+pub type NoMemory = AllocError;

@@ -1,0 +1,5 @@
+pub mod Lines
+pub mod Grows
+pub mod Steps
+pub mod Untolds
+pub mod Ends

@@ -1,0 +1,4 @@
+pub mod Words
+pub mod Plays
+pub mod Endings
+pub mod Runs

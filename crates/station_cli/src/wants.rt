@@ -1,0 +1,19 @@
+// What a run needs of outside.
+/// What the words ask `main` to make, in this order. What they don't name is None or empty.
+#[derive(Debug, Drop)]
+pub struct Wanted {
+    /// The scenario; `-` is standard input.
+    pub main: Option<String>,
+    pub defs: Option<String>,
+    pub key: Option<String>,
+    pub ports: Vec<String>,
+    pub keepers: u8,
+}
+
+/// The inputs that the words name; the others stand for nothing, and aren't read.
+#[derive(Drop)]
+pub struct Inputs<S> {
+    pub main: S,
+    pub defs: S,
+    pub key: S,
+}
