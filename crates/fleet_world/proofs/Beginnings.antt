@@ -1,5 +1,5 @@
 -- A station that is handed the draft.
-use Rattle.std.proofs.Common.{◌≡◌, ◌∙◌, ℕ, List, [], ◌∷◌, ◌++◌, Ok, Err, Some, None, refl, ap, sym, subst}
+use Rattle.std.proofs.Common.{◌≡◌, ◌∙◌, ℕ, List, [], ◌++◌, Some, ap, sym, subst}
 use Rattle.std.proofs.Math.Seq.{set-get_or}
 use Rattle.std.proofs.lemmas.List.{append-nil}
 use Rattle.std.proofs.lemmas.Option.{get_or_from_slice_get}
@@ -11,8 +11,7 @@ use Rattle.plan_items.specs.declared.plans.Plan.{Plan}
 use Rattle.plan_items.specs.declared.messages.PlanMsg.{PlanMsg}
 use Rattle.plan_items.specs.Plans.{items_of}
 use Rattle.plan_upload.specs.declared.faults.OpFault.{OpFault}
-use Rattle.plan_upload.specs.Station.{StationState, begin_upload}
-use Rattle.plan_upload.specs.Refusals.{upload_refusal}
+use Rattle.plan_upload.specs.Station.{StationState}
 use Rattle.fleet_world.specs.declared.nodes.Node.{Node}
 use Rattle.fleet_world.specs.declared.nodes.Node.TheVariants.{Drone as DroneNode, Station as StationNode}
 use Rattle.fleet_world.specs.declared.beginning.Begun.{Begun}

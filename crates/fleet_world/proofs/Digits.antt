@@ -1,5 +1,5 @@
 -- Decimal digits, read from left to right.
-use Rattle.std.proofs.Common.{◌≡◌, ℕ, ◌+◌, ◌-◌, ◌*◌, ◌<◌, ◌≤◌, ◌&&◌, ◌==◌, not, Bool, true, false, cond, List, [], ◌∷◌, length, get_or, drop, refl, arith, rules, sym, ◌∙◌, ap, leb, Option, Some, None, drop-cons, add-one, if◌then◌else◌}
+use Rattle.std.proofs.Common.{◌≡◌, ℕ, ◌+◌, ◌-◌, ◌*◌, ◌<◌, ◌≤◌, ◌&&◌, ◌==◌, not, false, List, [], ◌∷◌, length, get_or, drop, refl, arith, sym, ◌∙◌, leb, Some, None, drop-cons, add-one, if◌then◌else◌}
 use Rattle.std.specs.List.{list_all}
 use Rattle.std.proofs.lemmas.Bool.{lt-leb}
 use Rattle.fleet_world.specs.Words.{is_digit, is_numeral, digits_onto, digits_value}

@@ -1,5 +1,5 @@
 -- Items that join the draft.
-use Rattle.std.proofs.Common.{◌≡◌, ◌∙◌, ◌<◌, ◌+◌, ◌-◌, ℕ, suc, List, [], ◌∷◌, ◌++◌, ℤ, pos, ◌+ℤ◌, refl, ap, sym, subst, arith, append_assoc}
+use Rattle.std.proofs.Common.{◌≡◌, ◌∙◌, ◌<◌, ◌+◌, ◌-◌, ℕ, suc, List, [], ◌∷◌, ◌++◌, pos, ◌+ℤ◌, ap, sym, arith, append_assoc}
 use Rattle.plan_items.specs.declared.items.Item.{Item}
 use Rattle.fleet_world.specs.Steps.{items_from}
 

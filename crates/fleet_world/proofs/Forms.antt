@@ -1,20 +1,19 @@
 -- Each built form read word by word, against the grammar.
-use Rattle.std.proofs.Common.{◌≡◌, ℕ, ℤ, pos, ◌+◌, ◌<◌, ◌≤◌, ◌==◌, ◌||◌, not, Bool, true, false, List, [], ◌∷◌, length, codes, refl, arith, sym, ◌∙◌, ap, subst, ltb, eqb, lit≤, Option, Some, None, Ok, Err, Result, inl, inr, if◌then◌else◌, nat_lt, nat_le}
+use Rattle.std.proofs.Common.{◌≡◌, ℕ, ℤ, pos, ◌+◌, ◌≤◌, ◌==◌, ◌||◌, not, Bool, true, false, List, [], ◌∷◌, length, codes, refl, arith, sym, ◌∙◌, ap, subst, lit≤, Option, Some, None, Ok, Err, inl, inr, if◌then◌else◌, nat_lt}
 use Rattle.std.specs.Str.{bytes_eq}
-use Rattle.std.proofs.lemmas.Bool.{cases_lt, lt-ltb, le-ltb, cases_eq, eq-eqb, ne_eqb}
+use Rattle.std.proofs.lemmas.Bool.{cases_lt, lt-ltb, le-ltb, cases_eq, ne_eqb}
 use Rattle.std.proofs.lemmas.List.{get_or_past}
 use Rattle.mav_ports.specs.declared.names.Name.{Name}
-use Rattle.plan_items.specs.declared.items.Item.{Item}
 use Rattle.plan_items.specs.declared.kinds.PlanKind.{PlanKind}
 use Rattle.fleet_world.specs.declared.faults.Reason.{Reason}
-use Rattle.fleet_world.specs.declared.faults.Reason.TheVariants.{Word, Later, Count, Number, Kind as KindReason, Twice, Range, Draft}
+use Rattle.fleet_world.specs.declared.faults.Reason.TheVariants.{Later, Count, Number, Kind as KindReason, Twice, Range, Draft}
 use Rattle.fleet_world.specs.declared.lines.Line.{Line}
 use Rattle.fleet_world.specs.declared.lines.Line.TheVariants.{Drone, Station, Item as OneItem, Items, Begin, Flow}
 use Rattle.fleet_world.specs.Words.{word_at, number_in, integer_of, name_of_word}
 use Rattle.fleet_world.specs.Scene.{Scene, drone_name, has_name, has_drone, has_station}
-use Rattle.fleet_world.specs.Grammar.{Argument, Wire, first_reason, against, may_count, item_words, whole_at, signed_at, name_at, kind_at, kind_word, most_whole, most_draft}
+use Rattle.fleet_world.specs.Grammar.{first_reason, against, whole_at, signed_at, name_at, kind_at, kind_word, most_whole, most_draft}
 use Rattle.fleet_world.specs.Reasons.{state_reason, leaves_range, has_any_drone, has_any_station}
-use Rattle.fleet_world.specs.Readings.{answered, reading, and_then, read_drone, read_station, read_one_item, read_items, read_begin, read_flow}
+use Rattle.fleet_world.specs.Readings.{answered, reading, read_drone, read_station, read_one_item, read_items, read_begin, read_flow}
 use Rattle.fleet_world.proofs.ReadWords.{first, step, named_step, the_value, number_wider, too_few, too_many, enough}
 use Rattle.fleet_world.proofs.ReadItems.{item-reads, item_said}
 

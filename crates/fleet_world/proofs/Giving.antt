@@ -1,31 +1,27 @@
 -- A frame given to nodes, one after another.
-use Rattle.std.proofs.Common.{◌≡◌, ◌∙◌, ◌<◌, ◌≤◌, ◌+◌, ◌-◌, ℕ, zero, suc, Bool, true, false, List, [], ◌∷◌, ◌++◌, Ok, Err, Some, None, refl, ap, sym, subst, arith, length, cond}
+use Rattle.std.proofs.Common.{◌≡◌, ◌∙◌, ◌<◌, ◌≤◌, ◌+◌, ◌-◌, ℕ, zero, suc, true, false, List, Err, Some, None, refl, ap, sym, subst, arith, cond}
 use Rattle.std.specs.List.{slice_get}
 use Rattle.std.specs.Option.{option_map}
 use Rattle.std.specs.declared.option.Option.{Option}
 use Rattle.std.specs.declared.result.Result.{Result}
 use Rattle.mav_ports.specs.declared.names.Name.{Name}
 use Rattle.plan_items.specs.declared.messages.PlanMsg.{PlanMsg}
-use Rattle.plan_upload.specs.Addresses.{same_name}
 use Rattle.plan_upload.specs.Drone.{drone_step}
 use Rattle.plan_upload.specs.Plans.{Plans}
 use Rattle.plan_upload.specs.Changes.{change_by}
 use Rattle.plan_upload.specs.declared.changes.Change.{Change}
-use Rattle.plan_upload.specs.Station.{Told, station_step}
 use Rattle.plan_upload.specs.Outcomes.{told_of}
 use Rattle.plan_upload.specs.declared.outcomes.Outcome.{Outcome}
 use Rattle.fleet_world.specs.declared.faults.Bound.{Bound}
 use Rattle.fleet_world.specs.declared.hearing.News.{News}
-use Rattle.fleet_world.specs.declared.hearing.Heard.{Heard}
 use Rattle.fleet_world.specs.declared.hearing.Heard.TheVariants.{Drone as DroneHeard, Station as StationHeard}
 use Rattle.fleet_world.specs.declared.nodes.Node.{Node}
 use Rattle.fleet_world.specs.declared.nodes.Node.TheVariants.{Drone as DroneNode, Station as StationNode}
 use Rattle.fleet_world.specs.declared.nodes.Frame.{Frame}
-use Rattle.fleet_world.specs.Scene.{Scene, drone_name, node_name, stream_of}
-use Rattle.fleet_world.specs.Events.{Event}
-use Rattle.fleet_world.specs.Hearing.{IsNews, IsDroneHeard, IsStationHeard, IsHeard, HearsAt, IsSender, IsTaken}
+use Rattle.fleet_world.specs.Scene.{Scene, stream_of}
+use Rattle.fleet_world.specs.Hearing.{IsNews, IsDroneHeard, IsHeard, HearsAt, IsSender, IsTaken}
 use Rattle.fleet_world.proofs.Leading.{Leads, leads_step, leads_limit, leads_end}
-use Rattle.fleet_world.specs.Steps.{Step, rests, behind, before, and_then, sends, with_node, plan_events, end_events, node_hears, given_to, given_from, given_to_all, flow_next, flows, IsDone}
+use Rattle.fleet_world.specs.Steps.{Step, rests, behind, before, and_then, sends, plan_events, end_events, node_hears, given_to, given_from, given_to_all, flow_next, flows, IsDone}
 
 -- what the world does with what was heard of a drone
 pub record TellsDrone (s : Scene) (place : ℕ) (f : Frame) (name : Name) (news : News) (answer : Option PlanMsg) (after : Scene) : Type 0 where

@@ -1,5 +1,5 @@
 -- The look-ups of names as tests of any node.
-use Rattle.std.proofs.Common.{◌≡◌, ◌||◌, Bool, List, [], ◌∷◌, refl, ap}
+use Rattle.std.proofs.Common.{◌≡◌, ◌||◌, List, [], ◌∷◌, refl, ap}
 use Rattle.std.specs.List.{list_any}
 use Rattle.mav_ports.specs.declared.names.Name.{Name}
 use Rattle.plan_upload.specs.Addresses.{same_name}

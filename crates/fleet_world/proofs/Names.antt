@@ -1,5 +1,5 @@
 -- The names of nodes, by the place of their point.
-use Rattle.std.proofs.Common.{◌≡◌, ℕ, suc, ◌+◌, ◌-◌, ◌<◌, ◌||◌, not, Bool, true, false, cond, List, [], ◌∷◌, length, take, drop, refl, arith, sym, ◌∙◌, ap, ltb, Option, Some, None, inl, inr}
+use Rattle.std.proofs.Common.{◌≡◌, ℕ, suc, ◌+◌, ◌-◌, ◌||◌, not, Bool, true, false, cond, List, [], ◌∷◌, length, take, drop, refl, arith, sym, ◌∙◌, ap, ltb, Option, Some, None, inl, inr}
 use Rattle.std.specs.List.{list_any, position, position_or_len}
 use Rattle.std.proofs.lemmas.Bool.{lt-ltb, le-ltb, cases_lt}
 use Rattle.std.proofs.lemmas.List.{take_rest}

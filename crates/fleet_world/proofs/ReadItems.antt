@@ -1,5 +1,5 @@
 -- The words of an item that are read one by one, against the arguments of its form.
-use Rattle.std.proofs.Common.{◌≡◌, ℕ, ℤ, ◌+◌, List, [], ◌∷◌, length, refl, arith, sym, ◌∙◌, ap, lit≤, Option, Some, None, Ok, Err, Result}
+use Rattle.std.proofs.Common.{◌≡◌, ℕ, ℤ, ◌+◌, List, [], ◌∷◌, length, lit≤, Option, Ok, Result}
 use Rattle.plan_items.specs.declared.items.Item.{Item}
 use Rattle.fleet_world.specs.declared.faults.Reason.{Reason}
 use Rattle.fleet_world.specs.declared.faults.Reason.TheVariants.{Number}

@@ -1,17 +1,16 @@
 -- Words that are read one by one, against the arguments of a form.
-use Rattle.std.proofs.Common.{◌≡◌, ℕ, zero, suc, ℤ, pos, ◌+◌, ◌-◌, ◌^◌, ◌<◌, ◌≤◌, ◌||◌, ◌&&◌, Bool, true, false, cond, List, [], ◌∷◌, ◌++◌, length, get_or, refl, arith, sym, ◌∙◌, ap, subst, leb, ltb, eqb, Option, Some, None, Ok, Err, Result, inl, inr, if◌then◌else◌, unwrap_or, is_some}
+use Rattle.std.proofs.Common.{◌≡◌, ℕ, zero, suc, ◌+◌, ◌<◌, ◌≤◌, ◌&&◌, Bool, true, false, cond, List, [], ◌∷◌, length, refl, arith, ap, leb, Option, Some, None, Ok, Err, Result, inl, inr, if◌then◌else◌, unwrap_or, is_some}
 use Rattle.std.specs.Option.{ok_or}
 use Rattle.std.proofs.lemmas.Bool.{cases_lt, lt-ltb, le-ltb, le-leb, leb-true, and_parts, cases_eq, eq-eqb, ne_eqb}
 use Rattle.std.proofs.lemmas.List.{get_or_past}
 use Rattle.hex.specs.Hex.{decode_pairs}
 use Rattle.mav_ports.specs.declared.names.Name.{Name}
-use Rattle.plan_items.specs.declared.items.Item.{Item}
 use Rattle.fleet_world.specs.declared.faults.Reason.{Reason}
-use Rattle.fleet_world.specs.declared.faults.Reason.TheVariants.{Number, Node as NodeReason, Hex}
+use Rattle.fleet_world.specs.declared.faults.Reason.TheVariants.{Node as NodeReason, Hex}
 use Rattle.fleet_world.specs.declared.nodes.Node.{Node}
-use Rattle.fleet_world.specs.Words.{word_at, is_numeral, digits_value, number_in, integer_of, wire_word}
-use Rattle.fleet_world.specs.Grammar.{Argument, Whole, Signed, Wire, misfit, known, first_reason, may_count, further_arguments, most_whole, whole_at, signed_at, wire_at, item_words}
-use Rattle.fleet_world.specs.Readings.{answered, and_then, whole, signed, wire_or_zero, named_in, read_item}
+use Rattle.fleet_world.specs.Words.{word_at, is_numeral, digits_value, number_in, wire_word}
+use Rattle.fleet_world.specs.Grammar.{Argument, Wire, misfit, known, first_reason, may_count, further_arguments, most_whole, wire_at, item_words}
+use Rattle.fleet_world.specs.Readings.{answered, and_then, wire_or_zero, named_in}
 
 -- a reason that stands first
 pub first : {A : Type 0} (bad : Bool) (r : Reason) (m : Option Reason) (v : A)

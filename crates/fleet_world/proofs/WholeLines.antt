@@ -1,5 +1,5 @@
 -- What is read of a line's words, as an answer about the whole line.
-use Rattle.std.proofs.Common.{◌≡◌, ℕ, ◌≤◌, Bool, true, false, List, length, refl, sym, ◌∙◌, ap, Option, Some, None, Ok, Err, Result}
+use Rattle.std.proofs.Common.{◌≡◌, ℕ, ◌≤◌, false, List, length, refl, ◌∙◌, ap, Option, Some, None, Ok, Err}
 use Rattle.std.proofs.lemmas.Bool.{le-ltb}
 use Rattle.fleet_world.specs.declared.faults.Reason.{Reason}
 use Rattle.fleet_world.specs.declared.lines.Line.{Line}

@@ -1,6 +1,6 @@
 -- The grammar of scenario lines: the form of each line, the first reason against a line, and what a line
 -- says where there is none.
-use Rattle.std.specs.Prelude.{ℕ, ℤ, pos, ◌+◌, ◌-◌, ◌^◌, ◌==◌, ◌||◌, ◌&&◌, ◌+ℤ◌, not, nat_lt, nat_le, Bool, true, false, if◌then◌else◌, is_some, List, [], ◌∷◌, ◌++◌, length, codes, Option, Some, None, unwrap_or}
+use Rattle.std.specs.Prelude.{ℕ, ℤ, pos, ◌+◌, ◌-◌, ◌^◌, ◌==◌, ◌||◌, ◌&&◌, nat_lt, Bool, true, false, if◌then◌else◌, is_some, List, [], ◌∷◌, ◌++◌, length, codes, Option, Some, None, unwrap_or}
 use Rattle.std.specs.Str.{bytes_eq}
 use Rattle.hex.specs.Hex.{decode_of}
 use Rattle.std.specs.Result.{is_ok}
@@ -9,12 +9,12 @@ use Rattle.plan_items.specs.declared.items.Item.{Item}
 use Rattle.plan_items.specs.declared.kinds.PlanKind.{PlanKind}
 use Rattle.plan_items.specs.declared.kinds.PlanKind.TheVariants.{Mission, Fence, Rally}
 use Rattle.fleet_world.specs.declared.faults.Reason.{Reason}
-use Rattle.fleet_world.specs.declared.faults.Reason.TheVariants.{Long, Word, Later, Count, Number, Node as NodeReason, Kind as KindReason, Hex, Twice, Range, Draft, Clock}
+use Rattle.fleet_world.specs.declared.faults.Reason.TheVariants.{Number, Node as NodeReason, Kind as KindReason, Hex}
 use Rattle.fleet_world.specs.declared.lines.Line.{Line}
 use Rattle.fleet_world.specs.declared.lines.Line.TheVariants.{Blank, Drone, Station, Item as OneItem, Items, Begin, Flow}
 use Rattle.fleet_world.specs.declared.nodes.Node.{Node}
 use Rattle.fleet_world.specs.Words.{words_of, word_at, number_in, integer_of, wire_word, name_of_word}
-use Rattle.fleet_world.specs.Scene.{Scene, drone_name, has_name, has_drone, has_station}
+use Rattle.fleet_world.specs.Scene.{has_name, has_drone, has_station}
 
 -- what may stand at a place of a line
 pub data Argument : Type 0 where

@@ -1,9 +1,7 @@
 -- What a node's step is to the world: how the node is after it, what the report tells, and what is sent.
-use Rattle.std.specs.Prelude.{◌≡◌, ℕ, true, ◌==◌, ◌+◌, length, slice_get, Bool, List, [], ◌∷◌, if◌then◌else◌, option_map, Option, Some, None}
+use Rattle.std.specs.Prelude.{◌≡◌, ℕ, true, ◌+◌, length, slice_get, Bool, option_map, Option, Some, None}
 use Rattle.mav_ports.specs.declared.names.Name.{Name}
 use Rattle.mav_ports.specs.declared.names.Stream.{Stream}
-use Rattle.plan_items.specs.declared.items.Item.{Item}
-use Rattle.plan_items.specs.declared.kinds.PlanKind.{PlanKind}
 use Rattle.plan_items.specs.declared.messages.PlanMsg.{PlanMsg}
 use Rattle.plan_items.specs.Kinds.{number_of}
 use Rattle.plan_upload.specs.declared.changes.Change.{Change}

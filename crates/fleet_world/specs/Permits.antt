@@ -1,9 +1,6 @@
 -- The lines that a world may be asked to do: names known in their role, numbers in their ranges, and
 -- nothing in the world's state against them.
-use Rattle.std.specs.Prelude.{◌≡◌, ◌≤◌, ℕ, IsTrue, None, Option}
-use Rattle.plan_items.specs.declared.items.Item.{Item}
-use Rattle.plan_items.specs.declared.kinds.PlanKind.{PlanKind}
-use Rattle.mav_ports.specs.declared.names.Name.{Name}
+use Rattle.std.specs.Prelude.{◌≡◌, ◌≤◌, IsTrue, None}
 use Rattle.fleet_world.specs.declared.lines.Line.{Line}
 use Rattle.fleet_world.specs.declared.lines.Line.TheVariants.{Blank, Drone, Station, Item as OneItem, Items, Begin, Flow}
 use Rattle.fleet_world.specs.Scene.{Scene, has_drone, has_station}

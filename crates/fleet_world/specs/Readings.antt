@@ -7,14 +7,14 @@ use Rattle.mav_ports.specs.declared.names.Name.{Name}
 use Rattle.plan_items.specs.declared.items.Item.{Item}
 use Rattle.plan_items.specs.declared.kinds.PlanKind.{PlanKind}
 use Rattle.fleet_world.specs.declared.faults.Reason.{Reason}
-use Rattle.fleet_world.specs.declared.faults.Reason.TheVariants.{Word, Later, Count, Number, Node as NodeReason, Kind as KindReason, Hex, Twice, Range, Draft}
+use Rattle.fleet_world.specs.declared.faults.Reason.TheVariants.{Later, Count, Number, Node as NodeReason, Kind as KindReason, Hex, Twice, Range, Draft}
 use Rattle.fleet_world.specs.declared.lines.Line.{Line}
 use Rattle.fleet_world.specs.declared.lines.Line.TheVariants.{Drone, Station, Item as OneItem, Items, Begin, Flow}
 use Rattle.fleet_world.specs.declared.nodes.Node.{Node}
 use Rattle.fleet_world.specs.declared.nodes.Node.TheVariants.{Drone as DroneNode, Station as StationNode}
 use Rattle.plan_upload.specs.Addresses.{same_name}
 use Rattle.fleet_world.specs.Words.{word_at, number_in, integer_of, wire_word, name_of_word}
-use Rattle.fleet_world.specs.Scene.{Scene, drone_name, node_name, has_name, has_drone, has_station}
+use Rattle.fleet_world.specs.Scene.{Scene, drone_name, has_name, has_drone, has_station}
 use Rattle.fleet_world.specs.Grammar.{form_of, kind_word, line_from, most_whole, most_draft}
 use Rattle.fleet_world.specs.Reasons.{has_any_drone, has_any_station, leaves_range, words_reason}
 

@@ -1,15 +1,13 @@
 -- The first reason against a line, in a state of the world.
-use Rattle.std.specs.Prelude.{ℕ, ℤ, pos, negsuc, ◌+◌, ◌-◌, ◌^◌, ◌==◌, ◌||◌, ◌&&◌, ◌+ℤ◌, not, nat_lt, nat_le, Bool, true, false, if◌then◌else◌, is_some, List, [], ◌∷◌, length, codes, Option, Some, None}
+use Rattle.std.specs.Prelude.{ℕ, ℤ, pos, negsuc, ◌+◌, ◌-◌, ◌^◌, ◌||◌, ◌+ℤ◌, not, nat_lt, nat_le, Bool, true, false, if◌then◌else◌, List, [], ◌∷◌, length, codes, Option, Some, None}
 use Rattle.std.specs.Str.{bytes_eq}
 use Rattle.plan_items.specs.declared.items.Item.{Item}
-use Rattle.plan_items.specs.declared.kinds.PlanKind.{PlanKind}
 use Rattle.fleet_world.specs.declared.faults.Reason.{Reason}
 use Rattle.fleet_world.specs.declared.faults.Reason.TheVariants.{Long, Word, Later, Count, Twice, Range, Draft}
 use Rattle.fleet_world.specs.declared.lines.Line.{Line}
 use Rattle.fleet_world.specs.declared.lines.Line.TheVariants.{Blank, Drone, Station, Item as OneItem, Items, Begin, Flow}
 use Rattle.fleet_world.specs.declared.nodes.Node.{Node}
 use Rattle.fleet_world.specs.declared.nodes.Node.TheVariants.{Drone as DroneNode, Station as StationNode}
-use Rattle.mav_ports.specs.declared.names.Name.{Name}
 use Rattle.fleet_world.specs.Words.{words_of, word_at}
 use Rattle.fleet_world.specs.Scene.{Scene, drone_name, has_name}
 use Rattle.fleet_world.specs.Grammar.{Form, form_of, counts, arguments_at, misfit, first_reason, against, line_from, is_blank, most_line_bytes, most_draft}

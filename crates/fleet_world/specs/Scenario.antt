@@ -5,7 +5,6 @@ use Rattle.std.specs.List.{slice_split}
 use Rattle.fleet_world.specs.declared.faults.Bound.{Bound}
 use Rattle.fleet_world.specs.declared.faults.Reason.{Reason}
 use Rattle.fleet_world.specs.declared.faults.Reason.TheVariants.{Long}
-use Rattle.fleet_world.specs.declared.lines.Line.{Line}
 use Rattle.fleet_world.specs.Scene.{Scene, empty_scene}
 use Rattle.fleet_world.specs.Grammar.{line_of, most_line_bytes}
 use Rattle.fleet_world.specs.Reasons.{reason_against}

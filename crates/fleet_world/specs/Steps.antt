@@ -1,18 +1,17 @@
 -- What a scenario line does to the world: the scene after it and its events, or the limit that it meets.
-use Rattle.std.specs.Prelude.{◌≡◌, ℕ, ℤ, pos, zero, suc, ◌+◌, ◌==◌, ◌+ℤ◌, nat_lt, not, Bool, true, false, if◌then◌else◌, List, [], ◌∷◌, ◌++◌, length, slice_get, slice_set, position, Option, Some, None, Ok, Err}
+use Rattle.std.specs.Prelude.{◌≡◌, ℕ, pos, zero, suc, ◌+◌, ◌+ℤ◌, nat_lt, true, if◌then◌else◌, List, [], ◌∷◌, ◌++◌, length, slice_get, slice_set, position, Option, Some, None, Ok, Err}
 use Rattle.std.specs.declared.result.Result.{Result}
 use Rattle.mav_ports.specs.declared.names.Name.{Name}
 use Rattle.plan_items.specs.declared.items.Item.{Item}
-use Rattle.plan_items.specs.declared.kinds.PlanKind.{PlanKind}
 use Rattle.plan_items.specs.declared.messages.PlanMsg.{PlanMsg}
 use Rattle.plan_items.specs.Kinds.{number_of}
 use Rattle.plan_upload.specs.declared.faults.OpFault.{OpFault}
-use Rattle.plan_upload.specs.Addresses.{same_name, node_of}
+use Rattle.plan_upload.specs.Addresses.{same_name}
 use Rattle.plan_upload.specs.declared.changes.Change.{Change}
 use Rattle.plan_upload.specs.declared.changes.Change.TheVariants.{Same, Install, Empty}
 use Rattle.plan_upload.specs.Changes.{change_by}
 use Rattle.plan_upload.specs.Plans.{Plans, no_plans, plan_at}
-use Rattle.plan_upload.specs.Drone.{DroneState, DroneStep, PlanEvent, Quiet, Installs, Empties, Shows, drone_step, fresh_drone}
+use Rattle.plan_upload.specs.Drone.{DroneStep, drone_step, fresh_drone}
 use Rattle.plan_upload.specs.Station.{StationState, StationStep, Told, station_step, fresh_station, begin_upload, untold}
 use Rattle.plan_upload.specs.Refusals.{upload_refusal}
 use Rattle.fleet_world.specs.declared.faults.Bound.{Bound}

@@ -1,5 +1,5 @@
 -- Each early end is one more digit that leads past the bound.
-use Rattle.std.proofs.Common.{◌∙◌, ◌<◌, ◌+◌, ◌-◌, ◌*◌, get_or, arith}
+use Rattle.std.proofs.Common.{◌∙◌, arith}
 use Rattle.fleet_world.proofs.Digits.{too_great}
 use Rattle.fleet_world.proofs.numbers.value_up_to.Goals as goal
 

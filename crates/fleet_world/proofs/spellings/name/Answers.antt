@@ -1,5 +1,5 @@
 -- The place of the first point parts the name.
-use Rattle.std.proofs.Common.{◌≡◌, sym, ◌∙◌}
+use Rattle.std.proofs.Common.{sym, ◌∙◌}
 use Rattle.fleet_world.proofs.Names.{no_point, no_system, no_component, a_name}
 use Rattle.fleet_world.proofs.spellings.name.Goals as goal
 

@@ -1,4 +1,4 @@
-use Rattle.std.proofs.Common.{refl, sym, ◌∙◌, subst}
+use Rattle.std.proofs.Common.{sym, ◌∙◌}
 use Rattle.fleet_world.proofs.Beginnings.{nothing_begun, refused_begun}
 use Rattle.fleet_world.proofs.world.World.begin.Goals as goal
 

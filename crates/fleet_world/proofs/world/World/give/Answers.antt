@@ -1,5 +1,4 @@
-use Rattle.std.proofs.Common.{sym, ◌∙◌, subst}
-use Rattle.fleet_world.specs.Hearing.{IsSender}
+use Rattle.std.proofs.Common.{◌∙◌}
 use Rattle.fleet_world.proofs.Leading.{limit_in}
 use Rattle.fleet_world.proofs.Giving.{tells_drone}
 use Rattle.fleet_world.proofs.world.World.give.Goals as goal

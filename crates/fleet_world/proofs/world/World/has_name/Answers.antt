@@ -1,5 +1,5 @@
 -- The look-up is a test of any node.
-use Rattle.std.proofs.Common.{◌≡◌, ◌∙◌, ap}
+use Rattle.std.proofs.Common.{◌∙◌, ap}
 use Rattle.fleet_world.specs.Scene.{Scene}
 use Rattle.fleet_world.specs.Scene.{has_name}
 use Rattle.fleet_world.proofs.NameLookups.{has_name-any}

@@ -1,5 +1,5 @@
 -- What is read of the words is the answer about the line.
-use Rattle.std.proofs.Common.{sym, ◌∙◌}
+use Rattle.std.proofs.Common.{sym}
 use Rattle.fleet_world.proofs.WholeLines.{line_read, line_refused}
 use Rattle.fleet_world.proofs.world.World.read.Goals as goal
 

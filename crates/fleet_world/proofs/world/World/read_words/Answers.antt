@@ -1,5 +1,5 @@
 -- Each form, read word by word, is what the grammar says of its first word.
-use Rattle.std.proofs.Common.{◌≡◌, ℕ, List, Bool, true, sym, ◌∙◌}
+use Rattle.std.proofs.Common.{◌≡◌, ℕ, List, true, sym, ◌∙◌}
 use Rattle.std.specs.Str.{bytes_eq}
 use Rattle.std.proofs.lemmas.Slice.Eq.{bytes_eq-Decides}
 use Rattle.fleet_world.proofs.Forms.{drone_reads, station_reads, item_reads, items_reads, begin_reads, flow_reads}
