@@ -1,5 +1,5 @@
 -- What the record of a run says of each status.
-use Rattle.std.proofs.Common.{◌≡◌, ◌≢◌, ◌∙◌, ◌⊎◌, inl, inr, ℕ, ◌+◌, ◌<◌, ◌≤◌, Bool, true, false, List, [], ◌++◌, refl, sym, subst, arith, ap, Option, Some, None, IsSome, IsTrue, codes, append-nil}
+use Rattle.std.proofs.Common.{◌≡◌, ◌≢◌, ◌∙◌, ◌⊎◌, inl, inr, ℕ, Bool, true, false, List, [], ◌++◌, refl, sym, subst, arith, ap, Option, Some, None, IsSome, IsTrue, codes, append-nil}
 use Rattle.std.proofs.lemmas.List.{append_cancel_right}
 use Rattle.std.specs.Io.KnownBytes.{append_known, prepend_known}
 use Rattle.mav_ports.specs.Gets.{IsSpent}
@@ -9,14 +9,18 @@ use Rattle.fleet_world.specs.Scenario.{Played, Stop, Bad, Too_many_lines, At_lim
 use Rattle.station_cli.specs.declared.halts.Halt.{Halt}
 use Rattle.station_cli.specs.declared.halts.Halt.TheVariants.{Usage, BadLine, ReadFault, WriteFault, TooManyLines, AtLimit, NoMemory, TurnsSpent}
 use Rattle.station_cli.specs.Endings.{code_of, text_of}
-use Rattle.station_cli.specs.Runs.{Outside, Cause, report, output_of, Wrote, Ran, Took, ToldStop, ToldCut, IsLimit, halt_of, end_of}
+use Rattle.station_cli.specs.Runs.{Outside, Cause, report, output_of, Ran, Took, ToldStop, ToldCut, IsLimit, halt_of, end_of}
 use Rattle.station_cli.proofs.Grows.{stopped_for_good}
 
 pub done_at : (o : Outside) (wanted lb la sb sa : Option (List ℕ)) (end : Option Halt) → code_of end ≡ 0 → Ran o wanted lb la sb sa end → (taken : List ℕ) × (lb ≡ prepend_known taken la) × o.spent × ((played true taken).stop ≡ None) × (sa ≡ append_known sb (whole_report (played true taken)))
 done_at o wanted lb la sb sa None e ran =
-    let ended = ran.cause.1 in
-    (ran.taken, ran.took, ran.at_end ended, subst (λ b. (played b ran.taken).stop ≡ None) ended ran.cause.2,
-      ran.wrote ∙ ap (λ b. append_known sb (whole_report (played b ran.taken))) ended)
+    let ended = ran.cause.1 in (
+      ran.taken,
+      ran.took,
+      ran.at_end ended,
+      subst (λ b. (played b ran.taken).stop ≡ None) ended ran.cause.2,
+      ran.wrote ∙ ap (λ b. append_known sb (whole_report (played b ran.taken))) ended,
+    )
 done_at o wanted lb la sb sa (Some Usage) e ran = absurd (omega arith)
 done_at o wanted lb la sb sa (Some (BadLine line reason)) e ran = absurd (omega arith)
 done_at o wanted lb la sb sa (Some ReadFault) e ran = absurd (omega arith)
@@ -158,8 +162,10 @@ goes_not ended taken stop stops going =
 told_stop : (taken : List ℕ) (ended : Bool) (stop other : Stop) (code : ℕ) (sb sa : Option (List ℕ)) → (played false taken).stop ≡ Some stop → (played ended taken).stop ≡ Some other → code ≡ code_of (Some (halt_of other)) → sa ≡ append_known sb (report_of (played ended taken) ++ text_of (halt_of other)) → Stops stop (report_of (played false taken)) code sb sa
 told_stop taken ended stop other code sb sa stops stopped is wrote =
     let same = same_stop ended taken stop other stops stopped in
-    inl (is ∙ ap (λ s. code_of (Some (halt_of s))) same.0,
-      wrote ∙ ap (λ p. append_known sb (report_of p ++ text_of (halt_of other))) same.1 ∙ ap (λ s. append_known sb (report_of (played false taken) ++ text_of (halt_of s))) same.0)
+    inl (
+      is ∙ ap (λ s. code_of (Some (halt_of s))) same.0,
+      wrote ∙ ap (λ p. append_known sb (report_of p ++ text_of (halt_of other))) same.1 ∙ ap (λ s. append_known sb (report_of (played false taken) ++ text_of (halt_of s))) same.0,
+    )
 
 -- where the bytes taken stop
 pub stops_taken : (o : Outside) (wanted lb la sb sa : Option (List ℕ)) (end : Option Halt) (stop : Stop) (ran : Ran o wanted lb la sb sa end) → (played false ran.taken).stop ≡ Some stop → Stops stop (report_of (played false ran.taken)) (code_of end) sb sa
@@ -219,10 +225,12 @@ whole_stop : (bytes : List ℕ) (q : Played) (stop : Stop) (sb sa : Option (List
 whole_stop bytes q stop sb sa same stops wrote =
     let code = code_of (Some (halt_of stop)) in
     subst (λ s. ((code ≡ code_of (end_of s)) × (sa ≡ append_known sb (output_of (end_of s) true bytes))) ⊎ ((code ≡ 5) ⊎ (code ≡ 7))) (sym (ap (λ (p : Played). p.stop) same ∙ stops))
-    (inl (refl,
+    (inl (
+      refl,
       wrote
-      ∙ ap (λ p. append_known sb (report_of p ++ text_of (halt_of stop))) (sym same)
-      ∙ ap (append_known sb) (sym (stop_output stop bytes))))
+          ∙ ap (λ p. append_known sb (report_of p ++ text_of (halt_of stop))) (sym same)
+          ∙ ap (append_known sb) (sym (stop_output stop bytes)),
+    ))
 
 pub whole_at : (o : Outside) (wanted lb la sb sa : Option (List ℕ)) (end : Option Halt) (bytes : List ℕ) → IsSome wanted → lb ≡ Some bytes → (o.spent → IsSpent la) → ¬ o.failed → ¬ o.idled → Ran o wanted lb la sb sa end → Whole bytes (code_of end) sb sa
 whole_at o wanted lb la sb sa None bytes some told nothing sound busy ran =

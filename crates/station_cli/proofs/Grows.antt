@@ -1,9 +1,8 @@
 -- Reports only grow, and a scenario that stopped stays as it is.
-use Rattle.std.proofs.Common.{◌≡◌, ◌∙◌, ◌⊎◌, inl, inr, ℕ, ◌+◌, ◌<◌, ◌≤◌, Bool, true, false, List, [], ◌∷◌, ◌++◌, refl, sym, subst, ap, arith, length, length-append, append_assoc, append-nil, Some, None, Option, Result, Ok, Err, cond, ltb, eqb}
-use Rattle.std.proofs.lemmas.Bool.{cases_Bool, cond-true, cond-false, cond_both, ltb-true, ltb-false, lt-ltb, eqb-true}
+use Rattle.std.proofs.Common.{◌≡◌, ◌∙◌, inl, inr, ℕ, ◌+◌, ◌≤◌, Bool, true, false, List, [], ◌∷◌, ◌++◌, refl, sym, ap, arith, length, length-append, append_assoc, append-nil, Some, None, Option, Result, Ok, Err, cond, ltb, eqb}
+use Rattle.std.proofs.lemmas.Bool.{cases_Bool, cond-true, cond-false, cond_both, ltb-false}
 use Rattle.std.specs.Io.KnownBytes.{append_known}
-use Rattle.mav_ports.specs.Puts.{Sent, SentFront}
-use Rattle.mav_ports.proofs.Known.{append_known_nil}
+use Rattle.mav_ports.specs.Puts.{SentFront}
 use Rattle.fleet_world.specs.declared.faults.Reason.{Reason}
 use Rattle.fleet_world.specs.declared.faults.Reason.TheVariants.{Long}
 use Rattle.fleet_world.specs.declared.faults.Bound.{Bound}
@@ -11,7 +10,7 @@ use Rattle.fleet_world.specs.Grammar.{line_of, most_line_bytes}
 use Rattle.fleet_world.specs.Reasons.{reason_against}
 use Rattle.fleet_world.specs.Events.{Event, event_text, events_text}
 use Rattle.fleet_world.specs.Steps.{Step, after_line}
-use Rattle.fleet_world.specs.Scenario.{Played, Stop, Bad, Too_many_lines, At_limit, most_lines, stopped, goes_on, judged, without_cr, line_played, last_played, part_played, rest_played, unless_stopped, at_start, played, report_of}
+use Rattle.fleet_world.specs.Scenario.{Played, Stop, Bad, Too_many_lines, most_lines, stopped, goes_on, judged, without_cr, line_played, last_played, part_played, rest_played, unless_stopped, at_start, played, report_of}
 use Rattle.station_cli.specs.Plays.{plays}
 use Rattle.station_cli.proofs.Lines.{stop_cases, part_short, too_long, played_plays}
 
@@ -77,7 +76,7 @@ grows_plays ended p number part (b ∷ bs) =
     cond_both (eqb b 10) (unless_stopped q.stop q onwards) longer (Grows p)
     (λ e. grows_unless p q onwards q.stop (grows_line p number part) (grows_plays ended q (number + 1) [] bs))
     (λ e. cond_both (ltb most_line_bytes (length part + 1)) (part_played p number held) (plays ended p number held bs) (Grows p)
-      (λ f. grows_part p number held) (λ f. grows_plays ended p number held bs))
+    (λ f. grows_part p number held) (λ f. grows_plays ended p number held bs))
 
 -- where a scenario stopped, more bytes change nothing
 plays_for_good : (ended : Bool) (p : Played) (number : ℕ) (part bytes more : List ℕ) (stop : Stop) → p.stop ≡ None → length part ≤ 4096 → (plays false p number part bytes).stop ≡ Some stop → plays ended p number part (bytes ++ more) ≡ plays false p number part bytes
@@ -100,7 +99,7 @@ plays_for_good ended p number part (b ∷ bs) more stop going short stops =
             | inl goes ↦
                 ap (λ s. unless_stopped s q further) goes
                 ∙ plays_for_good ended q (number + 1) [] bs more stop goes (omega arith)
-                  (sym (ap (λ (end : Played). end.stop) (cond-true (eqb b 10) (unless_stopped q.stop q onwards) longer is ∙ ap (λ s. unless_stopped s q onwards) goes)) ∙ stops)
+                (sym (ap (λ (end : Played). end.stop) (cond-true (eqb b 10) (unless_stopped q.stop q onwards) longer is ∙ ap (λ s. unless_stopped s q onwards) goes)) ∙ stops)
                 ∙ ap (λ s. unless_stopped s q onwards) (sym goes)
             | inr (s, stopping) ↦ ap (λ t. unless_stopped t q further) stopping ∙ ap (λ t. unless_stopped t q onwards) (sym stopping)
           ]
@@ -114,7 +113,7 @@ plays_for_good ended p number part (b ∷ bs) more stop going short stops =
             | inr fits ↦
                 cond-false (ltb most_line_bytes (length part + 1)) (part_played p number held) part_further fits
                 ∙ plays_for_good ended p number held bs more stop going (omega (arith, ltb-false 4096 (length part + 1) fits, length-append part (b ∷ [])))
-                  (sym (ap (λ (end : Played). end.stop) (cond-false (eqb b 10) (unless_stopped q.stop q onwards) longer isnt ∙ cond-false (ltb most_line_bytes (length part + 1)) (part_played p number held) part_on fits)) ∙ stops)
+                (sym (ap (λ (end : Played). end.stop) (cond-false (eqb b 10) (unless_stopped q.stop q onwards) longer isnt ∙ cond-false (ltb most_line_bytes (length part + 1)) (part_played p number held) part_on fits)) ∙ stops)
                 ∙ sym (cond-false (ltb most_line_bytes (length part + 1)) (part_played p number held) part_on fits)
           ]
           ∙ sym (cond-false (eqb b 10) (unless_stopped q.stop q onwards) longer isnt)
@@ -128,11 +127,14 @@ stopped_for_good ended bytes more stop stops =
 
 -- the front of a report that grows
 pub front_grown : (p q : Played) (before now : Option (List ℕ)) → Grows p q → SentFront before now (report_of p) → SentFront before now (report_of q)
-front_grown p q before now (more, e) (rest, s) = (rest ++ more, record {
-  part = s.part;
-  whole = sym (append_assoc s.part rest more) ∙ ap (λ text. text ++ more) s.whole ∙ sym e;
-  appended = s.appended;
-})
+front_grown p q before now (more, e) (rest, s) = (
+  rest ++ more,
+  record {
+    part = s.part;
+    whole = sym (append_assoc s.part rest more) ∙ ap (λ text. text ++ more) s.whole ∙ sym e;
+    appended = s.appended;
+  },
+)
 
 -- a whole report is a front of one that grew from it
 pub front_whole : (p : Played) (before now : Option (List ℕ)) → now ≡ append_known before (report_of p) → SentFront before now (report_of p)

@@ -1,13 +1,12 @@
 -- A scenario that is played line by line is the one that is played byte by byte.
-use Rattle.std.proofs.Common.{◌≡◌, ◌∙◌, ◌⊎◌, inl, inr, ℕ, ◌+◌, ◌<◌, ◌≤◌, Bool, true, false, List, [], ◌∷◌, ◌++◌, refl, sym, subst, ap, arith, length, length-append, append_assoc, append-nil, Some, None, Option, cond, ltb, eqb, All}
+use Rattle.std.proofs.Common.{◌≡◌, ◌∙◌, ◌⊎◌, inl, inr, ℕ, ◌+◌, ◌<◌, ◌≤◌, Bool, true, false, List, [], ◌∷◌, ◌++◌, refl, sym, ap, arith, length, length-append, append_assoc, append-nil, Some, None, Option, cond, ltb, eqb, All}
 use Rattle.std.proofs.lemmas.Bool.{cases_Bool, cond-true, cond-false, ltb-true, ltb-false, lt-ltb, eqb-true}
 use Rattle.std.proofs.lemmas.List.Elements.{All-nil, All-push}
 use Rattle.std.proofs.lemmas.List.Splits.{slice_split_none, slice_split_at}
 use Rattle.std.specs.List.{slice_split, onto_first}
-use Rattle.fleet_world.specs.declared.faults.Reason.{Reason}
 use Rattle.fleet_world.specs.declared.faults.Reason.TheVariants.{Long}
 use Rattle.fleet_world.specs.Grammar.{most_line_bytes}
-use Rattle.fleet_world.specs.Scenario.{Played, Stop, Bad, Too_many_lines, At_limit, is_newline, but_last, last_part, whole_lines, unfinished, most_lines, stopped, lines_played, line_played, last_played, part_played, rest_played, unless_stopped, at_start, played}
+use Rattle.fleet_world.specs.Scenario.{Played, Stop, Bad, Too_many_lines, is_newline, but_last, last_part, whole_lines, unfinished, most_lines, stopped, lines_played, line_played, last_played, part_played, rest_played, unless_stopped, at_start, played}
 use Rattle.station_cli.specs.Plays.{plays}
 
 -- a byte that ends no line

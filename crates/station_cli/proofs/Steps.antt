@@ -1,24 +1,23 @@
 -- What one line, or one byte, does to a scenario that is being played.
-use Rattle.std.proofs.Common.{◌≡◌, ◌∙◌, ◌⊎◌, inl, inr, ℕ, ◌+◌, ◌<◌, ◌≤◌, Bool, true, false, List, [], ◌∷◌, ◌++◌, refl, sym, subst, ap, arith, length, length-append, append_assoc, append-nil, Some, None, Option, Result, Ok, Err, cond, ltb, eqb, IfErr, suc, take, drop, get_or, drop-cons, take-append-drop}
-use Rattle.std.proofs.lemmas.Bool.{cases_Bool, cond-true, cond-false, ltb-true, ltb-false, lt-ltb, le-ltb, eq-eqb, ne_eqb}
+use Rattle.std.proofs.Common.{◌≡◌, ◌∙◌, inl, inr, ℕ, ◌+◌, ◌<◌, ◌≤◌, Bool, true, false, List, [], ◌∷◌, ◌++◌, refl, sym, subst, ap, arith, length, length-append, append_assoc, append-nil, Some, None, Option, Result, Ok, Err, cond, ltb, IfErr, suc, take, drop, get_or, drop-cons, take-append-drop}
+use Rattle.std.proofs.lemmas.Bool.{cases_Bool, lt-ltb, le-ltb, ne_eqb}
 use Rattle.std.specs.Io.KnownBytes.{append_known}
-use Rattle.mav_ports.specs.Puts.{Sent, SentFront}
+use Rattle.mav_ports.specs.Puts.{SentFront}
 use Rattle.mav_ports.proofs.Known.{append_known_twice, append_known_nil, sent_in}
 use Rattle.fleet_world.specs.declared.faults.Reason.{Reason}
 use Rattle.fleet_world.specs.declared.faults.Reason.TheVariants.{Long}
 use Rattle.fleet_world.specs.declared.faults.Bound.{Bound}
 use Rattle.fleet_world.specs.declared.lines.Line.{Line}
-use Rattle.fleet_world.specs.Grammar.{line_of, most_line_bytes}
+use Rattle.fleet_world.specs.Grammar.{line_of}
 use Rattle.fleet_world.specs.Reasons.{reason_against}
 use Rattle.fleet_world.specs.Scene.{Scene, empty_scene}
-use Rattle.fleet_world.specs.Events.{events_text}
 use Rattle.fleet_world.specs.Steps.{Step, after_line, closing_text, IsStep}
-use Rattle.fleet_world.specs.Scenario.{Played, Stop, Bad, Too_many_lines, At_limit, most_lines, stopped, goes_on, judged, without_cr, line_played, last_played, part_played, rest_played, unless_stopped, at_start, played, report_of, whole_report}
+use Rattle.fleet_world.specs.Scenario.{Played, Stop, Bad, Too_many_lines, At_limit, most_lines, stopped, goes_on, judged, without_cr, line_played, last_played, unless_stopped, at_start, played, report_of, whole_report}
 use Rattle.station_cli.specs.declared.halts.Halt.{Halt}
 use Rattle.station_cli.specs.declared.halts.Halt.TheVariants.{Usage, BadLine, ReadFault, WriteFault, TooManyLines, AtLimit, NoMemory, TurnsSpent}
 use Rattle.station_cli.specs.Plays.{plays, Holds, Reading, StoppedBy, Halted, Finished, Leads}
-use Rattle.station_cli.proofs.Lines.{stop_cases, part_short, part_long, too_long, played_plays}
-use Rattle.station_cli.proofs.Grows.{Grows, events_text-append, grows_judged, grows_plays, grows_unless, grows_line, front_grown, front_whole}
+use Rattle.station_cli.proofs.Lines.{part_short, part_long, too_long, played_plays}
+use Rattle.station_cli.proofs.Grows.{Grows, events_text-append, grows_judged, grows_plays, grows_unless, front_grown, front_whole}
 
 -- the text of a step was written behind the report
 goes_holds : (p : Played) (step : Result Step Bound) (scene : Scene) (text : List ℕ) (before old now : Option (List ℕ)) → old ≡ append_known before (report_of p) → IsStep step scene text → now ≡ append_known old text → Holds (goes_on p step) scene before now
@@ -190,12 +189,13 @@ reading_cut taken scene number part before now r short = ap (played false) (sym 
 
 -- the closing plans are written behind the last line
 pub finished_by : (q : Played) (scene : Scene) (plans : List ℕ) (before old now : Option (List ℕ)) → Holds q scene before old → plans ≡ closing_text scene.nodes → now ≡ append_known old plans → (q.stop ≡ None) × (now ≡ append_known before (whole_report q))
-finished_by q scene plans before old now holds closing wrote =
-    (holds.going,
-      wrote
+finished_by q scene plans before old now holds closing wrote = (
+  holds.going,
+  wrote
       ∙ ap (λ known. append_known known plans) holds.sent
       ∙ append_known_twice before (report_of q) plans
-      ∙ ap (λ text. append_known before (report_of q ++ text)) (closing ∙ ap (λ (s : Scene). closing_text s.nodes) (sym holds.here)))
+      ∙ ap (λ text. append_known before (report_of q ++ text)) (closing ∙ ap (λ (s : Scene). closing_text s.nodes) (sym holds.here)),
+)
 
 -- a front of them was
 pub unfinished_by : (q : Played) (scene : Scene) (plans : List ℕ) (before old now : Option (List ℕ)) → Holds q scene before old → plans ≡ closing_text scene.nodes → SentFront old now plans → SentFront before now (whole_report q)
@@ -204,11 +204,14 @@ unfinished_by q scene plans before old now holds closing (rest, part) =
     (rest ++ [], sent_in before old now (whole_report q) plans [] rest (record { part = report_of q; whole = whole; appended = holds.sent }) part)
 
 pub front_closed : (q : Played) (before now : Option (List ℕ)) → SentFront before now (report_of q) → SentFront before now (whole_report q)
-front_closed q before now (rest, s) = (rest ++ closing_text q.scene.nodes, record {
-  part = s.part;
-  whole = sym (append_assoc s.part rest (closing_text q.scene.nodes)) ∙ ap (λ text. text ++ closing_text q.scene.nodes) s.whole;
-  appended = s.appended;
-})
+front_closed q before now (rest, s) = (
+  rest ++ closing_text q.scene.nodes,
+  record {
+    part = s.part;
+    whole = sym (append_assoc s.part rest (closing_text q.scene.nodes)) ∙ ap (λ text. text ++ closing_text q.scene.nodes) s.whole;
+    appended = s.appended;
+  },
+)
 
 -- a halt before them leaves a front of the whole
 pub halted_before : (halt : Halt) (q : Played) (before now : Option (List ℕ)) → Halted halt q (report_of q) before now → Halted halt q (whole_report q) before now
@@ -260,4 +263,4 @@ pub reading_new : (scene : Scene) (number : ℕ) (part : List ℕ) (sent : Optio
 reading_new scene number part sent e f h =
     subst (λ s. Reading [] s number part sent sent) (sym e)
     (subst (λ n. Reading [] empty_scene n part sent sent) (sym f)
-      (subst (λ line. Reading [] empty_scene 1 line sent sent) (sym h) (reading_start sent)))
+    (subst (λ line. Reading [] empty_scene 1 line sent sent) (sym h) (reading_start sent)))

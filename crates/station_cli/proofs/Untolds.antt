@@ -1,17 +1,17 @@
 -- How a run comes to its end, before and behind the text of its status.
-use Rattle.std.proofs.Common.{◌≡◌, ◌≢◌, ◌∙◌, ◌⊎◌, inl, inr, ℕ, Bool, true, false, List, [], ◌∷◌, ◌++◌, refl, sym, subst, arith, ap, Option, Some, None, Result, Ok, Err, IsSome, IsTrue, OnOk, IfErr, IsErrOf, append-nil, length, ◌≤◌, ◌+◌, ◌-◌, ◌^◌, min, max}
+use Rattle.std.proofs.Common.{◌≡◌, ◌≢◌, ◌∙◌, ◌⊎◌, inl, inr, ℕ, Bool, true, false, List, [], ◌∷◌, ◌++◌, refl, sym, subst, arith, ap, Option, Some, None, Result, Ok, Err, IsSome, IsTrue, OnOk, IfErr, IsErrOf, append-nil, length, ◌≤◌}
 use Rattle.std.specs.Result.{result_err}
 use Rattle.std.specs.Io.KnownBytes.{append_known, prepend_known}
-use Rattle.mav_ports.specs.Counts.{Rose, next_count}
-use Rattle.mav_ports.specs.Puts.{Sent, SentFront}
+use Rattle.mav_ports.specs.Counts.{Rose}
+use Rattle.mav_ports.specs.Puts.{SentFront}
 use Rattle.mav_ports.proofs.Known.{append_known_twice, append_known_nil, sent_in, sent_start, prepend_known_nil, prepend_known_twice}
 use Rattle.fleet_world.specs.Scene.{Scene}
-use Rattle.fleet_world.specs.Scenario.{Played, Stop, played, report_of, whole_report}
+use Rattle.fleet_world.specs.Scenario.{Played, played, report_of, whole_report}
 use Rattle.station_cli.specs.declared.halts.Halt.{Halt}
 use Rattle.station_cli.specs.declared.halts.Halt.TheVariants.{Usage, BadLine, ReadFault, WriteFault, TooManyLines, AtLimit, NoMemory, TurnsSpent}
 use Rattle.station_cli.specs.Endings.{text_of}
 use Rattle.station_cli.specs.Plays.{Reading, Halted, Finished}
-use Rattle.station_cli.specs.Runs.{Outside, outside, Cause, report, front_of, output_of, Wrote, Ran, WroteReport, Untold}
+use Rattle.station_cli.specs.Runs.{Outside, outside, Cause, report, Wrote, Ran, WroteReport, Untold}
 use Rattle.station_cli.proofs.Grows.{front_whole}
 use Rattle.station_cli.proofs.Steps.{front_closed, reading_cut}
 
@@ -151,7 +151,7 @@ ran_worse spent fb fa ib ia rb rm ra wanted lb la sb sm sa halt worse u sound (i
 ran_worse spent fb fa ib ia rb rm ra wanted lb la sb sm sa halt worse u sound (inr e) refused no_memory =
     subst (λ h. Ran (outside spent fb fa ib ia rb ra) wanted lb la sb sa (Some h)) (sym e)
     (subst (λ known. Ran (outside spent fb fa ib ia rb ra) wanted lb la sb known (Some NoMemory)) (sym (no_memory e))
-      (unsaid_at spent fb fa ib ia rb rm ra wanted lb la sb sm halt u))
+    (unsaid_at spent fb fa ib ia rb rm ra wanted lb la sb sm halt u))
 
 pub ran_told : (spent : Type 0) (fb fa ib ia rb rm ra : ℕ) (wanted lb la sb sm sa : Option (List ℕ)) (halt : Halt) → Untold (outside spent fb fa ib ia rb rm) wanted lb la sb sm (Some halt) → ra ≡ rm → sa ≡ append_known sm (text_of halt) → Ran (outside spent fb fa ib ia rb ra) wanted lb la sb sa (Some halt)
 ran_told spent fb fa ib ia rb rm ra wanted lb la sb sm sa halt u same told =

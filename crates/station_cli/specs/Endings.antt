@@ -1,5 +1,5 @@
 -- How a run ends: its status, and the text of the status.
-use Rattle.std.specs.Prelude.{ℕ, List, [], ◌∷◌, ◌++◌, codes, Option, Some, None}
+use Rattle.std.specs.Prelude.{ℕ, List, [], ◌++◌, codes, Option, Some, None}
 use Rattle.std.specs.Fmt.{decimal}
 use Rattle.fleet_world.specs.declared.faults.Reason.{Reason}
 use Rattle.fleet_world.specs.declared.faults.Reason.TheVariants.{Long, Word, Later, Count, Number, Node, Kind, Hex, Twice, Range, Draft, Clock}

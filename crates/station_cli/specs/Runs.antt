@@ -2,7 +2,6 @@
 use Rattle.std.specs.Prelude.{◌≡◌, ◌<◌, ◌≤◌, ◌+◌, ◌-◌, ◌^◌, ◌⊎◌, ℕ, Bool, true, false, List, [], ◌++◌, ⊤, Option, Some, None, IsSome, IsTrue}
 use Rattle.std.specs.Io.KnownBytes.{append_known, prepend_known}
 use Rattle.mav_ports.specs.Counts.{Rose}
-use Rattle.mav_ports.specs.Gets.{IsSpent}
 use Rattle.mav_ports.specs.Puts.{SentFront}
 use Rattle.fleet_world.specs.Scenario.{Stop, Bad, Too_many_lines, At_limit, played, report_of, whole_report}
 use Rattle.station_cli.specs.declared.halts.Halt.{Halt}

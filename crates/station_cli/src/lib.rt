@@ -10,6 +10,8 @@ mod halts;
 mod player;
 mod reading;
 mod runs;
+#[cfg(test)]
+mod tests;
 mod wants;
 mod words;
 

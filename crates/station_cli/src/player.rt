@@ -14,6 +14,7 @@ use mav_ports::{NoMemory, Sink, write_all};
 use std::alloc::Global;
 
 const MOST_LINES: usize = 100_000;
+
 const MOST_LINE_BYTES: usize = 4096;
 
 /// A scenario of which some bytes were taken: what they led to, and the line that they left unfinished.

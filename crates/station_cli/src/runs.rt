@@ -81,7 +81,6 @@ fn run_told<S: Source, K: Sink>(
     }
 }
 
-
 // The exit status of a run that ended so.
 fn code_of(ended: Result<(), Halt>) -> u8
     ensures { result ≡ code_of (result_err ended) }
@@ -124,8 +123,8 @@ pub fn run<S: Source, K: Sink, C: Clock>(
     ensures stops { (stop : Stop) (taken rest : List ℕ) → S.left inputs.old.main ≡ Some (taken ++ rest) → S.left inputs.new.main ≡ Some rest
         → (played false taken).stop ≡ Some stop
         → ((result ≡ code_of (Some (halt_of stop)))
-                × (K.sent out.new ≡ append_known (K.sent out.old) (report_of (played false taken) ++ text_of (halt_of stop))))
-            ⊎ ((result ≡ 5) ⊎ (result ≡ 7)) }
+        × (K.sent out.new ≡ append_known (K.sent out.old) (report_of (played false taken) ++ text_of (halt_of stop))))
+        ⊎ ((result ≡ 5) ⊎ (result ≡ 7)) }
     ensures read_fault { result ≡ 4 → Rose (S.faults inputs.old.main) (S.faults inputs.new.main)
         × ToldCut (codes "read fault\n") (S.left inputs.old.main) (S.left inputs.new.main) (K.sent out.old) (K.sent out.new) }
     ensures turns_spent { result ≡ 11 → (S.idles inputs.new.main < 2 ^ 64 - 1 → S.idles inputs.old.main + 1000000 ≤ S.idles inputs.new.main)
@@ -135,10 +134,10 @@ pub fn run<S: Source, K: Sink, C: Clock>(
         × (ended : Bool) × (taken : List ℕ)
         × Took (S.has_ended inputs.new.main × IsSpent (S.left inputs.new.main)) (S.left inputs.old.main) (S.left inputs.new.main) ended taken
         × (SentFront (K.sent out.old) (K.sent out.new) (report ended taken)
-            ⊎ ((would : Option Halt) × Cause would (outside (S.has_ended inputs.new.main × IsSpent (S.left inputs.new.main))
-                    (S.faults inputs.old.main) (S.faults inputs.new.main) (S.idles inputs.old.main) (S.idles inputs.new.main)
-                    (K.faults out.old) (K.faults out.new)) (wanted_of (map string_bytes words.now)) ended taken
-                × SentFront (K.sent out.old) (K.sent out.new) (output_of would ended taken))) }
+        ⊎ ((would : Option Halt) × Cause would (outside (S.has_ended inputs.new.main × IsSpent (S.left inputs.new.main))
+        (S.faults inputs.old.main) (S.faults inputs.new.main) (S.idles inputs.old.main) (S.idles inputs.new.main)
+        (K.faults out.old) (K.faults out.new)) (wanted_of (map string_bytes words.now)) ended taken
+        × SentFront (K.sent out.old) (K.sent out.new) (output_of would ended taken))) }
     // A front of the report was written.
     ensures no_memory { result ≡ 7 → (ended : Bool) × (taken : List ℕ)
         × Took (S.has_ended inputs.new.main × IsSpent (S.left inputs.new.main)) (S.left inputs.old.main) (S.left inputs.new.main) ended taken
@@ -149,8 +148,8 @@ pub fn run<S: Source, K: Sink, C: Clock>(
         → ¬ Rose (S.faults inputs.old.main) (S.faults inputs.new.main)
         → S.idles inputs.new.main < S.idles inputs.old.main + 1000000 → S.idles inputs.new.main < 2 ^ 64 - 1
         → ((result ≡ code_of (end_of (played true bytes).stop))
-                × (K.sent out.new ≡ append_known (K.sent out.old) (output_of (end_of (played true bytes).stop) true bytes)))
-            ⊎ ((result ≡ 5) ⊎ (result ≡ 7)) }
+        × (K.sent out.new ≡ append_known (K.sent out.old) (output_of (end_of (played true bytes).stop) true bytes)))
+        ⊎ ((result ≡ 5) ⊎ (result ≡ 7)) }
     // So a scenario that doesn't stop is done, unless memory runs out.
     ensures complete { (bytes : List ℕ) → IsSome (wanted_of (map string_bytes words.now)) → S.left inputs.old.main ≡ Some bytes
         → (played true bytes).stop ≡ None

@@ -1,5 +1,4 @@
 use Rattle.station_cli.proofs.Steps.{reading_new}
-use Rattle.station_cli.proofs.Untolds.{untold_nothing}
 use Rattle.station_cli.proofs.fleet.fleet.Goals as goal
 
 pub returns-clause-untold : goal.returns-clause-untold

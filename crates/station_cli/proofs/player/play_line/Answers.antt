@@ -13,8 +13,8 @@ returns-in_err-write_all-in-Ok-line-clause-played g c =
     let e = err_from_is_err_and c.from_residual.result c.from_residual.ensures.1 in
     let read = c.in-Ok.ensures.ok in
     rw (e.1, e.2) (λ p before holds.
-      line_unwritten p c.args.world.now c.line.new.self c.args.number c.args.text.now c.in-Ok-line.report c.in-Ok.line before (g.K.Sink.sent c.args.out.now) (g.K.Sink.sent c.write_all.new.sink) holds read.0 read.1 c.in-Ok-line.ensures.ok
-      (subst (SentFront (g.K.Sink.sent c.args.out.now) (g.K.Sink.sent c.write_all.new.sink)) c.bytes.ensures c.write_all.ensures.front))
+    line_unwritten p c.args.world.now c.line.new.self c.args.number c.args.text.now c.in-Ok-line.report c.in-Ok.line before (g.K.Sink.sent c.args.out.now) (g.K.Sink.sent c.write_all.new.sink) holds read.0 read.1 c.in-Ok-line.ensures.ok
+    (subst (SentFront (g.K.Sink.sent c.args.out.now) (g.K.Sink.sent c.write_all.new.sink)) c.bytes.ensures c.write_all.ensures.front))
 
 pub returns-in_ok-write_all-in-Ok-line-clause-played : goal.returns-in_ok-write_all-in-Ok-line-clause-played
 returns-in_ok-write_all-in-Ok-line-clause-played g c =

@@ -1,4 +1,4 @@
-use Rattle.std.proofs.Common.{◌≡◌, ◌∙◌, ◌⊎◌, inl, inr, ℕ, ap, sym, subst, Err, Some}
+use Rattle.std.proofs.Common.{◌≡◌, ◌∙◌, inl, inr, ap, Err}
 use Rattle.station_cli.specs.declared.halts.Halt.TheVariants.{WriteFault}
 use Rattle.station_cli.proofs.Untolds.{ran_told, ran_worse}
 use Rattle.station_cli.proofs.runs.run_told.Goals as goal

@@ -11,5 +11,5 @@ returns-in_err-take-clause-halted g c =
     let halt = c.in_err-take.field-0.0 in
     let now = g.K.Sink.sent c.take.new.out in
     rw (e.1, e.2) (λ taken before r ended.
-      subst (λ bytes. HaltedBy halt ended bytes before now) (piece_from taken piece i c.loop-byte-test.true)
-      (c.in_err-take.ensures.halted (taken ++ take i piece) before (c.loop-byte.invariant.reading taken before r) ended (drop (suc i) piece)))
+    subst (λ bytes. HaltedBy halt ended bytes before now) (piece_from taken piece i c.loop-byte-test.true)
+    (c.in_err-take.ensures.halted (taken ++ take i piece) before (c.loop-byte.invariant.reading taken before r) ended (drop (suc i) piece)))

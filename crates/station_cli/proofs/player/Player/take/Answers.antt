@@ -17,4 +17,4 @@ pub returns-in_err-push-clause-halted : goal.returns-in_err-push-clause-halted
 returns-in_err-push-clause-halted g c =
     let e = err_from_is_err_and c.from_residual.result c.from_residual.ensures.1 in
     rw (e.1, e.2) (λ taken before r ended rest.
-      reading_front taken c.args.self.now.world c.args.self.now.number c.args.self.now.line.items before (g.K.Sink.sent c.args.out.now) r ended (c.args.byte ∷ rest))
+    reading_front taken c.args.self.now.world c.args.self.now.number c.args.self.now.line.items before (g.K.Sink.sent c.args.out.now) r ended (c.args.byte ∷ rest))
