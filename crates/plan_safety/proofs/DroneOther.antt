@@ -59,8 +59,8 @@ module _ (keeps : Bool) (d : DroneState) (s t : Stream) (h : t ≢ s) where
   left_other k x None z = tt
   left_other k x (Some c) z = by_test (Copies s k x) (same_stream c.stream t) None (Some c) (λ _. tt) (λ _. z)
 
-  undone_unmoved : (e : DroneState) → Unmoved s d e → Unmoved s d (undownloaded e t)
-  undone_unmoved e u = record { has_open = u.has_open; result = u.result; gathers = u.gathers; copies = λ k x z. left_other k x e.download (u.copies k x z) }
+  undownloaded_unmoved : (e : DroneState) → Unmoved s d e → Unmoved s d (undownloaded e t)
+  undownloaded_unmoved e u = record { has_open = u.has_open; result = u.result; gathers = u.gathers; copies = λ k x z. left_other k x e.download (u.copies k x z) }
 
   -- a cancel of another stream
   cancel_unmoved : Unmoved s d (closed (undownloaded d t) t)
@@ -140,7 +140,7 @@ module _ (keeps : Bool) (d : DroneState) (s t : Stream) (h : t ≢ s) where
   step_unmoved (Count to n k) = by_test (λ (r : DroneStep). Unmoved s d r.drone) (is_for_drone d.sys to) _ _ (λ _. count_unmoved k n) (λ _. same_unmoved s d)
   step_unmoved (Give to seq k x) = by_test (λ (r : DroneStep). Unmoved s d r.drone) (is_for_drone d.sys to) _ _ (λ _. item_unmoved d.upload seq k x refl) (λ _. same_unmoved s d)
   step_unmoved (Request to seq k) = by_test (λ (r : DroneStep). Unmoved s d r.drone) (is_for_drone d.sys to) _ _ (λ _. request_unmoved d.download seq k refl) (λ _. same_unmoved s d)
-  step_unmoved (Ack to c k) = by_test (λ (r : DroneStep). Unmoved s d r.drone) (is_for_drone d.sys to) _ _ (λ _. by_test (λ (r : DroneStep). Unmoved s d r.drone) (c == 15) _ _ (λ _. cancel_unmoved) (λ _. undone_unmoved d (same_unmoved s d))) (λ _. same_unmoved s d)
+  step_unmoved (Ack to c k) = by_test (λ (r : DroneStep). Unmoved s d r.drone) (is_for_drone d.sys to) _ _ (λ _. by_test (λ (r : DroneStep). Unmoved s d r.drone) (c == 15) _ _ (λ _. cancel_unmoved) (λ _. undownloaded_unmoved d (same_unmoved s d))) (λ _. same_unmoved s d)
   step_unmoved (Clear to k) = by_test (λ (r : DroneStep). Unmoved s d r.drone) (is_for_drone d.sys to) _ _ (λ _. clear_unmoved k) (λ _. same_unmoved s d)
   step_unmoved (Listing to k) = by_test (λ (r : DroneStep). Unmoved s d r.drone) (is_for_drone d.sys to) _ _ (λ _. list_unmoved k) (λ _. same_unmoved s d)
 

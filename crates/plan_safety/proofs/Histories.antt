@@ -7,8 +7,8 @@ use Rattle.plan_safety.specs.Store.{StoreEvent, Meets, follows}
 use Rattle.plan_safety.specs.World.{Nodes, Distinct, Start, World, Event, happens, first_world}
 use Rattle.plan_safety.specs.Safety.{SamePlans, IsExecution}
 use Rattle.plan_safety.specs.History.{Step, step, store_of, IsHistory, IsHeld, steps_of, final, history}
-use Rattle.plan_safety.proofs.Runs as runs
-use Rattle.plan_safety.proofs.Runs.{first_plans}
+use Rattle.plan_safety.proofs.Induction as induction
+use Rattle.plan_safety.proofs.Induction.{first_plans}
 use Rattle.plan_safety.proofs.StoreLaws.{plans_law}
 
 -- a list of events makes the store what it follows to
@@ -37,7 +37,7 @@ whole nodes (e ∷ es) w h v p r =
 
 -- one from the start on
 executed : (nodes : Nodes) → Distinct nodes → (start : Start) (es : List Event) → Whole nodes (first_world start) [] es
-executed nodes sound start es = whole nodes es (first_world start) [] tt (first_plans start) (runs.always nodes sound start es)
+executed nodes sound start es = whole nodes es (first_world start) [] tt (first_plans start) (induction.always nodes sound start es)
 
 -- each execution of the world is a history of the store
 pub histories : (nodes : Nodes) → Distinct nodes → (start : Start) (es : List Event) → IsHistory (history nodes (first_world start) [] es)

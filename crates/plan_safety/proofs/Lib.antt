@@ -24,7 +24,7 @@ pub mod FleetDroneTicks
 pub mod FleetStation
 pub mod FleetStationAll
 pub mod FleetStationEvents
-pub mod Runs
+pub mod Induction
 pub mod StoreLaws
 pub mod OutcomeLaws
 pub mod Histories

@@ -60,8 +60,8 @@ done_stage p k f ph a h = grind arith
 cleared_can : (p : Pair) (c k : ℕ) → Facts p → 3 < p.phase → p.phase < 6 → IsVerdict c → SentByDrone p p.station_last (an_ack c k) → p.station_last ≡ p.last_verdict → p.last_job ≤ p.drone_last → (4 < p.phase → p.now_shown ≡ 0) → CanEnd p × (1 < p.work)
 cleared_can p c k f ph under a h z l w = grind arith
 
-taking_can : (p : Pair) → Facts p → p.phase ≡ 6 → CanEnd p × (1 < p.work)
-taking_can p f ph = grind arith
+getting_can : (p : Pair) → Facts p → p.phase ≡ 6 → CanEnd p × (1 < p.work)
+getting_can p f ph = grind arith
 
 counted_can : (p : Pair) → Facts p → p.phase ≡ 5 → 0 < p.now_shown → p.station_last ≡ p.now_shown → CanEnd p × (1 < p.work)
 counted_can p f ph some at = grind arith
@@ -70,8 +70,8 @@ counted_can p f ph some at = grind arith
 refusing : (c : ℕ) → ((c == 3) || (c == 14)) ≡ true → IsVerdict c
 refusing c e = grind arith
 
-settling : (c : ℕ) → ((c == 0) || ((c == 1) || (c == 15))) ≡ true → AnswersCancel c
-settling c e = grind arith
+cancel_answered : (c : ℕ) → ((c == 0) || ((c == 1) || (c == 15))) ≡ true → AnswersCancel c
+cancel_answered c e = grind arith
 
 accepting : (c : ℕ) → (c == 0) ≡ true → IsVerdict c
 accepting c e = grind arith
@@ -328,7 +328,7 @@ module _ (d s : Stream) (ne : d ≢ s) where
       let plan = shown_of p.opening in
       let gathers = i.operation.gathers in
       let front : items ≡ take (length items) plan = next_front plan o.got item gathers.0 is in
-      let can = taking_can q i.facts refl in
+      let can = getting_can q i.facts refl in
       by_test (Heeds d s u v) (nat_lt (length items) o.total) _ _
       (λ short. record {
         needs = tt;
@@ -387,7 +387,7 @@ module _ (d s : Stream) (ne : d ≢ s) where
       let u = with_operation t (op (record o { work = w }) d Cancelling) in
       let q : Pair = pair_of s (with_station d p u) g in
       by_test (Heeds d s u (with_station d p u)) ((c == 0) || ((c == 1) || (c == 15))) _ _
-      (λ e. on_synchronises d s ne p g t o w o.terminating c k i (record { phase = refl; late = h.reply refl; code = settling c e; truth = h.truth }) (acked_with p to c k q.began me (said q.began (cancel_began q i.facts refl))))
+      (λ e. on_synchronises d s ne p g t o w o.terminating c k i (record { phase = refl; late = h.reply refl; code = cancel_answered c e; truth = h.truth }) (acked_with p to c k q.began me (said q.began (cancel_began q i.facts refl))))
       (λ _. rested p g u i refl)
   on_hears p g t o Uploads Sending (Request to seq k) i h sh me said =
       let u = with_operation t (op (record o { work = Uploads }) d Sending) in
@@ -430,7 +430,7 @@ module _ (d s : Stream) (ne : d ≢ s) where
       let q : Pair = pair_of s (with_station d p u) g in
       by_test (Heeds d s u (with_station d p u)) (c == 0) _ _
       (λ _. rested p g u i refl)
-      (λ _. let b = taking_can q i.facts refl in on_ended d s ne p g u c i b.0 b.1 (end_acked d s p.sent p.cancelled p.opening c (some_job q i.facts b.1) (ended_by p w to c k b.1 me said (getting_began q i.facts refl))))
+      (λ _. let b = getting_can q i.facts refl in on_ended d s ne p g u c i b.0 b.1 (end_acked d s p.sent p.cancelled p.opening c (some_job q i.facts b.1) (ended_by p w to c k b.1 me said (getting_began q i.facts refl))))
   on_hears p g t o w f x i h sh me said = rested p g (with_operation t (op (record o { work = w }) d f)) i refl
 
   -- a cancel of the station's own, where it was marked in the store

@@ -1,5 +1,5 @@
-use Rattle.plan_safety.proofs.Runs as runs
+use Rattle.plan_safety.proofs.Induction as induction
 use Rattle.plan_safety.proofs.executions.every_execution.Goals as goal
 
 pub returns : goal.returns
-returns c = runs.always
+returns c = induction.always
