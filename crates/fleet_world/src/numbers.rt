@@ -24,7 +24,8 @@ fn is_numeral(word: &[u8]) -> bool
     match word {
         [] => false,
         [only] => is_digit(*only),
-        [first, rest @ ..] => { is_digit(*first) && *first != b'0' && all_digits(rest) }
+        [b'0', ..] => false,
+        [first, rest @ ..] => is_digit(*first) && all_digits(rest),
     }
 }
 

@@ -31,10 +31,7 @@ pub(crate) fn drone_name(sys: u8) -> Name
 fn is_named(node: &Node, name: Name) -> bool
     ensures { result ≡ same_name (node_name node.now) name }
 {
-    match node {
-        Node::Drone(drone) => is_same(drone_name(drone.sys()), name),
-        Node::Station(station) => is_same(station.me(), name),
-    }
+    is_same(node.name(), name)
 }
 
 fn is_drone_named(node: &Node, name: Name) -> bool
