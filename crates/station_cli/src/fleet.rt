@@ -17,9 +17,11 @@ const PIECE_BYTES: usize = 65_536;
 
 /// Plays the scenario of the input. The report of each line is written before more is read.
 pub fn fleet<S: Source, K: Sink>(alloc: Global, main: &mut S, out: &mut K) -> Result<(), Halt>
-    ensures untold { (wanted : Option (List ℕ)) → IsSome wanted → Untold (outside (S.has_ended main.new × IsSpent (S.left main.new))
-        (S.faults main.old) (S.faults main.new) (S.idles main.old) (S.idles main.new) (K.faults out.old) (K.faults out.new))
-        wanted (S.left main.old) (S.left main.new) (K.sent out.old) (K.sent out.new) (result_err result) }
+    ensures untold { (wanted : Option (List ℕ)) → IsSome wanted → Untold (outside
+        (S.has_ended main.new × IsSpent (S.left main.new)) (S.faults main.old) (S.faults main.new)
+        (S.idles main.old) (S.idles main.new) (K.faults out.old) (K.faults out.new))
+        wanted (S.left main.old) (S.left main.new) (K.sent out.old) (K.sent out.new)
+        (result_err result) }
     ensures sound { ¬ IsErrOf result Halt.WriteFault → K.faults out.new ≡ K.faults out.old }
 {
     let mut player = Player::new(alloc)?;
@@ -36,10 +38,13 @@ fn play<S: Source, K: Sink>(
 ) -> Result<(), Halt>
     requires { 0 < length buf.old }
     ensures untold { (wanted : Option (List ℕ)) → IsSome wanted
-        → Reading [] player.old.world player.old.number player.old.line.items (K.sent out.old) (K.sent out.old)
-        → Untold (outside (S.has_ended main.new × IsSpent (S.left main.new))
-        (S.faults main.old) (S.faults main.new) (S.idles main.old) (S.idles main.new) (K.faults out.old) (K.faults out.new))
-        wanted (S.left main.old) (S.left main.new) (K.sent out.old) (K.sent out.new) (result_err result) }
+        → Reading [] player.old.world player.old.number player.old.line.items
+        (K.sent out.old) (K.sent out.old)
+        → Untold (outside
+        (S.has_ended main.new × IsSpent (S.left main.new)) (S.faults main.old) (S.faults main.new)
+        (S.idles main.old) (S.idles main.new) (K.faults out.old) (K.faults out.new))
+        wanted (S.left main.old) (S.left main.new) (K.sent out.old) (K.sent out.new)
+        (result_err result) }
     ensures sound { ¬ IsErrOf result Halt.WriteFault → K.faults out.new ≡ K.faults out.old }
 {
     loop {

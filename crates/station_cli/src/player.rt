@@ -1,11 +1,13 @@
 // A scenario that is played as its bytes come.
-ghost use Rattle.std.specs.Prelude.{◌≡◌, ◌≢◌, ◌≤◌, ◌+◌, ◌-◌, [], ◌∷◌, ◌++◌, List, ℕ, Bool, true, None, length, vec_len, IfOk, IfErr, OnOk, IsErrOf};
+ghost use Rattle.std.specs.Prelude.{◌≡◌, ◌≢◌, ◌≤◌, ◌+◌, ◌-◌, ◌∷◌, ◌++◌};
+ghost use Rattle.std.specs.Prelude.{[], List, ℕ, Bool, true, None, length, vec_len, IfOk, IfErr, OnOk, IsErrOf};
 ghost use Rattle.std.specs.declared.option.Option.{Option};
 ghost use Rattle.std.specs.Io.KnownBytes.{append_known};
 ghost use Rattle.mav_ports.specs.Counts.{Rose};
 ghost use Rattle.fleet_world.specs.Scene.{empty_scene};
 ghost use Rattle.fleet_world.specs.Reasons.{reason_against};
-ghost use Rattle.fleet_world.specs.Scenario.{Played, judged, line_played, last_played, played, report_of, whole_report, without_cr};
+ghost use Rattle.fleet_world.specs.Scenario.{Played, judged, line_played, last_played, played};
+ghost use Rattle.fleet_world.specs.Scenario.{report_of, whole_report, without_cr};
 ghost use Rattle.station_cli.specs.Plays.{Holds, Reading, Halted, Finished, Leads, budget, long_halt};
 
 use crate::halts::Halt;
@@ -17,7 +19,8 @@ const MOST_LINES: usize = 100_000;
 
 const MOST_LINE_BYTES: usize = 4096;
 
-/// A scenario of which some bytes were taken: what they led to, and the line that they left unfinished.
+/// A scenario of which some bytes were taken: what they led to, and the line that they left
+/// unfinished.
 #[derive(Drop)]
 pub struct Player {
     world: World,
@@ -43,13 +46,20 @@ impl Player {
 
     /// Takes bytes that come next. After an error the player is given up.
     pub fn feed<K: Sink>(&mut self, piece: &[u8], out: &mut K) -> Result<(), Halt>
-        ensures taken { (taken : List ℕ) (before : Option (List ℕ)) → Reading taken self.old.world self.old.number self.old.line.items before (K.sent out.old)
-            → OnOk result (Reading (taken ++ piece.now) self.new.world self.new.number self.new.line.items before (K.sent out.new)) }
-        ensures halted { (taken : List ℕ) (before : Option (List ℕ)) → Reading taken self.old.world self.old.number self.old.line.items before (K.sent out.old)
-            → (ended : Bool) → IfErr result (λ halt. Halted halt (played ended (taken ++ piece.now)) (report_of (played ended (taken ++ piece.now))) before (K.sent out.new)) }
-        ensures spends { OnOk result (budget self.new.number self.new.line.items + length piece.now ≤ budget self.old.number self.old.line.items) }
-        ensures rose { IsErrOf result Halt.WriteFault → Rose (K.faults out.old) (K.faults out.new) }
-        ensures sound { ¬ IsErrOf result Halt.WriteFault → K.faults out.new ≡ K.faults out.old }
+        ensures taken { (taken : List ℕ) (before : Option (List ℕ))
+            → Reading taken self.old.world self.old.number self.old.line.items before (K.sent out.old)
+            → OnOk result (Reading (taken ++ piece.now)
+            self.new.world self.new.number self.new.line.items before (K.sent out.new)) }
+        ensures halted { (taken : List ℕ) (before : Option (List ℕ))
+            → Reading taken self.old.world self.old.number self.old.line.items before (K.sent out.old)
+            → (ended : Bool) → let end = played ended (taken ++ piece.now) in
+            IfErr result (λ halt. Halted halt end (report_of end) before (K.sent out.new)) }
+        ensures spends { OnOk result (budget self.new.number self.new.line.items + length piece.now
+            ≤ budget self.old.number self.old.line.items) }
+        ensures rose { IsErrOf result Halt.WriteFault
+            → Rose (K.faults out.old) (K.faults out.new) }
+        ensures sound { ¬ IsErrOf result Halt.WriteFault
+            → K.faults out.new ≡ K.faults out.old }
     {
         for byte in piece {
             self.take(*byte, out)?;
@@ -59,12 +69,17 @@ impl Player {
 
     /// The input ended: does the last line, and writes the closing plans.
     pub fn finish<K: Sink>(&mut self, out: &mut K) -> Result<(), Halt>
-        ensures done { (taken : List ℕ) (before : Option (List ℕ)) → Reading taken self.old.world self.old.number self.old.line.items before (K.sent out.old)
+        ensures done { (taken : List ℕ) (before : Option (List ℕ))
+            → Reading taken self.old.world self.old.number self.old.line.items before (K.sent out.old)
             → OnOk result (Finished (played true taken) before (K.sent out.new)) }
-        ensures halted { (taken : List ℕ) (before : Option (List ℕ)) → Reading taken self.old.world self.old.number self.old.line.items before (K.sent out.old)
-            → IfErr result (λ halt. Halted halt (played true taken) (whole_report (played true taken)) before (K.sent out.new)) }
-        ensures rose { IsErrOf result Halt.WriteFault → Rose (K.faults out.old) (K.faults out.new) }
-        ensures sound { ¬ IsErrOf result Halt.WriteFault → K.faults out.new ≡ K.faults out.old }
+        ensures halted { (taken : List ℕ) (before : Option (List ℕ))
+            → Reading taken self.old.world self.old.number self.old.line.items before (K.sent out.old)
+            → let end = played true taken in
+            IfErr result (λ halt. Halted halt end (whole_report end) before (K.sent out.new)) }
+        ensures rose { IsErrOf result Halt.WriteFault
+            → Rose (K.faults out.old) (K.faults out.new) }
+        ensures sound { ¬ IsErrOf result Halt.WriteFault
+            → K.faults out.new ≡ K.faults out.old }
     {
         self.last_line(out)?;
         let plans = self.world.finish()?;
@@ -73,13 +88,20 @@ impl Player {
 
     // Takes the next byte.
     fn take<K: Sink>(&mut self, byte: u8, out: &mut K) -> Result<(), Halt>
-        ensures taken { (taken : List ℕ) (before : Option (List ℕ)) → Reading taken self.old.world self.old.number self.old.line.items before (K.sent out.old)
-            → OnOk result (Reading (taken ++ byte ∷ []) self.new.world self.new.number self.new.line.items before (K.sent out.new)) }
-        ensures halted { (taken : List ℕ) (before : Option (List ℕ)) → Reading taken self.old.world self.old.number self.old.line.items before (K.sent out.old)
-            → (ended : Bool) (rest : List ℕ) → IfErr result (λ halt. Halted halt (played ended (taken ++ byte ∷ rest)) (report_of (played ended (taken ++ byte ∷ rest))) before (K.sent out.new)) }
-        ensures spends { OnOk result (budget self.new.number self.new.line.items + 1 ≤ budget self.old.number self.old.line.items) }
-        ensures rose { IsErrOf result Halt.WriteFault → Rose (K.faults out.old) (K.faults out.new) }
-        ensures sound { ¬ IsErrOf result Halt.WriteFault → K.faults out.new ≡ K.faults out.old }
+        ensures taken { (taken : List ℕ) (before : Option (List ℕ))
+            → Reading taken self.old.world self.old.number self.old.line.items before (K.sent out.old)
+            → OnOk result (Reading (taken ++ byte ∷ [])
+            self.new.world self.new.number self.new.line.items before (K.sent out.new)) }
+        ensures halted { (taken : List ℕ) (before : Option (List ℕ))
+            → Reading taken self.old.world self.old.number self.old.line.items before (K.sent out.old)
+            → (ended : Bool) (rest : List ℕ) → let end = played ended (taken ++ byte ∷ rest) in
+            IfErr result (λ halt. Halted halt end (report_of end) before (K.sent out.new)) }
+        ensures spends { OnOk result (budget self.new.number self.new.line.items + 1
+            ≤ budget self.old.number self.old.line.items) }
+        ensures rose { IsErrOf result Halt.WriteFault
+            → Rose (K.faults out.old) (K.faults out.new) }
+        ensures sound { ¬ IsErrOf result Halt.WriteFault
+            → K.faults out.new ≡ K.faults out.old }
     {
         if byte == b'\n' {
             return self.end_line(out);
@@ -93,11 +115,16 @@ impl Player {
 
     // The line is whole: it is done, and the next one begins.
     fn end_line<K: Sink>(&mut self, out: &mut K) -> Result<(), Halt>
-        ensures played { (p : Played) (before : Option (List ℕ)) → Holds p self.old.world before (K.sent out.old)
-            → Leads result (line_played p self.old.number self.old.line.items) self.new.world before (K.sent out.new) }
-        ensures next { OnOk result ((self.new.number ≡ self.old.number + 1) × (self.new.line.items ≡ []) × (self.old.number ≤ 100000)) }
-        ensures rose { IsErrOf result Halt.WriteFault → Rose (K.faults out.old) (K.faults out.new) }
-        ensures sound { ¬ IsErrOf result Halt.WriteFault → K.faults out.new ≡ K.faults out.old }
+        ensures played { (p : Played) (before : Option (List ℕ))
+            → Holds p self.old.world before (K.sent out.old)
+            → Leads result (line_played p self.old.number self.old.line.items)
+            self.new.world before (K.sent out.new) }
+        ensures next { OnOk result ((self.new.number ≡ self.old.number + 1)
+            × (self.new.line.items ≡ []) × (self.old.number ≤ 100000)) }
+        ensures rose { IsErrOf result Halt.WriteFault
+            → Rose (K.faults out.old) (K.faults out.new) }
+        ensures sound { ¬ IsErrOf result Halt.WriteFault
+            → K.faults out.new ≡ K.faults out.old }
     {
         if self.number > MOST_LINES {
             return Err(Halt::TooManyLines);
@@ -110,10 +137,14 @@ impl Player {
 
     // The input ended: what is held is a last line, unless it is empty.
     fn last_line<K: Sink>(&mut self, out: &mut K) -> Result<(), Halt>
-        ensures played { (p : Played) (before : Option (List ℕ)) → Holds p self.old.world before (K.sent out.old)
-            → Leads result (last_played p self.old.number self.old.line.items) self.new.world before (K.sent out.new) }
-        ensures rose { IsErrOf result Halt.WriteFault → Rose (K.faults out.old) (K.faults out.new) }
-        ensures sound { ¬ IsErrOf result Halt.WriteFault → K.faults out.new ≡ K.faults out.old }
+        ensures played { (p : Played) (before : Option (List ℕ))
+            → Holds p self.old.world before (K.sent out.old)
+            → Leads result (last_played p self.old.number self.old.line.items)
+            self.new.world before (K.sent out.new) }
+        ensures rose { IsErrOf result Halt.WriteFault
+            → Rose (K.faults out.old) (K.faults out.new) }
+        ensures sound { ¬ IsErrOf result Halt.WriteFault
+            → K.faults out.new ≡ K.faults out.old }
     {
         if self.line.is_empty() {
             return Ok(());
@@ -147,7 +178,8 @@ fn play_line<K: Sink>(
     out: &mut K,
 ) -> Result<(), Halt>
     ensures played { (p : Played) (before : Option (List ℕ)) → Holds p world.old before (K.sent out.old)
-        → Leads result (judged p number text.now (reason_against p.scene text.now)) world.new before (K.sent out.new) }
+        → Leads result (judged p number text.now (reason_against p.scene text.now))
+        world.new before (K.sent out.new) }
     ensures rose { IsErrOf result Halt.WriteFault → Rose (K.faults out.old) (K.faults out.new) }
     ensures sound { ¬ IsErrOf result Halt.WriteFault → K.faults out.new ≡ K.faults out.old }
 {

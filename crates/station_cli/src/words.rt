@@ -1,5 +1,5 @@
 // The words of the command line.
-ghost use Rattle.std.specs.Prelude.{◌≡◌, None, [], IsTrue, IfOk, OnOk, IsErrOf, IsSome, map, string_bytes, option_map};
+ghost use Rattle.std.specs.Prelude.{◌≡◌, None, [], IfOk, OnOk, IsErrOf, IsSome, map, string_bytes, option_map};
 ghost use Rattle.station_cli.specs.Words.{is_file, wanted_of};
 
 use crate::wants::Wanted;
@@ -25,13 +25,17 @@ impl From<AllocError> for WantedFault {
     }
 }
 
-/// What the words ask for. They are those behind the program's name, and the grammar is `fleet FILE`.
+/// What the words ask for. They are those behind the program's name; the grammar is `fleet FILE`.
 pub fn wanted(alloc: Global, words: &[String]) -> Result<Wanted, WantedFault>
-    ensures main { IfOk result (λ w. option_map string_bytes w.main ≡ wanted_of (map string_bytes words.now)) }
-    ensures others { IfOk result (λ w. (w.defs ≡ None) × (w.key ≡ None) × (w.ports.items ≡ []) × (w.keepers ≡ 0)) }
+    ensures main { IfOk result (λ w.
+        option_map string_bytes w.main ≡ wanted_of (map string_bytes words.now)) }
+    ensures others { IfOk result (λ w.
+        (w.defs ≡ None) × (w.key ≡ None) × (w.ports.items ≡ []) × (w.keepers ≡ 0)) }
     ensures some { OnOk result (IsSome (wanted_of (map string_bytes words.now))) }
-    ensures usage { IsErrOf result WantedFault.Usage → wanted_of (map string_bytes words.now) ≡ None }
-    ensures usage_only { wanted_of (map string_bytes words.now) ≡ None → IsErrOf result WantedFault.Usage }
+    ensures usage { IsErrOf result WantedFault.Usage
+        → wanted_of (map string_bytes words.now) ≡ None }
+    ensures usage_only { wanted_of (map string_bytes words.now) ≡ None
+        → IsErrOf result WantedFault.Usage }
 {
     match words {
         [command, file] if command.as_str() == "fleet" && is_file(file.as_str()) => Ok(Wanted {
