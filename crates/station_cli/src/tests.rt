@@ -8,22 +8,8 @@ use std::test::Fail;
 const ONE_ITEM: &[u8] =
     b"drone 1\nstation 255 190\nitem 6 16 473977420 85455940\nbegin 255.190 1.1 mission\nflow 20\n";
 
-const INSTALLED: &[u8] = b"\
-    1 255.190 PING 1 to 0.0\n\
-    2 1.1 PING 1 to 255.190\n\
-    3 255.190 ACK 15 mission to 1.1\n\
-    4 1.1 ACK 1 mission to 255.190\n\
-    5 255.190 COUNT mission 1 to 1.1\n\
-    6 1.1 REQUEST mission 0 to 255.190\n\
-    7 255.190 ITEM mission 0 to 1.1\n\
-    install 1.1 mission 1 from 255.190\n\
-    8 1.1 ACK 0 mission to 255.190\n\
-    outcome 255.190 installed\n\
-    plan 1.1 mission 1\n\
-    0 6 16 0 1 00000000 00000000 00000000 00000000 473977420 85455940 00000000\n\
-    plan 1.1 fence 0\n\
-    plan 1.1 rally 0\n\
-    ";
+const INSTALLED: &[u8] =
+    b"1 255.190 PING 1 to 0.0\n2 1.1 PING 1 to 255.190\n3 255.190 ACK 15 mission to 1.1\n4 1.1 ACK 1 mission to 255.190\n5 255.190 COUNT mission 1 to 1.1\n6 1.1 REQUEST mission 0 to 255.190\n7 255.190 ITEM mission 0 to 1.1\ninstall 1.1 mission 1 from 255.190\n8 1.1 ACK 0 mission to 255.190\noutcome 255.190 installed\nplan 1.1 mission 1\n0 6 16 0 1 00000000 00000000 00000000 00000000 473977420 85455940 00000000\nplan 1.1 fence 0\nplan 1.1 rally 0\n";
 
 fn source(
     alloc: Global,
