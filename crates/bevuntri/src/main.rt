@@ -54,20 +54,14 @@ fn open(rt: &HostRuntime, name: &str) -> Result<StdSource<Reader>, AllocError> {
     }
 }
 
-fn open_named(
-    rt: &HostRuntime,
-    name: &Option<String>,
-) -> Result<StdSource<Reader>, AllocError> {
+fn open_named(rt: &HostRuntime, name: &Option<String>) -> Result<StdSource<Reader>, AllocError> {
     match name {
         Some(name) => open(rt, name.as_str()),
         None => Ok(StdSource::new(None)),
     }
 }
 
-fn inputs_of(
-    rt: &HostRuntime,
-    wanted: &Wanted,
-) -> Result<Inputs<StdSource<Reader>>, AllocError> {
+fn inputs_of(rt: &HostRuntime, wanted: &Wanted) -> Result<Inputs<StdSource<Reader>>, AllocError> {
     Ok(Inputs {
         main: open_named(rt, &wanted.main)?,
         defs: open_named(rt, &wanted.defs)?,
