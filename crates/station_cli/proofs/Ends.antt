@@ -127,18 +127,6 @@ no_memory_at o wanted lb la sb sa (Some (AtLimit limit)) e ran = absurd (omega a
 no_memory_at o wanted lb la sb sa (Some NoMemory) e ran = (ran.ended, ran.taken, (ran.took, ran.at_end), ran.wrote)
 no_memory_at o wanted lb la sb sa (Some TurnsSpent) e ran = absurd (omega arith)
 
--- the output's faults are as before, unless a write failed
-pub sound_at : (fb fa : ℕ) (end : Option Halt) → (end ≢ Some WriteFault → fa ≡ fb) → code_of end ≢ 5 → fa ≡ fb
-sound_at fb fa None same other = same (λ e. cc)
-sound_at fb fa (Some Usage) same other = same (λ e. cc)
-sound_at fb fa (Some (BadLine line reason)) same other = same (λ e. cc)
-sound_at fb fa (Some ReadFault) same other = same (λ e. cc)
-sound_at fb fa (Some WriteFault) same other = absurd (other refl)
-sound_at fb fa (Some TooManyLines) same other = same (λ e. cc)
-sound_at fb fa (Some (AtLimit limit)) same other = same (λ e. cc)
-sound_at fb fa (Some NoMemory) same other = same (λ e. cc)
-sound_at fb fa (Some TurnsSpent) same other = same (λ e. cc)
-
 -- what a told input has left fixes what was taken
 taken_is : (taken other rest : List ℕ) (la : Option (List ℕ)) → Some (taken ++ rest) ≡ prepend_known other la → la ≡ Some rest → taken ++ rest ≡ other ++ rest
 taken_is taken other rest la took left = let same : Some (taken ++ rest) ≡ Some (other ++ rest) = took ∙ ap (prepend_known other) left in cc

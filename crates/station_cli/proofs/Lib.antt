@@ -3,3 +3,4 @@ pub mod Grows
 pub mod Steps
 pub mod Untolds
 pub mod Ends
+pub mod Worked

@@ -2,3 +2,4 @@ pub mod Words
 pub mod Plays
 pub mod Endings
 pub mod Runs
+pub mod Examples

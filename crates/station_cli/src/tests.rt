@@ -6,6 +6,7 @@ use std::process::Abort;
 use std::test::Fail;
 
 mod limits;
+mod worked;
 
 const ONE_ITEM: &[u8] =
     b"drone 1\nstation 255 190\nitem 6 16 473977420 85455940\nbegin 255.190 1.1 mission\nflow 20\n";

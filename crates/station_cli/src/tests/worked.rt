@@ -1,0 +1,45 @@
+// What the contract of `run` says of one scenario, at the ports in memory.
+ghost use Rattle.std.specs.Prelude.{◌≡◌, ◌⊎◌, [], Some, IsSome, map, string_bytes};
+ghost use Rattle.station_cli.specs.Words.{wanted_of};
+ghost use Rattle.station_cli.specs.Examples.{one_item, one_item_installed};
+
+use super::{INSTALLED, ONE_ITEM, words_of};
+use crate::{Inputs, run, wanted};
+use mav_ports::{MemClock, Sink, Source, SureSink, SureSource};
+use std::alloc::Global;
+use std::test::Fail;
+
+// The report follows from the contract alone: by computation it is this text.
+fn upload_one_item(
+    alloc: Global,
+    words: &[String],
+    inputs: &mut Inputs<SureSource>,
+    out: &mut SureSink,
+    clock: &mut MemClock,
+) -> u8
+    requires words { IsSome (wanted_of (map string_bytes words.now)) }
+    requires scenario { ⟦<SureSource as Source>⟧.left inputs.old.main ≡ Some one_item }
+    requires empty { ⟦<SureSink as Sink>⟧.sent out.old ≡ Some [] }
+    ensures status { (result ≡ 0) ⊎ ((result ≡ 5) ⊎ (result ≡ 7)) }
+    ensures report { result ≡ 0 → ⟦<SureSink as Sink>⟧.sent out.new ≡ Some one_item_installed }
+{
+    run(alloc, words, inputs, out, clock)
+}
+
+#[test]
+fn the_contract_alone_tells_the_report(rt: HostRuntime) -> Result<(), Fail> {
+    let alloc = rt.alloc();
+    let words = words_of(alloc, &["fleet", "file"])?;
+    let _wanted = wanted(alloc, &words)?;
+    let mut inputs = Inputs {
+        main: SureSource::new(ONE_ITEM.to_vec(alloc)?),
+        defs: SureSource::new(Vec::new(alloc)),
+        key: SureSource::new(Vec::new(alloc)),
+    };
+    let mut out = SureSink::with_room(alloc, 4096)?;
+    let mut clock = MemClock::new(0);
+    let status = upload_one_item(alloc, &words, &mut inputs, &mut out, &mut clock);
+    assert_eq!(rt; status, 0);
+    assert_eq!(rt; out.sent(), INSTALLED);
+    Ok(())
+}
