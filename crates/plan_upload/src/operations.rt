@@ -9,9 +9,6 @@ use crate::buffers::Buffer;
 use mav_ports::Stream;
 use plan_items::{MissionResult, Plan, PlanKind};
 
-/// The number that stands for every kind in a clear (MAVLink common messages, MAV_MISSION_TYPE_ALL).
-pub const ALL_KINDS: u8 = 255;
-
 /// An upload: the plan, and what its drone was seen to do.
 #[derive(Drop)]
 pub struct UploadTask {
@@ -154,7 +151,7 @@ pub fn kind_number(kind: Option<PlanKind>) -> u8
     ensures { result ≡ clear_number kind }
 {
     match kind {
-        None => ALL_KINDS,
+        None => PlanKind::ALL,
         Some(kind) => kind.number(),
     }
 }

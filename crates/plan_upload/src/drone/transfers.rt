@@ -13,9 +13,6 @@ use crate::verdicts::Verdict;
 use mav_ports::Stream;
 use plan_items::{Item, MissionResult, PlanKind, PlanMsg};
 
-/// The number that stands for every kind in a clear (MAVLink common messages, MAV_MISSION_TYPE_ALL).
-pub const ALL_KINDS: u8 = 255;
-
 impl Drone {
     // Drops what the stream's own upload gathered.
     fn close(&mut self, from: Stream)
@@ -128,7 +125,7 @@ impl Drone {
         ensures answer { Some result ≡ (clear_comes true self.old from kind).answer }
     {
         let known = PlanKind::of(kind);
-        if known.is_none() && kind != ALL_KINDS {
+        if known.is_none() && kind != PlanKind::ALL {
             return acknowledge(from, MissionResult::UNSUPPORTED, kind);
         }
         if self.upload.is_of_other(from) {
@@ -178,7 +175,7 @@ impl Drone {
         ensures { result ≡ change_by (clear_comes true self.now from kind).event }
     {
         let known = PlanKind::of(kind);
-        if known.is_none() && kind != ALL_KINDS || self.upload.is_of_other(from) {
+        if known.is_none() && kind != PlanKind::ALL || self.upload.is_of_other(from) {
             return Change::Same;
         }
         Change::Empty(known)
