@@ -1,0 +1,8 @@
+pub mod Buffers
+pub mod EncodedFound
+pub mod FoundEncoded
+pub mod MoreBytes
+pub mod Reasons
+pub mod OneParse
+pub mod LongerParse
+pub mod EventsFound

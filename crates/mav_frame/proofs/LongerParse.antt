@@ -1,0 +1,69 @@
+-- More bytes change no event, and a parse goes on event by event.
+use Rattle.std.proofs.Common.{◌≡◌, ℕ, List, [], ◌∷◌, ◌++◌, refl, sym, ap, ◌∙◌, subst, ⊎_elim, append_assoc}
+use Rattle.mav_frame.specs.Packet.{Packet}
+use Rattle.mav_frame.specs.Encoding.{encoding}
+use Rattle.mav_frame.specs.Looks.{look_of}
+use Rattle.mav_frame.specs.Parse.{NoFrame, IsIncomplete, EventAt}
+use Rattle.mav_frame.specs.ParseLaws.{MoreBytesKeep, IncrementalGoesOn, IncrementalEnds, FinalGoesOn, FinalEnds, IncrementalBeginsFinal}
+use Rattle.mav_frame.specs.declared.looks.Look.{Look}
+use Rattle.mav_frame.specs.declared.looks.Look.TheVariants.{Frame as Found, NotHere, More}
+use Rattle.mav_frame.specs.declared.looks.Why.{Why}
+use Rattle.mav_frame.specs.declared.looks.Why.TheVariants.{Short}
+use Rattle.mav_frame.specs.declared.events.Event.{Event}
+use Rattle.mav_frame.specs.declared.events.Event.TheVariants.{Frame, Skipped}
+use Rattle.mav_frame.proofs.EncodedFound.{found}
+use Rattle.mav_frame.proofs.MoreBytes.{stays}
+use Rattle.mav_frame.proofs.Reasons.{lacks, incomplete, listed, reason}
+
+found_more : (p : Packet) (n k : ℕ) → Found p n ≡ More k → ⊥
+found_more p n k e = cc
+
+not_more : (w : Why) (k : ℕ) → NotHere w ≡ More k → ⊥
+not_more w k e = cc
+
+not_found : (w : Why) (p : Packet) (n : ℕ) → NotHere w ≡ Found p n → ⊥
+not_found w p n e = cc
+
+module _ (extras : List (ℕ × ℕ)) (b more : List ℕ) where
+  never_incomplete : (r : Look) → look_of extras b ≡ r → (IsIncomplete extras b → ⊥) → IsIncomplete extras (b ++ more) → ⊥
+  never_incomplete (Found p n) e never h = let l = lacks extras (b ++ more) h in found_more p n l.0 (sym (stays extras b more (Found p n) (found_more p n) e) ∙ l.1)
+  never_incomplete (NotHere w) e never h = let l = lacks extras (b ++ more) h in not_more w l.0 (sym (stays extras b more (NotHere w) (not_more w) e) ∙ l.1)
+  never_incomplete (More k) e never h = never (incomplete extras b k e)
+
+-- no frame is encoded where the table has a reason, nor where it lacks bytes
+pub no_frame : (extras : List (ℕ × ℕ)) (b : List ℕ) (r : Look) → look_of extras b ≡ r → ((p : Packet) (n : ℕ) → r ≡ Found p n → ⊥) → NoFrame extras b
+no_frame extras b r e never p front rest f s is = never p _ (sym e ∙ found extras p b rest f s.sealed (is ∙ ap (λ (l : List ℕ). l ++ rest) s.bytes))
+
+module _ (extras : List (ℕ × ℕ)) (b more : List ℕ) where
+  event_longer : (m : Event) (rest : List ℕ) → (IsIncomplete extras b → ⊥) → EventAt extras m b rest → EventAt extras m (b ++ more) (rest ++ more)
+  event_longer (Frame p) rest never h = (h.0, h.1, ap (λ (l : List ℕ). l ++ more) h.2 ∙ append_assoc (encoding p) rest more)
+  event_longer (Skipped c w) rest never h = ⊎_elim
+      (λ (x : look_of extras b ≡ NotHere w).
+      let same = stays extras b more (NotHere w) (not_more w) x in
+      (ap (λ (l : List ℕ). l ++ more) h.0, no_frame extras (b ++ more) (NotHere w) same (not_found w), reason extras (b ++ more) w same))
+      (λ (x : IsIncomplete extras b × (w ≡ Short)). absurd (never x.0))
+      (listed extras b w h.2)
+
+pub more_bytes_keep : MoreBytesKeep
+more_bytes_keep extras [] left b more h = ap (λ (l : List ℕ). l ++ more) h
+more_bytes_keep extras (m ∷ ms) left b more h = (never_incomplete extras b more (look_of extras b) refl h.0, (h.1.0 ++ more, event_longer extras b more m h.1.0 h.0 h.1.1, more_bytes_keep extras ms left h.1.0 more h.1.2))
+
+pub incremental_goes_on : IncrementalGoesOn
+incremental_goes_on extras [] m left rest b h never x = ((λ l. never (subst (λ (z : List ℕ). IsIncomplete extras z) h l)), (rest, subst (λ (z : List ℕ). EventAt extras m z rest) (sym h) x, refl))
+incremental_goes_on extras (n ∷ ns) m left rest b h never x = (h.0, (h.1.0, h.1.1, incremental_goes_on extras ns m left rest h.1.0 h.1.2 never x))
+
+pub incremental_ends : IncrementalEnds
+incremental_ends extras [] left b h l = (sym h, subst (λ (z : List ℕ). IsIncomplete extras z) (sym h) l)
+incremental_ends extras (m ∷ ms) left b h l = (h.0, (h.1.0, h.1.1, incremental_ends extras ms left h.1.0 h.1.2 l))
+
+pub final_goes_on : FinalGoesOn
+final_goes_on extras [] m left rest b h x = (rest, subst (λ (z : List ℕ). EventAt extras m z rest) (sym h) x, refl)
+final_goes_on extras (n ∷ ns) m left rest b h x = (h.0, h.1, final_goes_on extras ns m left rest h.0 h.2 x)
+
+pub final_ends : FinalEnds
+final_ends extras [] b h = h
+final_ends extras (m ∷ ms) b h = (h.0, h.1, final_ends extras ms h.0 h.2)
+
+pub incremental_begins_final : IncrementalBeginsFinal
+incremental_begins_final extras [] left b h = h
+incremental_begins_final extras (m ∷ ms) left b h = (h.1.0, h.1.1, incremental_begins_final extras ms left h.1.0 h.1.2)

@@ -1,0 +1,44 @@
+-- Which bytes encode a frame (MAVLink guide, MAVLink 2 Packet Format).
+use Rattle.std.specs.Prelude.{ℕ, ◌≡◌, List, [], ◌∷◌, ◌++◌, length, Option, Some, None}
+use Rattle.x25_check.specs.Check.{check}
+use Rattle.x25_check.specs.Extras.{extra_of}
+use Rattle.mav_frame.specs.Numbers.{little_endian}
+use Rattle.mav_frame.specs.Packet.{SignatureBlock, Packet}
+
+-- the incompatibility flags: 0x01 says that a signature block follows
+abbrev pub incompat_flags : Option SignatureBlock → ℕ
+incompat_flags None = 0
+incompat_flags (Some block) = 1
+
+-- the 13 bytes of a signature block
+abbrev pub block_bytes : Option SignatureBlock → List ℕ
+block_bytes None = []
+block_bytes (Some block) = block.link ∷ little_endian 6 block.stamp ++ block.sig
+
+-- the nine bytes of the header behind STX
+abbrev pub header : Packet → List ℕ
+header packet =
+    length packet.payload ∷ incompat_flags packet.block ∷ packet.compat ∷ packet.seq ∷ packet.from.sys ∷ packet.from.comp ∷ little_endian 3 packet.id
+
+-- what the checksum runs over, before CRC_EXTRA: all bytes behind STX up to the end of the payload
+abbrev pub checked_bytes : Packet → List ℕ
+checked_bytes packet = header packet ++ packet.payload
+
+-- the checksum of a frame whose message has that CRC_EXTRA
+abbrev pub checksum : Packet → ℕ → ℕ
+checksum packet extra = check (checked_bytes packet ++ extra ∷ [])
+
+-- the bytes of a frame
+abbrev pub encoding : Packet → List ℕ
+encoding packet = 0xFD ∷ checked_bytes packet ++ little_endian 2 packet.check ++ block_bytes packet.block
+
+-- the frame's id is known, and its checksum is right
+pub record IsSealed (extras : List (ℕ × ℕ)) (packet : Packet) : Type 0 where
+  pub extra : ℕ
+  pub known : extra_of packet.id extras ≡ Some extra
+  pub right : packet.check ≡ checksum packet extra
+
+-- these bytes encode this frame
+pub record Encodes (extras : List (ℕ × ℕ)) (packet : Packet) (b : List ℕ) : Type 0 where
+  pub sealed : IsSealed extras packet
+  pub bytes : b ≡ encoding packet

@@ -1,0 +1,7 @@
+pub mod Numbers
+pub mod Packet
+pub mod Padding
+pub mod Encoding
+pub mod Looks
+pub mod Parse
+pub mod ParseLaws

@@ -1,0 +1,47 @@
+//! Laws of parses: functions without a body, whose contract is the law.
+ghost use Rattle.mav_frame.specs.ParseLaws.{OneFinal, OneIncremental, MoreBytesKeep, IncrementalGoesOn, IncrementalEnds, FinalGoesOn, FinalEnds, IncrementalBeginsFinal, IncompleteIsMore};
+
+/// A stream has one final parse at most.
+pub fn one_final()
+    ensures { OneFinal }
+{}
+
+/// A stream has one incremental parse at most.
+pub fn one_incremental()
+    ensures { OneIncremental }
+{}
+
+/// More bytes change no event of the incremental parse.
+pub fn more_bytes_keep()
+    ensures { MoreBytesKeep }
+{}
+
+/// A beginning of the incremental parse goes on by one event.
+pub fn incremental_goes_on()
+    ensures { IncrementalGoesOn }
+{}
+
+/// A beginning of the incremental parse is the whole where an incomplete frame is left.
+pub fn incremental_ends()
+    ensures { IncrementalEnds }
+{}
+
+/// A beginning of the final parse goes on by one event.
+pub fn final_goes_on()
+    ensures { FinalGoesOn }
+{}
+
+/// A beginning of the final parse is the whole where nothing is left.
+pub fn final_ends()
+    ensures { FinalEnds }
+{}
+
+/// The events of the incremental parse are events of the final parse.
+pub fn incremental_begins_final()
+    ensures { IncrementalBeginsFinal }
+{}
+
+/// `look` answers `More` exactly at an incomplete frame.
+pub fn incomplete_is_more()
+    ensures { IncompleteIsMore }
+{}

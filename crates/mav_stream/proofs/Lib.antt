@@ -1,0 +1,4 @@
+mod Windows
+pub mod Steps
+mod Answers
+mod CallList

@@ -1,0 +1,4 @@
+pub mod Held
+pub mod Nexts
+pub mod Progress
+pub mod Calls

@@ -1,0 +1,103 @@
+// The reader of a stream.
+ghost use Rattle.std.specs.Prelude.{◌≡◌, ◌+◌, ◌-◌, ◌<◌, ◌++◌, ℕ, List, [], length, take, drop, min, slice_index, true, false};
+ghost use Rattle.mav_frame.specs.declared.events.Event.{Event};
+ghost use Rattle.mav_stream.specs.Held.{Held, nothing_held};
+ghost use Rattle.mav_stream.specs.Nexts.{NextIs, HasRoomBehind, given_by};
+ghost use Rattle.mav_stream.specs.Progress.{Progress, WholeAtNeed};
+
+use crate::Next;
+use crate::window::Window;
+use mav_frame::{Look, Why, look};
+use std::marker::Model;
+use x25_check::Extras;
+
+/// A reader of one stream, which contracts see as the bytes that it holds: those taken that are in no event yet, at most 280.
+#[derive(Drop)]
+pub struct Reader {
+    extras: Extras,
+    window: Window,
+    ended: bool,
+}
+
+impl Model for Reader {
+    ghost use Rattle.mav_stream.specs.Held.{Held};
+
+    ghost Value = { Held };
+
+    ghost view = { λ r. record { extras = r.extras; bytes = r.window; ended = r.ended } };
+}
+
+impl Reader {
+    /// A reader of frames whose messages have these CRC_EXTRA bytes.
+    pub fn new(extras: Extras) -> Reader
+        ensures new { result ≡ nothing_held extras }
+        ensures progress { Progress extras [] [] result }
+    {
+        Reader {
+            extras,
+            window: Window::new(),
+            ended: false,
+        }
+    }
+
+    /// Takes as many bytes as fit beside those held, and answers how many. It isn't called after `end`.
+    pub fn feed(&mut self, piece: &[u8]) -> usize
+        ensures count { result ≡ min (length piece.now) (280 - length self.old.bytes) }
+        ensures held { self.new ≡ record self.old { bytes = self.old.bytes ++ take result piece.now } }
+        // The events given begin the parse of all bytes taken.
+        ensures progress { (extras : List (ℕ × ℕ)) (taken : List ℕ) (given : List Event) → self.old.ended ≡ false → Progress extras taken given self.old → Progress extras (taken ++ take result piece.now) given self.new }
+    {
+        self.window.append(piece)
+    }
+
+    /// The input has ended: what is left of it is in frames, or is skipped byte by byte.
+    pub fn end(&mut self)
+        ensures held { self.new ≡ record self.old { ended = true } }
+        ensures progress { (extras : List (ℕ × ℕ)) (taken : List ℕ) (given : List Event) → Progress extras taken given self.old → Progress extras taken given self.new }
+    {
+        self.ended = true;
+    }
+
+    /// The next event of the stream.
+    pub fn next(&mut self) -> Next
+        ensures next { NextIs self.old result self.new }
+        // Fewer bytes are held, or there is room for more.
+        ensures room { HasRoomBehind self.old result self.new }
+        // The events given and this one begin the parse.
+        ensures progress { (extras : List (ℕ × ℕ)) (taken : List ℕ) (given : List Event) → Progress extras taken given self.old → Progress extras taken (given ++ given_by result) self.new }
+        // At Need all of it was given.
+        ensures whole { (extras : List (ℕ × ℕ)) (taken : List ℕ) (given : List Event) → Progress extras taken given self.old → WholeAtNeed extras taken given result self.new }
+    {
+        let _held = self.window.bytes();
+        self.answer()
+    }
+
+    fn answer(&mut self) -> Next
+        ensures { NextIs self.old result self.new }
+    {
+        match look(&self.extras, self.window.bytes()) {
+            Look::Frame(frame, size) => {
+                self.window.remove(size);
+                Next::Frame(frame)
+            }
+            Look::NotHere(why) => self.skip(why),
+            Look::More(_) => {
+                if !self.ended || self.window.bytes().is_empty() {
+                    return Next::Need;
+                }
+                self.skip(Why::Short)
+            }
+        }
+    }
+
+    // Skips the first byte.
+    fn skip(&mut self, why: Why) -> Next
+        requires { 0 < length self.old.bytes }
+        ensures answer { result ≡ Next.Skipped (slice_index self.old.bytes 0) why }
+        ensures held { self.new ≡ record self.old { bytes = drop 1 self.old.bytes } }
+    {
+        let byte = self.window.bytes()[0];
+        self.window.remove(1);
+        Next::Skipped(byte, why)
+    }
+}
