@@ -1,0 +1,14 @@
+pub mod Numbers
+pub mod Ends
+pub mod Names
+pub mod Clocks
+pub mod Reports
+pub mod Moves
+pub mod Fits
+pub mod Gives
+pub mod Begins
+pub mod Lines
+pub mod Reasons
+pub mod Plays
+pub mod StoreLines
+pub mod OneUpload

@@ -1,0 +1,5 @@
+use Rattle.fleet_safety.proofs.Plays as plays
+use Rattle.fleet_safety.proofs.scenarios.every_scenario.Goals as goal
+
+pub returns : goal.returns
+returns c = plays.every_scenario
