@@ -1,0 +1,12 @@
+pub mod Steps
+pub mod Pairs
+pub mod Flows
+pub mod Messages
+pub mod Conversation
+pub mod Kept
+pub mod Fresh
+pub mod Reached
+pub mod Begun
+pub mod Onward
+pub mod Every
+pub mod Shown

@@ -1,0 +1,14 @@
+use Rattle.std.proofs.Common.{true, false}
+use Rattle.fleet_liveness.proofs.Shown as shown
+use Rattle.fleet_liveness.proofs.examples.small_uploads.Goals as goal
+
+pub returns : goal.returns
+returns c = record {
+  whole_line = shown.whole_line true;
+  still_open = shown.whole_line false;
+  last_line = shown.last_line;
+  eight_do = shown.eight_do;
+  seven_do_not = shown.seven_do_not;
+  ten_do_for_two = shown.ten_do;
+  nine_do_not_for_two = shown.nine_do_not;
+}

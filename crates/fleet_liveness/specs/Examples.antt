@@ -1,0 +1,54 @@
+-- Small scenarios, which show that the law speaks of something, and how long a flow must be.
+use Rattle.std.specs.Prelude.{ℕ, ◌||◌, Bool, true, false, List, [], ◌∷◌, ◌++◌, codes, pos}
+use Rattle.plan_items.specs.declared.items.Item.{Item}
+use Rattle.plan_items.specs.declared.kinds.PlanKind.TheVariants.{Mission}
+use Rattle.fleet_world.specs.Events.{Event, Sent, Installed, Emptied, Refused, Ended}
+use Rattle.plan_upload.specs.Station.{Told, Told_installed, Told_not_installed, Told_unknown, Told_cleared, Told_got, Told_ended}
+use Rattle.fleet_liveness.specs.Uncontended.{Lines, NextLine, Upload}
+
+-- a drone, a station, and one item or two
+abbrev pub one_item : List ℕ
+one_item = codes "item 6 16 473977420 85455940"
+
+abbrev pub two_items : List ℕ
+two_items = codes "items 2 6 16 473977420 85455940"
+
+abbrev pub newline : List ℕ
+newline = 10 ∷ []
+
+-- the upload of these items, with these bytes behind the begin line
+abbrev pub scenario : List ℕ → List ℕ → List ℕ
+scenario items flow =
+    codes "drone 1" ++ newline ++ codes "station 255 190" ++ newline ++ items ++ newline ++ codes "begin 255.190 1.1 mission" ++ newline ++ flow
+
+-- its lines where there is one item
+abbrev pub upload_lines : NextLine → Lines
+upload_lines flow = record {
+  front = codes "drone 1" ∷ codes "station 255 190" ∷ one_item ∷ [];
+  begin = codes "begin 255.190 1.1 mission";
+  flow = flow;
+}
+
+-- a waypoint in the frame GLOBAL_RELATIVE_ALT_INT
+abbrev pub waypoint : Item
+waypoint = record { frame = 6; command = 16; current = 0; autocontinue = 1; p = 0 ∷ 0 ∷ 0 ∷ 0 ∷ []; x = pos 473977420; y = pos 85455940; z = 0 }
+
+abbrev pub upload : Upload
+upload = record { station = record { sys = 255; comp = 190 }; drone = record { sys = 1; comp = 1 }; kind = Mission; plan = waypoint ∷ [] }
+
+-- an outcome Installed is among the events
+abbrev pub is_installed : Told → Bool
+is_installed Told_installed = true
+is_installed (Told_not_installed code) = false
+is_installed Told_unknown = false
+is_installed Told_cleared = false
+is_installed (Told_got items) = false
+is_installed (Told_ended code) = false
+
+abbrev pub acknowledges : List Event → Bool
+acknowledges [] = false
+acknowledges (Sent number from message ∷ es) = acknowledges es
+acknowledges (Installed drone kind items by ∷ es) = acknowledges es
+acknowledges (Emptied drone kind ∷ es) = acknowledges es
+acknowledges (Refused station why ∷ es) = acknowledges es
+acknowledges (Ended station told ∷ es) = is_installed told || acknowledges es

@@ -1,0 +1,2 @@
+pub mod Uncontended
+pub mod Examples

@@ -1,0 +1,112 @@
+-- An uncontended upload, as a scenario's bytes have it: a begin line of a valid plan, with a long enough
+-- flow as the very next line. And what then happens within that flow line.
+use Rattle.std.specs.Prelude.{◌≡◌, ℕ, ◌+◌, ◌*◌, ◌≤◌, Bool, true, false, List, [], ◌∷◌, ◌++◌, length, slice_get, Some, None}
+use Rattle.mav_ports.specs.declared.names.Name.{Name}
+use Rattle.plan_items.specs.declared.items.Item.{Item}
+use Rattle.plan_items.specs.declared.kinds.PlanKind.{PlanKind}
+use Rattle.plan_items.specs.Kinds.{number_of}
+use Rattle.plan_items.specs.Validation.{IsValid}
+use Rattle.plan_upload.specs.Drone.{DroneState, is_other}
+use Rattle.plan_upload.specs.Station.{StationState, Told_installed}
+use Rattle.plan_upload.specs.Refusals.{upload_refusal}
+use Rattle.fleet_world.specs.declared.lines.Line.TheVariants.{Begin, Flow}
+use Rattle.fleet_world.specs.declared.nodes.Node.{Node}
+use Rattle.fleet_world.specs.declared.nodes.Node.TheVariants.{Drone as DroneNode, Station as StationNode}
+use Rattle.fleet_world.specs.Scene.{Scene, drone_name, stream_of}
+use Rattle.fleet_world.specs.Grammar.{line_of}
+use Rattle.fleet_world.specs.Events.{Event, Installed, Ended}
+use Rattle.fleet_world.specs.Scenario.{Played, at_start, line_played, last_played, lines_played, played, whole_lines, unfinished, without_cr}
+
+-- which station uploads what to which drone
+pub record Upload : Type 0 where
+  pub station : Name
+  pub drone : Name
+  pub kind : PlanKind
+  pub plan : List Item
+
+-- the line behind the begin line: a whole one with more behind it, or the last one, without its LF, of an input that ended
+pub data NextLine : Type 0 where
+  Whole : (raw : List ℕ) (more : List (List ℕ)) → NextLine
+  Last : (raw : List ℕ) → NextLine
+
+abbrev pub text_of : NextLine → List ℕ
+text_of (Whole raw more) = without_cr raw
+text_of (Last raw) = raw
+
+-- a scenario's lines around a begin line
+pub record Lines : Type 0 where
+  pub front : List (List ℕ)  -- those before it
+  pub begin : List ℕ
+  pub flow : NextLine
+
+-- the bytes have these lines, one right behind the other
+abbrev pub HaveLines : Bool → List ℕ → List (List ℕ) → List ℕ → NextLine → Type 0
+HaveLines ended bytes front begin (Whole raw more) = whole_lines bytes ≡ front ++ begin ∷ raw ∷ more
+HaveLines ended bytes front begin (Last raw) = (ended ≡ true) × ((whole_lines bytes ≡ front ++ begin ∷ []) × (unfinished bytes ≡ raw))
+
+-- what the lines before the begin line lead to, and those up to it
+abbrev pub before : Lines → Played
+before l = lines_played at_start 1 l.front
+
+abbrev pub begun : Lines → Played
+begun l = line_played (before l) (length l.front + 1) l.begin
+
+-- and those up to the flow line
+abbrev pub next_played : Played → ℕ → NextLine → Played
+next_played p number (Whole raw more) = line_played p number raw
+next_played p number (Last raw) = last_played p number raw
+
+abbrev pub flowed : Lines → Played
+flowed l = next_played (begun l) (length l.front + 2) l.flow
+
+-- the station accepts the upload: it has no operation, a PING number is left, and the plan fits
+pub record Accepts (s : Scene) (u : Upload) : Type 0 where
+  pub place : ℕ
+  pub station : StationState
+  pub found : slice_get s.nodes place ≡ Some (StationNode station)
+  pub named : station.me ≡ u.station
+  pub accepted : upload_refusal station (number_of u.kind) u.plan ≡ None
+
+-- at the drone no upload of another stream is open
+pub record IsFree (s : Scene) (u : Upload) : Type 0 where
+  pub place : ℕ
+  pub drone : DroneState
+  pub found : slice_get s.nodes place ≡ Some (DroneNode drone)
+  pub named : drone_name drone.sys ≡ u.drone
+  pub free : is_other drone.upload (stream_of u.station) ≡ false
+
+abbrev pub drones_in : List Node → ℕ
+drones_in [] = 0
+drones_in (DroneNode d ∷ ns) = 1 + drones_in ns
+drones_in (StationNode s ∷ ns) = drones_in ns
+
+-- an accepted upload of a valid plan to a free drone, whose flow line is long enough. Up to that line the scenario
+-- wasn't stopped, neither by a line nor by a limit
+pub record IsUncontended (ended : Bool) (bytes : List ℕ) (l : Lines) (u : Upload) : Type 0 where
+  pub lines : HaveLines ended bytes l.front l.begin l.flow
+  pub front_done : (before l).stop ≡ None
+  pub begin_done : (begun l).stop ≡ None
+  pub flow_done : (flowed l).stop ≡ None
+  pub begins : line_of (without_cr l.begin) ≡ Begin u.station u.drone u.kind
+  pub plan_is : (before l).scene.draft ≡ u.plan
+  pub valid : IsValid (number_of u.kind) u.plan
+  pub accepts : Accepts (before l).scene u
+  pub is_free : IsFree (before l).scene u
+  pub frames : ℕ
+  pub flows : line_of (text_of l.flow) ≡ Flow frames
+  pub enough : 2 * length u.plan + 6 + drones_in (before l).scene.nodes ≤ frames
+
+-- among these events the drone installs the plan, and behind that its station tells that it is installed
+pub record Installs (u : Upload) (events : List Event) : Type 0 where
+  pub earlier : List Event
+  pub between : List Event
+  pub later : List Event
+  pub is : events ≡ earlier ++ Installed u.drone (number_of u.kind) u.plan u.station ∷ (between ++ Ended u.station Told_installed ∷ later)
+
+-- so it is within the flow line, whose events stand so among those of the whole scenario
+pub record IsInstalled (ended : Bool) (bytes : List ℕ) (l : Lines) (u : Upload) : Type 0 where
+  pub events : List Event
+  pub within : (flowed l).events ≡ (begun l).events ++ events
+  pub installs : Installs u events
+  pub later : List Event
+  pub whole : (played ended bytes).events ≡ (begun l).events ++ (events ++ later)
