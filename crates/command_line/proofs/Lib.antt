@@ -1,0 +1,4 @@
+pub mod Sorts
+pub mod Agreement
+pub mod FormsAgree
+pub mod Readings

@@ -1,0 +1,30 @@
+use Rattle.std.proofs.Common.{◌≡◌, ◌∙◌, sym, ap, map, string_bytes, Err}
+use Rattle.std.proofs.lemmas.Result.{err_from_is_err_and}
+use Rattle.command_line.specs.declared.faults.WantedFault.TheVariants.{Usage}
+use Rattle.command_line.specs.Lines.{parts_of}
+use Rattle.command_line.specs.Pieces.{command_named}
+use Rattle.command_line.proofs.Readings.{words_split, asks_at, nothing_at, unfit_at}
+use Rattle.command_line.proofs.reading.read.Goals as goal
+
+pub returns-in_err-reader-clause-usage : goal.returns-in_err-reader-clause-usage
+returns-in_err-reader-clause-usage c =
+    let e = err_from_is_err_and c.from_residual.result c.from_residual.ensures.1 in
+    let ws = c.args.words.now in
+    let split = words_split ws c.first-item.result c.in-len1-up.len_at_least c.first-item.is in
+    rw (e.1, e.2) (λ usage. nothing_at (map string_bytes ws) _ _ split (c.in_err-reader.ensures.refused (ap Err (let same : c.in_err-reader.field-0.0 ≡ Usage = cc usage in same))))
+
+pub returns-then-fits-clause-asks : goal.returns-then-fits-clause-asks
+returns-then-fits-clause-asks c =
+    let ws = c.args.words.now in
+    let r = c.in_ok-reader.reader in
+    let split = words_split ws c.first-item.result c.in-len1-up.len_at_least c.first-item.is in
+    asks_at (map string_bytes ws) (string_bytes c.first-item.result) _ c.in-Some.command (parts_of r.settings.items r.words.items) split
+    (ap command_named (sym c.as_str.ensures.value) ∙ sym c.in-Some.ensures) c.in_ok-reader.ensures.parts (sym c.fits.ensures ∙ c.if-fits.true)
+
+pub returns-else-fits-clause-usage : goal.returns-else-fits-clause-usage
+returns-else-fits-clause-usage c = λ usage.
+    let ws = c.args.words.now in
+    let r = c.in_ok-reader.reader in
+    let split = words_split ws c.first-item.result c.in-len1-up.len_at_least c.first-item.is in
+    unfit_at (map string_bytes ws) (string_bytes c.first-item.result) _ c.in-Some.command (parts_of r.settings.items r.words.items) split
+    (ap command_named (sym c.as_str.ensures.value) ∙ sym c.in-Some.ensures) c.in_ok-reader.ensures.parts (sym c.fits.ensures ∙ c.if-fits.false)

@@ -1,0 +1,9 @@
+pub mod Commands
+pub mod Numbers
+pub mod Ports
+pub mod Operations
+pub mod Forms
+pub mod Built
+pub mod Grammar
+pub mod Pieces
+pub mod Lines

@@ -1,0 +1,88 @@
+-- How words are read from left to right: what a word is by itself, and what it is behind those before it.
+use Rattle.std.specs.Prelude.{◌==◌, nat_lt, ℕ, Bool, if◌then◌else◌, List, [], ◌∷◌, ◌++◌, length, Option, Some, None, codes}
+use Rattle.std.specs.List.{find, before_first, after_first, position_or_len}
+use Rattle.std.specs.Str.{bytes_eq}
+use Rattle.command_line.specs.declared.commands.Command.{Command}
+use Rattle.command_line.specs.declared.commands.Command.TheVariants.{Fleet, Dialect, Decode, Route, Drone, Station, Make}
+use Rattle.command_line.specs.declared.commands.OptionName.{OptionName}
+use Rattle.command_line.specs.declared.commands.OptionName.TheVariants.{Frames, Key, Defs, One, Turns, Ticks, File}
+use Rattle.command_line.specs.declared.pieces.Sort.{Sort}
+use Rattle.command_line.specs.declared.pieces.Sort.TheVariants.{Plain, Dashes, Alone, Joined, Apart, Unknown}
+use Rattle.command_line.specs.declared.pieces.Place.{Place}
+use Rattle.command_line.specs.declared.pieces.Place.TheVariants.{Anything, Value, Behind}
+use Rattle.command_line.specs.Commands.{command_word, option_word, has_value}
+use Rattle.command_line.specs.Forms.{Given}
+use Rattle.command_line.specs.Grammar.{is_dashed}
+
+abbrev pub all_commands : List Command
+all_commands = Fleet ∷ Dialect ∷ Decode ∷ Route ∷ Drone ∷ Station ∷ Make ∷ []
+
+abbrev pub all_options : List OptionName
+all_options = Frames ∷ Key ∷ Defs ∷ One ∷ Turns ∷ Ticks ∷ File ∷ []
+
+abbrev pub command_named : List ℕ → Option Command
+command_named word = find (λ c. bytes_eq word (command_word c)) all_commands
+
+abbrev pub option_named : List ℕ → Option OptionName
+option_named word = find (λ o. bytes_eq word (option_word o)) all_options
+
+abbrev pub is_equals : ℕ → Bool
+is_equals b = b == 61
+
+abbrev pub has_equals : List ℕ → Bool
+has_equals word = nat_lt (position_or_len is_equals word) (length word)
+
+-- what a word is by itself
+abbrev pub alone_sort : Option OptionName → Sort
+alone_sort None = Unknown
+alone_sort (Some name) = if has_value name then Apart name else Alone name
+
+abbrev pub joined_sort : Option OptionName → Sort
+joined_sort None = Unknown
+joined_sort (Some name) = if has_value name then Joined name else Unknown
+
+abbrev pub option_sort : List ℕ → Sort
+option_sort word = if has_equals word then joined_sort (option_named (before_first is_equals word)) else alone_sort (option_named word)
+
+abbrev pub sort_of : List ℕ → Sort
+sort_of word = if is_dashed word then (if bytes_eq word (codes "--") then Dashes else option_sort word) else Plain
+
+-- the value that is joined to an option
+abbrev pub joined_value : List ℕ → List ℕ
+joined_value word = after_first is_equals word
+
+-- what words give
+pub record Parts : Type 0 where
+  pub settings : List Given
+  pub plain : List (List ℕ)
+
+abbrev pub given : OptionName → List ℕ → Option Parts → Option Parts
+given name value None = None
+given name value (Some p) = Some (record { settings = (record { name = name; value = value }) ∷ p.settings; plain = p.plain })
+
+abbrev pub plainly : List ℕ → Option Parts → Option Parts
+plainly word None = None
+plainly word (Some p) = Some (record { settings = p.settings; plain = word ∷ p.plain })
+
+-- what a word gives that stands where options may, and the words behind it
+abbrev pub sorted : Sort → List ℕ → (Place → Option Parts) → Option Parts
+sorted Plain word next = plainly word (next Anything)
+sorted Dashes word next = next Behind
+sorted (Alone name) word next = given name [] (next Anything)
+sorted (Joined name) word next = given name (joined_value word) (next Anything)
+sorted (Apart name) word next = next (Value name)
+sorted Unknown word next = None
+
+-- what the words give that follow at this place; None where they can't stand there
+abbrev pub parts_at : Place → List (List ℕ) → Option Parts
+parts_at Anything [] = Some (record { settings = []; plain = [] })
+parts_at (Value name) [] = None
+parts_at Behind [] = Some (record { settings = []; plain = [] })
+parts_at Anything (w ∷ ws) = sorted (sort_of w) w (λ place. parts_at place ws)
+parts_at (Value name) (w ∷ ws) = if is_dashed w then None else given name w (parts_at Anything ws)
+parts_at Behind (w ∷ ws) = plainly w (parts_at Behind ws)
+
+-- these parts, and behind them those
+abbrev pub joined : List Given → List (List ℕ) → Option Parts → Option Parts
+joined settings plain None = None
+joined settings plain (Some p) = Some (record { settings = settings ++ p.settings; plain = plain ++ p.plain })

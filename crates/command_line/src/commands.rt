@@ -1,0 +1,127 @@
+// The commands and their options, and which of them are built.
+ghost use Rattle.std.specs.Prelude.{◌≡◌};
+ghost use Rattle.command_line.specs.Commands.{command_word, option_word, has_value, has_option};
+ghost use Rattle.command_line.specs.Built.{is_built, is_option_built};
+
+/// What the program does.
+#[derive(Clone, Copy, Debug, PartialEq, Eq)]
+pub enum Command {
+    Fleet,
+    Dialect,
+    Decode,
+    Route,
+    Drone,
+    Station,
+    Make,
+}
+
+/// An option that some command has.
+#[derive(Clone, Copy, Debug, PartialEq, Eq)]
+pub enum OptionName {
+    Frames,
+    Key,
+    Defs,
+    One,
+    Turns,
+    Ticks,
+    File,
+}
+
+pub(crate) const COMMANDS: [Command; 7] = [
+    Command::Fleet,
+    Command::Dialect,
+    Command::Decode,
+    Command::Route,
+    Command::Drone,
+    Command::Station,
+    Command::Make,
+];
+
+pub(crate) const OPTION_NAMES: [OptionName; 7] = [
+    OptionName::Frames,
+    OptionName::Key,
+    OptionName::Defs,
+    OptionName::One,
+    OptionName::Turns,
+    OptionName::Ticks,
+    OptionName::File,
+];
+
+impl Command {
+    /// The first word of its lines.
+    pub(crate) fn word(self) -> &'static str
+        ensures { result.now ≡ command_word self }
+    {
+        match self {
+            Command::Fleet => "fleet",
+            Command::Dialect => "dialect",
+            Command::Decode => "decode",
+            Command::Route => "route",
+            Command::Drone => "drone",
+            Command::Station => "station",
+            Command::Make => "make",
+        }
+    }
+
+    /// Whether the program does it yet.
+    pub(crate) fn is_built(self) -> bool
+        ensures { result ≡ is_built self }
+    {
+        matches!(self, Command::Fleet | Command::Dialect | Command::Decode)
+    }
+
+    /// Whether this is one of its options.
+    pub(crate) fn has_option(self, name: OptionName) -> bool
+        ensures { result ≡ has_option self name }
+    {
+        match self {
+            Command::Fleet => matches!(name, OptionName::Frames | OptionName::Key),
+            Command::Dialect => matches!(name, OptionName::Defs),
+            Command::Decode => matches!(name, OptionName::Defs | OptionName::Key),
+            Command::Route => matches!(
+                name,
+                OptionName::Key | OptionName::Defs | OptionName::One | OptionName::Turns
+            ),
+            Command::Drone => matches!(name, OptionName::Key | OptionName::Turns),
+            Command::Station => matches!(
+                name,
+                OptionName::Key | OptionName::Ticks | OptionName::File
+            ),
+            Command::Make => false,
+        }
+    }
+
+    /// Whether it takes this option yet.
+    pub(crate) fn is_option_built(self, name: OptionName) -> bool
+        ensures { result ≡ is_option_built self name }
+    {
+        match self {
+            Command::Dialect | Command::Decode => matches!(name, OptionName::Defs),
+            _ => false,
+        }
+    }
+}
+
+impl OptionName {
+    /// The word that stands for it.
+    pub(crate) fn word(self) -> &'static str
+        ensures { result.now ≡ option_word self }
+    {
+        match self {
+            OptionName::Frames => "--frames",
+            OptionName::Key => "--key",
+            OptionName::Defs => "--defs",
+            OptionName::One => "--one",
+            OptionName::Turns => "--turns",
+            OptionName::Ticks => "--ticks",
+            OptionName::File => "--file",
+        }
+    }
+
+    /// Whether a value goes with it.
+    pub(crate) fn has_value(self) -> bool
+        ensures { result ≡ has_value self }
+    {
+        !matches!(self, OptionName::Frames | OptionName::One)
+    }
+}

@@ -1,0 +1,23 @@
+//! What the words of a command line ask for.
+//!
+//! The words are read by the grammar of `specs/Grammar.antt`: a command, then its options in any
+//! place, its plain words, and `--`, behind which every word is plain. [`read`] answers the
+//! [`Line`] that the words are, and [`at_most_one_line`] says that they are no other. The tables of
+//! `commands` say which commands and options are built. Nothing here opens a file.
+#![tactic(auto)]
+
+mod commands;
+mod faults;
+mod forms;
+mod laws;
+mod lines;
+mod pieces;
+mod reading;
+#[cfg(test)]
+mod tests;
+
+pub use commands::{Command, OptionName};
+pub use faults::WantedFault;
+pub use laws::at_most_one_line;
+pub use lines::{Line, Setting};
+pub use reading::read;
