@@ -1,8 +1,8 @@
 -- The tests of a line agree with the forms of what is built.
-use Rattle.std.proofs.Common.{◌≡◌, ◌≢◌, ◌∙◌, ◌≤◌, ◌-◌, ◌&&◌, not, nat_le, ℕ, Bool, true, false, List, [], ◌∷◌, refl, sym, ap, arith, IsTrue, map, length, take, drop, get_or}
-use Rattle.std.proofs.lemmas.Bool.{and_parts, and_from, and_left, and_right, leb-true, le-leb}
+use Rattle.std.proofs.Common.{◌≡◌, ◌≢◌, ◌∙◌, ◌≤◌, ◌-◌, ◌&&◌, not, nat_le, ℕ, Bool, true, false, List, [], ◌∷◌, refl, sym, ap, arith, IsTrue, map, length, take, drop, get_or, Some, option_map, string_bytes, ◌⊎◌, inl, inr}
+use Rattle.std.proofs.lemmas.Bool.{cases_Bool, cond-true, cond-false, and_parts, and_from, and_left, and_right, leb-true, le-leb}
 use Rattle.std.proofs.lemmas.Grind.{common_steps}
-use Rattle.std.specs.List.{list_all, list_any}
+use Rattle.std.specs.List.{find, list_all, list_any}
 use Rattle.command_line.specs.declared.lines.Setting.{Setting}
 use Rattle.command_line.specs.declared.commands.Command.{Command}
 use Rattle.command_line.specs.declared.commands.Command.TheVariants.{Fleet, Dialect, Decode, Route, Drone, Station, Make}
@@ -11,7 +11,12 @@ use Rattle.command_line.specs.declared.commands.OptionName.TheVariants.{Key, Def
 use Rattle.command_line.specs.Commands.{has_option, needs_key}
 use Rattle.command_line.specs.Built.{is_built, is_option_built, built}
 use Rattle.command_line.specs.Forms.{Given, is_named, IsValue, AreTaken, all_differ, has_given, stdin_files, IsFile, ArePlain, Fits}
+use Rattle.command_line.specs.Names.{value_given}
 use Rattle.command_line.specs.Lines.{given_of, is_some_text, taken_now, is_one_file, is_no_word, plain_now, fits_now}
+
+-- the value of a setting
+abbrev pub held_value : Setting → List ℕ
+held_value s = string_bytes s.value
 
 some_text : (v : List ℕ) → is_some_text v ≡ true → v ≢ []
 some_text [] never = absurd (cc never)
@@ -136,3 +141,12 @@ pub all_hold : (c : Command) (ss : List Setting) (plain : List (List ℕ)) → i
 all_hold c ss plain b t d p =
     sym (and_holds (is_built c) _ b ∙ and_holds (list_all (taken_now c) (map given_of ss)) _ (list_all_map (taken_now c) ss ∙ t)
     ∙ and_holds (all_differ (map given_of ss)) _ d ∙ and_holds (plain_now c plain) _ p)
+
+-- the option that is looked up
+found_map : (name : OptionName) (s : Setting) (ss : List Setting) → value_given name (map given_of ss) ≡ option_map held_value (find (λ t. is_named name (given_of t)) ss) → (is_named name (given_of s) ≡ true) ⊎ (is_named name (given_of s) ≡ false) → value_given name (map given_of (s ∷ ss)) ≡ option_map held_value (find (λ t. is_named name (given_of t)) (s ∷ ss))
+found_map name s ss rest (inl is) = rw (cond-true (is_named name (given_of s)) (Some (given_of s)) (find (is_named name) (map given_of ss)) is, cond-true (is_named name (given_of s)) (Some s) (find (λ t. is_named name (given_of t)) ss) is)
+found_map name s ss rest (inr isnt) = rw (cond-false (is_named name (given_of s)) (Some (given_of s)) (find (is_named name) (map given_of ss)) isnt, cond-false (is_named name (given_of s)) (Some s) (find (λ t. is_named name (given_of t)) ss) isnt) rest
+
+pub value_map : (name : OptionName) (ss : List Setting) → value_given name (map given_of ss) ≡ option_map held_value (find (λ t. is_named name (given_of t)) ss)
+value_map name [] = refl
+value_map name (s ∷ ss) = found_map name s ss (value_map name ss) (cases_Bool (is_named name (given_of s)))

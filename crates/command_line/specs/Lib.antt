@@ -7,3 +7,4 @@ pub mod Built
 pub mod Grammar
 pub mod Pieces
 pub mod Lines
+pub mod Names

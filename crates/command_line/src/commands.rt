@@ -67,7 +67,7 @@ impl Command {
     pub(crate) fn is_built(self) -> bool
         ensures { result ≡ is_built self }
     {
-        matches!(self, Command::Fleet | Command::Dialect | Command::Decode)
+        matches!(self, Command::Fleet)
     }
 
     /// Whether this is one of its options.
@@ -95,10 +95,8 @@ impl Command {
     pub(crate) fn is_option_built(self, name: OptionName) -> bool
         ensures { result ≡ is_option_built self name }
     {
-        match self {
-            Command::Dialect | Command::Decode => matches!(name, OptionName::Defs),
-            _ => false,
-        }
+        let _ = name;
+        false
     }
 }
 

@@ -30,7 +30,7 @@ fn are_taken(command: Command, settings: &[Setting]) -> bool
     settings.iter().all(|setting| is_taken(command, setting))
 }
 
-fn is_named(setting: &Setting, name: OptionName) -> bool
+pub(crate) fn is_named(setting: &Setting, name: OptionName) -> bool
     ensures { result ≡ is_named name (given_of setting.now) }
 {
     setting.name.word() == name.word()
@@ -67,7 +67,7 @@ fn names_file(name: OptionName) -> bool
     matches!(name, OptionName::Key | OptionName::Defs | OptionName::File)
 }
 
-fn reads_file(command: Command) -> bool
+pub(crate) fn reads_file(command: Command) -> bool
     ensures { result ≡ reads_file command }
 {
     matches!(command, Command::Fleet | Command::Decode)

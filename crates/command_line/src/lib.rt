@@ -8,6 +8,7 @@
 
 mod commands;
 mod faults;
+mod files;
 mod forms;
 mod laws;
 mod lines;

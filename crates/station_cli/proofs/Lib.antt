@@ -1,6 +1,1 @@
-pub mod Lines
-pub mod Grows
-pub mod Steps
-pub mod Untolds
-pub mod Ends
-pub mod Worked
+pub mod Usages

@@ -1,5 +1,2 @@
-pub mod Words
-pub mod Plays
-pub mod Endings
-pub mod Runs
-pub mod Examples
+pub mod Wants
+pub mod Usage

@@ -2,7 +2,7 @@
 /// What the words ask `main` to make, in this order. What they don't name is None or empty.
 #[derive(Debug, Drop)]
 pub struct Wanted {
-    /// The scenario; `-` is standard input.
+    /// The main input; `-` is standard input.
     pub main: Option<String>,
     pub defs: Option<String>,
     pub key: Option<String>,

@@ -1,10 +1,11 @@
 // What the contract of `run` says of one scenario, at the ports in memory.
-ghost use Rattle.std.specs.Prelude.{◌≡◌, ◌⊎◌, [], Some, IsSome, map, string_bytes};
-ghost use Rattle.station_cli.specs.Words.{wanted_of};
-ghost use Rattle.station_cli.specs.Examples.{one_item, one_item_installed};
+ghost use Rattle.std.specs.Prelude.{◌≡◌, ◌⊎◌, [], Some, map, string_bytes};
+ghost use Rattle.command_line.specs.declared.commands.Command.{Command};
+ghost use Rattle.fleet_command.specs.Examples.{one_item, one_item_installed};
+ghost use Rattle.station_cli.specs.Wants.{AsksFor};
 
 use super::{INSTALLED, ONE_ITEM, words_of};
-use crate::{Inputs, run, wanted};
+use crate::{Inputs, run};
 use mav_ports::{MemClock, Sink, Source, SureSink, SureSource};
 use std::alloc::Global;
 use std::test::Fail;
@@ -17,11 +18,12 @@ fn upload_one_item(
     out: &mut SureSink,
     clock: &mut MemClock,
 ) -> u8
-    requires words { IsSome (wanted_of (map string_bytes words.now)) }
     requires scenario { ⟦<SureSource as Source>⟧.left inputs.old.main ≡ Some one_item }
     requires empty { ⟦<SureSink as Sink>⟧.sent out.old ≡ Some [] }
-    ensures status { (result ≡ 0) ⊎ ((result ≡ 5) ⊎ (result ≡ 7)) }
-    ensures report { result ≡ 0 → ⟦<SureSink as Sink>⟧.sent out.new ≡ Some one_item_installed }
+    ensures status { AsksFor Command.Fleet (map string_bytes words.now)
+        → (result ≡ 0) ⊎ ((result ≡ 5) ⊎ (result ≡ 7)) }
+    ensures report { AsksFor Command.Fleet (map string_bytes words.now) → result ≡ 0
+        → ⟦<SureSink as Sink>⟧.sent out.new ≡ Some one_item_installed }
 {
     run(alloc, words, inputs, out, clock)
 }
@@ -30,7 +32,6 @@ fn upload_one_item(
 fn the_contract_alone_tells_the_report(rt: HostRuntime) -> Result<(), Fail> {
     let alloc = rt.alloc();
     let words = words_of(alloc, &["fleet", "file"])?;
-    let _wanted = wanted(alloc, &words)?;
     let mut inputs = Inputs {
         main: SureSource::new(ONE_ITEM.to_vec(alloc)?),
         defs: SureSource::new(Vec::new(alloc)),

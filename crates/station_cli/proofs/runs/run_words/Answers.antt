@@ -1,11 +1,12 @@
-use Rattle.station_cli.proofs.Untolds.{untold_nothing, untold_usage}
+use Rattle.command_ends.proofs.Untolds.{untold_nothing}
+use Rattle.fleet_command.specs.Script.{fleet_script}
 use Rattle.station_cli.proofs.runs.run_words.Goals as goal
-use Rattle.station_cli.proofs.runs.run_words.Goals.{in-Ok, in-Err-Usage, in-Err-NoMemory}
 
-pub returns-clause-untold : goal.returns-clause-untold
-returns-clause-untold g c =
-    elim c.match-wanted.branch [
-      | in-Ok w ↦ rw (w.inputs-is, w.out-is, w.result-is) (w.fleet.ensures.untold _ w.in-Ok.ensures.some)
-      | in-Err-Usage w ↦ rw (w.inputs-is, w.out-is, w.result-is) (untold_usage _ _ _ _ (w.in-Err-Usage.ensures.usage (cc)))
-      | in-Err-NoMemory w ↦ rw (w.inputs-is, w.out-is, w.result-is) (untold_nothing _ _ _ _)
-    ]
+pub returns-in-Err-NoMemory-clause-fleet : goal.returns-in-Err-NoMemory-clause-fleet
+returns-in-Err-NoMemory-clause-fleet g c = λ asked asks is. untold_nothing fleet_script _ _ _
+
+pub returns-clause-usage_only : goal.returns-clause-usage_only
+returns-clause-usage_only g c = λ nothing. absurd (nothing _ c.in-Ok.ensures.asks)
+
+pub returns-clause-untouched : goal.returns-clause-untouched
+returns-clause-untouched g c = λ nothing. absurd (nothing _ c.in-Ok.ensures.asks)

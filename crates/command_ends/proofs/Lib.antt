@@ -1,0 +1,2 @@
+pub mod Untolds
+pub mod Ends

@@ -1,0 +1,19 @@
+//! How the commands of the program end.
+//!
+//! A [`Halt`] is why a run ends before its work is done; it has an exit status, and a text that
+//! [`tell`] writes behind what the command wrote. [`read_on`] reads an input and gives up after a
+//! million answers without bytes. `specs/Runs.antt` says, for any command, what a run takes, why
+//! it ends and what it writes; a command gives only its script there: which bytes stop it, and
+//! what it writes of them.
+#![tactic(auto)]
+
+mod halts;
+mod reading;
+mod stops;
+mod telling;
+
+pub use halts::Halt;
+use mav_ports::NoMemory;
+pub use reading::read_on;
+pub use stops::{InputReason, Limit, Place, Stop};
+pub use telling::{code_of, tell};

@@ -1,0 +1,28 @@
+-- The files and ports that a line names.
+use Rattle.std.specs.Prelude.{ℕ, List, [], ◌∷◌, Option, None, Some, if◌then◌else◌, option_map}
+use Rattle.std.specs.List.{find}
+use Rattle.command_line.specs.declared.commands.Command.{Command}
+use Rattle.command_line.specs.declared.commands.Command.TheVariants.{Route, Drone, Station}
+use Rattle.command_line.specs.declared.commands.OptionName.{OptionName}
+use Rattle.command_line.specs.declared.commands.OptionName.TheVariants.{File}
+use Rattle.command_line.specs.Forms.{Given, is_named, reads_file}
+use Rattle.command_line.specs.Grammar.{Asked}
+
+-- the value of an option, where it is given
+abbrev pub value_given : OptionName → List Given → Option (List ℕ)
+value_given name settings = option_map (λ (g : Given). g.value) (find (is_named name) settings)
+
+abbrev pub first_word : List (List ℕ) → Option (List ℕ)
+first_word [] = None
+first_word (word ∷ words) = Some word
+
+-- the file that is read behind the others: the plain word FILE, or the file of an operation
+abbrev pub main_file : Asked → Option (List ℕ)
+main_file asked = if reads_file asked.command then first_word asked.plain else value_given File asked.settings
+
+-- the words PORT
+abbrev pub port_words : Command → List (List ℕ) → List (List ℕ)
+port_words Route plain = plain
+port_words Drone (sys ∷ port ∷ more) = port ∷ []
+port_words Station (sys ∷ comp ∷ drone ∷ port ∷ more) = port ∷ []
+port_words _ plain = []

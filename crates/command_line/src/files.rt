@@ -1,0 +1,51 @@
+// The files that a line names.
+ghost use Rattle.std.specs.Prelude.{◌≡◌, IfOk, IsSome, option_map, map, string_bytes};
+ghost use Rattle.std.specs.List.{find};
+ghost use Rattle.std.specs.Option.{option_copied};
+ghost use Rattle.command_line.specs.Forms.{is_named};
+ghost use Rattle.command_line.specs.Lines.{given_of, asked_by};
+ghost use Rattle.command_line.specs.Names.{value_given, first_word, main_file};
+
+use crate::commands::OptionName;
+use crate::forms::{is_named, reads_file};
+use crate::lines::{Line, Setting};
+use std::alloc::{AllocError, Global};
+
+fn setting_of(settings: &[Setting], name: OptionName) -> Option<&Setting>
+    ensures { option_copied result ≡ find (λ s. is_named name (given_of s)) settings.now }
+{
+    settings.iter().find(|setting| is_named(setting, name))
+}
+
+fn first_word(alloc: Global, words: &[String]) -> Result<Option<String>, AllocError>
+    ensures { IfOk result (λ word. option_map string_bytes word ≡ first_word (map string_bytes words.now)) }
+{
+    match words {
+        [word, ..] => Ok(Some(String::from_str(alloc, word.as_str())?)),
+        [] => Ok(None),
+    }
+}
+
+impl Line {
+    /// The value of this option, where it is given.
+    pub fn value(&self, alloc: Global, name: OptionName) -> Result<Option<String>, AllocError>
+        ensures { IfOk result (λ value. option_map string_bytes value
+            ≡ value_given name (map given_of self.now.settings.items)) }
+    {
+        match setting_of(&self.settings, name) {
+            Some(setting) => Ok(Some(String::from_str(alloc, setting.value.as_str())?)),
+            None => Ok(None),
+        }
+    }
+
+    /// The file that is read behind the key and the definitions, where the line names one.
+    pub fn main(&self, alloc: Global) -> Result<Option<String>, AllocError>
+        ensures { IfOk result (λ file. option_map string_bytes file ≡ main_file (asked_by self.now)) }
+    {
+        if reads_file(self.command) {
+            first_word(alloc, &self.words)
+        } else {
+            self.value(alloc, OptionName::File)
+        }
+    }
+}

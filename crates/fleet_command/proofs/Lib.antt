@@ -1,0 +1,6 @@
+pub mod Lines
+pub mod Grows
+pub mod Steps
+pub mod Stays
+pub mod Endings
+pub mod Worked

@@ -1,0 +1,51 @@
+-- What `fleet` does with the bytes of a scenario.
+use Rattle.std.specs.Prelude.{true, option_map}
+use Rattle.fleet_world.specs.declared.faults.Reason.{Reason}
+use Rattle.fleet_world.specs.declared.faults.Reason.TheVariants.{Long, Word, Later, Count, Number, Node, Kind, Hex, Twice, Range, Draft, Clock}
+use Rattle.fleet_world.specs.declared.faults.Bound.{Bound}
+use Rattle.fleet_world.specs.declared.faults.Bound.TheVariants.{Frames as MostFrames, Drones as MostDrones, Stations as MostStations}
+use Rattle.fleet_world.specs.Steps.{closing_text}
+use Rattle.fleet_world.specs.Scenario.{Stop as ScenarioStop, Bad as BadLine, Too_many_lines, At_limit, played, report_of}
+use Rattle.command_ends.specs.declared.stops.Place.TheVariants.{Line}
+use Rattle.command_ends.specs.declared.stops.InputReason.{InputReason}
+use Rattle.command_ends.specs.declared.stops.InputReason.TheVariants.{Long as IsLong, Word as IsWord, Later as IsLater, Count as IsCount, Number as IsNumber, Node as IsNode, Kind as IsKind, Hex as IsHex, Twice as IsTwice, Range as IsRange, Draft as IsDraft, Clock as IsClock}
+use Rattle.command_ends.specs.declared.stops.Limit.{Limit}
+use Rattle.command_ends.specs.declared.stops.Limit.TheVariants.{Lines, Frames, Drones, Stations}
+use Rattle.command_ends.specs.declared.stops.Stop.{Stop}
+use Rattle.command_ends.specs.declared.stops.Stop.TheVariants.{Bad, AtLimit}
+use Rattle.command_ends.specs.Runs.{Script}
+
+-- a reason against a line, as it is told
+abbrev pub told_reason : Reason → InputReason
+told_reason Long = IsLong
+told_reason Word = IsWord
+told_reason Later = IsLater
+told_reason Count = IsCount
+told_reason Number = IsNumber
+told_reason Node = IsNode
+told_reason Kind = IsKind
+told_reason Hex = IsHex
+told_reason Twice = IsTwice
+told_reason Range = IsRange
+told_reason Draft = IsDraft
+told_reason Clock = IsClock
+
+-- a limit of the world
+abbrev pub told_limit : Bound → Limit
+told_limit MostFrames = Frames
+told_limit MostDrones = Drones
+told_limit MostStations = Stations
+
+-- where a scenario stops
+abbrev pub told_stop : ScenarioStop → Stop
+told_stop (BadLine line reason) = Bad (Line line) (told_reason reason)
+told_stop Too_many_lines = AtLimit Lines
+told_stop (At_limit limit) = AtLimit (told_limit limit)
+
+-- the lines are played in their order, and the plans are told at the end
+abbrev pub fleet_script : Script
+fleet_script = record {
+  stop = λ ended bytes. option_map told_stop (played ended bytes).stop;
+  report = λ ended bytes. report_of (played ended bytes);
+  closing = λ bytes. closing_text (played true bytes).scene.nodes;
+}

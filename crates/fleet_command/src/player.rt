@@ -1,0 +1,246 @@
+// A scenario that is played as its bytes come.
+ghost use Rattle.std.specs.Prelude.{◌≡◌, ◌≢◌, ◌≤◌, ◌+◌, ◌-◌, ◌∷◌, ◌++◌};
+ghost use Rattle.std.specs.Prelude.{[], List, ℕ, Bool, true, None, length, vec_len, IfOk, IfErr, OnOk, IsErrOf};
+ghost use Rattle.std.specs.declared.option.Option.{Option};
+ghost use Rattle.std.specs.Io.KnownBytes.{append_known};
+ghost use Rattle.mav_ports.specs.Counts.{Rose};
+ghost use Rattle.fleet_world.specs.Scene.{empty_scene};
+ghost use Rattle.fleet_world.specs.Reasons.{reason_against};
+ghost use Rattle.fleet_world.specs.Scenario.{Played, judged, line_played, last_played, played};
+ghost use Rattle.fleet_world.specs.Scenario.{Bad, At_limit, report_of, whole_report, without_cr};
+ghost use Rattle.fleet_command.specs.Script.{told_reason, told_limit, told_stop};
+ghost use Rattle.fleet_command.specs.Plays.{Holds, Reading, Halted, Finished, Leads, budget, long_halt};
+
+use command_ends::{Halt, InputReason, Limit, Place, Stop};
+use fleet_world::{Bound, LineFault, Reason, World, WorldFault};
+use mav_ports::{NoMemory, Sink, write_all};
+use std::alloc::Global;
+
+const MOST_LINES: usize = 100_000;
+
+const MOST_LINE_BYTES: usize = 4096;
+
+/// A scenario of which some bytes were taken: what they led to, and the line that they left
+/// unfinished.
+#[derive(Drop)]
+pub struct Player {
+    world: World,
+    /// The bytes behind the last LF.
+    line: Vec<u8>,
+    /// The number of the line that these begin.
+    number: usize,
+    ghost short: { vec_len line ≤ 4096 },
+    ghost few: { number ≤ 100001 },
+}
+
+impl Player {
+    pub fn new(alloc: Global) -> Result<Player, NoMemory>
+        ensures world { IfOk result (λ p. p.world ≡ empty_scene) }
+        ensures first { IfOk result (λ p. (p.number ≡ 1) × (p.line.items ≡ [])) }
+    {
+        Ok(Player {
+            world: World::new(alloc)?,
+            line: Vec::with_capacity(alloc, MOST_LINE_BYTES)?,
+            number: 1,
+        })
+    }
+
+    /// Takes bytes that come next. After an error the player is given up.
+    pub fn feed<K: Sink>(&mut self, piece: &[u8], out: &mut K) -> Result<(), Halt>
+        ensures taken { (taken : List ℕ) (before : Option (List ℕ))
+            → Reading taken self.old.world self.old.number self.old.line.items before (K.sent out.old)
+            → OnOk result (Reading (taken ++ piece.now)
+            self.new.world self.new.number self.new.line.items before (K.sent out.new)) }
+        ensures halted { (taken : List ℕ) (before : Option (List ℕ))
+            → Reading taken self.old.world self.old.number self.old.line.items before (K.sent out.old)
+            → (ended : Bool) → let end = played ended (taken ++ piece.now) in
+            IfErr result (λ halt. Halted halt end (report_of end) before (K.sent out.new)) }
+        ensures spends { OnOk result (budget self.new.number self.new.line.items + length piece.now
+            ≤ budget self.old.number self.old.line.items) }
+        ensures rose { IsErrOf result Halt.WriteFault
+            → Rose (K.faults out.old) (K.faults out.new) }
+        ensures sound { ¬ IsErrOf result Halt.WriteFault
+            → K.faults out.new ≡ K.faults out.old }
+    {
+        for byte in piece {
+            self.take(*byte, out)?;
+        }
+        Ok(())
+    }
+
+    /// The input ended: does the last line, and writes the closing plans.
+    pub fn finish<K: Sink>(&mut self, out: &mut K) -> Result<(), Halt>
+        ensures done { (taken : List ℕ) (before : Option (List ℕ))
+            → Reading taken self.old.world self.old.number self.old.line.items before (K.sent out.old)
+            → OnOk result (Finished (played true taken) before (K.sent out.new)) }
+        ensures halted { (taken : List ℕ) (before : Option (List ℕ))
+            → Reading taken self.old.world self.old.number self.old.line.items before (K.sent out.old)
+            → let end = played true taken in
+            IfErr result (λ halt. Halted halt end (whole_report end) before (K.sent out.new)) }
+        ensures rose { IsErrOf result Halt.WriteFault
+            → Rose (K.faults out.old) (K.faults out.new) }
+        ensures sound { ¬ IsErrOf result Halt.WriteFault
+            → K.faults out.new ≡ K.faults out.old }
+    {
+        self.last_line(out)?;
+        let plans = self.world.finish()?;
+        Ok(write_all(out, plans.bytes())?)
+    }
+
+    // Takes the next byte.
+    fn take<K: Sink>(&mut self, byte: u8, out: &mut K) -> Result<(), Halt>
+        ensures taken { (taken : List ℕ) (before : Option (List ℕ))
+            → Reading taken self.old.world self.old.number self.old.line.items before (K.sent out.old)
+            → OnOk result (Reading (taken ++ byte ∷ [])
+            self.new.world self.new.number self.new.line.items before (K.sent out.new)) }
+        ensures halted { (taken : List ℕ) (before : Option (List ℕ))
+            → Reading taken self.old.world self.old.number self.old.line.items before (K.sent out.old)
+            → (ended : Bool) (rest : List ℕ) → let end = played ended (taken ++ byte ∷ rest) in
+            IfErr result (λ halt. Halted halt end (report_of end) before (K.sent out.new)) }
+        ensures spends { OnOk result (budget self.new.number self.new.line.items + 1
+            ≤ budget self.old.number self.old.line.items) }
+        ensures rose { IsErrOf result Halt.WriteFault
+            → Rose (K.faults out.old) (K.faults out.new) }
+        ensures sound { ¬ IsErrOf result Halt.WriteFault
+            → K.faults out.new ≡ K.faults out.old }
+    {
+        if byte == b'\n' {
+            return self.end_line(out);
+        }
+        if self.line.len() == MOST_LINE_BYTES {
+            return Err(self.too_long());
+        }
+        self.line.push(byte)?;
+        Ok(())
+    }
+
+    // The line is whole: it is done, and the next one begins.
+    fn end_line<K: Sink>(&mut self, out: &mut K) -> Result<(), Halt>
+        ensures played { (p : Played) (before : Option (List ℕ))
+            → Holds p self.old.world before (K.sent out.old)
+            → Leads result (line_played p self.old.number self.old.line.items)
+            self.new.world before (K.sent out.new) }
+        ensures next { OnOk result ((self.new.number ≡ self.old.number + 1)
+            × (self.new.line.items ≡ []) × (self.old.number ≤ 100000)) }
+        ensures rose { IsErrOf result Halt.WriteFault
+            → Rose (K.faults out.old) (K.faults out.new) }
+        ensures sound { ¬ IsErrOf result Halt.WriteFault
+            → K.faults out.new ≡ K.faults out.old }
+    {
+        if self.number > MOST_LINES {
+            return Err(Halt::Stopped(Stop::AtLimit(Limit::Lines)));
+        }
+        play_line(&mut self.world, self.number, without_cr(&self.line), out)?;
+        self.line.clear();
+        self.number += 1;
+        Ok(())
+    }
+
+    // The input ended: what is held is a last line, unless it is empty.
+    fn last_line<K: Sink>(&mut self, out: &mut K) -> Result<(), Halt>
+        ensures played { (p : Played) (before : Option (List ℕ))
+            → Holds p self.old.world before (K.sent out.old)
+            → Leads result (last_played p self.old.number self.old.line.items)
+            self.new.world before (K.sent out.new) }
+        ensures rose { IsErrOf result Halt.WriteFault
+            → Rose (K.faults out.old) (K.faults out.new) }
+        ensures sound { ¬ IsErrOf result Halt.WriteFault
+            → K.faults out.new ≡ K.faults out.old }
+    {
+        if self.line.is_empty() {
+            return Ok(());
+        }
+        if self.number > MOST_LINES {
+            return Err(Halt::Stopped(Stop::AtLimit(Limit::Lines)));
+        }
+        play_line(&mut self.world, self.number, &self.line, out)
+    }
+
+    // Why one more byte is too many for the line.
+    fn too_long(&self) -> Halt
+        ensures { result ≡ long_halt self.now.number }
+    {
+        if self.number > MOST_LINES {
+            Halt::Stopped(Stop::AtLimit(Limit::Lines))
+        } else {
+            bad_line(self.number, Reason::Long)
+        }
+    }
+}
+
+// Does line `number`, and writes its report.
+fn play_line<K: Sink>(
+    world: &mut World,
+    number: usize,
+    text: &[u8],
+    out: &mut K,
+) -> Result<(), Halt>
+    ensures played { (p : Played) (before : Option (List ℕ)) → Holds p world.old before (K.sent out.old)
+        → Leads result (judged p number text.now (reason_against p.scene text.now))
+        world.new before (K.sent out.new) }
+    ensures rose { IsErrOf result Halt.WriteFault → Rose (K.faults out.old) (K.faults out.new) }
+    ensures sound { ¬ IsErrOf result Halt.WriteFault → K.faults out.new ≡ K.faults out.old }
+{
+    let line = match world.read(text) {
+        Ok(line) => line,
+        Err(LineFault::Bad(reason)) => return Err(bad_line(number, reason)),
+        Err(LineFault::NoMemory) => return Err(Halt::NoMemory),
+    };
+    match world.line(line) {
+        Ok(report) => Ok(write_all(out, report.bytes())?),
+        Err(WorldFault::Limit(limit)) => Err(at_limit(limit)),
+        Err(WorldFault::NoMemory) => Err(Halt::NoMemory),
+    }
+}
+
+// What a whole line says: a CR before its LF is no part of that.
+fn without_cr(line: &[u8]) -> &[u8]
+    ensures { result.now ≡ without_cr line.now }
+{
+    match line {
+        [text @ .., b'\r'] => text,
+        _ => line,
+    }
+}
+
+fn told_reason(reason: Reason) -> InputReason
+    ensures { result ≡ told_reason reason }
+{
+    match reason {
+        Reason::Long => InputReason::Long,
+        Reason::Word => InputReason::Word,
+        Reason::Later => InputReason::Later,
+        Reason::Count => InputReason::Count,
+        Reason::Number => InputReason::Number,
+        Reason::Node => InputReason::Node,
+        Reason::Kind => InputReason::Kind,
+        Reason::Hex => InputReason::Hex,
+        Reason::Twice => InputReason::Twice,
+        Reason::Range => InputReason::Range,
+        Reason::Draft => InputReason::Draft,
+        Reason::Clock => InputReason::Clock,
+    }
+}
+
+fn told_limit(limit: Bound) -> Limit
+    ensures { result ≡ told_limit limit }
+{
+    match limit {
+        Bound::Frames => Limit::Frames,
+        Bound::Drones => Limit::Drones,
+        Bound::Stations => Limit::Stations,
+    }
+}
+
+// There is a reason against this line.
+fn bad_line(line: usize, reason: Reason) -> Halt
+    ensures { result ≡ Halt.Stopped (told_stop (Bad line reason)) }
+{
+    Halt::Stopped(Stop::Bad(Place::Line(line), told_reason(reason)))
+}
+
+fn at_limit(limit: Bound) -> Halt
+    ensures { result ≡ Halt.Stopped (told_stop (At_limit limit)) }
+{
+    Halt::Stopped(Stop::AtLimit(told_limit(limit)))
+}

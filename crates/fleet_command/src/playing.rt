@@ -1,0 +1,57 @@
+// The command `fleet`: one scenario.
+ghost use Rattle.std.specs.Prelude.{◌≡◌, ◌<◌, [], length, IsErrOf};
+ghost use Rattle.std.specs.Result.{result_err};
+ghost use Rattle.mav_ports.specs.Gets.{IsSpent};
+ghost use Rattle.command_ends.specs.Runs.{Untold, outside};
+ghost use Rattle.fleet_command.specs.Plays.{Reading};
+ghost use Rattle.fleet_command.specs.Script.{fleet_script};
+
+use crate::player::Player;
+use command_ends::{Halt, read_on};
+use mav_ports::{Got, Sink, Source};
+use std::alloc::Global;
+
+// How much is read at once.
+const PIECE_BYTES: usize = 65_536;
+
+/// Plays the scenario of the input. The report of each line is written before more is read. Why
+/// the run halted, if it did, isn't written.
+pub fn fleet<S: Source, K: Sink>(alloc: Global, main: &mut S, out: &mut K) -> Result<(), Halt>
+    ensures untold { Untold fleet_script (outside
+        (S.has_ended main.new × IsSpent (S.left main.new)) (S.faults main.old) (S.faults main.new)
+        (S.idles main.old) (S.idles main.new) (K.faults out.old) (K.faults out.new))
+        (S.left main.old) (S.left main.new) (K.sent out.old) (K.sent out.new)
+        (result_err result) }
+    ensures sound { ¬ IsErrOf result Halt.WriteFault → K.faults out.new ≡ K.faults out.old }
+{
+    let mut player = Player::new(alloc)?;
+    let mut buf = vec![in alloc; 0u8; PIECE_BYTES]?;
+    play(&mut player, main, &mut buf, out)
+}
+
+// Reads on until the player halts or the input gives no more.
+fn play<S: Source, K: Sink>(
+    player: &mut Player,
+    main: &mut S,
+    buf: &mut [u8],
+    out: &mut K,
+) -> Result<(), Halt>
+    requires { 0 < length buf.old }
+    ensures untold { Reading [] player.old.world player.old.number player.old.line.items
+        (K.sent out.old) (K.sent out.old)
+        → Untold fleet_script (outside
+        (S.has_ended main.new × IsSpent (S.left main.new)) (S.faults main.old) (S.faults main.new)
+        (S.idles main.old) (S.idles main.new) (K.faults out.old) (K.faults out.new))
+        (S.left main.old) (S.left main.new) (K.sent out.old) (K.sent out.new)
+        (result_err result) }
+    ensures sound { ¬ IsErrOf result Halt.WriteFault → K.faults out.new ≡ K.faults out.old }
+{
+    loop {
+        match read_on(main, buf) {
+            Got::Bytes(count) => player.feed(&buf[..count], out)?,
+            Got::Idle => return Err(Halt::TurnsSpent),
+            Got::End => return player.finish(out),
+            Got::Failed => return Err(Halt::ReadFault),
+        }
+    }
+}

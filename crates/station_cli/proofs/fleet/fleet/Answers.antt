@@ -1,7 +1,0 @@
-use Rattle.station_cli.proofs.Steps.{reading_new}
-use Rattle.station_cli.proofs.fleet.fleet.Goals as goal
-
-pub returns-clause-untold : goal.returns-clause-untold
-returns-clause-untold g c =
-    let first = c.in_ok-player.ensures.first in
-    λ wanted some. c.play.ensures.untold wanted some (reading_new c.in_ok-player.player.world c.in_ok-player.player.number c.in_ok-player.player.line.items (g.K.Sink.sent c.args.out.now) c.in_ok-player.ensures.world first.0 first.1)
