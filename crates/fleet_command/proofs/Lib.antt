@@ -4,3 +4,4 @@ pub mod Steps
 pub mod Stays
 pub mod Endings
 pub mod Worked
+pub mod Theorem

@@ -7,7 +7,8 @@ use Rattle.plan_items.specs.Validation.{item_fault, whole_fault, plan_fault}
 use Rattle.command_ends.specs.Endings.{code_of}
 use Rattle.command_ends.specs.Runs.{output_of, end_of}
 use Rattle.fleet_command.specs.Script.{fleet_script}
-use Rattle.fleet_command.specs.Examples.{one_item, one_item_installed}
+use Rattle.fleet_safety.specs.Examples.{one_item}
+use Rattle.fleet_command.specs.Examples.{one_item_installed}
 
 pub one_item_output : output_of fleet_script (end_of (fleet_script.stop true one_item)) true one_item ≡ one_item_installed
 unfolding digits item_fault whole_fault plan_fault encode_with decode_pairs

@@ -1,3 +1,4 @@
 pub mod Plays
 pub mod Script
+pub mod Theorem
 pub mod Examples

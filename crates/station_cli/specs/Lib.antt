@@ -1,2 +1,3 @@
 pub mod Wants
 pub mod Usage
+pub mod OneUpload

@@ -7,6 +7,7 @@ ghost use Rattle.command_ends.specs.Runs.{Untold, Promises, outside};
 ghost use Rattle.command_line.specs.Built.{built};
 ghost use Rattle.command_line.specs.Grammar.{Asked, Asks, AskNothing};
 ghost use Rattle.fleet_command.specs.Script.{fleet_script};
+ghost use Rattle.fleet_command.specs.Theorem.{Carries};
 ghost use Rattle.station_cli.specs.Usage.{UsageTold};
 
 use crate::wants::Inputs;
@@ -66,6 +67,17 @@ pub fn run<S: Source, K: Sink, C: Clock>(
     // bytes stop at and what is written of them.
     ensures fleet { (asked : Asked) → Asks built (map string_bytes words.now) asked
         → asked.command ≡ Command.Fleet → Promises fleet_script (outside
+        (S.has_ended inputs.new.main × IsSpent (S.left inputs.new.main))
+        (S.faults inputs.old.main) (S.faults inputs.new.main)
+        (S.idles inputs.old.main) (S.idles inputs.new.main) (K.faults out.old) (K.faults out.new))
+        (S.left inputs.old.main) (S.left inputs.new.main)
+        (K.sent out.old) (K.sent out.new) result }
+    // The main theorem, of that same run: the bytes that it took, why it ended and what it wrote of
+    // them; that this is the report of an execution of the abstract mission store, with the same
+    // plans after each event and at the end; and that each uncontended upload was installed and
+    // acknowledged.
+    ensures main_theorem { (asked : Asked) → Asks built (map string_bytes words.now) asked
+        → asked.command ≡ Command.Fleet → Carries (outside
         (S.has_ended inputs.new.main × IsSpent (S.left inputs.new.main))
         (S.faults inputs.old.main) (S.faults inputs.new.main)
         (S.idles inputs.old.main) (S.idles inputs.new.main) (K.faults out.old) (K.faults out.new))

@@ -1,7 +1,9 @@
 // What the contract of `run` says of one scenario, at the ports in memory.
 ghost use Rattle.std.specs.Prelude.{◌≡◌, ◌⊎◌, [], Some, map, string_bytes};
 ghost use Rattle.command_line.specs.declared.commands.Command.{Command};
-ghost use Rattle.fleet_command.specs.Examples.{one_item, one_item_installed};
+ghost use Rattle.fleet_safety.specs.Examples.{one_item};
+ghost use Rattle.fleet_command.specs.Examples.{one_item_installed};
+ghost use Rattle.station_cli.specs.OneUpload.{IsInstalledOnce};
 ghost use Rattle.station_cli.specs.Wants.{AsksFor};
 
 use super::{INSTALLED, ONE_ITEM, words_of};
@@ -10,7 +12,8 @@ use mav_ports::{MemClock, Sink, Source, SureSink, SureSource};
 use std::alloc::Global;
 use std::test::Fail;
 
-// The report follows from the contract alone: by computation it is this text.
+// The report follows from the contract alone: by computation it is this text. And the abstract
+// mission store of that run went through one installation of that plan, and the outcome Installed.
 fn upload_one_item(
     alloc: Global,
     words: &[String],
@@ -24,6 +27,8 @@ fn upload_one_item(
         → (result ≡ 0) ⊎ ((result ≡ 5) ⊎ (result ≡ 7)) }
     ensures report { AsksFor Command.Fleet (map string_bytes words.now) → result ≡ 0
         → ⟦<SureSink as Sink>⟧.sent out.new ≡ Some one_item_installed }
+    ensures installed { AsksFor Command.Fleet (map string_bytes words.now) → result ≡ 0
+        → IsInstalledOnce }
 {
     run(alloc, words, inputs, out, clock)
 }

@@ -1,5 +1,7 @@
 use Rattle.std.proofs.Common.{◌≡◌, ◌⊎◌, ◌∙◌, inl, inr, arith}
-use Rattle.fleet_command.specs.Examples.{one_item}
+use Rattle.fleet_safety.specs.Examples.{one_item}
+use Rattle.fleet_safety.proofs.OneUpload as upload
+use Rattle.fleet_command.proofs.Theorem.{done_carries}
 use Rattle.fleet_command.proofs.Worked.{one_item_sent, one_item_code}
 use Rattle.station_cli.proofs.tests.worked.upload_one_item.Goals as goal
 
@@ -16,3 +18,9 @@ returns-clause-report c = λ (asked, asks, is) zero.
       | inl p ↦ one_item_sent _ _ c.requires.empty p.1
       | inr q ↦ elim q [ inl e ↦ absurd (omega arith) | inr e ↦ absurd (omega arith) ]
     ]
+
+pub returns-clause-installed : goal.returns-clause-installed
+returns-clause-installed c = λ (asked, asks, is) zero.
+    let carries = c.run.ensures.main_theorem asked asks is in
+    let theorem = done_carries _ one_item _ _ _ carries.end (sym carries.status ∙ zero) (λ spent. spent.1) (subst (λ left. Ran fleet_script _ left _ _ _ carries.end) c.requires.scenario carries.ran) carries.theorem in
+    record { safe = theorem.safe; told = upload.told theorem.safe; upload = upload.one_installed theorem.safe }

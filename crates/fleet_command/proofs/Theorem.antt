@@ -1,0 +1,47 @@
+-- The main theorem holds of every run of `fleet`.
+use Rattle.std.proofs.Common.{◌≡◌, ◌∙◌, ℕ, Bool, true, List, [], ◌++◌, refl, sym, subst, arith, ap, Option, Some, None, append-nil}
+use Rattle.std.specs.Io.KnownBytes.{prepend_known}
+use Rattle.mav_ports.specs.Gets.{IsSpent}
+use Rattle.command_ends.specs.declared.halts.Halt.{Halt}
+use Rattle.command_ends.specs.declared.halts.Halt.TheVariants.{Usage, Stopped, ReadFault, WriteFault, NoMemory, TurnsSpent}
+use Rattle.command_ends.specs.declared.stops.Stop.TheVariants.{Bad, AtLimit}
+use Rattle.command_ends.specs.Endings.{code_of}
+use Rattle.command_ends.specs.Runs.{Outside, Ran}
+use Rattle.fleet_safety.proofs.Plays.{every_scenario}
+use Rattle.fleet_liveness.proofs.Every as every
+use Rattle.fleet_command.specs.Script.{fleet_script}
+use Rattle.fleet_command.specs.Theorem.{MainTheorem, Carries}
+
+pub main_theorem : (ended : Bool) (bytes : List ℕ) → MainTheorem ended bytes
+main_theorem ended bytes = record { safe = every_scenario ended bytes; uploads = every.uploads ended bytes }
+
+pub carried : (o : Outside) (left_before left_after sent_before sent_after : Option (List ℕ)) (code : ℕ) → ((end : Option Halt) × (code ≡ code_of end) × Ran fleet_script o left_before left_after sent_before sent_after end) → Carries o left_before left_after sent_before sent_after code
+carried o left_before left_after sent_before sent_after code run = record {
+  end = run.0;
+  status = run.1;
+  ran = run.2;
+  theorem = main_theorem run.2.ended run.2.taken;
+}
+
+-- all bytes that an input had were taken, where nothing is left of it
+taken_whole : (bytes taken : List ℕ) (left : Option (List ℕ)) → Some bytes ≡ prepend_known taken left → IsSpent left → taken ≡ bytes
+taken_whole bytes taken None took spent = absurd (let wrong : ◌≡◌ {A = Option (List ℕ)} (Some bytes) None = took in cc)
+taken_whole bytes taken (Some rest) took spent =
+    let same : ◌≡◌ {A = Option (List ℕ)} (Some bytes) (Some (taken ++ rest)) = took in
+    let whole : bytes ≡ taken ++ rest = cc in
+    sym (whole ∙ ap (λ (xs : List ℕ). taken ++ xs) spent ∙ append-nil taken)
+
+-- a run of known bytes that is done carries the theorem of all of them
+pub done_carries : (o : Outside) (bytes : List ℕ) (left sent_before sent_after : Option (List ℕ)) (end : Option Halt) → code_of end ≡ 0 → (o.spent → IsSpent left)
+    → (ran : Ran fleet_script o (Some bytes) left sent_before sent_after end) → MainTheorem ran.ended ran.taken → MainTheorem true bytes
+done_carries o bytes left sent_before sent_after None zero spent ran theorem =
+    let ended = ran.cause.0 in
+    subst (λ taken. MainTheorem true taken) (taken_whole bytes ran.taken left ran.took (spent (ran.at_end ended)))
+    (subst (λ is_ended. MainTheorem is_ended ran.taken) ended theorem)
+done_carries o bytes left sent_before sent_after (Some Usage) zero spent ran theorem = absurd (omega arith)
+done_carries o bytes left sent_before sent_after (Some (Stopped (Bad place reason))) zero spent ran theorem = absurd (omega arith)
+done_carries o bytes left sent_before sent_after (Some (Stopped (AtLimit limit))) zero spent ran theorem = absurd (omega arith)
+done_carries o bytes left sent_before sent_after (Some ReadFault) zero spent ran theorem = absurd (omega arith)
+done_carries o bytes left sent_before sent_after (Some WriteFault) zero spent ran theorem = absurd (omega arith)
+done_carries o bytes left sent_before sent_after (Some NoMemory) zero spent ran theorem = absurd (omega arith)
+done_carries o bytes left sent_before sent_after (Some TurnsSpent) zero spent ran theorem = absurd (omega arith)
