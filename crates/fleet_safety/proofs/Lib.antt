@@ -1,3 +1,4 @@
+pub mod Lists
 pub mod Numbers
 pub mod Ends
 pub mod Names
@@ -6,6 +7,7 @@ pub mod Reports
 pub mod Moves
 pub mod Fits
 pub mod Gives
+pub mod Flows
 pub mod Begins
 pub mod Lines
 pub mod Reasons

@@ -12,11 +12,13 @@ use Rattle.fleet_world.specs.declared.nodes.Node.{Node}
 use Rattle.fleet_world.specs.declared.nodes.Node.TheVariants.{Drone, Station}
 use Rattle.fleet_world.specs.Scene.{Scene, drone_name, node_name, stream_of, is_called, has_name, has_drone}
 use Rattle.fleet_world.specs.Steps.{rests, after_line, begins, flows, station_line, items_from}
-use Rattle.fleet_safety.proofs.Numbers.{at_end, each_none, same_length}
-use Rattle.fleet_safety.proofs.Names.{Named, Covers, Kept, kept, SomeComponent, more_there, more_kept, more_named, unnamed, HoldsDrone, a_drone}
+use Rattle.fleet_safety.proofs.Lists.{at_end, more_there}
+use Rattle.fleet_safety.proofs.Numbers.{each_none, same_length}
+use Rattle.fleet_safety.proofs.Names.{Named, Covers, Kept, kept, SomeComponent, more_kept, more_named, unnamed, HoldsDrone, a_drone}
 use Rattle.fleet_safety.proofs.Clocks.{Fresh}
 use Rattle.fleet_safety.proofs.Fits.{Stands, Fits, Leads, leads_maps, leads_rests}
-use Rattle.fleet_safety.proofs.Gives.{Goes, flows_lead}
+use Rattle.fleet_safety.proofs.Gives.{Goes}
+use Rattle.fleet_safety.proofs.Flows.{flows_lead}
 use Rattle.fleet_safety.proofs.Begins.{begins_lead}
 
 -- a line names what is not named yet, or was named before

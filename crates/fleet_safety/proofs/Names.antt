@@ -11,7 +11,7 @@ use Rattle.fleet_world.specs.declared.nodes.Node.{Node}
 use Rattle.fleet_world.specs.declared.nodes.Node.TheVariants.{Drone as DroneNode, Station as StationNode}
 use Rattle.fleet_world.specs.Scene.{drone_name, node_name, stream_of, has_name, has_drone, has_station}
 use Rattle.fleet_safety.specs.Safe.{nodes_of}
-use Rattle.fleet_safety.proofs.Numbers.{at_end, some_is}
+use Rattle.fleet_safety.proofs.Lists.{some_is, at_end, set_there, set_elsewhere, more_there}
 
 -- two nodes have one role and one name
 abbrev pub SameRole : Node → Node → Type 0
@@ -88,27 +88,6 @@ kept_on xs ys zs h k i a e =
 pub covers_back : (n : Nodes) (xs ys : List Node) → Kept xs ys → Covers n ys → Covers n xs
 covers_back n xs ys h c i a e = let y = h i a e in role_in n y.node a (role_back a y.node y.role) (c i y.node y.there)
 
--- a list with one element replaced
-pub set_there : {A : Type 0} (xs : List A) (k : ℕ) (x y : A) → slice_get xs k ≡ Some x → slice_get (slice_set xs k y) k ≡ Some y
-set_there [] k x y e = absurd (nowhere k e)
-  where
-    nowhere : (k : ℕ) → slice_get [] k ≡ Some x → ⊥
-    nowhere zero e = absurd (cc)
-    nowhere (suc k) e = absurd (cc)
-set_there (z ∷ zs) zero x y e = refl
-set_there (z ∷ zs) (suc k) x y e = set_there zs k x y e
-
-pub set_elsewhere : {A : Type 0} (xs : List A) (k i : ℕ) (y : A) → i ≢ k → slice_get (slice_set xs k y) i ≡ slice_get xs i
-set_elsewhere [] k i y h = nothing k
-  where
-    nothing : (k : ℕ) → slice_get (slice_set [] k y) i ≡ slice_get [] i
-    nothing zero = refl
-    nothing (suc k) = refl
-set_elsewhere (z ∷ zs) zero zero y h = absurd (h refl)
-set_elsewhere (z ∷ zs) zero (suc i) y h = refl
-set_elsewhere (z ∷ zs) (suc k) zero y h = refl
-set_elsewhere (z ∷ zs) (suc k) (suc i) y h = set_elsewhere zs k i y (λ e. h (ap suc e))
-
 number_split : (i k : ℕ) → (i ≡ k) ⊎ (i ≢ k)
 number_split i k = elim (bool_split (i == k)) [ inl t ↦ inl (eq_true i k t) | inr f ↦ inr (λ e. differ _ (subst (λ j. (i == j) ≡ true) e (grind arith)) f) ]
 
@@ -155,15 +134,6 @@ module _ (nodes : List Node) (k : ℕ) (old new : Node) (found : slice_get nodes
   set_unnamed name h i a e is = let x = set_kept i a e in h i x.node x.there (sym (role_name a x.node x.role) ∙ is)
 
 -- one node more
-pub more_there : {A : Type 0} (xs : List A) (y x : A) (i : ℕ) → slice_get xs i ≡ Some x → slice_get (xs ++ y ∷ []) i ≡ Some x
-more_there [] y x i e = absurd (nowhere i e)
-  where
-    nowhere : (i : ℕ) → slice_get [] i ≡ Some x → ⊥
-    nowhere zero e = absurd (cc)
-    nowhere (suc i) e = absurd (cc)
-more_there (z ∷ zs) y x zero e = e
-more_there (z ∷ zs) y x (suc i) e = more_there zs y x i e
-
 pub more_kept : (nodes : List Node) (new : Node) → Kept nodes (nodes ++ new ∷ [])
 more_kept nodes new i a e = record { node = a; there = more_there nodes new a i e; role = same_role a }
 

@@ -3,9 +3,7 @@ use Rattle.std.proofs.Common.{◌≡◌, ℕ, zero, suc, ◌+◌, ◌<◌, ◌�
 use Rattle.plan_safety.specs.Frames.{Frame}
 use Rattle.fleet_world.specs.declared.nodes.Frame.{Frame as SceneFrame}
 use Rattle.fleet_world.specs.Scene.{stream_of}
-
-pub some_is : {A : Type 0} {x y : A} → Some x ≡ Some y → x ≡ y
-some_is e = cc
+use Rattle.fleet_safety.proofs.Lists.{at_end}
 
 -- the frame has this number
 abbrev pub Numbered : ℕ → Frame → List Frame → Type 0
@@ -68,13 +66,6 @@ same_length sent (f ∷ fs) h =
     let s : length sent ≡ length (h.0 ++ h.1 ∷ []) = ap length h.2 in
     let r : length h.0 ≡ length fs = same_length h.0 fs h.4 in
     omega arith
-
--- an element of a list with one more
-pub at_end : {A : Type 0} (xs : List A) (x y : A) (i : ℕ) → slice_get (xs ++ x ∷ []) i ≡ Some y → (slice_get xs i ≡ Some y) ⊎ ((i ≡ length xs) × (x ≡ y))
-at_end [] x y zero e = inr (refl, cc)
-at_end [] x y (suc i) e = absurd (cc)
-at_end (z ∷ zs) x y zero e = inl e
-at_end (z ∷ zs) x y (suc i) e = elim (at_end zs x y i e) [ inl h ↦ inl h | inr h ↦ inr (ap suc h.0, h.1) ]
 
 -- the world's frame with the number of a scene's
 pub record Found (i : ℕ) (g : SceneFrame) (fs : List Frame) : Type 0 where

@@ -1,0 +1,43 @@
+-- Lists: an element replaced, and one more at the end.
+use Rattle.std.proofs.Common.{◌≡◌, ◌≢◌, ℕ, zero, suc, ◌⊎◌, inl, inr, List, [], ◌∷◌, ◌++◌, length, slice_get, slice_set, Some, refl, ap}
+
+pub some_is : {A : Type 0} {x y : A} → Some x ≡ Some y → x ≡ y
+some_is e = cc
+
+-- an element of a list with one more is one of the list, or the last
+pub at_end : {A : Type 0} (xs : List A) (x y : A) (i : ℕ) → slice_get (xs ++ x ∷ []) i ≡ Some y → (slice_get xs i ≡ Some y) ⊎ ((i ≡ length xs) × (x ≡ y))
+at_end [] x y zero e = inr (refl, cc)
+at_end [] x y (suc i) e = absurd (cc)
+at_end (z ∷ zs) x y zero e = inl e
+at_end (z ∷ zs) x y (suc i) e = elim (at_end zs x y i e) [ inl h ↦ inl h | inr h ↦ inr (ap suc h.0, h.1) ]
+
+-- a list with one element replaced
+pub set_there : {A : Type 0} (xs : List A) (k : ℕ) (x y : A) → slice_get xs k ≡ Some x → slice_get (slice_set xs k y) k ≡ Some y
+set_there [] k x y e = absurd (nowhere k e)
+  where
+    nowhere : (k : ℕ) → slice_get [] k ≡ Some x → ⊥
+    nowhere zero e = absurd (cc)
+    nowhere (suc k) e = absurd (cc)
+set_there (z ∷ zs) zero x y e = refl
+set_there (z ∷ zs) (suc k) x y e = set_there zs k x y e
+
+pub set_elsewhere : {A : Type 0} (xs : List A) (k i : ℕ) (y : A) → i ≢ k → slice_get (slice_set xs k y) i ≡ slice_get xs i
+set_elsewhere [] k i y h = nothing k
+  where
+    nothing : (k : ℕ) → slice_get (slice_set [] k y) i ≡ slice_get [] i
+    nothing zero = refl
+    nothing (suc k) = refl
+set_elsewhere (z ∷ zs) zero zero y h = absurd (h refl)
+set_elsewhere (z ∷ zs) zero (suc i) y h = refl
+set_elsewhere (z ∷ zs) (suc k) zero y h = refl
+set_elsewhere (z ∷ zs) (suc k) (suc i) y h = set_elsewhere zs k i y (λ e. h (ap suc e))
+
+-- and one of the list is one of the longer list
+pub more_there : {A : Type 0} (xs : List A) (y x : A) (i : ℕ) → slice_get xs i ≡ Some x → slice_get (xs ++ y ∷ []) i ≡ Some x
+more_there [] y x i e = absurd (nowhere i e)
+  where
+    nowhere : (i : ℕ) → slice_get [] i ≡ Some x → ⊥
+    nowhere zero e = absurd (cc)
+    nowhere (suc i) e = absurd (cc)
+more_there (z ∷ zs) y x zero e = e
+more_there (z ∷ zs) y x (suc i) e = more_there zs y x i e
