@@ -32,16 +32,20 @@ taken_whole bytes taken (Some rest) took spent =
     sym (whole ∙ ap (λ (xs : List ℕ). taken ++ xs) spent ∙ append-nil taken)
 
 -- a run of known bytes that is done carries the theorem of all of them
-pub done_carries : (o : Outside) (bytes : List ℕ) (left sent_before sent_after : Option (List ℕ)) (end : Option Halt) → code_of end ≡ 0 → (o.spent → IsSpent left)
-    → (ran : Ran fleet_script o (Some bytes) left sent_before sent_after end) → MainTheorem ran.ended ran.taken → MainTheorem true bytes
-done_carries o bytes left sent_before sent_after None zero spent ran theorem =
+done_carries : (o : Outside) (bytes : List ℕ) (left_before left_after sent_before sent_after : Option (List ℕ)) (end : Option Halt) → code_of end ≡ 0 → left_before ≡ Some bytes → (o.spent → IsSpent left_after)
+    → (ran : Ran fleet_script o left_before left_after sent_before sent_after end) → MainTheorem ran.ended ran.taken → MainTheorem true bytes
+done_carries o bytes left_before left_after sent_before sent_after None zero told spent ran theorem =
     let ended = ran.cause.0 in
-    subst (λ taken. MainTheorem true taken) (taken_whole bytes ran.taken left ran.took (spent (ran.at_end ended)))
+    subst (λ taken. MainTheorem true taken) (taken_whole bytes ran.taken left_after (sym told ∙ ran.took) (spent (ran.at_end ended)))
     (subst (λ is_ended. MainTheorem is_ended ran.taken) ended theorem)
-done_carries o bytes left sent_before sent_after (Some Usage) zero spent ran theorem = absurd (omega arith)
-done_carries o bytes left sent_before sent_after (Some (Stopped (Bad place reason))) zero spent ran theorem = absurd (omega arith)
-done_carries o bytes left sent_before sent_after (Some (Stopped (AtLimit limit))) zero spent ran theorem = absurd (omega arith)
-done_carries o bytes left sent_before sent_after (Some ReadFault) zero spent ran theorem = absurd (omega arith)
-done_carries o bytes left sent_before sent_after (Some WriteFault) zero spent ran theorem = absurd (omega arith)
-done_carries o bytes left sent_before sent_after (Some NoMemory) zero spent ran theorem = absurd (omega arith)
-done_carries o bytes left sent_before sent_after (Some TurnsSpent) zero spent ran theorem = absurd (omega arith)
+done_carries o bytes left_before left_after sent_before sent_after (Some Usage) zero told spent ran theorem = absurd (omega arith)
+done_carries o bytes left_before left_after sent_before sent_after (Some (Stopped (Bad place reason))) zero told spent ran theorem = absurd (omega arith)
+done_carries o bytes left_before left_after sent_before sent_after (Some (Stopped (AtLimit limit))) zero told spent ran theorem = absurd (omega arith)
+done_carries o bytes left_before left_after sent_before sent_after (Some ReadFault) zero told spent ran theorem = absurd (omega arith)
+done_carries o bytes left_before left_after sent_before sent_after (Some WriteFault) zero told spent ran theorem = absurd (omega arith)
+done_carries o bytes left_before left_after sent_before sent_after (Some NoMemory) zero told spent ran theorem = absurd (omega arith)
+done_carries o bytes left_before left_after sent_before sent_after (Some TurnsSpent) zero told spent ran theorem = absurd (omega arith)
+
+pub theorem_of : (o : Outside) (bytes : List ℕ) (left_before left_after sent_before sent_after : Option (List ℕ)) (code : ℕ) → Carries o left_before left_after sent_before sent_after code → code ≡ 0 → left_before ≡ Some bytes → (o.spent → IsSpent left_after) → MainTheorem true bytes
+theorem_of o bytes left_before left_after sent_before sent_after code carries zero told spent =
+    done_carries o bytes left_before left_after sent_before sent_after carries.end (sym carries.status ∙ zero) told spent carries.ran carries.theorem

@@ -1,7 +1,7 @@
 use Rattle.std.proofs.Common.{◌≡◌, ◌⊎◌, ◌∙◌, inl, inr, arith}
 use Rattle.fleet_safety.specs.Examples.{one_item}
 use Rattle.fleet_safety.proofs.OneUpload as upload
-use Rattle.fleet_command.proofs.Theorem.{done_carries}
+use Rattle.fleet_command.proofs.Theorem.{theorem_of}
 use Rattle.fleet_command.proofs.Worked.{one_item_sent, one_item_code}
 use Rattle.station_cli.proofs.tests.worked.upload_one_item.Goals as goal
 
@@ -21,6 +21,5 @@ returns-clause-report c = λ (asked, asks, is) zero.
 
 pub returns-clause-installed : goal.returns-clause-installed
 returns-clause-installed c = λ (asked, asks, is) zero.
-    let carries = c.run.ensures.main_theorem asked asks is in
-    let theorem = done_carries _ one_item _ _ _ carries.end (sym carries.status ∙ zero) (λ spent. spent.1) (subst (λ left. Ran fleet_script _ left _ _ _ carries.end) c.requires.scenario carries.ran) carries.theorem in
+    let theorem = theorem_of _ one_item _ _ _ _ _ (c.run.ensures.main_theorem asked asks is) zero c.requires.scenario (λ spent. spent.1) in
     record { safe = theorem.safe; told = upload.told theorem.safe; upload = upload.one_installed theorem.safe }
