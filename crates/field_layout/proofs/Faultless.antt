@@ -53,7 +53,7 @@ count_positive n =
       | false ↦ λ test. grind (arith, nat_tests)
     ] refl
 
-size_positive : (field : Field) → 0 < size_of field
+pub size_positive : (field : Field) → 0 < size_of field
 size_positive field =
     let one : 0 < element_size field.ty = element_positive field.ty in
     let some : 0 < element_count field = count_positive field.len in

@@ -120,7 +120,7 @@ impl Layout {
     }
 
     /// The places of the fields in wire order.
-    pub(crate) fn order(&self) -> &[usize]
+    pub fn order(&self) -> &[usize]
         ensures { result.now ≡ map place_of (wire_order self.now) }
     {
         &self.order

@@ -1,0 +1,77 @@
+-- Keys that stand beside what they are the keys of.
+use Rattle.std.proofs.Common.{◌≡◌, ℕ, ◌+◌, ◌<◌, ◌≤◌, Bool, true, false, not, ◌||◌, if◌then◌else◌, cond, ltb, List, [], ◌∷◌, ◌++◌, length, get_or, take, map, slice_get, position, find, Option, Some, None, refl, sym, ap, subst, ◌∙◌, arith}
+use Rattle.std.proofs.lemmas.Bool.Decides.{nat_tests}
+use Rattle.std.proofs.lemmas.List.{map-append, append-nil, length-map, take_more}
+use Rattle.std.proofs.lemmas.List.Elements.{filter_map-append}
+use Rattle.std.proofs.lemmas.List.Folds.{find_at}
+use Rattle.std.proofs.lemmas.Option.{none-some, slice_get_past}
+use Rattle.std.specs.Global.{Vec}
+use Rattle.std.specs.List.{list_any, filter_map, position_or_len}
+use Rattle.std.specs.Str.{bytes_eq}
+use Rattle.indexmap.specs.IndexSet.{insert_key}
+use Rattle.dialect.specs.Spelled.{bytes_of}
+
+module _ {X Y : Type 0} (f : X → Y) (p : Y → Bool) where
+  pub list_any-map : (xs : List X) → list_any p (map f xs) ≡ list_any (λ x. p (f x)) xs
+  list_any-map [] = refl
+  list_any-map (x ∷ xs) = ap (λ others. p (f x) || others) (list_any-map xs)
+
+  position_or_len-map : (xs : List X) → position_or_len p (map f xs) ≡ position_or_len (λ x. p (f x)) xs
+  position_or_len-map [] = refl
+  position_or_len-map (x ∷ xs) = ap (λ k. cond (not (p (f x))) (1 + k) 0) (position_or_len-map xs)
+
+  first-with : (xs : List X) → find (λ x. p (f x)) xs ≡ slice_get xs (position_or_len p (map f xs))
+  first-with xs = find_at (λ x. p (f x)) xs ∙ ap (slice_get xs) (sym (position_or_len-map xs))
+
+  -- what stands at the first place of such a key is the first that has one
+  pub find-position-map : (xs : List X) (k : ℕ) → position p (map f xs) ≡ Some k → find (λ x. p (f x)) xs ≡ slice_get xs k
+  find-position-map xs k there =
+      let at : position_or_len p (map f xs) ≡ k =
+      elim (ltb (position_or_len p (map f xs)) (length (map f xs))) as (λ below. cond below (Some (position_or_len p (map f xs))) None ≡ Some k → position_or_len p (map f xs) ≡ k) [
+        | true ↦ λ h. cc
+        | false ↦ λ h. absurd (cc)
+      ] there in
+      first-with xs ∙ ap (slice_get xs) at
+
+  -- and nothing has such a key where no place does
+  pub find-nowhere-map : (xs : List X) → position p (map f xs) ≡ None → find (λ x. p (f x)) xs ≡ None
+  find-nowhere-map xs none =
+      let end = position_or_len p (map f xs) in
+      let past : length (map f xs) ≤ end =
+      elim (ltb end (length (map f xs))) as (λ below. ltb end (length (map f xs)) ≡ below → cond below (Some end) None ≡ None → length (map f xs) ≤ end) [
+        | true ↦ λ t h. absurd (none-some end (sym h))
+        | false ↦ λ t h. grind (arith, nat_tests)
+      ] refl none in
+      first-with xs ∙ slice_get_past xs end (subst (λ n. n ≤ end) (length-map xs f) past)
+
+-- a new name goes behind those that stand
+pub names-insert_key : (keys : List (Vec ℕ)) (text : Vec ℕ) (name : List ℕ) (known : List (List ℕ))
+    → text.items ≡ name → map bytes_of keys ≡ known → list_any (bytes_eq name) known ≡ false
+    → map bytes_of (insert_key (λ (k other : Vec ℕ). bytes_eq k.items other.items) keys text) ≡ known ++ name ∷ []
+names-insert_key keys text name known same view new =
+    let absent : list_any (λ (other : Vec ℕ). bytes_eq text.items other.items) keys ≡ false =
+    sym (list_any-map bytes_of (bytes_eq text.items) keys) ∙ ap (λ names. list_any (bytes_eq text.items) names) view
+    ∙ ap (λ bytes. list_any (bytes_eq bytes) known) same ∙ new in
+    ap (λ there. map bytes_of (if there then keys else keys ++ text ∷ [])) absent
+    ∙ map-append bytes_of keys (text ∷ [])
+    ∙ ap (λ names. names ++ text.items ∷ []) view
+    ∙ ap (λ bytes. known ++ bytes ∷ []) same
+
+-- a new id goes behind those that stand
+pub ids-insert_key : {X : Type 0} (f : X → ℕ) (eq : ℕ → ℕ → Bool) (xs : List X) (x : X) → list_any (λ y. eq (f x) (f y)) xs ≡ false
+    → insert_key eq (map f xs) (f x) ≡ map f (xs ++ x ∷ [])
+ids-insert_key f eq xs x new =
+    ap (λ there. if there then map f xs else map f xs ++ f x ∷ []) (list_any-map f (eq (f x)) xs ∙ new)
+    ∙ sym (map-append f xs (x ∷ []))
+
+module _ {X Y : Type 0} (h : X → Option Y) (xs : List X) (i : ℕ) (x : X) (within : i < length xs) (at : x ≡ get_or xs i x) where
+  one-more : take (i + 1) xs ≡ take i xs ++ x ∷ []
+  one-more = take_more xs i x within ∙ ap (λ y. take i xs ++ y ∷ []) (sym at)
+
+  -- what is given of one more element stands last
+  pub filter_map-more : (y : Y) → h x ≡ Some y → filter_map h (take (i + 1) xs) ≡ filter_map h (take i xs) ++ y ∷ []
+  filter_map-more y given = ap (filter_map h) one-more ∙ filter_map-append h (take i xs) (x ∷ []) ∙ rw given refl
+
+  -- and where nothing is given, nothing more stands there
+  pub filter_map-no_more : h x ≡ None → filter_map h (take (i + 1) xs) ≡ filter_map h (take i xs)
+  filter_map-no_more none = ap (filter_map h) one-more ∙ filter_map-append h (take i xs) (x ∷ []) ∙ rw none (append-nil _)

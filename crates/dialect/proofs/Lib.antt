@@ -1,0 +1,5 @@
+pub mod Elements
+pub mod Keys
+pub mod ManyFields
+pub mod Faultless
+pub mod Rows

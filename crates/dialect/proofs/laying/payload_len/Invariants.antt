@@ -1,0 +1,7 @@
+use Rattle.std.proofs.Common.{◌≡◌, ◌*◌, ◌≤◌, take}
+use Rattle.std.specs.List.{sum_by}
+use Rattle.field_layout.specs.Definition.{all_fields, size_of}
+use Rattle.dialect.proofs.laying.payload_len.Given as goal
+
+abbrev pub invariant-loop-place : goal.invariant-loop-place
+invariant-loop-place l = (l.len ≡ sum_by size_of (take l.place (all_fields l.def))) × (l.len ≤ 2040 * l.place)

@@ -1,0 +1,16 @@
+-- The new layout's id stands behind those of the others.
+use Rattle.std.proofs.Common.{◌==◌, map, sym, ap, ◌∙◌}
+use Rattle.indexmap.specs.IndexSet.{insert_key}
+use Rattle.dialect.specs.Grammar.{has_id}
+use Rattle.dialect.specs.Messages.{id_of}
+use Rattle.dialect.proofs.Keys.{ids-insert_key}
+use Rattle.dialect.proofs.layouts.Layouts.with.Goals as goal
+
+pub invariant_of-result : goal.invariant_of-result
+invariant_of-result c =
+    c.in_ok-insert.ensures.keys
+    ∙ ap (λ id. insert_key ◌==◌ c.self.inside.ids.keys id) (ap id_of (c.behind-layout.view_is ∙ c.def.ensures.same))
+    ∙ ap (λ keys. insert_key ◌==◌ keys c.args.layout.id) c.self.invariant
+    ∙ ids-insert_key id_of ◌==◌ c.self.inside.layouts.items c.args.layout
+    (ap (λ defs. has_id defs c.args.layout.id) c.self.view_is ∙ c.requires)
+    ∙ ap (map id_of) (sym c.in_ok-push.ensures.items)

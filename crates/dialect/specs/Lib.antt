@@ -1,0 +1,8 @@
+pub mod Types
+pub mod Names
+pub mod Shape
+pub mod Spelled
+pub mod Grammar
+pub mod Messages
+pub mod Profile
+pub mod ProfileTable

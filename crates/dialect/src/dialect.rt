@@ -1,0 +1,109 @@
+// Dialects.
+ghost use Rattle.std.specs.Prelude.{◌≡◌, ◌≢◌, ◌↔◌, length, slice_get, IsTrue, IfOk, IfErr};
+ghost use Rattle.std.specs.Option.{option_copied};
+ghost use Rattle.dialect.specs.Grammar.{definitions_of};
+ghost use Rattle.dialect.specs.Messages.{definition_with, extras_of};
+ghost use Rattle.dialect.specs.Profile.{profile_definitions};
+
+use crate::layouts::Layouts;
+use crate::profile::profile_layouts;
+use crate::reading::read_layouts;
+use crate::{DialectFault, NoMemory};
+use field_layout::Layout;
+use std::alloc::Global;
+use std::collections::BTreeMap;
+use std::marker::Model;
+use x25_check::Extras;
+
+/// Messages of different ids and names with their layouts. Contracts see the list of their definitions in the order
+/// read.
+#[derive(Drop)]
+pub struct Dialect {
+    layouts: Layouts,
+    extras: Extras,
+}
+
+impl Model for Dialect {
+    ghost use Rattle.std.specs.Prelude.{◌≡◌, List};
+    ghost use Rattle.field_layout.specs.Definition.{Definition};
+    ghost use Rattle.dialect.specs.Messages.{extras_of};
+
+    ghost Value = { List Definition };
+
+    ghost view = { λ d. d.layouts };
+
+    ghost invariant = { λ d. d.extras ≡ extras_of d.layouts };
+}
+
+// The CRC_EXTRA of each message by its id.
+fn extras(alloc: Global, layouts: &[Layout]) -> Result<Extras, NoMemory>
+    ensures { IfOk result (λ extras. extras ≡ extras_of layouts.now) }
+{
+    let mut by_id = BTreeMap::new(alloc);
+    for layout in layouts {
+        by_id.insert(layout.def().id, layout.crc_extra())?;
+    }
+    Ok(Extras::new(by_id.into_iter().collect(alloc)?))
+}
+
+impl Dialect {
+    /// Reads definitions as JSON, and answers their first fault; want of memory may come at any place.
+    pub fn read(alloc: Global, bytes: &[u8]) -> Result<Dialect, DialectFault>
+        ensures read { IfOk result (λ dialect. definitions_of bytes.now ≡ Ok dialect) }
+        ensures fault { IfErr result
+            (λ fault. fault ≢ DialectFault.NoMemory → definitions_of bytes.now ≡ Err fault) }
+    {
+        let layouts = read_layouts(alloc, bytes)?;
+        Ok(Dialect::of(alloc, layouts)?)
+    }
+
+    /// The messages of the profile.
+    pub fn profile(alloc: Global) -> Result<Dialect, NoMemory>
+        ensures { IfOk result (λ dialect. dialect ≡ profile_definitions) }
+    {
+        Dialect::of(alloc, profile_layouts(alloc)?)
+    }
+
+    // The dialect of layouts.
+    fn of(alloc: Global, layouts: Layouts) -> Result<Dialect, NoMemory>
+        ensures { IfOk result (λ dialect. dialect ≡ layouts) }
+    {
+        let extras = extras(alloc, layouts.as_slice())?;
+        Ok(Dialect { layouts, extras })
+    }
+
+    /// The layout of a message id, found without a scan.
+    pub fn get(&self, id: u32) -> Option<&Layout>
+        ensures { option_copied result ≡ definition_with id self.now }
+    {
+        self.layouts.get(id)
+    }
+
+    /// The layout of the message at a place, in the order read.
+    pub fn at(&self, place: usize) -> Option<&Layout>
+        ensures { option_copied result ≡ slice_get self.now place }
+    {
+        self.layouts.at(place)
+    }
+
+    /// How many messages it has.
+    pub fn len(&self) -> usize
+        ensures { result ≡ length self.now }
+    {
+        self.layouts.len()
+    }
+
+    /// Whether it has no message.
+    pub fn is_empty(&self) -> bool
+        ensures { IsTrue result ↔ (length self.now ≡ 0) }
+    {
+        self.len() == 0
+    }
+
+    /// The CRC_EXTRA byte of each message id.
+    pub fn extras(&self) -> &Extras
+        ensures { result.now ≡ extras_of self.now }
+    {
+        &self.extras
+    }
+}

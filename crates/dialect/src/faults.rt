@@ -1,0 +1,53 @@
+// Why definitions aren't a dialect.
+use field_layout::LayoutFault;
+use std::alloc::{AllocError, AllocFailed};
+use thiserror::Error;
+
+/// The first fault of definitions. Messages are tested in order; `at` is the place of the message, from 0.
+#[derive(Debug, Drop, Error)]
+pub enum DialectFault {
+    #[error("the text is no JSON")]
+    NotJson,
+    /// The top (None), or a message with its fields, hasn't the members that it should have.
+    #[error("a definition hasn't the members that it should have")]
+    Shape { at: Option<u32> },
+    #[error("message {at} has a field of an unknown type")]
+    BadType { at: u32 },
+    #[error("message {at} has a name of another form")]
+    BadName { at: u32 },
+    /// An earlier message has its id.
+    #[error("message {at} has the id of an earlier one")]
+    TwiceId { at: u32 },
+    /// An earlier message has its name.
+    #[error("message {at} has the name of an earlier one")]
+    TwiceName { at: u32 },
+    /// Its fault is never `LayoutFault::NoMemory`.
+    #[error("message {at} has no layout")]
+    Layout { at: u32, fault: LayoutFault },
+    #[error("there are more than 512 messages")]
+    TooMany,
+    #[error("there is no memory")]
+    NoMemory,
+}
+
+impl From<AllocError> for DialectFault {
+    ghost use Rattle.std.specs.Prelude.{◌≡◌};
+    ghost use Rattle.dialect.specs.declared.faults.DialectFault.TheVariants.{NoMemory};
+
+    ghost from_gives = { λ _ fault. fault ≡ NoMemory };
+
+    fn from(_refused: AllocError) -> DialectFault {
+        DialectFault::NoMemory
+    }
+}
+
+impl<T: Drop> From<AllocFailed<T>> for DialectFault {
+    ghost use Rattle.std.specs.Prelude.{◌≡◌};
+    ghost use Rattle.dialect.specs.declared.faults.DialectFault.TheVariants.{NoMemory};
+
+    ghost from_gives = { λ _ fault. fault ≡ NoMemory };
+
+    fn from(_refused: AllocFailed<T>) -> DialectFault {
+        DialectFault::NoMemory
+    }
+}

@@ -1,0 +1,88 @@
+// Layouts by their ids and by their places.
+ghost use Rattle.std.specs.Prelude.{◌≡◌, ◌∷◌, ◌++◌, [], false, length, slice_get, IfOk};
+ghost use Rattle.std.specs.Option.{option_copied};
+ghost use Rattle.dialect.specs.Grammar.{has_id};
+ghost use Rattle.dialect.specs.Messages.{definition_with};
+
+use crate::NoMemory;
+use field_layout::Layout;
+use indexmap::IndexSet;
+use std::alloc::Global;
+use std::marker::Model;
+
+/// Layouts of different ids in the order of their coming. Contracts see the list of their definitions.
+#[derive(Drop)]
+pub(crate) struct Layouts {
+    ids: IndexSet<u32>,
+    layouts: Vec<Layout>,
+}
+
+impl Model for Layouts {
+    ghost use Rattle.std.specs.Prelude.{◌≡◌, List, map};
+    ghost use Rattle.field_layout.specs.Definition.{Definition};
+    ghost use Rattle.dialect.specs.Messages.{id_of};
+
+    ghost Value = { List Definition };
+
+    ghost view = { λ l. l.layouts.items };
+
+    ghost invariant = { λ l. l.ids.keys ≡ map id_of l.layouts.items };
+}
+
+impl Layouts {
+    pub(crate) fn new(alloc: Global) -> Layouts
+        ensures { result ≡ [] }
+    {
+        Layouts {
+            ids: IndexSet::new(alloc),
+            layouts: Vec::new(alloc),
+        }
+    }
+
+    pub(crate) fn has(&self, id: u32) -> bool
+        ensures { result ≡ has_id self.now id }
+    {
+        self.ids.contains(&id)
+    }
+
+    /// The layouts and one more of another id.
+    pub(crate) fn with(self, layout: Layout) -> Result<Layouts, NoMemory>
+        requires { has_id self layout.id ≡ false }
+        ensures { IfOk result (λ layouts. layouts ≡ self ++ layout ∷ []) }
+    {
+        let Layouts {
+            mut ids,
+            mut layouts,
+        } = self;
+        ids.insert(layout.def().id)?;
+        layouts.push(layout)?;
+        Ok(Layouts { ids, layouts })
+    }
+
+    /// The layout of an id, found by its hash.
+    pub(crate) fn get(&self, id: u32) -> Option<&Layout>
+        ensures { option_copied result ≡ definition_with id self.now }
+    {
+        let place = self.ids.get_index_of(&id)?;
+        self.at(place)
+    }
+
+    /// The layout at a place in the order of their coming.
+    pub(crate) fn at(&self, place: usize) -> Option<&Layout>
+        ensures { option_copied result ≡ slice_get self.now place }
+    {
+        self.layouts.get(place)
+    }
+
+    pub(crate) fn as_slice(&self) -> &[Layout]
+        ensures { result.now ≡ self.now }
+    {
+        &self.layouts
+    }
+
+    pub(crate) fn len(&self) -> usize
+        ensures { result ≡ length self.now }
+    {
+        self.layouts.len()
+    }
+}

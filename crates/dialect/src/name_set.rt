@@ -1,0 +1,49 @@
+// Names that stand already.
+ghost use Rattle.std.specs.Prelude.{◌≡◌, false, [], ◌∷◌, ◌++◌, OnOk};
+ghost use Rattle.std.specs.List.{list_any};
+ghost use Rattle.std.specs.Str.{bytes_eq};
+
+use crate::NoMemory;
+use indexmap::IndexSet;
+use std::alloc::Global;
+use std::marker::Model;
+
+/// Names, each of which stands once; contracts see them in the order of their coming.
+#[derive(Drop)]
+pub(crate) struct NameSet {
+    names: IndexSet<Vec<u8>>,
+}
+
+impl Model for NameSet {
+    ghost use Rattle.std.specs.Prelude.{ℕ, List, map};
+    ghost use Rattle.dialect.specs.Spelled.{bytes_of};
+
+    ghost Value = { List (List ℕ) };
+
+    ghost view = { λ s. map bytes_of s.names.keys };
+}
+
+impl NameSet {
+    pub(crate) fn new(alloc: Global) -> NameSet
+        ensures { result ≡ [] }
+    {
+        NameSet {
+            names: IndexSet::new(alloc),
+        }
+    }
+
+    pub(crate) fn has(&self, name: &[u8]) -> bool
+        ensures { result ≡ list_any (bytes_eq name.now) self.now }
+    {
+        self.names.contains(name)
+    }
+
+    pub(crate) fn add(&mut self, name: &[u8]) -> Result<(), NoMemory>
+        requires { list_any (bytes_eq name.now) self.old ≡ false }
+        ensures { OnOk result (self.new ≡ self.old ++ name.now ∷ []) }
+    {
+        let alloc = *self.names.allocator();
+        self.names.insert(name.to_vec(alloc)?)?;
+        Ok(())
+    }
+}
