@@ -1,10 +1,11 @@
 -- More bytes change no event, and a parse goes on event by event.
 use Rattle.std.proofs.Common.{◌≡◌, ℕ, List, [], ◌∷◌, ◌++◌, refl, sym, ap, ◌∙◌, subst, ⊎_elim, append_assoc}
+use Rattle.std.specs.Prelude.{flat_map}
 use Rattle.mav_frame.specs.Packet.{Packet}
 use Rattle.mav_frame.specs.Encoding.{encoding}
 use Rattle.mav_frame.specs.Looks.{look_of}
-use Rattle.mav_frame.specs.Parse.{NoFrame, IsIncomplete, EventAt}
-use Rattle.mav_frame.specs.ParseLaws.{MoreBytesKeep, IncrementalGoesOn, IncrementalEnds, FinalGoesOn, FinalEnds, IncrementalBeginsFinal}
+use Rattle.mav_frame.specs.Parse.{event_bytes, NoFrame, IsIncomplete, EventAt}
+use Rattle.mav_frame.specs.ParseLaws.{MoreBytesKeep, IncrementalGoesOn, IncrementalEnds, FinalGoesOn, FinalEnds, IncrementalBeginsFinal, EventsCoverBytes}
 use Rattle.mav_frame.specs.declared.looks.Look.{Look}
 use Rattle.mav_frame.specs.declared.looks.Look.TheVariants.{Frame as Found, NotHere, More}
 use Rattle.mav_frame.specs.declared.looks.Why.{Why}
@@ -67,3 +68,14 @@ final_ends extras (m ∷ ms) b h = (h.0, h.1, final_ends extras ms h.0 h.2)
 pub incremental_begins_final : IncrementalBeginsFinal
 incremental_begins_final extras [] left b h = h
 incremental_begins_final extras (m ∷ ms) left b h = (h.1.0, h.1.1, incremental_begins_final extras ms left h.1.0 h.1.2)
+
+event_covers : (extras : List (ℕ × ℕ)) (event : Event) (b rest : List ℕ) → EventAt extras event b rest → b ≡ event_bytes event ++ rest
+event_covers extras (Frame p) b rest h = h.2
+event_covers extras (Skipped c w) b rest h = h.0
+
+pub events_cover_bytes : EventsCoverBytes
+events_cover_bytes extras [] left b h = h
+events_cover_bytes extras (m ∷ ms) left b h =
+    event_covers extras m b h.0 h.1
+    ∙ (ap (λ (l : List ℕ). event_bytes m ++ l) (events_cover_bytes extras ms left h.0 h.2)
+    ∙ sym (append_assoc (event_bytes m) (flat_map event_bytes ms) left))

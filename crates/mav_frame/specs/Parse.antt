@@ -69,3 +69,8 @@ BeginsIncremental extras (event ∷ events) left b =
 abbrev pub BeginsFinal : List (ℕ × ℕ) → List Event → List ℕ → List ℕ → Type 0
 BeginsFinal extras [] left b = b ≡ left
 BeginsFinal extras (event ∷ events) left b = (rest : List ℕ) × EventAt extras event b rest × BeginsFinal extras events left rest
+
+-- the bytes of an event
+abbrev pub event_bytes : Event → List ℕ
+event_bytes (Frame packet) = encoding packet
+event_bytes (Skipped byte why) = byte ∷ []

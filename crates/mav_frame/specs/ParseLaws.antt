@@ -1,8 +1,8 @@
 -- Laws of parses.
-use Rattle.std.specs.Prelude.{ℕ, ◌≡◌, ◌↔◌, List, [], ◌∷◌, ◌++◌}
+use Rattle.std.specs.Prelude.{ℕ, ◌≡◌, ◌↔◌, flat_map, List, [], ◌∷◌, ◌++◌}
 use Rattle.mav_frame.specs.Looks.{look_of}
 use Rattle.mav_frame.specs.declared.looks.Look.TheVariants.{More}
-use Rattle.mav_frame.specs.Parse.{IsIncomplete, EventAt, Final, Incremental, BeginsIncremental, BeginsFinal}
+use Rattle.mav_frame.specs.Parse.{IsIncomplete, EventAt, Final, Incremental, BeginsIncremental, BeginsFinal, event_bytes}
 use Rattle.mav_frame.specs.declared.events.Event.{Event}
 
 -- a stream has one final parse at most
@@ -48,3 +48,8 @@ IncrementalBeginsFinal =
 abbrev pub IncompleteIsMore : Type 0
 IncompleteIsMore =
     (extras : List (ℕ × ℕ)) (b : List ℕ) → IsIncomplete extras b ↔ ((k : ℕ) × (look_of extras b ≡ More k))
+
+-- the bytes of the events in order, and then what is left, are the bytes
+abbrev pub EventsCoverBytes : Type 0
+EventsCoverBytes =
+    (extras : List (ℕ × ℕ)) (events : List Event) (left b : List ℕ) → BeginsFinal extras events left b → b ≡ flat_map event_bytes events ++ left

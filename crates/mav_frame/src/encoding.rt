@@ -43,9 +43,16 @@ impl Frame {
     {
         let mut check = X25::new();
         check.push_all(&self.header());
-        check.push_all(&self.payload[..usize::from(self.len)]);
+        check.push_all(self.payload_bytes());
         check.push(extra);
         self.check = check.value();
+    }
+
+    /// The payload's bytes.
+    pub fn payload_bytes(&self) -> &[u8]
+        ensures { result.now ≡ self.now.payload }
+    {
+        &self.payload[..usize::from(self.len)]
     }
 
     /// How many bytes encode the frame: 12 and its payload, and 13 more with a signature block.

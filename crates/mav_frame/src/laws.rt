@@ -1,5 +1,5 @@
 //! Laws of parses: functions without a body, whose contract is the law.
-ghost use Rattle.mav_frame.specs.ParseLaws.{OneFinal, OneIncremental, MoreBytesKeep, IncrementalGoesOn, IncrementalEnds, FinalGoesOn, FinalEnds, IncrementalBeginsFinal, IncompleteIsMore};
+ghost use Rattle.mav_frame.specs.ParseLaws.{OneFinal, OneIncremental, MoreBytesKeep, IncrementalGoesOn, IncrementalEnds, FinalGoesOn, FinalEnds, IncrementalBeginsFinal, IncompleteIsMore, EventsCoverBytes};
 
 /// A stream has one final parse at most.
 pub fn one_final()
@@ -44,4 +44,9 @@ pub fn incremental_begins_final()
 /// `look` answers `More` exactly at an incomplete frame.
 pub fn incomplete_is_more()
     ensures { IncompleteIsMore }
+{}
+
+/// The bytes of the events in order, and then those left, are the stream's.
+pub fn events_cover_bytes()
+    ensures { EventsCoverBytes }
 {}

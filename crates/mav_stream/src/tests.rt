@@ -73,6 +73,17 @@ fn is_same_in_pieces(alloc: Global, bytes: &[u8]) -> Result<bool, NoMemory> {
     Ok(true)
 }
 
+// How many events are incomplete frames at the end, up to 255.
+fn shorts(events: &[Event]) -> u8 {
+    let mut count = 0u8;
+    for event in events {
+        if matches!(event, Event::Skipped(_, Why::Short)) {
+            count = count.saturating_add(1);
+        }
+    }
+    count
+}
+
 #[test]
 fn captures_cut_in_pieces(rt: HostRuntime) -> Result<(), Fail> {
     let alloc = rt.alloc();
@@ -80,6 +91,9 @@ fn captures_cut_in_pieces(rt: HostRuntime) -> Result<(), Fail> {
     assert_eq!(rt; events.len(), 3);
     for len in 0..36 {
         assert!(rt; is_same_in_pieces(alloc, &CAPTURE[..len])?, "at {len}");
+        let events = read_in_pieces(alloc, extras(alloc)?, &CAPTURE[..len], 5)?;
+        let inside = !matches!(len, 0 | 1 | 22 | 35);
+        assert_eq!(rt; shorts(&events), u8::from(inside), "at {len}");
     }
     let mut corrupt = CAPTURE;
     corrupt[13] = 1;
