@@ -1,0 +1,6 @@
+pub mod WireLines
+mod DigitSteps
+mod NumberLengths
+mod WordSteps
+mod FieldSteps
+mod ShownValues

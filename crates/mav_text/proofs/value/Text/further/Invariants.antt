@@ -1,0 +1,14 @@
+use Rattle.std.proofs.Common.{◌≡◌, ◌+◌, ◌*◌, ◌≤◌, ◌++◌, length}
+use Rattle.field_layout.specs.Reading.{words_from}
+use Rattle.mav_text.specs.FrameText.{further_text}
+use Rattle.mav_text.proofs.value.Text.further.Given as goal
+
+abbrev pub invariant-loop-left : goal.invariant-loop-left
+invariant-loop-left l = record {
+  within : l.place + l.size * l.left ≤ 255;
+  short : length l.self + 5 * (l.size * l.left) ≤ length l.initial.self + 5 * (l.size * l.count);
+  text : l.self ++ further_text l.ty (words_from l.payload l.place l.size l.left) ≡ l.initial.self ++ further_text l.ty (words_from l.payload l.at l.size l.count);
+}
+
+abbrev pub decreases-loop-left : goal.decreases-loop-left
+decreases-loop-left l = l.left

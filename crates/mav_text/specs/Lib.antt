@@ -1,0 +1,3 @@
+pub mod LayoutText
+pub mod FrameText
+pub mod TextLaws

@@ -1,0 +1,11 @@
+-- Laws of the texts of frames.
+use Rattle.std.specs.Prelude.{◌≡◌, ℕ, List}
+use Rattle.field_layout.specs.Definition.{Definition}
+use Rattle.field_layout.specs.Payload.{Represents}
+use Rattle.mav_frame.specs.Packet.{Packet, FitsFrame}
+use Rattle.mav_text.specs.FrameText.{frame_text, frame_text_with}
+
+-- a frame's text is that of the values that its payload represents
+abbrev pub ShowsRepresentedValues : Type 0
+ShowsRepresentedValues =
+    (def : Definition) (packet : Packet) (values : List (List ℕ)) → FitsFrame packet → Represents def packet.payload values → frame_text def packet ≡ frame_text_with values def packet
