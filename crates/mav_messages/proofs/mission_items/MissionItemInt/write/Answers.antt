@@ -1,0 +1,20 @@
+use Rattle.std.proofs.Common.{refl, rules}
+use Rattle.field_layout.specs.Definition.{all_fields}
+use Rattle.dialect.specs.Profile.{mission_item_int_definition}
+use Rattle.mav_messages.specs.Values.{mission_item_int_values}
+use Rattle.std.specs.Int.{w32}
+use mir.Val.{SFits}
+use Rattle.mav_messages.proofs.Decoded.{fits_layout, passed_word}
+use Rattle.mav_messages.proofs.mission_items.MissionItemInt.write.Goals as goal
+
+pub returns-clause-bytes : goal.returns-clause-bytes
+returns-clause-bytes c =
+    let m = c.args.self.now in
+    let x : SFits w32 m.x = search rules in
+    let y : SFits w32 m.y = search rules in
+    rw (c.put_u8-6.ensures.bytes, c.put_u8-5.ensures.bytes, c.put_u8-4.ensures.bytes, c.put_u8-3.ensures.bytes, c.put_u8-2.ensures.bytes, c.put_u8.ensures.bytes, c.put_u16-2.ensures.bytes, c.put_u16.ensures.bytes, c.put_u32-7.ensures.bytes, c.put_u32-6.ensures.bytes, c.cast_unsigned-2.ensures, passed_word w32 m.y y, c.put_u32-5.ensures.bytes, c.cast_unsigned.ensures, passed_word w32 m.x x, c.put_u32-4.ensures.bytes, c.put_u32-3.ensures.bytes, c.put_u32-2.ensures.bytes, c.put_u32.ensures.bytes, c.requires) refl
+
+pub returns-clause-fits : goal.returns-clause-fits
+returns-clause-fits c =
+    fits_layout (all_fields mission_item_int_definition) (mission_item_int_values c.args.self.now)
+    ((refl, c.put_u8.ensures.small), ((refl, c.put_u8-2.ensures.small), ((refl, c.put_u16.ensures.small), ((refl, c.put_u8-3.ensures.small), ((refl, c.put_u16-2.ensures.small), ((refl, c.put_u8-4.ensures.small), ((refl, c.put_u8-5.ensures.small), ((refl, c.put_u32.ensures.small), ((refl, c.put_u32-2.ensures.small), ((refl, c.put_u32-3.ensures.small), ((refl, c.put_u32-4.ensures.small), ((refl, search rules), ((refl, search rules), ((refl, c.put_u32-7.ensures.small), ((refl, c.put_u8-6.ensures.small), tt)))))))))))))))

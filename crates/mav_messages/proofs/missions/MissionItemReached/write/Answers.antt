@@ -1,0 +1,15 @@
+use Rattle.std.proofs.Common.{refl}
+use Rattle.field_layout.specs.Definition.{all_fields}
+use Rattle.dialect.specs.Profile.{mission_item_reached_definition}
+use Rattle.mav_messages.specs.Values.{mission_item_reached_values}
+use Rattle.mav_messages.proofs.Decoded.{fits_layout}
+use Rattle.mav_messages.proofs.missions.MissionItemReached.write.Goals as goal
+
+pub returns-clause-bytes : goal.returns-clause-bytes
+returns-clause-bytes c =
+    rw (c.put_u16.ensures.bytes, c.requires) refl
+
+pub returns-clause-fits : goal.returns-clause-fits
+returns-clause-fits c =
+    fits_layout (all_fields mission_item_reached_definition) (mission_item_reached_values c.args.self.now)
+    ((refl, c.put_u16.ensures.small), tt)

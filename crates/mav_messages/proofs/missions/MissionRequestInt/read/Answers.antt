@@ -1,0 +1,9 @@
+use Rattle.std.proofs.Common.{refl}
+use Rattle.dialect.specs.Profile.{mission_request_int_definition}
+use Rattle.mav_messages.proofs.Decoded.{represents}
+use Rattle.mav_messages.proofs.missions.MissionRequestInt.read.Goals as goal
+
+pub returns : goal.returns
+returns c =
+    let payload = c.args.payload.now in
+    represents mission_request_int_definition payload _ c.fits-payload (rw (c.u16_at.ensures, c.u8_at.ensures, c.u8_at-2.ensures, c.u8_at-3.ensures) refl)

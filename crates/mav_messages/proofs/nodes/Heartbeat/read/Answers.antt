@@ -1,0 +1,9 @@
+use Rattle.std.proofs.Common.{refl}
+use Rattle.dialect.specs.Profile.{heartbeat_definition}
+use Rattle.mav_messages.proofs.Decoded.{represents}
+use Rattle.mav_messages.proofs.nodes.Heartbeat.read.Goals as goal
+
+pub returns : goal.returns
+returns c =
+    let payload = c.args.payload.now in
+    represents heartbeat_definition payload _ c.fits-payload (rw (c.u32_at.ensures, c.u8_at.ensures, c.u8_at-2.ensures, c.u8_at-3.ensures, c.u8_at-4.ensures, c.u8_at-5.ensures) refl)

@@ -1,0 +1,16 @@
+use Rattle.std.proofs.Common.{refl, rules, append_assoc}
+use Rattle.std.proofs.lemmas.List.{append-nil}
+use Rattle.field_layout.specs.Definition.{all_fields}
+use Rattle.dialect.specs.Profile.{param_value_definition}
+use Rattle.mav_messages.specs.Values.{param_value_values}
+use Rattle.mav_messages.proofs.Decoded.{fits_layout}
+use Rattle.mav_messages.proofs.params.ParamValue.write.Goals as goal
+
+pub returns-clause-bytes : goal.returns-clause-bytes
+returns-clause-bytes c =
+    rw (c.put_u8.ensures.bytes, c.put_bytes.ensures.bytes, c.put_u16-2.ensures.bytes, c.put_u16.ensures.bytes, c.put_u32.ensures.bytes, c.requires) (simp (append_assoc, append-nil))
+
+pub returns-clause-fits : goal.returns-clause-fits
+returns-clause-fits c =
+    fits_layout (all_fields param_value_definition) (param_value_values c.args.self.now)
+    ((search rules, c.put_bytes.ensures.small), ((refl, c.put_u32.ensures.small), ((refl, c.put_u8.ensures.small), ((refl, c.put_u16.ensures.small), ((refl, c.put_u16-2.ensures.small), tt)))))

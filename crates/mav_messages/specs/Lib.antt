@@ -1,0 +1,4 @@
+pub mod Values
+pub mod Messages
+pub mod Targets
+pub mod Plans

@@ -1,0 +1,21 @@
+-- The node that a message is for, by its values (MAVLink guide, Routing: target_system and target_component).
+use Rattle.std.specs.Prelude.{ℕ, List, codes, slice_index, position, Option, Some, None}
+use Rattle.field_layout.specs.Definition.{Definition, all_fields}
+use Rattle.field_layout.specs.Payload.{words_at}
+use Rattle.field_layout.specs.Target.{is_target}
+use Rattle.mav_ports.specs.declared.names.Name.{Name}
+
+-- the word of the field at that place, 0 where there is no such field
+abbrev pub word_or_zero : List (List ℕ) → Option ℕ → ℕ
+word_or_zero values None = 0
+word_or_zero values (Some place) = slice_index (words_at values place) 0
+
+-- the word of the target field of that name
+abbrev pub target_word : List ℕ → Definition → List (List ℕ) → ℕ
+target_word name def values = word_or_zero values (position (is_target name) (all_fields def))
+
+abbrev pub target_in : Definition → List (List ℕ) → Name
+target_in def values = record {
+  sys = target_word (codes "target_system") def values;
+  comp = target_word (codes "target_component") def values;
+}
