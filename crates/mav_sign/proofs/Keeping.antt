@@ -1,0 +1,141 @@
+-- What is kept goes on representing the history.
+use Rattle.std.proofs.Common.{◌≡◌, ℕ, ◌+◌, ◌<◌, max, Bool, true, false, ◌==◌, List, [], ◌∷◌, ◌++◌, Option, Some, None, length, map, sym, ap, ◌∙◌, refl, subst, arith}
+use Rattle.std.specs.Prelude.{is_some, if◌then◌else◌, nat_lt, option_map}
+use Rattle.std.proofs.lemmas.Bool.Decides.{nat_tests}
+use Rattle.std.proofs.lemmas.List.{map-append}
+use Rattle.mav_ports.specs.declared.names.Stream.{Stream}
+use Rattle.mav_frame.specs.Packet.{Packet, SignatureBlock}
+use Rattle.mav_sign.specs.declared.admission.Admit.{Admit}
+use Rattle.mav_sign.specs.declared.admission.Admit.TheVariants.{Admitted, Unsigned, BadSignature, NotLater, TooOld, TooManyStreams}
+use Rattle.mav_sign.specs.History.{Entry, tried, sent, Stamped, stream_of, stamped, admitted_by, admitted_in, sent_in, same_stream, greatest, greatest_of, latest, stamps_of, last_of, accepted_in, streams_of, answer_after, unless_old, stamp_answer, local_of, is_admitted}
+use Rattle.mav_sign.specs.Kept.{Kept, IsStream, Represents, Admits, KeptAfter, stream_number, stamp_at, kept_answer, local_kept}
+use Rattle.mav_sign.proofs.Histories.{admitted_more, admitted_same, sent_more, sent_same, greatest_more, greatest_of_more, latest_more, same_self, same_is, stamps_more, stamps_same, streams_more, streams_unchanged}
+
+-- ---- a stream and its number
+
+pub same_number : (a b : Stream) → IsStream a → IsStream b → stream_number a ≡ stream_number b → a ≡ b
+same_number a b of_a of_b same =
+    let sys : a.sys ≡ b.sys = omega (arith, of_a.sys, of_a.comp, of_a.link, of_b.sys, of_b.comp, of_b.link) in
+    let comp : a.comp ≡ b.comp = omega (arith, of_a.sys, of_a.comp, of_a.link, of_b.sys, of_b.comp, of_b.link) in
+    let link : a.link ≡ b.link = omega (arith, of_a.sys, of_a.comp, of_a.link, of_b.sys, of_b.comp, of_b.link) in
+    λ i. record { sys = sys i; comp = comp i; link = link i }
+
+-- two streams have one number where they are the same
+pub number_test : (a b : Stream) → IsStream a → IsStream b → (stream_number a == stream_number b) ≡ same_stream b a
+number_test a b of_a of_b =
+    elim (same_stream b a) as (λ t. same_stream b a ≡ t → (stream_number a == stream_number b) ≡ t) [
+      | true ↦ λ same.
+          let self : (stream_number a == stream_number a) ≡ true = grind (arith, nat_tests) in
+          ap (λ (s : Stream). stream_number a == stream_number s) (same_is b a same) ∙ self
+      | false ↦ λ other.
+          elim (stream_number a == stream_number b) as (λ t. (stream_number a == stream_number b) ≡ t → t ≡ false) [
+            | true ↦ λ equal.
+                let number : stream_number a ≡ stream_number b = grind (arith, nat_tests) in
+                let yes : same_stream b a ≡ true = ap (same_stream b) (same_number a b of_a of_b number) ∙ same_self b in
+                sym yes ∙ other
+            | false ↦ λ apart. refl
+          ] refl
+    ] refl
+
+-- ---- the answer
+
+-- the local timestamp is that of the history
+pub local_same : (kept : Kept) (history : List Entry) → Represents kept history → local_kept kept ≡ local_of history
+local_same kept history of =
+    ap (λ (n : ℕ). max n kept.previous) of.accepted ∙ ap (max (accepted_in history)) of.sent
+
+-- the answer by what is kept is that by the history
+pub answer_same : (kept : Kept) (history : List Entry) (stream : Stream) (stamp : ℕ) → IsStream stream → Represents kept history → kept_answer kept stream stamp ≡ stamp_answer stream stamp history
+answer_same kept history stream stamp bytes of =
+    ap (λ (o : Option ℕ). answer_after o (length kept.last) (local_kept kept) stamp) (of.last stream bytes) ∙ (ap (λ (n : ℕ). answer_after (last_of stream history) n (local_kept kept) stamp) of.streams ∙ ap (λ (n : ℕ). answer_after (last_of stream history) (length (streams_of history)) n stamp) (local_same kept history of))
+
+-- an admitted timestamp is greater than those of its stream
+later : (xs : List ℕ) (streams local stamp : ℕ) → answer_after (greatest_of xs) streams local stamp ≡ Admitted → max (greatest xs) stamp ≡ stamp
+later [] streams local stamp admitted = omega arith
+later (y ∷ ys) streams local stamp admitted =
+    let last = greatest (y ∷ ys) in
+    elim (nat_lt last stamp) as (λ t. nat_lt last stamp ≡ t → (if t then unless_old local stamp Admitted else NotLater last) ≡ Admitted → max last stamp ≡ stamp) [
+      | true ↦ λ test _. grind (arith, nat_tests)
+      | false ↦ λ test wrong. absurd (cc)
+    ] refl admitted
+
+-- ---- one more entry
+
+-- the last timestamp of each stream after one was admitted
+last_more : (history : List Entry) (entry : Entry) (s : Stamped) (other : Stream) → admitted_by entry ≡ Some s → max (greatest (stamps_of s.stream (admitted_in history))) s.stamp ≡ s.stamp → last_of other (history ++ entry ∷ []) ≡ (if same_stream other s.stream then Some s.stamp else last_of other history)
+last_more history entry s other is most =
+    let admitted = admitted_in history in
+    let all : last_of other (history ++ entry ∷ []) ≡ greatest_of (stamps_of other (admitted ++ s ∷ [])) = ap (λ (l : List Stamped). greatest_of (stamps_of other l)) (admitted_more history entry s is) in
+    all ∙ elim (same_stream other s.stream) as (λ t. same_stream other s.stream ≡ t → greatest_of (stamps_of other (admitted ++ s ∷ [])) ≡ (if t then Some s.stamp else last_of other history)) [
+      | true ↦ λ same.
+          let most_here : max (greatest (stamps_of other admitted)) s.stamp ≡ s.stamp = ap (λ (a : Stream). max (greatest (stamps_of a admitted)) s.stamp) (same_is other s.stream same) ∙ most in
+          ap greatest_of (stamps_more other admitted s same) ∙ (greatest_of_more (stamps_of other admitted) s.stamp ∙ ap Some most_here)
+      | false ↦ λ apart. ap greatest_of (stamps_same other admitted s apart)
+    ] refl
+
+pub after_admitted : (old new : Kept) (history : List Entry) (packet : Packet) (block : SignatureBlock) → packet.block ≡ Some block → IsStream (stream_of packet block) → kept_answer old (stream_of packet block) block.stamp ≡ Admitted → Admits (stream_of packet block) block.stamp old new → Represents old history → Represents new (history ++ tried packet Admitted ∷ [])
+after_admitted old new history packet block signed bytes answer admits of =
+    let stream = stream_of packet block in
+    let entry : Entry = tried packet Admitted in
+    let s : Stamped = stamped packet block in
+    let is : admitted_by entry ≡ Some s = ap (option_map (stamped packet)) signed in
+    let most : max (greatest (stamps_of stream (admitted_in history))) block.stamp ≡ block.stamp = later (stamps_of stream (admitted_in history)) (length (streams_of history)) (local_of history) block.stamp (sym (answer_same old history stream block.stamp bytes of) ∙ answer) in
+    let more : accepted_in (history ++ entry ∷ []) ≡ max (accepted_in history) block.stamp =
+    ap (λ (l : List Stamped). greatest (map (λ (t : Stamped). t.stamp) l)) (admitted_more history entry s is) ∙ (ap greatest (map-append (λ (t : Stamped). t.stamp) (admitted_in history) (s ∷ [])) ∙ greatest_more (map (λ (t : Stamped). t.stamp) (admitted_in history)) block.stamp) in
+    let sent_before : sent_in (history ++ entry ∷ []) ≡ sent_in history = sent_same history entry refl in
+    let count : length old.last ≡ length (streams_of history) = of.streams in
+    record {
+      last = λ other here.
+          admits.last (stream_number other) ∙ (ap (λ (b : Bool). if b then Some block.stamp else stamp_at (stream_number other) old.last) (number_test stream other bytes here) ∙ (ap (λ (o : Option ℕ). if same_stream other stream then Some block.stamp else o) (of.last other here) ∙ sym (last_more history entry s other is most)));
+      streams =
+          admits.streams ∙ (ap (λ (o : Option ℕ). if is_some o then length old.last else length old.last + 1) (of.last stream bytes) ∙ (ap (λ (n : ℕ). if is_some (last_of stream history) then n else n + 1) count ∙ sym (streams_more history entry s is)));
+      accepted = admits.accepted ∙ (ap (λ (n : ℕ). max n block.stamp) of.accepted ∙ sym more);
+      previous = admits.previous ∙ (of.previous ∙ sym (ap latest sent_before));
+      sent = admits.previous ∙ (of.sent ∙ sym (ap greatest sent_before));
+    }
+
+refused_none : (packet : Packet) (answer : Admit) → is_admitted answer ≡ false → admitted_by (tried packet answer) ≡ None
+refused_none packet Admitted refused = absurd (let wrong : true ≡ false = refused in cc)
+refused_none packet Unsigned refused = refl
+refused_none packet BadSignature refused = refl
+refused_none packet (NotLater last) refused = refl
+refused_none packet (TooOld local) refused = refl
+refused_none packet TooManyStreams refused = refl
+
+pub after_refused : (kept : Kept) (history : List Entry) (packet : Packet) (answer : Admit) → is_admitted answer ≡ false → Represents kept history → Represents kept (history ++ tried packet answer ∷ [])
+after_refused kept history packet answer refused of =
+    let entry : Entry = tried packet answer in
+    let none = refused_none packet answer refused in
+    let same : admitted_in (history ++ entry ∷ []) ≡ admitted_in history = admitted_same history entry none in
+    let sent_before : sent_in (history ++ entry ∷ []) ≡ sent_in history = sent_same history entry refl in
+    record {
+      last = λ other here. of.last other here ∙ sym (ap (λ (l : List Stamped). greatest_of (stamps_of other l)) same);
+      streams = of.streams ∙ sym (ap length (streams_unchanged history entry none));
+      accepted = of.accepted ∙ sym (ap (λ (l : List Stamped). greatest (map (λ (t : Stamped). t.stamp) l)) same);
+      previous = of.previous ∙ sym (ap latest sent_before);
+      sent = of.sent ∙ sym (ap greatest sent_before);
+    }
+
+pub after_sent : (kept : Kept) (history : List Entry) (stamp : ℕ) → kept.previous < stamp → Represents kept history → Represents (record kept { previous = stamp }) (history ++ sent stamp ∷ [])
+after_sent kept history stamp above of =
+    let entry : Entry = sent stamp in
+    let same : admitted_in (history ++ entry ∷ []) ≡ admitted_in history = admitted_same history entry refl in
+    let more : sent_in (history ++ entry ∷ []) ≡ sent_in history ++ stamp ∷ [] = sent_more history entry stamp refl in
+    let most : max (greatest (sent_in history)) stamp ≡ stamp = omega (arith, of.sent) in
+    record {
+      last = λ other here. of.last other here ∙ sym (ap (λ (l : List Stamped). greatest_of (stamps_of other l)) same);
+      streams = of.streams ∙ sym (ap length (streams_unchanged history entry refl));
+      accepted = of.accepted ∙ sym (ap (λ (l : List Stamped). greatest (map (λ (t : Stamped). t.stamp) l)) same);
+      previous = sym (ap latest more ∙ latest_more (sent_in history) stamp);
+      sent = sym (ap greatest more ∙ (greatest_more (sent_in history) stamp ∙ most));
+    }
+
+-- ---- a tried frame
+
+pub after_tried : (old new : Kept) (history : List Entry) (packet : Packet) (block : SignatureBlock) (answer : Admit) → packet.block ≡ Some block → IsStream (stream_of packet block) → answer ≡ kept_answer old (stream_of packet block) block.stamp → KeptAfter answer (stream_of packet block) block.stamp old new → Represents old history → Represents new (history ++ tried packet answer ∷ [])
+after_tried old new history packet block Admitted signed bytes answer kept of = after_admitted old new history packet block signed bytes (sym answer) kept of
+after_tried old new history packet block Unsigned signed bytes answer kept of = subst (λ k. Represents k (history ++ tried packet Unsigned ∷ [])) (sym kept) (after_refused old history packet Unsigned refl of)
+after_tried old new history packet block BadSignature signed bytes answer kept of = subst (λ k. Represents k (history ++ tried packet BadSignature ∷ [])) (sym kept) (after_refused old history packet BadSignature refl of)
+after_tried old new history packet block (NotLater last) signed bytes answer kept of = subst (λ k. Represents k (history ++ tried packet (NotLater last) ∷ [])) (sym kept) (after_refused old history packet (NotLater last) refl of)
+after_tried old new history packet block (TooOld local) signed bytes answer kept of = subst (λ k. Represents k (history ++ tried packet (TooOld local) ∷ [])) (sym kept) (after_refused old history packet (TooOld local) refl of)
+after_tried old new history packet block TooManyStreams signed bytes answer kept of = subst (λ k. Represents k (history ++ tried packet TooManyStreams ∷ [])) (sym kept) (after_refused old history packet TooManyStreams refl of)

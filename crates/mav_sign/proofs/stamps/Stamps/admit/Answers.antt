@@ -1,0 +1,32 @@
+use Rattle.std.proofs.Common.{◌≡◌, ℕ, Some, sym, ap, ◌∙◌, refl, subst}
+use Rattle.mav_ports.specs.declared.names.Stream.{Stream}
+use Rattle.mav_frame.specs.Packet.{Packet, SignatureBlock}
+use Rattle.mav_sign.specs.History.{stream_of}
+use Rattle.mav_sign.specs.Kept.{IsStream, KeptAfter, kept_answer}
+use Rattle.mav_sign.specs.declared.admission.Admit.TheVariants.{Unsigned, BadSignature}
+use Rattle.mav_sign.proofs.Keeping.{after_refused, after_tried}
+use Rattle.mav_sign.proofs.stamps.Stamps.admit.Goals as goal
+
+pub returns-in_default-clause-history : goal.returns-in_default-clause-history
+returns-in_default-clause-history c = λ history of. after_refused c.args.self.now history c.args.frame.now Unsigned refl of
+
+pub returns-then-not-is_right-clause-history : goal.returns-then-not-is_right-clause-history
+returns-then-not-is_right-clause-history c =
+    λ history of. after_refused c.args.self.now history c.args.frame.now BadSignature refl of
+
+pub returns-clause-history : goal.returns-clause-history
+returns-clause-history c =
+    λ history of.
+    let old = c.args.self.now in
+    let packet = c.args.frame.now in
+    let block = c.in-Some.block in
+    let stream = stream_of packet block in
+    let signed : packet.block ≡ Some block = sym (ap (λ (p : Packet). p.block) c.frame.view_is) ∙ c.in-Some.is in
+    let is : c.stream_of.result ≡ stream = c.stream_of.ensures.stream in
+    let stamp : c.block.inside.stamp ≡ block.stamp = ap (λ (b : SignatureBlock). b.stamp) c.block.view_is in
+    let bytes : IsStream stream = subst IsStream is c.stream_of.ensures.bytes in
+    let answer : c.admit_stamp.result ≡ kept_answer old stream block.stamp =
+    c.admit_stamp.ensures.answer ∙ (ap (λ (s : Stream). kept_answer old s c.block.inside.stamp) is ∙ ap (kept_answer old stream) stamp) in
+    let kept : KeptAfter c.admit_stamp.result stream block.stamp old c.admit_stamp.new.self =
+    subst (λ (s : Stream). KeptAfter c.admit_stamp.result s block.stamp old c.admit_stamp.new.self) is (subst (λ (n : ℕ). KeptAfter c.admit_stamp.result c.stream_of.result n old c.admit_stamp.new.self) stamp c.admit_stamp.ensures.kept) in
+    after_tried old c.admit_stamp.new.self history packet block c.admit_stamp.result signed bytes answer kept of

@@ -1,0 +1,124 @@
+-- One end of signed links: what it hears and sends.
+use Rattle.std.specs.Prelude.{ℕ, ◌≡◌, List, [], ◌∷◌, ◌++◌, fold, drop, All, Option, Some, None, IsSome, IfSome}
+use Rattle.std.specs.List.{filter_map}
+use Rattle.x25_check.specs.Extras.{extra_of}
+use Rattle.field_layout.specs.Definition.{Definition}
+use Rattle.field_layout.specs.CrcExtra.{crc_extra_of}
+use Rattle.field_layout.specs.Payload.{serialised, truncated, Represents as PayloadRepresents}
+use Rattle.dialect.specs.Profile.{profile_definitions}
+use Rattle.mav_ports.specs.declared.names.Stream.{Stream}
+use Rattle.mav_messages.specs.declared.messages.Message.{Message}
+use Rattle.mav_messages.specs.Messages.{definition_of, values_of, profile_definition}
+use Rattle.mav_frame.specs.Packet.{Packet, SignatureBlock}
+use Rattle.mav_frame.specs.Encoding.{IsSealed}
+use Rattle.mav_frame.specs.Parse.{EventAt, Final, BeginsFinal}
+use Rattle.mav_frame.specs.declared.events.Event.{Event}
+use Rattle.mav_frame.specs.declared.events.Event.TheVariants.{Frame as FrameEvent, Skipped as SkippedEvent}
+use Rattle.mav_sign.specs.declared.admission.Admit.{Admit}
+use Rattle.mav_sign.specs.declared.admission.Admit.TheVariants.{Admitted}
+use Rattle.mav_sign.specs.declared.heard.Heard.{Heard}
+use Rattle.mav_sign.specs.declared.heard.Heard.TheVariants.{Message as HeardMessage, Other, Dropped}
+use Rattle.mav_sign.specs.Signing.{Verifies}
+use Rattle.mav_sign.specs.History.{Entry, tried, stream_of, answer_to}
+use Rattle.mav_sign.specs.Kept.{Kept, Represents}
+
+-- the table has the CRC_EXTRA of each message of the profile
+abbrev pub HasProfile : List (ℕ × ℕ) → Type 0
+HasProfile extras = All (λ (def : Definition). extra_of def.id extras ≡ Some (crc_extra_of def)) profile_definitions
+
+-- its key, its own stream, the CRC_EXTRA table, what its verifier keeps, the next sequence number, and the bytes of an
+-- incoming stream that are in no frame yet
+pub record EndpointState : Type 0 where
+  pub key : List ℕ
+  pub me : Stream
+  pub extras : List (ℕ × ℕ)
+  pub stamps : Kept
+  pub seq : ℕ
+  pub held : List ℕ
+
+abbrev pub new_endpoint : List ℕ → Stream → List (ℕ × ℕ) → Kept → EndpointState
+new_endpoint key me extras stamps = record { key = key; me = me; extras = extras; stamps = stamps; seq = 0; held = [] }
+
+-- what is told of an admitted frame of a stream: the message that its payload represents, or its id where the profile has
+-- no such message
+abbrev pub AdmittedIs : Stream → Packet → Heard → Type 0
+AdmittedIs stream packet (HeardMessage from message) =
+    (from ≡ stream) × (profile_definition packet.id ≡ Some (definition_of message)) × PayloadRepresents (definition_of message) packet.payload (values_of message)
+AdmittedIs stream packet (Other from id) = (from ≡ stream) × (id ≡ packet.id) × (profile_definition packet.id ≡ None)
+AdmittedIs stream packet (Dropped answer) = ⊥
+
+-- what is told by the answer
+abbrev pub AnswerIs : Admit → Packet → Option SignatureBlock → Heard → Type 0
+AnswerIs Admitted packet None heard = ⊥
+AnswerIs Admitted packet (Some block) heard = AdmittedIs (stream_of packet block) packet heard
+AnswerIs answer packet block heard = heard ≡ Dropped answer
+
+-- what is told of a frame after a history
+abbrev pub HeardIs : List ℕ → List Entry → Packet → Heard → Type 0
+HeardIs key history packet heard = AnswerIs (answer_to key history packet) packet packet.block heard
+
+-- the history with a frame tried
+abbrev pub after_frame : List ℕ → List Entry → Packet → List Entry
+after_frame key history packet = history ++ tried packet (answer_to key history packet) ∷ []
+
+-- what is told of frames, one after another
+abbrev pub HeardAll : List ℕ → List Entry → List Packet → List Heard → Type 0
+HeardAll key history [] [] = Unit {0}
+HeardAll key history [] (heard ∷ rest) = ⊥
+HeardAll key history (packet ∷ packets) [] = ⊥
+HeardAll key history (packet ∷ packets) (heard ∷ rest) =
+    HeardIs key history packet heard × HeardAll key (after_frame key history packet) packets rest
+
+-- the history with frames tried
+abbrev pub after_frames : List ℕ → List Entry → List Packet → List Entry
+after_frames key history packets = fold (after_frame key) history packets
+
+-- the frames among the events of a parse
+abbrev pub frame_in : Event → Option Packet
+frame_in (FrameEvent packet) = Some packet
+frame_in (SkippedEvent byte why) = None
+
+abbrev pub frames_of : List Event → List Packet
+frames_of events = filter_map frame_in events
+
+-- frames were tried after a history: what is told of them is appended, and what is kept represents the history with them
+pub record Told (key : List ℕ) (history : List Entry) (packets : List Packet) (before after : List Heard) (stamps : Kept) : Type 0 where
+  pub heard : List Heard
+  pub each : HeardAll key history packets heard
+  pub appended : after ≡ before ++ heard
+  pub represents : Represents stamps (after_frames key history packets)
+
+-- what stands at the front of some bytes was heard
+pub record FrontHeard (extras : List (ℕ × ℕ)) (key : List ℕ) (history : List Entry) (bytes : List ℕ) (size : ℕ) (before after : List Heard) (stamps : Kept) : Type 0 where
+  pub event : Event
+  pub stands : EventAt extras event bytes (drop size bytes)
+  pub told : Told key history (frames_of (event ∷ [])) before after stamps
+
+-- the bytes from a place on are left
+pub record HeardTo (extras : List (ℕ × ℕ)) (key : List ℕ) (history : List Entry) (bytes : List ℕ) (place : ℕ) (before after : List Heard) (stamps : Kept) : Type 0 where
+  pub events : List Event
+  pub begun : BeginsFinal extras events (drop place bytes) bytes
+  pub told : Told key history (frames_of events) before after stamps
+
+-- a whole datagram was heard: the frames of its final parse, in order
+pub record Received (extras : List (ℕ × ℕ)) (key : List ℕ) (history : List Entry) (datagram : List ℕ) (before after : List Heard) (stamps : Kept) : Type 0 where
+  pub events : List Event
+  pub parse : Final extras events datagram
+  pub told : Told key history (frames_of events) before after stamps
+
+-- a frame that carries a message from a stream, at a timestamp
+pub record FrameOf (me : Stream) (extras : List (ℕ × ℕ)) (seq stamp : ℕ) (message : Message) (packet : Packet) : Type 0 where
+  pub compat : packet.compat ≡ 0
+  pub seq_is : packet.seq ≡ seq
+  pub from : packet.from ≡ (record { sys = me.sys; comp = me.comp })
+  pub id : packet.id ≡ (definition_of message).id
+  pub payload : packet.payload ≡ truncated (serialised (definition_of message) (values_of message))
+  pub represents : PayloadRepresents (definition_of message) packet.payload (values_of message)
+  pub sealed : IsSealed extras packet
+  pub signed : IsSome packet.block
+
+-- the same, signed
+pub record SentFrame (key : List ℕ) (me : Stream) (extras : List (ℕ × ℕ)) (seq stamp : ℕ) (message : Message) (packet : Packet) : Type 0 where
+  pub carries : FrameOf me extras seq stamp message packet
+  pub block : IfSome packet.block (λ block. (block.link ≡ me.link) × (block.stamp ≡ stamp))
+  pub verifies : Verifies key packet packet.block

@@ -1,0 +1,61 @@
+-- What a verifier keeps of its history.
+use Rattle.std.specs.Prelude.{ℕ, ◌≡◌, ◌+◌, ◌*◌, ◌<◌, ◌==◌, nat_eq, max, is_some, if◌then◌else◌, List, length, Option, Some}
+use Rattle.std.specs.Map.{lookup}
+use Rattle.mav_ports.specs.declared.names.Stream.{Stream}
+use Rattle.mav_sign.specs.declared.admission.Admit.{Admit}
+use Rattle.mav_sign.specs.declared.admission.Admit.TheVariants.{Admitted}
+use Rattle.mav_sign.specs.History.{Entry, answer_after, last_of, streams_of, accepted_in, previous_in, sent_in, greatest}
+
+-- the pairs of a stream's number and its last admitted timestamp, the greatest timestamp admitted, and the previous one
+-- sent
+pub record Kept : Type 0 where
+  pub last : List (ℕ × ℕ)
+  pub accepted : ℕ
+  pub previous : ℕ
+
+-- the timestamp that stands with a number
+abbrev pub stamp_at : ℕ → List (ℕ × ℕ) → Option ℕ
+stamp_at number pairs = lookup (nat_eq number) pairs
+
+-- the number of a stream: its three bytes
+abbrev pub stream_number : Stream → ℕ
+stream_number stream = stream.sys * 65536 + stream.comp * 256 + stream.link
+
+-- a stream of three bytes
+pub record IsStream (stream : Stream) : Type 0 where
+  pub sys : stream.sys < 256
+  pub comp : stream.comp < 256
+  pub link : stream.link < 256
+
+-- this is kept of that history
+pub record Represents (kept : Kept) (history : List Entry) : Type 0 where
+  pub last : (stream : Stream) → IsStream stream → stamp_at (stream_number stream) kept.last ≡ last_of stream history
+  pub streams : length kept.last ≡ length (streams_of history)
+  pub accepted : kept.accepted ≡ accepted_in history
+  pub previous : kept.previous ≡ previous_in history
+  pub sent : kept.previous ≡ greatest (sent_in history)
+
+-- the greatest timestamp admitted or sent
+abbrev pub local_kept : Kept → ℕ
+local_kept kept = max kept.accepted kept.previous
+
+-- the answer by what is kept
+abbrev pub kept_answer : Kept → Stream → ℕ → Admit
+kept_answer kept stream stamp =
+    answer_after (stamp_at (stream_number stream) kept.last) (length kept.last) (local_kept kept) stamp
+
+-- the next timestamp by what is kept
+abbrev pub kept_next : Kept → ℕ → ℕ
+kept_next kept clock = max (kept.previous + 1) (max clock kept.accepted)
+
+-- an admitted timestamp is the last of its stream
+pub record Admits (stream : Stream) (stamp : ℕ) (old new : Kept) : Type 0 where
+  pub last : (number : ℕ) → stamp_at number new.last ≡ (if stream_number stream == number then Some stamp else stamp_at number old.last)
+  pub streams : length new.last ≡ (if is_some (stamp_at (stream_number stream) old.last) then length old.last else length old.last + 1)
+  pub accepted : new.accepted ≡ max old.accepted stamp
+  pub previous : new.previous ≡ old.previous
+
+-- and nothing else changes anything
+abbrev pub KeptAfter : Admit → Stream → ℕ → Kept → Kept → Type 0
+KeptAfter Admitted stream stamp old new = Admits stream stamp old new
+KeptAfter _ stream stamp old new = new ≡ old

@@ -1,0 +1,5 @@
+pub mod Signing
+pub mod History
+pub mod Kept
+pub mod Endpoints
+pub mod Streams

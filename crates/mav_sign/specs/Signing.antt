@@ -1,0 +1,19 @@
+-- The signature of a frame (MAVLink guide, Message Signing: Signature; FIPS 180-4).
+use Rattle.std.specs.Prelude.{ℕ, ◌≡◌, List, ◌∷◌, ◌++◌, take, Option, Some, None}
+use Rattle.sha2.specs.Sha256.{sha256}
+use Rattle.mav_frame.specs.Numbers.{little_endian}
+use Rattle.mav_frame.specs.Packet.{Packet, SignatureBlock}
+use Rattle.mav_frame.specs.Encoding.{checked_bytes}
+
+-- the bytes of a frame from STX through its checksum
+abbrev pub through_checksum : Packet → List ℕ
+through_checksum packet = 0xFD ∷ checked_bytes packet ++ little_endian 2 packet.check
+
+-- the first 6 bytes of SHA-256 over the secret key, the frame through its checksum, the link id and the timestamp
+abbrev pub signature_of : List ℕ → Packet → ℕ → ℕ → List ℕ
+signature_of key packet link stamp = take 6 (sha256 (key ++ through_checksum packet ++ link ∷ little_endian 6 stamp))
+
+-- the frame has a signature block, and that has the signature under the key
+abbrev pub Verifies : List ℕ → Packet → Option SignatureBlock → Type 0
+Verifies key packet None = ⊥
+Verifies key packet (Some block) = block.sig ≡ signature_of key packet block.link block.stamp

@@ -1,0 +1,40 @@
+-- What an endpoint hears of a stream that comes in pieces.
+use Rattle.std.specs.Prelude.{ℕ, ◌≡◌, List, [], ◌∷◌, ◌++◌, Option, Some, None, false}
+use Rattle.mav_frame.specs.Packet.{Packet}
+use Rattle.mav_frame.specs.Parse.{Incremental}
+use Rattle.mav_frame.specs.declared.events.Event.{Event}
+use Rattle.mav_stream.specs.Held.{Held}
+use Rattle.mav_stream.specs.Progress.{Progress}
+use Rattle.mav_sign.specs.declared.heard.Heard.{Heard}
+use Rattle.mav_sign.specs.History.{Entry}
+use Rattle.mav_sign.specs.Kept.{Kept}
+use Rattle.mav_sign.specs.Endpoints.{EndpointState, frames_of, Told}
+
+-- one, or none
+abbrev pub listed : {A : Type 0} → Option A → List A
+listed None = []
+listed (Some a) = a ∷ []
+
+-- the parse went on until a frame, or to all of it
+pub record ReadTo (extras : List (ℕ × ℕ)) (taken : List ℕ) (given : List Event) (frame : Option Packet) (held : Held) : Type 0 where
+  pub events : List Event
+  pub frames : frames_of events ≡ listed frame
+  pub progress : Progress extras taken (given ++ events) held
+  pub whole : frame ≡ None → Incremental extras (given ++ events) held.bytes taken
+
+-- the parse went on over skipped bytes alone
+pub record SkippedTo (extras : List (ℕ × ℕ)) (taken : List ℕ) (given : List Event) (held : Held) : Type 0 where
+  pub events : List Event
+  pub frames : frames_of events ≡ []
+  pub progress : Progress extras taken (given ++ events) held
+
+-- the reader of an endpoint: its input hasn't ended
+abbrev pub reader_of : EndpointState → Held
+reader_of endpoint = record { extras = endpoint.extras; bytes = endpoint.held; ended = false }
+
+-- the incremental parse went on by some events, whose frame, if there is one, was heard; without one it is whole
+pub record PartHeard (extras : List (ℕ × ℕ)) (key : List ℕ) (history : List Entry) (taken : List ℕ) (given : List Event) (heard : Option Heard) (held : Held) (stamps : Kept) : Type 0 where
+  pub events : List Event
+  pub progress : Progress extras taken (given ++ events) held
+  pub told : Told key history (frames_of events) [] (listed heard) stamps
+  pub whole : heard ≡ None → Incremental extras (given ++ events) held.bytes taken

@@ -1,0 +1,218 @@
+// One end of signed links.
+ghost use Rattle.std.specs.Prelude.{◌≡◌, ℕ, ◌+◌, ◌*◌, ◌%◌, ◌^◌, ◌<◌, ◌≤◌, None, take, length, vec_len, vec_capacity, ◌++◌, ◌∷◌, [], List, Some, IfOk, OnOk, OnErr};
+ghost use Rattle.x25_check.specs.Extras.{extra_of};
+ghost use Rattle.mav_messages.specs.Messages.{definition_of};
+ghost use Rattle.mav_sign.specs.History.{Entry, sent, next_in, greatest_stamp};
+ghost use Rattle.mav_sign.specs.Kept.{Represents, kept_next};
+ghost use Rattle.mav_frame.specs.declared.events.Event.{Event};
+ghost use Rattle.mav_stream.specs.Progress.{Progress};
+ghost use Rattle.mav_sign.specs.Streams.{reader_of, ReadTo, PartHeard};
+ghost use Rattle.mav_sign.specs.Endpoints.{HasProfile, AdmittedIs, new_endpoint, HeardIs, after_frame, FrontHeard, Received, FrameOf, SentFrame};
+
+use crate::reading::read_frame;
+use crate::stamps::stream_of;
+use crate::{Admit, Heard, Key, NoMemory, Stamps, StampsSpent, sign};
+use mav_frame::{Block, Frame, Look, look};
+use mav_messages::Message;
+use mav_ports::{Name, Stream};
+use mav_stream::Reader;
+use std::alloc::Global;
+use std::marker::Model;
+use x25_check::Extras;
+
+// The bytes of a frame with no payload and no signature block.
+const LEAST_FRAME_BYTES: usize = 12;
+
+/// A node's end of signed links: it admits what comes in, and signs what goes out. Contracts see its key, its stream,
+/// the CRC_EXTRA bytes of the messages it knows, what its verifier keeps, the sequence number of its next frame, and the
+/// bytes of an incoming stream that are in no frame yet.
+#[derive(Drop)]
+pub struct Endpoint {
+    key: Key,
+    me: Stream,
+    extras: Extras,
+    stamps: Stamps,
+    seq: u8,
+    reader: Reader,
+}
+
+impl Model for Endpoint {
+    ghost use Rattle.std.specs.Prelude.{◌≡◌, false};
+    ghost use Rattle.mav_sign.specs.Endpoints.{EndpointState, HasProfile};
+
+    ghost Value = { EndpointState };
+
+    ghost view = { λ e. record { key = e.key; me = e.me; extras = e.extras; stamps = e.stamps; seq = e.seq; held = e.reader.bytes } };
+
+    ghost invariant = { λ e. HasProfile e.extras × (e.reader.extras ≡ e.extras) × (e.reader.ended ≡ false) };
+}
+
+// What an admitted frame says.
+fn message_of(stream: Stream, frame: &Frame) -> Heard
+    ensures { AdmittedIs stream frame.now result }
+{
+    let len = usize::from(frame.len);
+    match Message::read(frame.id, &frame.payload[..len]) {
+        Some(message) => Heard::Message(stream, message),
+        None => Heard::Other(stream, frame.id),
+    }
+}
+
+impl Endpoint {
+    /// An endpoint that has heard and sent nothing. `extras` has the CRC_EXTRA of each message of the profile.
+    pub fn new(alloc: Global, key: Key, me: Stream, extras: Extras) -> Result<Endpoint, NoMemory>
+        requires { HasProfile extras }
+        ensures state { IfOk result (λ endpoint. endpoint ≡ new_endpoint key me extras endpoint.stamps) }
+        ensures history { IfOk result (λ endpoint. Represents endpoint.stamps []) }
+        ensures stream { IfOk result (λ endpoint. Progress extras [] [] (reader_of endpoint)) }
+    {
+        let reader = Reader::new(extras.copy()?);
+        let stamps = Stamps::new(alloc)?;
+        Ok(Endpoint {
+            key,
+            me,
+            extras,
+            stamps,
+            seq: 0,
+            reader,
+        })
+    }
+
+    // Tries a frame.
+    fn hear(&mut self, frame: &Frame) -> Heard
+        ensures heard { (history : List Entry) → Represents self.old.stamps history
+            → HeardIs self.old.key history frame.now result }
+        ensures history { (history : List Entry) → Represents self.old.stamps history
+            → Represents self.new.stamps (after_frame self.old.key history frame.now) }
+        ensures same { self.new ≡ record self.old { stamps = self.new.stamps } }
+    {
+        let answer = self.stamps.admit(&self.key, frame);
+        match (answer, &frame.block) {
+            (Admit::Admitted, Some(block)) => message_of(stream_of(frame, block), frame),
+            _ => Heard::Dropped(answer),
+        }
+    }
+
+    // Hears what stands at the front of some bytes, and answers how many bytes that takes.
+    fn hear_front(&mut self, bytes: &[u8], out: &mut Vec<Heard>) -> usize
+        requires some { 0 < length bytes.now }
+        requires room { 12 ≤ length bytes.now → vec_len out.old < vec_capacity out.old }
+        ensures size { (0 < result) × (result ≤ length bytes.now) }
+        ensures heard { (history : List Entry) → Represents self.old.stamps history
+            → FrontHeard self.old.extras self.old.key history bytes.now result out.old.items out.new.items self.new.stamps }
+        ensures room { (vec_capacity out.old ≤ vec_capacity out.new) × (vec_len out.new * 12 ≤ vec_len out.old * 12 + result) }
+        ensures same { self.new ≡ record self.old { stamps = self.new.stamps } }
+    {
+        match look(&self.extras, bytes) {
+            Look::Frame(frame, size) => {
+                let heard = self.hear(&frame);
+                let added = out.push(heard);
+                added.unwrap();
+                size
+            }
+            Look::NotHere(_) => 1,
+            Look::More(_) => 1,
+        }
+    }
+
+    /// Takes a datagram as a whole input by itself, and appends what is told of each of its frames, in order. Takes the
+    /// memory for that first, and where there is none nothing has changed.
+    pub fn receive(&mut self, datagram: &[u8], out: &mut Vec<Heard>) -> Result<(), NoMemory>
+        ensures received { OnOk result ((history : List Entry) → Represents self.old.stamps history
+            → Received self.old.extras self.old.key history datagram.now out.old.items out.new.items self.new.stamps) }
+        ensures same { self.new ≡ record self.old { stamps = self.new.stamps } }
+        ensures unchanged { OnErr result (self.new ≡ self.old) }
+        ensures kept { OnErr result (out.new.items ≡ out.old.items) }
+    {
+        out.reserve(datagram.len() / LEAST_FRAME_BYTES)?;
+        let mut place = 0;
+        while place < datagram.len() {
+            place += self.hear_front(&datagram[place..], out);
+        }
+        Ok(())
+    }
+
+    // Reads on to the next frame of the incoming stream.
+    fn read(&mut self, piece: &[u8]) -> (usize, Option<Frame>)
+        ensures count { result.0 ≤ length piece.now }
+        ensures read { (taken : List ℕ) (given : List Event) → Progress self.old.extras taken given (reader_of self.old)
+            → ReadTo self.old.extras (taken ++ take result.0 piece.now) given result.1 (reader_of self.new) }
+        ensures none { result.1 ≡ None → result.0 ≡ length piece.now }
+        ensures same { self.new ≡ record self.old { held = self.new.held } }
+    {
+        read_frame(&mut self.reader, piece)
+    }
+
+    /// Takes bytes of a stream that comes in pieces, and answers how many it took and what is told of the next frame of
+    /// the stream. Without a frame it took the whole piece, and every frame of the bytes taken was told. Takes no memory.
+    pub fn receive_part(&mut self, piece: &[u8]) -> (usize, Option<Heard>)
+        ensures count { result.0 ≤ length piece.now }
+        ensures heard { (taken : List ℕ) (given : List Event) (history : List Entry)
+            → Progress self.old.extras taken given (reader_of self.old) → Represents self.old.stamps history
+            → PartHeard self.old.extras self.old.key history (taken ++ take result.0 piece.now) given result.1 (reader_of self.new) self.new.stamps }
+        ensures none { result.1 ≡ None → result.0 ≡ length piece.now }
+        ensures same { self.new ≡ record self.old { stamps = self.new.stamps; held = self.new.held } }
+    {
+        let (taken, frame) = self.read(piece);
+        match frame {
+            Some(frame) => (taken, Some(self.hear(&frame))),
+            None => (taken, None),
+        }
+    }
+
+    // The frame of a message, with a block that is still to be signed.
+    fn frame_of(&self, message: &Message, stamp: u64) -> Frame
+        requires { stamp < 2 ^ 48 }
+        ensures { FrameOf self.now.me self.now.extras self.now.seq stamp message.now result }
+    {
+        let mut payload = [0; 255];
+        let (id, len) = message.write(&mut payload);
+        let from = Name {
+            sys: self.me.sys,
+            comp: self.me.comp,
+        };
+        let block = Block {
+            link: self.me.link,
+            stamp,
+            sig: [0; 6],
+        };
+        let mut frame = Frame::new(
+            0,
+            self.seq,
+            from,
+            id,
+            &payload[..usize::from(len)],
+            Some(block),
+        );
+        frame.seal(self.extra_of(message));
+        frame
+    }
+
+    // The CRC_EXTRA of a message.
+    fn extra_of(&self, message: &Message) -> u8
+        ensures { extra_of (definition_of message.now).id self.now.extras ≡ Some result }
+    {
+        self.extras.get(message.id()).unwrap()
+    }
+
+    /// Makes the frame that carries a message: with the next sequence number and timestamp, signed. The clock counts units
+    /// of 10 microseconds since 1 January 2015. Where no timestamp is left nothing has changed.
+    pub fn send(&mut self, message: &Message, clock: u64) -> Result<Frame, StampsSpent>
+        ensures frame { IfOk result
+            (SentFrame self.old.key self.old.me self.old.extras self.old.seq (kept_next self.old.stamps clock) message.now) }
+        ensures spent { OnErr result (greatest_stamp < kept_next self.old.stamps clock) }
+        ensures unchanged { OnErr result (self.new ≡ self.old) }
+        ensures stamp { (history : List Entry) → Represents self.old.stamps history
+            → kept_next self.old.stamps clock ≡ next_in history clock }
+        ensures history { OnOk result ((history : List Entry) → Represents self.old.stamps history
+            → Represents self.new.stamps (history ++ sent (next_in history clock) ∷ [])) }
+        ensures same { OnOk result
+            (self.new ≡ record self.old { stamps = self.new.stamps; seq = (self.old.seq + 1) % 256 }) }
+    {
+        let stamp = self.stamps.next_stamp(clock)?;
+        let mut frame = self.frame_of(message, stamp);
+        sign(&self.key, &mut frame, self.me.link, stamp);
+        self.seq = self.seq.wrapping_add(1);
+        Ok(frame)
+    }
+}

@@ -1,0 +1,29 @@
+//! Signed links of MAVLink 2: keys, signatures, timestamps, the admission of frames, and a node's end of its links.
+//!
+//! A [`Stamps`] represents a history: the frames tried, with their answers, and the timestamps given. Each of its answers
+//! is by that history alone, and each call leaves one that represents the history with the call added. An [`Endpoint`]
+//! hears the frames of datagrams or of a stream, and sends messages in signed frames. Nothing that isn't admitted changes
+//! anything. Only the constructors and `receive` take memory.
+#![tactic(auto)]
+
+mod admission;
+mod endpoint;
+mod heard;
+mod keys;
+mod reading;
+mod signing;
+mod stamps;
+mod table;
+
+pub use admission::{Admit, StampsSpent};
+pub use endpoint::Endpoint;
+pub use heard::Heard;
+pub use keys::Key;
+pub use signing::{sign, verifies};
+pub use stamps::Stamps;
+use std::alloc::AllocError;
+
+pub type NoMemory = AllocError;
+
+#[cfg(test)]
+mod tests;

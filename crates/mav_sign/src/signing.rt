@@ -1,0 +1,66 @@
+// Signatures of frames.
+ghost use Rattle.std.specs.Prelude.{◌≡◌, ◌^◌, ◌<◌, ◌↔◌, IsTrue, IsSome, Some, take};
+ghost use Rattle.std.specs.Str.{bytes_eq};
+ghost use Rattle.mav_sign.specs.Signing.{signature_of, through_checksum, Verifies};
+
+use crate::Key;
+use mav_frame::{Block, Frame, bytes_6, encode};
+use sha2::{Digest, Sha256};
+
+// Writes the bytes of a frame, and answers how many of them stand through its checksum.
+fn write_through_checksum(frame: &Frame, out: &mut [u8; 280]) -> usize
+    ensures within { result < 280 }
+    ensures bytes { take result out.new ≡ through_checksum frame.now }
+{
+    let _ = encode(frame, out);
+    12 + usize::from(frame.len)
+}
+
+// The signature of a frame.
+fn signature(key: &Key, frame: &Frame, link: u8, stamp: u64) -> [u8; 6]
+    ensures { result ≡ signature_of key.now frame.now link stamp }
+{
+    let mut bytes = [0; 280];
+    let end = write_through_checksum(frame, &mut bytes);
+    let mut hasher = Sha256::new();
+    hasher.update(key.bytes());
+    hasher.update(&bytes[..end]);
+    hasher.update([link].as_slice());
+    hasher.update(bytes_6(stamp).as_slice());
+    let digest = hasher.finalize();
+    let mut first = [0; 6];
+    first.copy_from_slice(&digest[..6]);
+    first
+}
+
+// Whether a signature block has the signature of the frame.
+pub(crate) fn is_right(key: &Key, frame: &Frame, block: &Block) -> bool
+    ensures { result ≡ bytes_eq block.now.sig (signature_of key.now frame.now block.now.link block.now.stamp) }
+{
+    block.sig == signature(key, frame, block.link, block.stamp)
+}
+
+/// Whether the frame has a signature block whose six bytes are those of the key (MAVLink guide, Message Signing:
+/// Signature).
+pub fn verifies(key: &Key, frame: &Frame) -> bool
+    ensures { IsTrue result ↔ Verifies key.now frame.now frame.now.block }
+{
+    match &frame.block {
+        Some(block) => is_right(key, frame, block),
+        None => false,
+    }
+}
+
+/// Signs a frame that has a signature block and its checksum: sets the link id, the timestamp in units of 10
+/// microseconds since 1 January 2015, and the signature.
+pub fn sign(key: &Key, frame: &mut Frame, link: u8, stamp: u64)
+    requires stamp { stamp < 2 ^ 48 }
+    requires block { IsSome frame.old.block }
+    ensures signed { frame.new ≡ record frame.old {
+      block = Some record { link = link; stamp = stamp; sig = signature_of key.now frame.old link stamp };
+    } }
+    ensures verifies { Verifies key.now frame.new frame.new.block }
+{
+    let sig = signature(key, frame, link, stamp);
+    frame.block = Some(Block { link, stamp, sig });
+}
