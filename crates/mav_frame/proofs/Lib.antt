@@ -6,3 +6,4 @@ pub mod Reasons
 pub mod OneParse
 pub mod LongerParse
 pub mod EventsFound
+pub mod ParsedByFunction

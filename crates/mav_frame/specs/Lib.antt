@@ -4,4 +4,5 @@ pub mod Padding
 pub mod Encoding
 pub mod Looks
 pub mod Parse
+pub mod FinalParse
 pub mod ParseLaws

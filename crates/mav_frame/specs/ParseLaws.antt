@@ -1,9 +1,14 @@
 -- Laws of parses.
-use Rattle.std.specs.Prelude.{ℕ, ◌≡◌, ◌↔◌, flat_map, List, [], ◌∷◌, ◌++◌}
+use Rattle.std.specs.Prelude.{ℕ, ◌≡◌, ◌<◌, ◌↔◌, All, flat_map, List, [], ◌∷◌, ◌++◌}
 use Rattle.mav_frame.specs.Looks.{look_of}
 use Rattle.mav_frame.specs.declared.looks.Look.TheVariants.{More}
 use Rattle.mav_frame.specs.Parse.{IsIncomplete, EventAt, Final, Incremental, BeginsIncremental, BeginsFinal, event_bytes}
+use Rattle.mav_frame.specs.FinalParse.{final_parse}
 use Rattle.mav_frame.specs.declared.events.Event.{Event}
+
+-- a stream of bytes has the final parse that the function gives
+abbrev pub FinalIsFunction : Type 0
+FinalIsFunction = (extras : List (ℕ × ℕ)) (b : List ℕ) → All (λ byte. byte < 256) b → Final extras (final_parse extras b) b
 
 -- a stream has one final parse at most
 abbrev pub OneFinal : Type 0

@@ -1,5 +1,10 @@
 //! Laws of parses: functions without a body, whose contract is the law.
-ghost use Rattle.mav_frame.specs.ParseLaws.{OneFinal, OneIncremental, MoreBytesKeep, IncrementalGoesOn, IncrementalEnds, FinalGoesOn, FinalEnds, IncrementalBeginsFinal, IncompleteIsMore, EventsCoverBytes};
+ghost use Rattle.mav_frame.specs.ParseLaws.{FinalIsFunction, OneFinal, OneIncremental, MoreBytesKeep, IncrementalGoesOn, IncrementalEnds, FinalGoesOn, FinalEnds, IncrementalBeginsFinal, IncompleteIsMore, EventsCoverBytes};
+
+/// `final_parse` is the final parse of the bytes.
+pub fn final_is_function()
+    ensures { FinalIsFunction }
+{}
 
 /// A stream has one final parse at most.
 pub fn one_final()

@@ -22,7 +22,7 @@ pub use frames::{Block, Frame};
 pub use looking::look;
 pub use looks::{Look, Why};
 pub use numbers::bytes_6;
-pub use parsing::parse;
+pub use parsing::{event_at, parse};
 use std::alloc::AllocError;
 
 /// There was no memory.

@@ -21,8 +21,8 @@ pub fn parse(alloc: Global, extras: &Extras, bytes: &[u8]) -> Result<Vec<Event>,
     Ok(events)
 }
 
-// The event at the front of the bytes, and how many it takes.
-fn event_at(extras: &Extras, bytes: &[u8]) -> (Event, usize)
+/// The event at the front of the bytes in their final parse, and how many bytes it takes. Takes no memory.
+pub fn event_at(extras: &Extras, bytes: &[u8]) -> (Event, usize)
     requires { 0 < length bytes.now }
     ensures size { (0 < result.1) × (result.1 ≤ length bytes.now) }
     ensures event { EventAt extras.now result.0 bytes.now (drop result.1 bytes.now) }
