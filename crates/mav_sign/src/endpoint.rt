@@ -78,8 +78,9 @@ impl Endpoint {
         })
     }
 
-    // Tries a frame.
-    fn hear(&mut self, frame: &Frame) -> Heard
+    /// Tries one frame, and keeps its timestamp where it is admitted; `receive` and `receive_part` do so with each frame of
+    /// a parse. Takes no memory.
+    pub fn take(&mut self, frame: &Frame) -> Heard
         ensures heard { (history : List Entry) → Represents self.old.stamps history
             → HeardIs self.old.key history frame.now result }
         ensures history { (history : List Entry) → Represents self.old.stamps history
@@ -105,7 +106,7 @@ impl Endpoint {
     {
         match look(&self.extras, bytes) {
             Look::Frame(frame, size) => {
-                let heard = self.hear(&frame);
+                let heard = self.take(&frame);
                 let added = out.push(heard);
                 added.unwrap();
                 size
@@ -155,7 +156,7 @@ impl Endpoint {
     {
         let (taken, frame) = self.read(piece);
         match frame {
-            Some(frame) => (taken, Some(self.hear(&frame))),
+            Some(frame) => (taken, Some(self.take(&frame))),
             None => (taken, None),
         }
     }
@@ -200,6 +201,7 @@ impl Endpoint {
     pub fn send(&mut self, message: &Message, clock: u64) -> Result<Frame, StampsSpent>
         ensures frame { IfOk result
             (SentFrame self.old.key self.old.me self.old.extras self.old.seq (kept_next self.old.stamps clock) message.now) }
+        ensures left { OnOk result (kept_next self.old.stamps clock ≤ greatest_stamp) }
         ensures spent { OnErr result (greatest_stamp < kept_next self.old.stamps clock) }
         ensures unchanged { OnErr result (self.new ≡ self.old) }
         ensures stamp { (history : List Entry) → Represents self.old.stamps history

@@ -16,7 +16,7 @@ returns-in-Frame-clause-heard c =
     record {
       event = Frame packet;
       stands = subst (λ (s : EndpointState). EventAt s.extras (Frame packet) bytes (drop c.in-Frame.size bytes)) c.self.view_is (frame_event c.self.inside.extras bytes packet c.in-Frame.size c.in-Frame.ensures.found);
-      told = told_one c.args.self.now.key history packet c.hear-heard.result c.args.out.now.items c.push-added.new.self.items c.hear-heard.new.self.stamps (c.hear-heard.ensures.heard history of) appended (c.hear-heard.ensures.history history of);
+      told = told_one c.args.self.now.key history packet c.take-heard.result c.args.out.now.items c.push-added.new.self.items c.take-heard.new.self.stamps (c.take-heard.ensures.heard history of) appended (c.take-heard.ensures.history history of);
     }
 
 pub returns-in-NotHere-clause-heard : goal.returns-in-NotHere-clause-heard
