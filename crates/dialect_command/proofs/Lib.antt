@@ -1,0 +1,5 @@
+pub mod Stays
+pub mod Readings
+pub mod Writings
+pub mod Endings
+pub mod Refusals

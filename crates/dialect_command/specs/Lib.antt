@@ -1,0 +1,4 @@
+pub mod Script
+pub mod Reads
+pub mod Writes
+pub mod Ends

@@ -1,0 +1,48 @@
+-- How the reading of definitions ends.
+use Rattle.std.specs.Prelude.{◌≡◌, ◌<◌, ◌≤◌, ◌+◌, ◌-◌, ◌^◌, ℕ, Bool, List, length, Option, Some, Ok, IsTrue}
+use Rattle.std.specs.Io.KnownBytes.{prepend_known}
+use Rattle.mav_ports.specs.Counts.{Rose}
+use Rattle.field_layout.specs.Definition.{Definition}
+use Rattle.dialect.specs.Grammar.{definitions_of}
+use Rattle.command_ends.specs.declared.halts.Halt.{Halt}
+use Rattle.command_ends.specs.declared.halts.Halt.TheVariants.{Stopped, NoMemory}
+use Rattle.command_ends.specs.declared.stops.Place.TheVariants.{Definitions}
+use Rattle.command_ends.specs.declared.stops.Stop.TheVariants.{Bad}
+use Rattle.dialect.specs.declared.faults.DialectFault.{DialectFault}
+use Rattle.dialect.specs.declared.faults.DialectFault.TheVariants.{NoMemory as NoMemoryToRead}
+use Rattle.command_ends.specs.Runs.{Outside, Cause}
+use Rattle.dialect_command.specs.Script.{told_reason, dialect_script, most_definition_bytes}
+
+-- what stands of the outside where only an input is called
+abbrev pub of_input : Type 0 → ℕ → ℕ → ℕ → ℕ → Outside
+of_input spent faults_before faults_after idles_before idles_after = record {
+  spent = spent;
+  failed = Rose faults_before faults_after;
+  idled = (idles_after < 2 ^ 64 - 1 → idles_before + 1000000 ≤ idles_after);
+  refused = ⊥;
+}
+
+-- an input was taken to its end, and it holds these definitions
+pub record Holds (spent : Type 0) (left_before left_after : Option (List ℕ)) (defs : List Definition) : Type 0 where
+  pub taken : List ℕ
+  pub took : left_before ≡ prepend_known taken left_after
+  pub at_end : spent
+  pub fits : length taken ≤ most_definition_bytes
+  pub read : definitions_of taken ≡ Ok defs
+
+-- the reading of an input halted: the bytes taken from it, and the cause
+pub record Halts (o : Outside) (left_before left_after : Option (List ℕ)) (halt : Halt) : Type 0 where
+  pub taken : List ℕ
+  pub ended : Bool
+  pub took : left_before ≡ prepend_known taken left_after
+  pub at_end : IsTrue ended → o.spent
+  pub cause : Cause dialect_script (Some halt) o ended taken
+
+-- the halt by a fault of the definitions
+abbrev pub told : DialectFault → Halt
+told fault = Stopped (Bad Definitions (told_reason fault))
+
+-- how a fault halts a run: it is told, or there was no memory
+abbrev pub halt_of : DialectFault → Halt
+halt_of NoMemoryToRead = NoMemory
+halt_of fault = told fault

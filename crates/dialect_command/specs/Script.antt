@@ -1,0 +1,66 @@
+-- What `dialect` does with the bytes of definitions, and without definitions.
+use Rattle.std.specs.Prelude.{ℕ, nat_lt, Bool, true, false, if◌then◌else◌, List, [], length, Option, Some, None, Ok, Err}
+use Rattle.std.specs.declared.result.Result.{Result}
+use Rattle.field_layout.specs.Definition.{Definition}
+use Rattle.dialect.specs.declared.faults.DialectFault.{DialectFault}
+use Rattle.dialect.specs.declared.faults.DialectFault.TheVariants.{NotJson, Shape, BadType, BadName, TwiceId, TwiceName, Layout, TooMany, NoMemory}
+use Rattle.dialect.specs.Grammar.{definitions_of}
+use Rattle.dialect.specs.Profile.{profile_definitions}
+use Rattle.mav_text.specs.LayoutText.{dialect_text}
+use Rattle.command_ends.specs.declared.stops.Place.TheVariants.{Definitions}
+use Rattle.command_ends.specs.declared.stops.InputReason.{InputReason}
+use Rattle.command_ends.specs.declared.stops.InputReason.TheVariants.{Json, Shape as IsShape, FieldType, Name, TwiceId as IsTwiceId, TwiceName as IsTwiceName, Layout as IsLayout, TooMany as AreTooMany}
+use Rattle.command_ends.specs.declared.stops.Limit.TheVariants.{DefinitionBytes}
+use Rattle.command_ends.specs.declared.stops.Stop.{Stop}
+use Rattle.command_ends.specs.declared.stops.Stop.TheVariants.{Bad, AtLimit}
+use Rattle.command_ends.specs.Runs.{Script}
+
+-- the most bytes of definitions
+abbrev pub most_definition_bytes : ℕ
+most_definition_bytes = 16777216
+
+-- a fault of definitions, as it is told; no text has the fault that there is no memory
+abbrev pub told_reason : DialectFault → InputReason
+told_reason NotJson = Json
+told_reason (Shape at) = IsShape
+told_reason (BadType at) = FieldType
+told_reason (BadName at) = Name
+told_reason (TwiceId at) = IsTwiceId
+told_reason (TwiceName at) = IsTwiceName
+told_reason (Layout at fault) = IsLayout
+told_reason TooMany = AreTooMany
+told_reason NoMemory = Json
+
+-- why a text is refused as definitions, if it is
+abbrev pub refusal_of : Result (List Definition) DialectFault → Option Stop
+refusal_of (Ok defs) = None
+refusal_of (Err fault) = Some (Bad Definitions (told_reason fault))
+
+-- the text of definitions
+abbrev pub text_of : Result (List Definition) DialectFault → List ℕ
+text_of (Ok defs) = dialect_text defs
+text_of (Err fault) = []
+
+-- too many bytes stop a run at once, and a fault once the input ended
+abbrev pub stop_at : Bool → List ℕ → Option Stop
+stop_at true bytes = refusal_of (definitions_of bytes)
+stop_at false bytes = None
+
+-- the layouts are told at the end, in the order read
+abbrev pub dialect_script : Script
+dialect_script = record {
+  stop = λ ended bytes. if nat_lt most_definition_bytes (length bytes) then Some (AtLimit DefinitionBytes) else stop_at ended bytes;
+  report = λ ended bytes. [];
+  closing = λ bytes. text_of (definitions_of bytes);
+}
+
+-- without definitions those of the profile are told, and nothing is read
+abbrev pub telling : List Definition → Script
+telling defs = record {
+  stop = λ ended bytes. None;
+  report = λ ended bytes. [];
+  closing = λ bytes. dialect_text defs;
+}
+
+abbrev pub profile_script : Script
+profile_script = telling profile_definitions

@@ -1,0 +1,54 @@
+// The command `dialect`.
+ghost use Rattle.std.specs.Prelude.{◌≡◌, ⊤, Some, [], OnOk, IsErrOf};
+ghost use Rattle.std.specs.Result.{result_err};
+ghost use Rattle.mav_ports.specs.Gets.{IsSpent};
+ghost use Rattle.command_ends.specs.Runs.{Untold, outside};
+ghost use Rattle.dialect_command.specs.Ends.{Told, Refused, IsTooLong};
+ghost use Rattle.dialect_command.specs.Script.{dialect_script, profile_script};
+
+use crate::definitions::read_definitions;
+use crate::layouts::write_dialect;
+use command_ends::{Halt, InputReason, Limit, Place, Stop};
+use dialect::Dialect;
+use mav_ports::{Sink, Source};
+use std::alloc::Global;
+
+/// Tells the layouts of the definitions that an input holds. Why the run halted, if it did, isn't
+/// written.
+pub fn dialect<S: Source, K: Sink>(
+    alloc: Global,
+    definitions: &mut S,
+    out: &mut K,
+) -> Result<(), Halt>
+    ensures untold { Untold dialect_script (outside
+        (S.has_ended definitions.new × IsSpent (S.left definitions.new))
+        (S.faults definitions.old) (S.faults definitions.new)
+        (S.idles definitions.old) (S.idles definitions.new) (K.faults out.old) (K.faults out.new))
+        (S.left definitions.old) (S.left definitions.new) (K.sent out.old) (K.sent out.new)
+        (result_err result) }
+    // It is done where the input holds definitions, and all of their text was written.
+    ensures done { OnOk result (Told (S.has_ended definitions.new × IsSpent (S.left definitions.new))
+        (S.left definitions.old) (S.left definitions.new) (K.sent out.old) (K.sent out.new)) }
+    // It stops at their first fault, or at one byte too many.
+    ensures bad { (reason : InputReason)
+        → IsErrOf result (Halt.Stopped (Stop.Bad Place.Definitions reason))
+        → Refused reason (S.has_ended definitions.new × IsSpent (S.left definitions.new))
+        (S.left definitions.old) (S.left definitions.new) (K.sent out.old) (K.sent out.new) }
+    ensures limit { (limit : Limit) → IsErrOf result (Halt.Stopped (Stop.AtLimit limit))
+        → IsTooLong (S.left definitions.old) (S.left definitions.new)
+        (K.sent out.old) (K.sent out.new) }
+    ensures sound { ¬ IsErrOf result Halt.WriteFault → K.faults out.new ≡ K.faults out.old }
+{
+    let dialect = read_definitions(alloc, definitions)?;
+    write_dialect(alloc, &dialect, out)
+}
+
+/// Tells the layouts of the profile, as a command over an input without bytes would.
+pub fn profile<K: Sink>(alloc: Global, out: &mut K) -> Result<(), Halt>
+    ensures untold { Untold profile_script (outside ⊤ 0 0 0 0 (K.faults out.old) (K.faults out.new))
+        (Some []) (Some []) (K.sent out.old) (K.sent out.new) (result_err result) }
+    ensures sound { ¬ IsErrOf result Halt.WriteFault → K.faults out.new ≡ K.faults out.old }
+{
+    let dialect = Dialect::profile(alloc)?;
+    write_dialect(alloc, &dialect, out)
+}
