@@ -115,7 +115,7 @@ when_fits c gs plain f =
     (le-leb (stdin_files c gs plain) 1 f.one_stdin))))
 
 -- the tests over what the program holds
-list_any_map : (p : Given → Bool) (xs : List Setting) → list_any p (map given_of xs) ≡ list_any (λ s. p (given_of s)) xs
+pub list_any_map : (p : Given → Bool) (xs : List Setting) → list_any p (map given_of xs) ≡ list_any (λ s. p (given_of s)) xs
 list_any_map p [] = refl
 list_any_map p (x ∷ xs) = rw (list_any_map p xs)
 

@@ -67,7 +67,7 @@ impl Command {
     pub(crate) fn is_built(self) -> bool
         ensures { result ≡ is_built self }
     {
-        matches!(self, Command::Fleet)
+        matches!(self, Command::Fleet | Command::Dialect)
     }
 
     /// Whether this is one of its options.
@@ -95,8 +95,10 @@ impl Command {
     pub(crate) fn is_option_built(self, name: OptionName) -> bool
         ensures { result ≡ is_option_built self name }
     {
-        let _ = name;
-        false
+        match self {
+            Command::Dialect => matches!(name, OptionName::Defs),
+            _ => false,
+        }
     }
 }
 

@@ -2,12 +2,12 @@
 ghost use Rattle.std.specs.Prelude.{◌≡◌, IfOk, IsSome, option_map, map, string_bytes};
 ghost use Rattle.std.specs.List.{find};
 ghost use Rattle.std.specs.Option.{option_copied};
-ghost use Rattle.command_line.specs.Forms.{is_named};
+ghost use Rattle.command_line.specs.Forms.{has_given, is_named};
 ghost use Rattle.command_line.specs.Lines.{given_of, asked_by};
 ghost use Rattle.command_line.specs.Names.{value_given, first_word, main_file};
 
 use crate::commands::OptionName;
-use crate::forms::{is_named, reads_file};
+use crate::forms::{is_any_named, is_named, reads_file};
 use crate::lines::{Line, Setting};
 use std::alloc::{AllocError, Global};
 
@@ -27,6 +27,13 @@ fn first_word(alloc: Global, words: &[String]) -> Result<Option<String>, AllocEr
 }
 
 impl Line {
+    /// Whether this option is given.
+    pub fn has(&self, name: OptionName) -> bool
+        ensures { result ≡ has_given name (map given_of self.now.settings.items) }
+    {
+        is_any_named(&self.settings, name)
+    }
+
     /// The value of this option, where it is given.
     pub fn value(&self, alloc: Global, name: OptionName) -> Result<Option<String>, AllocError>
         ensures { IfOk result (λ value. option_map string_bytes value

@@ -36,7 +36,7 @@ pub(crate) fn is_named(setting: &Setting, name: OptionName) -> bool
     setting.name.word() == name.word()
 }
 
-fn is_any_named(settings: &[Setting], name: OptionName) -> bool
+pub(crate) fn is_any_named(settings: &[Setting], name: OptionName) -> bool
     ensures { result ≡ list_any (λ s. is_named name (given_of s)) settings.now }
 {
     settings.iter().any(|setting| is_named(setting, name))

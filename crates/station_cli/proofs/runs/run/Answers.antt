@@ -1,6 +1,10 @@
+use Rattle.std.proofs.Common.{refl}
 use Rattle.std.specs.Result.{result_err}
 use Rattle.command_ends.proofs.Untolds.{ran_told}
 use Rattle.command_ends.proofs.Ends.{promised}
+use Rattle.dialect.specs.Profile.{profile_definitions}
+use Rattle.dialect_command.specs.Script.{dialect_script, profile_script}
+use Rattle.dialect_command.proofs.Stays.{dialect_steady, telling_steady}
 use Rattle.fleet_command.specs.Script.{fleet_script}
 use Rattle.fleet_command.proofs.Stays.{fleet_steady}
 use Rattle.fleet_command.proofs.Theorem.{carried}
@@ -19,7 +23,19 @@ returns-clause-main_theorem g c = λ asked asks is.
     rw c.code_of.ensures (carried _ _ _ _ _ _ (promised fleet_script fleet_steady _ _ _ _ _ (result_err c.tell.result) (λ spent. spent.1)
     (ran_told fleet_script _ _ _ _ _ _ _ _ _ _ _ _ _ ended.result c.tell.result (ended.ensures.fleet asked asks is) ended.ensures.sound c.tell.ensures.tells)).ran)
 
+pub returns-clause-dialect : goal.returns-clause-dialect
+returns-clause-dialect g c = λ asked asks is named.
+    let ended = c.run_words-ended in
+    rw c.code_of.ensures (promised dialect_script dialect_steady _ _ _ _ _ (result_err c.tell.result) (λ spent. spent.1)
+    (ran_told dialect_script _ _ _ _ _ _ _ _ _ _ _ _ _ ended.result c.tell.result (ended.ensures.dialect asked asks is named) ended.ensures.sound c.tell.ensures.tells))
+
+pub returns-clause-profile : goal.returns-clause-profile
+returns-clause-profile g c = λ asked asks is unnamed.
+    let ended = c.run_words-ended in
+    rw c.code_of.ensures (promised profile_script (telling_steady profile_definitions) _ _ _ _ _ (result_err c.tell.result) (λ spent. refl)
+    (ran_told profile_script _ 0 0 0 0 _ _ _ _ _ _ _ _ ended.result c.tell.result (ended.ensures.profile asked asks is unnamed) ended.ensures.sound c.tell.ensures.tells))
+
 pub returns-clause-usage_only : goal.returns-clause-usage_only
 returns-clause-usage_only g c = λ nothing.
     let ended = c.run_words-ended in
-    rw c.code_of.ensures (words_told _ _ _ _ _ _ ended.result c.tell.result (ended.ensures.usage_only nothing) ended.ensures.sound (ended.ensures.untouched nothing).1 c.tell.ensures.tells)
+    rw c.code_of.ensures (words_told _ _ _ _ _ _ ended.result c.tell.result (ended.ensures.usage_only nothing) ended.ensures.sound (ended.ensures.untouched nothing).2 c.tell.ensures.tells)

@@ -1,12 +1,41 @@
+use Rattle.std.proofs.Common.{true, false}
+use Rattle.command_line.specs.declared.commands.Command.TheVariants.{Fleet, Dialect}
+use Rattle.command_line.specs.declared.commands.OptionName.TheVariants.{Defs}
 use Rattle.command_ends.proofs.Untolds.{untold_nothing}
+use Rattle.dialect_command.specs.Script.{dialect_script, profile_script}
 use Rattle.fleet_command.specs.Script.{fleet_script}
+use Rattle.station_cli.proofs.Same.{same_command, same_given}
 use Rattle.station_cli.proofs.runs.run_words.Goals as goal
 
 pub returns-in-Err-NoMemory-clause-fleet : goal.returns-in-Err-NoMemory-clause-fleet
 returns-in-Err-NoMemory-clause-fleet g c = λ asked asks is. untold_nothing fleet_script _ _ _
+
+pub returns-in-Err-NoMemory-clause-dialect : goal.returns-in-Err-NoMemory-clause-dialect
+returns-in-Err-NoMemory-clause-dialect g c = λ asked asks is named. untold_nothing dialect_script _ _ _
+
+pub returns-in-Err-NoMemory-clause-profile : goal.returns-in-Err-NoMemory-clause-profile
+returns-in-Err-NoMemory-clause-profile g c = λ asked asks is unnamed. untold_nothing profile_script _ _ _
+
+pub returns-clause-fleet : goal.returns-clause-fleet
+returns-clause-fleet g c = λ asked asks is. c.run_line.ensures.fleet (same_command _ _ asked Fleet c.in-Ok.ensures.asks asks is)
+
+pub returns-clause-dialect : goal.returns-clause-dialect
+returns-clause-dialect g c = λ asked asks is named. c.run_line.ensures.dialect (same_command _ _ asked Dialect c.in-Ok.ensures.asks asks is) (same_given _ _ asked Defs true c.in-Ok.ensures.asks asks named)
+
+pub returns-clause-profile : goal.returns-clause-profile
+returns-clause-profile g c = λ asked asks is unnamed. c.run_line.ensures.profile (same_command _ _ asked Dialect c.in-Ok.ensures.asks asks is) (same_given _ _ asked Defs false c.in-Ok.ensures.asks asks unnamed)
+
+pub returns-clause-usage : goal.returns-clause-usage
+returns-clause-usage g c = λ usage. absurd (c.run_line.ensures.not_usage usage)
 
 pub returns-clause-usage_only : goal.returns-clause-usage_only
 returns-clause-usage_only g c = λ nothing. absurd (nothing _ c.in-Ok.ensures.asks)
 
 pub returns-clause-untouched : goal.returns-clause-untouched
 returns-clause-untouched g c = λ nothing. absurd (nothing _ c.in-Ok.ensures.asks)
+
+pub returns-clause-unread_main : goal.returns-clause-unread_main
+returns-clause-unread_main g c = λ asked asks is. c.run_line.ensures.unread_main (same_command _ _ asked Dialect c.in-Ok.ensures.asks asks is)
+
+pub returns-clause-unread_defs : goal.returns-clause-unread_defs
+returns-clause-unread_defs g c = λ asked asks unnamed. c.run_line.ensures.unread_defs (same_given _ _ asked Defs false c.in-Ok.ensures.asks asks unnamed)

@@ -1,0 +1,17 @@
+-- What the words ask for is what was read of them.
+use Rattle.std.proofs.Common.{◌≡◌, ◌∙◌, ℕ, Bool, List, ap}
+use Rattle.command_line.specs.declared.commands.Command.{Command}
+use Rattle.command_line.specs.declared.commands.OptionName.{OptionName}
+use Rattle.command_line.specs.Built.{built}
+use Rattle.command_line.specs.Forms.{has_given}
+use Rattle.command_line.specs.Grammar.{Asked, Asks}
+use Rattle.command_line.proofs.Agreement.{written_once}
+
+pub same_asked : (words : List (List ℕ)) (asked other : Asked) → Asks built words asked → Asks built words other → asked ≡ other
+same_asked words asked other one two = written_once words asked other one.written two.written
+
+pub same_command : (words : List (List ℕ)) (asked other : Asked) (c : Command) → Asks built words asked → Asks built words other → other.command ≡ c → asked.command ≡ c
+same_command words asked other c one two is = ap (λ (a : Asked). a.command) (same_asked words asked other one two) ∙ is
+
+pub same_given : (words : List (List ℕ)) (asked other : Asked) (name : OptionName) (has : Bool) → Asks built words asked → Asks built words other → has_given name other.settings ≡ has → has_given name asked.settings ≡ has
+same_given words asked other name has one two is = ap (λ (a : Asked). has_given name a.settings) (same_asked words asked other one two) ∙ is
