@@ -1,7 +1,7 @@
 -- What is built of the commands and their options. Later work changes these two tables.
 use Rattle.std.specs.Prelude.{Bool, true, false}
 use Rattle.command_line.specs.declared.commands.Command.{Command}
-use Rattle.command_line.specs.declared.commands.Command.TheVariants.{Fleet, Dialect}
+use Rattle.command_line.specs.declared.commands.Command.TheVariants.{Fleet, Dialect, Decode}
 use Rattle.command_line.specs.declared.commands.OptionName.{OptionName}
 use Rattle.command_line.specs.declared.commands.OptionName.TheVariants.{Defs}
 use Rattle.command_line.specs.Forms.{Built}
@@ -9,10 +9,12 @@ use Rattle.command_line.specs.Forms.{Built}
 abbrev pub is_built : Command → Bool
 is_built Fleet = true
 is_built Dialect = true
+is_built Decode = true
 is_built _ = false
 
 abbrev pub is_option_built : Command → OptionName → Bool
 is_option_built Dialect Defs = true
+is_option_built Decode Defs = true
 is_option_built _ _ = false
 
 abbrev pub built : Built

@@ -67,7 +67,7 @@ impl Command {
     pub(crate) fn is_built(self) -> bool
         ensures { result ≡ is_built self }
     {
-        matches!(self, Command::Fleet | Command::Dialect)
+        matches!(self, Command::Fleet | Command::Dialect | Command::Decode)
     }
 
     /// Whether this is one of its options.
@@ -96,7 +96,7 @@ impl Command {
         ensures { result ≡ is_option_built self name }
     {
         match self {
-            Command::Dialect => matches!(name, OptionName::Defs),
+            Command::Dialect | Command::Decode => matches!(name, OptionName::Defs),
             _ => false,
         }
     }

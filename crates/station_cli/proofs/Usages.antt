@@ -1,5 +1,5 @@
 -- How a run over words of no command is told.
-use Rattle.std.proofs.Common.{◌≡◌, ◌≢◌, ◌∙◌, ◌⊎◌, inl, inr, ℕ, List, [], ◌∷◌, ◌++◌, refl, sym, subst, ap, arith, Option, Some, Result, Ok, Err, IsErrOf, codes}
+use Rattle.std.proofs.Common.{◌≡◌, ◌≢◌, ◌∙◌, ◌⊎◌, inl, inr, ℕ, List, [], ◌∷◌, ◌++◌, refl, sym, subst, ap, arith, Option, Some, Result, Ok, Err, IsErr, IsErrOf, codes}
 use Rattle.std.specs.Result.{result_err}
 use Rattle.std.specs.Io.KnownBytes.{append_known}
 use Rattle.mav_ports.specs.Counts.{Rose}
@@ -59,3 +59,22 @@ words_told rb rm ra sb sm sa ended told (inr is) sound unsent tells =
     let same : rm ≡ rb = sound (λ e. cc (is, e)) in
     subst (λ n. UsageTold (code_of (result_err told)) n ra sb sa) same (subst (λ s. UsageTold (code_of (result_err told)) rm ra s sa) unsent
     (memory_told rm ra sm sa told (subst (λ e. Tells e told rm ra sm sa) is tells)))
+
+-- a run that halted isn't done
+code_some : (halt : Halt) → code_of (Some halt) ≢ 0
+code_some Usage e = omega (arith, e)
+code_some (Stopped (Bad place reason)) e = omega (arith, e)
+code_some (Stopped (AtLimit limit)) e = omega (arith, e)
+code_some ReadFault e = omega (arith, e)
+code_some WriteFault e = omega (arith, e)
+code_some NoMemory e = omega (arith, e)
+code_some TurnsSpent e = omega (arith, e)
+
+halted_told : (rm ra : ℕ) (sm sa : Option (List ℕ)) (halt : Halt) (told : Result (Unit {0}) Halt) → HaltTold halt told rm ra sm sa → code_of (result_err told) ≢ 0
+halted_told rm ra sm sa halt told (inl (is, same, said)) e = code_some halt (ap (λ t. code_of (result_err t)) (sym is) ∙ e)
+halted_told rm ra sm sa halt told (inr (inl (is, rose, front))) e = code_some WriteFault (ap (λ t. code_of (result_err t)) (sym is) ∙ e)
+halted_told rm ra sm sa halt told (inr (inr (is, other, same, unsent))) e = code_some NoMemory (ap (λ t. code_of (result_err t)) (sym is) ∙ e)
+
+pub halted_code : (rm ra : ℕ) (sm sa : Option (List ℕ)) (ended told : Result (Unit {0}) Halt) → IsErr ended → Tells ended told rm ra sm sa → code_of (result_err told) ≢ 0
+halted_code rm ra sm sa (Ok x) told never tells e = cc never
+halted_code rm ra sm sa (Err halt) told err tells e = halted_told rm ra sm sa halt told tells e

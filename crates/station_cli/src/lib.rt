@@ -6,6 +6,7 @@
 //! of no command. Nothing here opens a file, waits or ends a process.
 #![tactic(auto)]
 
+mod decoding;
 mod runs;
 #[cfg(test)]
 mod tests;

@@ -1,5 +1,6 @@
 // The top call.
-ghost use Rattle.std.specs.Prelude.{◌≡◌, ◌≢◌, ◌⊎◌, ⊤, true, false, [], Some, IsTrue, IsErrOf, map, string_bytes};
+ghost use Rattle.std.specs.Prelude.{◌≡◌, ◌≢◌, ◌⊎◌, ⊤, true, false, List, [], Some, IsTrue, IsErr};
+ghost use Rattle.std.specs.Prelude.{IsErrOf, map, string_bytes};
 ghost use Rattle.std.specs.Result.{result_err};
 ghost use Rattle.mav_ports.specs.Gets.{IsSpent};
 ghost use Rattle.command_ends.specs.Runs.{Untold, Promises, outside};
@@ -7,11 +8,16 @@ ghost use Rattle.command_line.specs.Built.{is_built, built};
 ghost use Rattle.command_line.specs.Forms.{has_given};
 ghost use Rattle.command_line.specs.Grammar.{Asked, Asks, AskNothing};
 ghost use Rattle.command_line.specs.Lines.{given_of};
+ghost use Rattle.field_layout.specs.Definition.{Definition};
+ghost use Rattle.dialect.specs.Profile.{profile_definitions};
+ghost use Rattle.dialect_command.specs.Reads.{Holds};
 ghost use Rattle.dialect_command.specs.Script.{dialect_script, profile_script};
+ghost use Rattle.decode_command.specs.Script.{decode_script};
 ghost use Rattle.fleet_command.specs.Script.{fleet_script};
 ghost use Rattle.fleet_command.specs.Theorem.{Carries};
 ghost use Rattle.station_cli.specs.Usage.{UsageTold};
 
+use crate::decoding::run_decode;
 use crate::wants::Inputs;
 use command_ends::{Halt, code_of, tell};
 use command_line::{Command, Line, OptionName, WantedFault, read};
@@ -71,6 +77,32 @@ fn run_line<S: Source, K: Sink>(
         → has_given OptionName.Defs (map given_of line.now.settings.items) ≡ false
         → Untold profile_script (outside ⊤ 0 0 0 0 (K.faults out.old) (K.faults out.new))
         (Some []) (Some []) (K.sent out.old) (K.sent out.new) (result_err result) }
+    ensures decode { line.now.command ≡ Command.Decode
+        → has_given OptionName.Defs (map given_of line.now.settings.items) ≡ true
+        → (Untold dialect_script (outside
+        (S.has_ended inputs.new.defs × IsSpent (S.left inputs.new.defs))
+        (S.faults inputs.old.defs) (S.faults inputs.new.defs)
+        (S.idles inputs.old.defs) (S.idles inputs.new.defs) (K.faults out.old) (K.faults out.new))
+        (S.left inputs.old.defs) (S.left inputs.new.defs)
+        (K.sent out.old) (K.sent out.new) (result_err result)
+        × IsErr result × (inputs.new.main ≡ inputs.old.main))
+        ⊎ ((defs : List Definition) × Holds
+        (S.has_ended inputs.new.defs × IsSpent (S.left inputs.new.defs))
+        (S.left inputs.old.defs) (S.left inputs.new.defs) defs
+        × Untold (decode_script defs) (outside
+        (S.has_ended inputs.new.main × IsSpent (S.left inputs.new.main))
+        (S.faults inputs.old.main) (S.faults inputs.new.main)
+        (S.idles inputs.old.main) (S.idles inputs.new.main) (K.faults out.old) (K.faults out.new))
+        (S.left inputs.old.main) (S.left inputs.new.main)
+        (K.sent out.old) (K.sent out.new) (result_err result)) }
+    ensures decode_profile { line.now.command ≡ Command.Decode
+        → has_given OptionName.Defs (map given_of line.now.settings.items) ≡ false
+        → Untold (decode_script profile_definitions) (outside
+        (S.has_ended inputs.new.main × IsSpent (S.left inputs.new.main))
+        (S.faults inputs.old.main) (S.faults inputs.new.main)
+        (S.idles inputs.old.main) (S.idles inputs.new.main) (K.faults out.old) (K.faults out.new))
+        (S.left inputs.old.main) (S.left inputs.new.main)
+        (K.sent out.old) (K.sent out.new) (result_err result) }
     ensures unread_main { line.now.command ≡ Command.Dialect → inputs.new.main ≡ inputs.old.main }
     ensures unread_defs { has_given OptionName.Defs (map given_of line.now.settings.items) ≡ false
         → inputs.new.defs ≡ inputs.old.defs }
@@ -83,6 +115,7 @@ fn run_line<S: Source, K: Sink>(
         Command::Dialect => {
             run_dialect(alloc, line.has(OptionName::Defs), &mut inputs.defs, out)
         }
+        Command::Decode => run_decode(alloc, line.has(OptionName::Defs), inputs, out),
         _ => unreachable!("it isn't built"),
     }
 }
@@ -113,6 +146,32 @@ fn run_words<S: Source, K: Sink>(
         → asked.command ≡ Command.Dialect → has_given OptionName.Defs asked.settings ≡ false
         → Untold profile_script (outside ⊤ 0 0 0 0 (K.faults out.old) (K.faults out.new))
         (Some []) (Some []) (K.sent out.old) (K.sent out.new) (result_err result) }
+    ensures decode { (asked : Asked) → Asks built (map string_bytes words.now) asked
+        → asked.command ≡ Command.Decode → has_given OptionName.Defs asked.settings ≡ true
+        → (Untold dialect_script (outside
+        (S.has_ended inputs.new.defs × IsSpent (S.left inputs.new.defs))
+        (S.faults inputs.old.defs) (S.faults inputs.new.defs)
+        (S.idles inputs.old.defs) (S.idles inputs.new.defs) (K.faults out.old) (K.faults out.new))
+        (S.left inputs.old.defs) (S.left inputs.new.defs)
+        (K.sent out.old) (K.sent out.new) (result_err result)
+        × IsErr result × (inputs.new.main ≡ inputs.old.main))
+        ⊎ ((defs : List Definition) × Holds
+        (S.has_ended inputs.new.defs × IsSpent (S.left inputs.new.defs))
+        (S.left inputs.old.defs) (S.left inputs.new.defs) defs
+        × Untold (decode_script defs) (outside
+        (S.has_ended inputs.new.main × IsSpent (S.left inputs.new.main))
+        (S.faults inputs.old.main) (S.faults inputs.new.main)
+        (S.idles inputs.old.main) (S.idles inputs.new.main) (K.faults out.old) (K.faults out.new))
+        (S.left inputs.old.main) (S.left inputs.new.main)
+        (K.sent out.old) (K.sent out.new) (result_err result)) }
+    ensures decode_profile { (asked : Asked) → Asks built (map string_bytes words.now) asked
+        → asked.command ≡ Command.Decode → has_given OptionName.Defs asked.settings ≡ false
+        → Untold (decode_script profile_definitions) (outside
+        (S.has_ended inputs.new.main × IsSpent (S.left inputs.new.main))
+        (S.faults inputs.old.main) (S.faults inputs.new.main)
+        (S.idles inputs.old.main) (S.idles inputs.new.main) (K.faults out.old) (K.faults out.new))
+        (S.left inputs.old.main) (S.left inputs.new.main)
+        (K.sent out.old) (K.sent out.new) (result_err result) }
     ensures usage { IsErrOf result Halt.Usage → AskNothing built (map string_bytes words.now) }
     ensures usage_only { AskNothing built (map string_bytes words.now)
         → IsErrOf result Halt.Usage ⊎ IsErrOf result Halt.NoMemory }
@@ -183,6 +242,35 @@ pub fn run<S: Source, K: Sink, C: Clock>(
         → asked.command ≡ Command.Dialect → has_given OptionName.Defs asked.settings ≡ false
         → Promises profile_script (outside ⊤ 0 0 0 0 (K.faults out.old) (K.faults out.new))
         (Some []) (Some []) (K.sent out.old) (K.sent out.new) result }
+    // `decode --defs F FILE`: the run stops at the definitions, as `dialect` would, and the main
+    // input isn't read; or they are read, and the main input is decoded by them
+    ensures decode { (asked : Asked) → Asks built (map string_bytes words.now) asked
+        → asked.command ≡ Command.Decode → has_given OptionName.Defs asked.settings ≡ true
+        → (Promises dialect_script (outside
+        (S.has_ended inputs.new.defs × IsSpent (S.left inputs.new.defs))
+        (S.faults inputs.old.defs) (S.faults inputs.new.defs)
+        (S.idles inputs.old.defs) (S.idles inputs.new.defs) (K.faults out.old) (K.faults out.new))
+        (S.left inputs.old.defs) (S.left inputs.new.defs)
+        (K.sent out.old) (K.sent out.new) result
+        × (result ≢ 0) × (inputs.new.main ≡ inputs.old.main))
+        ⊎ ((defs : List Definition) × Holds
+        (S.has_ended inputs.new.defs × IsSpent (S.left inputs.new.defs))
+        (S.left inputs.old.defs) (S.left inputs.new.defs) defs
+        × Promises (decode_script defs) (outside
+        (S.has_ended inputs.new.main × IsSpent (S.left inputs.new.main))
+        (S.faults inputs.old.main) (S.faults inputs.new.main)
+        (S.idles inputs.old.main) (S.idles inputs.new.main) (K.faults out.old) (K.faults out.new))
+        (S.left inputs.old.main) (S.left inputs.new.main)
+        (K.sent out.old) (K.sent out.new) result) }
+    // `decode FILE`, by the profile
+    ensures decode_profile { (asked : Asked) → Asks built (map string_bytes words.now) asked
+        → asked.command ≡ Command.Decode → has_given OptionName.Defs asked.settings ≡ false
+        → Promises (decode_script profile_definitions) (outside
+        (S.has_ended inputs.new.main × IsSpent (S.left inputs.new.main))
+        (S.faults inputs.old.main) (S.faults inputs.new.main)
+        (S.idles inputs.old.main) (S.idles inputs.new.main) (K.faults out.old) (K.faults out.new))
+        (S.left inputs.old.main) (S.left inputs.new.main)
+        (K.sent out.old) (K.sent out.new) result }
     // The words are of no command exactly where the status is 2, unless the output refused that
     // text or there was no memory.
     ensures usage { result ≡ 2 → AskNothing built (map string_bytes words.now) }

@@ -5,6 +5,7 @@ use std::alloc::{AllocError, Global};
 use std::process::Abort;
 use std::test::Fail;
 
+mod decodes;
 mod dialects;
 mod limits;
 mod worked;

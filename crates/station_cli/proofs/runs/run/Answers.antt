@@ -1,4 +1,4 @@
-use Rattle.std.proofs.Common.{refl}
+use Rattle.std.proofs.Common.{refl, inl, inr}
 use Rattle.std.specs.Result.{result_err}
 use Rattle.command_ends.proofs.Untolds.{ran_told}
 use Rattle.command_ends.proofs.Ends.{promised}
@@ -8,7 +8,9 @@ use Rattle.dialect_command.proofs.Stays.{dialect_steady, telling_steady}
 use Rattle.fleet_command.specs.Script.{fleet_script}
 use Rattle.fleet_command.proofs.Stays.{fleet_steady}
 use Rattle.fleet_command.proofs.Theorem.{carried}
-use Rattle.station_cli.proofs.Usages.{words_told}
+use Rattle.decode_command.specs.Script.{decode_script}
+use Rattle.decode_command.proofs.Stays.{decode_steady}
+use Rattle.station_cli.proofs.Usages.{words_told, halted_code}
 use Rattle.station_cli.proofs.runs.run.Goals as goal
 
 pub returns-clause-fleet : goal.returns-clause-fleet
@@ -39,3 +41,27 @@ pub returns-clause-usage_only : goal.returns-clause-usage_only
 returns-clause-usage_only g c = λ nothing.
     let ended = c.run_words-ended in
     rw c.code_of.ensures (words_told _ _ _ _ _ _ ended.result c.tell.result (ended.ensures.usage_only nothing) ended.ensures.sound (ended.ensures.untouched nothing).2 c.tell.ensures.tells)
+
+pub returns-clause-decode : goal.returns-clause-decode
+returns-clause-decode g c = λ asked asks is named.
+    let ended = c.run_words-ended in
+    rw c.code_of.ensures (elim (ended.ensures.decode asked asks is named) [
+      | inl (untold, halted, unread) ↦ inl (
+        promised dialect_script dialect_steady _ _ _ _ _ (result_err c.tell.result) (λ spent. spent.1)
+            (ran_told dialect_script _ _ _ _ _ _ _ _ _ _ _ _ _ ended.result c.tell.result untold ended.ensures.sound c.tell.ensures.tells),
+        halted_code _ _ _ _ ended.result c.tell.result halted c.tell.ensures.tells,
+        unread,
+      )
+      | inr (defs, holds, untold) ↦ inr (
+        defs,
+        holds,
+        promised (decode_script defs) (decode_steady defs) _ _ _ _ _ (result_err c.tell.result) (λ spent. spent.1)
+            (ran_told (decode_script defs) _ _ _ _ _ _ _ _ _ _ _ _ _ ended.result c.tell.result untold ended.ensures.sound c.tell.ensures.tells),
+      )
+    ])
+
+pub returns-clause-decode_profile : goal.returns-clause-decode_profile
+returns-clause-decode_profile g c = λ asked asks is unnamed.
+    let ended = c.run_words-ended in
+    rw c.code_of.ensures (promised (decode_script profile_definitions) (decode_steady profile_definitions) _ _ _ _ _ (result_err c.tell.result) (λ spent. spent.1)
+    (ran_told (decode_script profile_definitions) _ _ _ _ _ _ _ _ _ _ _ _ _ ended.result c.tell.result (ended.ensures.decode_profile asked asks is unnamed) ended.ensures.sound c.tell.ensures.tells))

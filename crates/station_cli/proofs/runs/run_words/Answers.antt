@@ -1,5 +1,7 @@
-use Rattle.std.proofs.Common.{true, false}
-use Rattle.command_line.specs.declared.commands.Command.TheVariants.{Fleet, Dialect}
+use Rattle.std.proofs.Common.{true, false, inl, refl}
+use Rattle.dialect.specs.Profile.{profile_definitions}
+use Rattle.decode_command.specs.Script.{decode_script}
+use Rattle.command_line.specs.declared.commands.Command.TheVariants.{Fleet, Dialect, Decode}
 use Rattle.command_line.specs.declared.commands.OptionName.TheVariants.{Defs}
 use Rattle.command_ends.proofs.Untolds.{untold_nothing}
 use Rattle.dialect_command.specs.Script.{dialect_script, profile_script}
@@ -39,3 +41,15 @@ returns-clause-unread_main g c = λ asked asks is. c.run_line.ensures.unread_mai
 
 pub returns-clause-unread_defs : goal.returns-clause-unread_defs
 returns-clause-unread_defs g c = λ asked asks unnamed. c.run_line.ensures.unread_defs (same_given _ _ asked Defs false c.in-Ok.ensures.asks asks unnamed)
+
+pub returns-clause-decode : goal.returns-clause-decode
+returns-clause-decode g c = λ asked asks is named. c.run_line.ensures.decode (same_command _ _ asked Decode c.in-Ok.ensures.asks asks is) (same_given _ _ asked Defs true c.in-Ok.ensures.asks asks named)
+
+pub returns-clause-decode_profile : goal.returns-clause-decode_profile
+returns-clause-decode_profile g c = λ asked asks is unnamed. c.run_line.ensures.decode_profile (same_command _ _ asked Decode c.in-Ok.ensures.asks asks is) (same_given _ _ asked Defs false c.in-Ok.ensures.asks asks unnamed)
+
+pub returns-in-Err-NoMemory-clause-decode : goal.returns-in-Err-NoMemory-clause-decode
+returns-in-Err-NoMemory-clause-decode g c = λ asked asks is named. inl (untold_nothing dialect_script _ _ _, refl, refl)
+
+pub returns-in-Err-NoMemory-clause-decode_profile : goal.returns-in-Err-NoMemory-clause-decode_profile
+returns-in-Err-NoMemory-clause-decode_profile g c = λ asked asks is unnamed. untold_nothing (decode_script profile_definitions) _ _ _

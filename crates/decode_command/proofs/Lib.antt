@@ -1,0 +1,10 @@
+pub mod Digits
+pub mod Results
+pub mod Parses
+pub mod Lines
+pub mod Steps
+pub mod Fronts
+pub mod Pieces
+pub mod Ends
+pub mod Starts
+pub mod Stays

@@ -1,0 +1,10 @@
+use Rattle.std.proofs.lemmas.Result.{err_from_is_err_and}
+use Rattle.command_ends.proofs.Untolds.{untold_nothing}
+use Rattle.dialect.specs.Profile.{profile_definitions}
+use Rattle.decode_command.specs.Script.{decode_script}
+use Rattle.decode_command.proofs.commands.decode.Goals as goal
+
+pub returns-in_err-dialect-clause-untold : goal.returns-in_err-dialect-clause-untold
+returns-in_err-dialect-clause-untold g c =
+    let e = err_from_is_err_and c.from_residual.result c.from_residual.ensures.1 in
+    rw (e.1, e.2) (untold_nothing (decode_script profile_definitions) _ (g.S.Source.left c.args.main.now) (g.K.Sink.sent c.args.out.now))

@@ -1,0 +1,56 @@
+use Rattle.std.proofs.Common.{◌≡◌, ◌≤◌, ◌+◌, ◌-◌, ℕ, length, take, drop, refl, ap, ◌∙◌, arith, length-take, length-drop, length-append}
+use Rattle.std.proofs.lemmas.Result.{err_from_is_err_and}
+use Rattle.mav_stream.specs.Held.{Held}
+use Rattle.decode_command.proofs.Results.{on_ok, if_err}
+use Rattle.decode_command.proofs.Pieces.{part_fed, piece_halted, piece_whole, drained_written, drained_front}
+use Rattle.decode_command.proofs.decoder.Decoder.take.Goals as goal
+
+pub loop-place-preserved : goal.loop-place-preserved
+loop-place-preserved g c =
+    let l = c.loop-place in let piece = c.args.piece.now in let place = l.place in let n = c.feed-place.result in
+    let inv = l.invariant in let test = c.loop-place-test.true in let size : ℕ = length piece - place in
+    let count = c.feed-place.ensures.count in
+    let long : length (take (length piece - place) (drop place piece)) ≤ length piece - place = omega (arith, length-take (length piece - place) (drop place piece)) in
+    let short : n ≤ length piece - place = omega (arith, count, long) in
+    let part : length (take n (take (length piece - place) (drop place piece))) ≡ n = omega (arith, count, length-take n (take (length piece - place) (drop place piece))) in
+    let fed : length c.feed-place.new.self.bytes ≡ length l.self.reader.bytes + n = ap (λ (h : Held). length h.bytes) c.feed-place.ensures.held ∙ (length-append l.self.reader.bytes (take n (take (length piece - place) (drop place piece))) ∙ ap (λ (k : ℕ). length l.self.reader.bytes + k) part) in
+    let after = c.in_ok-drain.ensures in
+    record {
+      place = omega (arith, short, test);
+      within = record { bytes = omega (arith, after.sum, fed, inv.within.bytes, short, test); counts = after.within.counts };
+      sum = omega (arith, after.sum, fed, inv.sum);
+      room = after.room;
+      still = after.ended ∙ (ap (λ (h : Held). h.ended) c.feed-place.ensures.held ∙ inv.still);
+      drained = λ defs taken before d.
+          after.drained defs _ before
+          (part_fed defs taken piece place n l.self c.feed-place.new.self before (g.K.Sink.sent l.out) short (inv.drained defs taken before d) (λ given p. c.feed-place.ensures.progress _ _ given inv.still p));
+      refusals = after.sound (λ e. cc) ∙ inv.refusals;
+    }
+
+pub returns-in_err-drain-clause-halted : goal.returns-in_err-drain-clause-halted
+returns-in_err-drain-clause-halted g c =
+    let l = c.loop-place in let piece = c.args.piece.now in let place = l.place in let n = c.feed-place.result in
+    let inv = l.invariant in let test = c.loop-place-test.true in
+    let count = c.feed-place.ensures.count in
+    let long : length (take (length piece - place) (drop place piece)) ≤ length piece - place = omega (arith, length-take (length piece - place) (drop place piece)) in
+    let short : n ≤ length piece - place = omega (arith, count, long) in
+    let still = ap (λ (h : Held). h.ended) c.feed-place.ensures.held ∙ inv.still in
+    let e = err_from_is_err_and c.from_residual.result c.from_residual.ensures.1 in
+    rw e.1 (λ defs taken before d.
+    let h = c.in_err-drain.ensures.halted defs _ before
+    (part_fed defs taken piece place n l.self c.feed-place.new.self before (g.K.Sink.sent l.out) short (inv.drained defs taken before d) (λ given p. c.feed-place.ensures.progress _ _ given inv.still p)) in
+    piece_halted defs taken piece (place + n) c.drain.new.self before (g.K.Sink.sent c.drain.new.out) (h.1 ∙ still) h.0)
+
+pub returns-clause-drained : goal.returns-clause-drained
+returns-clause-drained g c = λ defs taken before d.
+    let l = c.loop-place in
+    on_ok c.write.result c.write.ensures.moved (λ moved.
+    drained_written defs _ l.self (record l.self { text = c.write.new.text }) before (g.K.Sink.sent l.out) (g.K.Sink.sent c.write.new.out)
+    (piece_whole defs taken c.args.piece.now l.place l.self before (g.K.Sink.sent l.out) c.loop-place-test.false (l.invariant.drained defs taken before d)) moved refl)
+
+pub returns-clause-halted : goal.returns-clause-halted
+returns-clause-halted g c = λ defs taken before d.
+    let l = c.loop-place in
+    if_err c.write.result
+    (drained_front defs _ l.self before (g.K.Sink.sent l.out) (g.K.Sink.sent c.write.new.out) l.invariant.still
+    (piece_whole defs taken c.args.piece.now l.place l.self before (g.K.Sink.sent l.out) c.loop-place-test.false (l.invariant.drained defs taken before d)) c.write.ensures.front)

@@ -1,0 +1,5 @@
+use Rattle.decode_command.proofs.Parses.{incremental_is}
+use Rattle.decode_command.proofs.laws.incremental_events_are_the_parse.Goals as goal
+
+pub returns : goal.returns
+returns c extras bytes left events h = incremental_is extras events left bytes h

@@ -1,0 +1,18 @@
+use Rattle.std.proofs.Common.{◌≡◌, List, ℕ, [], ◌++◌, sym, ap, ◌∙◌, subst, append-nil, Option}
+use Rattle.std.specs.Io.KnownBytes.{append_known}
+use Rattle.mav_ports.specs.Puts.{Sent}
+use Rattle.mav_ports.proofs.Known.{sent_step}
+use Rattle.decode_command.proofs.writing.write.Goals as goal
+
+-- all that was held is sent
+all_sent : (before middle after : Option (List ℕ)) (whole held : List ℕ) → Sent before middle whole held → after ≡ append_known middle held → Sent before after whole []
+all_sent before middle after whole held s e = sent_step before middle after whole held [] (subst (Sent before middle whole) (sym (append-nil held)) s) e
+
+pub returns-clause-moved : goal.returns-clause-moved
+returns-clause-moved g c = λ before whole s.
+    subst (Sent before (g.K.Sink.sent c.write_all.new.sink) whole) (sym c.clear.ensures.items)
+    (all_sent before (g.K.Sink.sent c.args.out.now) (g.K.Sink.sent c.write_all.new.sink) whole c.args.text.now.items s (c.in_ok-write_all.ensures.ok ∙ ap (append_known (g.K.Sink.sent c.args.out.now)) c.deref.ensures.value))
+
+pub returns-clause-front : goal.returns-clause-front
+returns-clause-front g c = λ before whole s.
+    ([], all_sent before (g.K.Sink.sent c.args.out.now) (g.K.Sink.sent c.write_all.new.sink) whole c.args.text.now.items s (c.in_ok-write_all.ensures.ok ∙ ap (append_known (g.K.Sink.sent c.args.out.now)) c.deref.ensures.value))

@@ -1,0 +1,65 @@
+-- The text of a parse.
+use Rattle.std.specs.Prelude.{ℕ, ◌+◌, List, [], ◌∷◌, ◌++◌, length, codes, Option, Some, None}
+use Rattle.std.specs.Fmt.{decimal}
+use Rattle.field_layout.specs.Definition.{Definition}
+use Rattle.dialect.specs.Messages.{definition_with}
+use Rattle.mav_frame.specs.Packet.{Packet}
+use Rattle.mav_frame.specs.Encoding.{encoding}
+use Rattle.mav_frame.specs.declared.events.Event.{Event}
+use Rattle.mav_frame.specs.declared.events.Event.TheVariants.{Frame, Skipped}
+use Rattle.mav_text.specs.FrameText.{frame_text, skip_line}
+
+-- how many bytes an event takes, how many frames it is, and how many skipped bytes
+abbrev pub event_size : Event → ℕ
+event_size (Frame packet) = length (encoding packet)
+event_size (Skipped byte why) = 1
+
+abbrev pub frames_of : Event → ℕ
+frames_of (Frame packet) = 1
+frames_of (Skipped byte why) = 0
+
+abbrev pub skips_of : Event → ℕ
+skips_of (Frame packet) = 0
+skips_of (Skipped byte why) = 1
+
+-- `OFFSET NAME SYS.COMP #SEQ field=value ..`; a frame of a parse has the id of a message
+abbrev pub frame_line : Option Definition → ℕ → Packet → List ℕ
+frame_line None offset packet = []
+frame_line (Some def) offset packet = decimal offset ++ 32 ∷ frame_text def packet ++ 10 ∷ []
+
+-- the line of a frame, or of a skipped byte
+abbrev pub event_line : List Definition → ℕ → Event → List ℕ
+event_line defs offset (Frame packet) = frame_line (definition_with packet.id defs) offset packet
+event_line defs offset (Skipped byte why) = skip_line offset byte why
+
+-- the lines of events, of which the first stands at an offset
+abbrev pub lines_from : List Definition → ℕ → List Event → List ℕ
+lines_from defs offset [] = []
+lines_from defs offset (event ∷ events) = event_line defs offset event ++ lines_from defs (offset + event_size event) events
+
+abbrev pub event_lines : List Definition → List Event → List ℕ
+event_lines defs events = lines_from defs 0 events
+
+-- sums over events
+abbrev pub bytes_in : List Event → ℕ
+bytes_in [] = 0
+bytes_in (event ∷ events) = event_size event + bytes_in events
+
+abbrev pub frames_in : List Event → ℕ
+frames_in [] = 0
+frames_in (event ∷ events) = frames_of event + frames_in events
+
+abbrev pub skips_in : List Event → ℕ
+skips_in [] = 0
+skips_in (event ∷ events) = skips_of event + skips_in events
+
+-- `frames N skipped M`
+abbrev pub counts_line : ℕ → ℕ → List ℕ
+counts_line frames skipped = codes "frames " ++ (decimal frames ++ (codes " skipped " ++ (decimal skipped ++ codes "\n")))
+
+abbrev pub last_line : List Event → List ℕ
+last_line events = counts_line (frames_in events) (skips_in events)
+
+-- the whole text
+abbrev pub decode_text : List Definition → List Event → List ℕ
+decode_text defs events = event_lines defs events ++ last_line events

@@ -1,0 +1,5 @@
+pub mod Parsing
+pub mod ParseLaws
+pub mod DecodeText
+pub mod Script
+pub mod Decodes

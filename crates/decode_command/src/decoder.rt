@@ -1,0 +1,207 @@
+// A stream that is decoded as its bytes come.
+ghost use Rattle.std.specs.Prelude.{◌≡◌, ◌<◌, ◌+◌, ◌++◌, ◌⊎◌, ℕ, List, [], length, true, false, IfOk, IfErr, OnOk, IsErrOf};
+ghost use Rattle.std.specs.declared.option.Option.{Option};
+ghost use Rattle.mav_ports.specs.Counts.{Rose};
+ghost use Rattle.field_layout.specs.Definition.{Definition};
+ghost use Rattle.mav_frame.specs.declared.events.Event.TheVariants.{Frame as FrameEvent, Skipped};
+ghost use Rattle.mav_stream.specs.Held.{nothing_held};
+ghost use Rattle.dialect.specs.Messages.{extras_of};
+ghost use Rattle.decode_command.specs.DecodeText.{event_size, counts_line};
+ghost use Rattle.decode_command.specs.Decodes.{Decoding, Drained, Halted, Front, Finished, Unfinished, Puts, IsWithin, Stepped, StepHalted};
+
+use crate::decimals::write_decimal;
+use crate::writing::{ENOUGH_BYTES, put_frame, write, write_enough};
+use command_ends::Halt;
+use dialect::Dialect;
+use mav_frame::{Frame, Why};
+use mav_ports::{NoMemory, Sink};
+use mav_stream::{Next, Reader};
+use mav_text::put_skip;
+use std::alloc::Global;
+
+// More than a line has.
+const LINE_BYTES: usize = 8192;
+
+/// A stream of which some bytes were taken: what is held of it, and the lines that aren't written yet.
+#[derive(Drop)]
+pub struct Decoder {
+    dialect: Dialect,
+    reader: Reader,
+    text: Vec<u8>,
+    /// Where the next event stands.
+    offset: u64,
+    frames: u64,
+    skipped: u64,
+}
+
+impl Decoder {
+    pub(crate) fn new(alloc: Global, dialect: Dialect) -> Result<Decoder, NoMemory>
+        ensures dialect { IfOk result (λ d. d.dialect ≡ dialect) }
+        ensures reader { IfOk result (λ d. d.reader ≡ nothing_held (extras_of dialect)) }
+        ensures text { IfOk result (λ d. d.text.items ≡ []) }
+        ensures counts { IfOk result (λ d. (d.offset ≡ 0) × (d.frames ≡ 0) × (d.skipped ≡ 0)) }
+    {
+        let reader = Reader::new(dialect.extras().copy()?);
+        Ok(Decoder {
+            dialect,
+            reader,
+            text: Vec::with_capacity(alloc, ENOUGH_BYTES + LINE_BYTES)?,
+            offset: 0,
+            frames: 0,
+            skipped: 0,
+        })
+    }
+
+    /// Takes bytes that come next, and writes the lines of their events.
+    pub(crate) fn take<K: Sink>(&mut self, piece: &[u8], out: &mut K) -> Result<(), Halt>
+        requires within { IsWithin self.old (length piece.now) }
+        requires room { length self.old.reader.bytes < 280 }
+        requires still { self.old.reader.ended ≡ false }
+        ensures within { OnOk result (IsWithin self.new 0) }
+        ensures sum { OnOk result (self.new.offset + length self.new.reader.bytes
+            ≡ self.old.offset + length self.old.reader.bytes + length piece.now) }
+        ensures room { OnOk result (length self.new.reader.bytes < 280) }
+        ensures still { OnOk result (self.new.reader.ended ≡ false) }
+        ensures empty { OnOk result (self.new.text.items ≡ []) }
+        ensures drained { (defs : List Definition) (taken : List ℕ) (before : Option (List ℕ))
+            → Drained defs taken self.old before (K.sent out.old)
+            → OnOk result (Drained defs (taken ++ piece.now) self.new before (K.sent out.new)) }
+        ensures halted { (defs : List Definition) (taken : List ℕ) (before : Option (List ℕ))
+            → Drained defs taken self.old before (K.sent out.old)
+            → IfErr result (λ _. Front defs (taken ++ piece.now) before (K.sent out.new)) }
+        ensures error { IfErr result (λ e. (e ≡ Halt.WriteFault) ⊎ (e ≡ Halt.NoMemory)) }
+        ensures rose { IsErrOf result Halt.WriteFault
+            → Rose (K.faults out.old) (K.faults out.new) }
+        ensures sound { ¬ IsErrOf result Halt.WriteFault
+            → K.faults out.new ≡ K.faults out.old }
+    {
+        let mut place = 0;
+        while place < piece.len() {
+            place += self.reader.feed(&piece[place..]);
+            self.drain(out)?;
+        }
+        write(&mut self.text, out)
+    }
+
+    /// The input ended: writes the lines of what is held, and the last line.
+    pub(crate) fn finish<K: Sink>(&mut self, out: &mut K) -> Result<(), Halt>
+        requires { IsWithin self.old 0 }
+        ensures done { (defs : List Definition) (taken : List ℕ) (before : Option (List ℕ))
+            → Drained defs taken self.old before (K.sent out.old)
+            → OnOk result (Finished defs taken before (K.sent out.new)) }
+        ensures halted { (defs : List Definition) (taken : List ℕ) (before : Option (List ℕ))
+            → Drained defs taken self.old before (K.sent out.old)
+            → IfErr result (λ _. Unfinished defs taken before (K.sent out.new)) }
+        ensures error { IfErr result (λ e. (e ≡ Halt.WriteFault) ⊎ (e ≡ Halt.NoMemory)) }
+        ensures rose { IsErrOf result Halt.WriteFault
+            → Rose (K.faults out.old) (K.faults out.new) }
+        ensures sound { ¬ IsErrOf result Halt.WriteFault
+            → K.faults out.new ≡ K.faults out.old }
+    {
+        self.reader.end();
+        self.drain(out)?;
+        put_counts(self.frames, self.skipped, &mut self.text)?;
+        write(&mut self.text, out)
+    }
+
+    // The lines of the events until the reader needs more bytes.
+    fn drain<K: Sink>(&mut self, out: &mut K) -> Result<(), Halt>
+        requires { IsWithin self.old 0 }
+        ensures within { OnOk result (IsWithin self.new 0) }
+        ensures sum { OnOk result (self.new.offset + length self.new.reader.bytes
+            ≡ self.old.offset + length self.old.reader.bytes) }
+        ensures room { OnOk result (length self.new.reader.bytes < 280) }
+        ensures ended { OnOk result (self.new.reader.ended ≡ self.old.reader.ended) }
+        ensures drained { (defs : List Definition) (taken : List ℕ) (before : Option (List ℕ))
+            → Decoding defs taken self.old before (K.sent out.old)
+            → OnOk result (Drained defs taken self.new before (K.sent out.new)) }
+        ensures halted { (defs : List Definition) (taken : List ℕ) (before : Option (List ℕ))
+            → Decoding defs taken self.old before (K.sent out.old)
+            → IfErr result (λ _. Halted defs taken self.new before (K.sent out.new)
+            × (self.new.reader.ended ≡ self.old.reader.ended)) }
+        ensures error { IfErr result (λ e. (e ≡ Halt.WriteFault) ⊎ (e ≡ Halt.NoMemory)) }
+        ensures rose { IsErrOf result Halt.WriteFault
+            → Rose (K.faults out.old) (K.faults out.new) }
+        ensures sound { ¬ IsErrOf result Halt.WriteFault
+            → K.faults out.new ≡ K.faults out.old }
+    {
+        loop {
+            match self.reader.next() {
+                Next::Frame(frame) => self.frame(&frame, out)?,
+                Next::Skipped(byte, why) => self.skip(byte, why, out)?,
+                Next::Need => return Ok(()),
+            }
+        }
+    }
+
+    // Puts the line of a frame.
+    fn frame<K: Sink>(&mut self, frame: &Frame, out: &mut K) -> Result<(), Halt>
+        requires { IsWithin self.old (event_size (FrameEvent frame.now)) }
+        ensures done { OnOk result (Stepped (FrameEvent frame.now) self.old self.new
+            (K.sent out.old) (K.sent out.new)) }
+        ensures halted { IfErr result (λ _. StepHalted (FrameEvent frame.now) self.old self.new
+            (K.sent out.old) (K.sent out.new)) }
+        ensures error { IfErr result (λ e. (e ≡ Halt.WriteFault) ⊎ (e ≡ Halt.NoMemory)) }
+        ensures rose { IsErrOf result Halt.WriteFault
+            → Rose (K.faults out.old) (K.faults out.new) }
+        ensures sound { ¬ IsErrOf result Halt.WriteFault
+            → K.faults out.new ≡ K.faults out.old }
+    {
+        self.append_frame(frame)?;
+        write_enough(&mut self.text, out)
+    }
+
+    // Puts the line of a skipped byte.
+    fn skip<K: Sink>(&mut self, byte: u8, why: Why, out: &mut K) -> Result<(), Halt>
+        requires { IsWithin self.old 1 }
+        ensures done { OnOk result (Stepped (Skipped byte why) self.old self.new
+            (K.sent out.old) (K.sent out.new)) }
+        ensures halted { IfErr result (λ _. StepHalted (Skipped byte why) self.old self.new
+            (K.sent out.old) (K.sent out.new)) }
+        ensures error { IfErr result (λ e. (e ≡ Halt.WriteFault) ⊎ (e ≡ Halt.NoMemory)) }
+        ensures rose { IsErrOf result Halt.WriteFault
+            → Rose (K.faults out.old) (K.faults out.new) }
+        ensures sound { ¬ IsErrOf result Halt.WriteFault
+            → K.faults out.new ≡ K.faults out.old }
+    {
+        self.append_skip(byte, why)?;
+        write_enough(&mut self.text, out)
+    }
+
+    fn append_frame(&mut self, frame: &Frame) -> Result<(), NoMemory>
+        requires { IsWithin self.old (event_size (FrameEvent frame.now)) }
+        ensures line { OnOk result (Puts (FrameEvent frame.now) self.old self.new) }
+        ensures reader { self.new.reader ≡ self.old.reader }
+    {
+        put_frame(&self.dialect, self.offset, frame, &mut self.text)?;
+        self.offset += frame.size() as u64;
+        self.frames += 1;
+        Ok(())
+    }
+
+    fn append_skip(&mut self, byte: u8, why: Why) -> Result<(), NoMemory>
+        requires { IsWithin self.old 1 }
+        ensures line { OnOk result (Puts (Skipped byte why) self.old self.new) }
+        ensures reader { self.new.reader ≡ self.old.reader }
+    {
+        put_skip(self.offset, byte, why, &mut self.text)?;
+        self.offset += 1;
+        self.skipped += 1;
+        Ok(())
+    }
+}
+
+// Appends the last line.
+fn put_counts(frames: u64, skipped: u64, text: &mut Vec<u8>) -> Result<(), NoMemory>
+    ensures { OnOk result (text.new.items ≡ text.old.items ++ counts_line frames skipped) }
+{
+    let mut digits = [0; 20];
+    text.extend_from_slice(b"frames ")?;
+    let first = write_decimal(frames, &mut digits);
+    text.extend_from_slice(&digits[first..])?;
+    text.extend_from_slice(b" skipped ")?;
+    let first = write_decimal(skipped, &mut digits);
+    text.extend_from_slice(&digits[first..])?;
+    text.push(b'\n')?;
+    Ok(())
+}

@@ -1,0 +1,15 @@
+//! The command `decode`: every frame of a stream as a line of text, and every byte that is in none.
+//!
+//! [`decode`] knows the messages of the built-in profile, [`decode_by`] those of a dialect. The input
+//! is read in pieces, and the lines of a piece are written before more is read, in constant memory.
+//! `specs/Script.antt` says what stops a run and what it writes. The text of a halt isn't written
+//! here.
+#![tactic(auto)]
+
+mod commands;
+mod decimals;
+mod decoder;
+pub mod laws;
+mod writing;
+
+pub use commands::{decode, decode_by};
