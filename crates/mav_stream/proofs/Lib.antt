@@ -1,4 +1,5 @@
 mod Windows
 pub mod Steps
 mod Answers
+mod GarbageRuns
 mod CallList

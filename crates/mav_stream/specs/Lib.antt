@@ -1,4 +1,5 @@
 pub mod Held
 pub mod Nexts
 pub mod Progress
+pub mod Garbage
 pub mod Calls

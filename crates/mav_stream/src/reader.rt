@@ -1,6 +1,8 @@
 // The reader of a stream.
-ghost use Rattle.std.specs.Prelude.{◌≡◌, ◌+◌, ◌-◌, ◌<◌, ◌++◌, ℕ, List, [], length, take, drop, min, slice_index, true, false};
+ghost use Rattle.std.specs.Prelude.{◌≡◌, ◌+◌, ◌-◌, ◌<◌, ◌≤◌, ◌≢◌, ◌++◌, ℕ, List, [], length, take, drop, min, map, slice_index, IfSome, true, false};
+ghost use Rattle.mav_frame.specs.Looks.{look_of};
 ghost use Rattle.mav_frame.specs.declared.events.Event.{Event};
+ghost use Rattle.mav_stream.specs.Garbage.{before_stx, from_stx, not_stx};
 ghost use Rattle.mav_stream.specs.Held.{Held, nothing_held};
 ghost use Rattle.mav_stream.specs.Nexts.{NextIs, HasRoomBehind, given_by};
 ghost use Rattle.mav_stream.specs.Progress.{Progress, WholeAtNeed};
@@ -10,6 +12,23 @@ use crate::window::Window;
 use mav_frame::{Look, Why, look};
 use std::marker::Model;
 use x25_check::Extras;
+
+// The byte that begins a frame.
+const STX: u8 = 0xFD;
+
+// Where the first STX stands, or how many bytes there are.
+fn stx_place(bytes: &[u8]) -> usize
+    ensures within { result ≤ length bytes.now }
+    ensures before { (k : ℕ) → k < result → slice_index bytes.now k ≢ 0xFD }
+    ensures found { result < length bytes.now → slice_index bytes.now result ≡ 0xFD }
+{
+    for (place, byte) in bytes.iter().enumerate() {
+        if *byte == STX {
+            return place;
+        }
+    }
+    bytes.len()
+}
 
 /// A reader of one stream, which contracts see as the bytes that it holds: those taken that are in no event yet, at most 280.
 #[derive(Drop)]
@@ -72,7 +91,53 @@ impl Reader {
         self.answer()
     }
 
+    /// The bytes held in front of the first STX, or all where there is none: `next` would skip them one by one.
+    pub fn garbage(&self) -> &[u8]
+        ensures { result.now ≡ before_stx self.now.bytes }
+    {
+        let held = self.window.bytes();
+        &held[..stx_place(held)]
+    }
+
+    /// Skips these bytes, at a few instructions a byte.
+    pub fn skip_garbage(&mut self)
+        ensures held { self.new ≡ record self.old { bytes = from_stx self.old.bytes } }
+        // The events given and those of these bytes begin the parse.
+        ensures progress { (extras : List (ℕ × ℕ)) (taken : List ℕ) (given : List Event) → Progress extras taken given self.old → Progress extras taken (given ++ map not_stx (before_stx self.old.bytes)) self.new }
+    {
+        let count = stx_place(self.window.bytes());
+        self.window.remove(count);
+    }
+
+    // The answer: where the first three bytes tell it, without a look at the others.
+    #[inline(always)]
     fn answer(&mut self) -> Next
+        ensures { NextIs self.old result self.new }
+    {
+        if let Some(why) = self.early() {
+            return self.skip(why);
+        }
+        self.looked()
+    }
+
+    #[inline(always)]
+    fn early(&self) -> Option<Why>
+        ensures { IfSome result (λ why. look_of self.now.extras self.now.bytes ≡ Look.NotHere why) }
+    {
+        let bytes = self.window.bytes();
+        if bytes.is_empty() {
+            return None;
+        }
+        if bytes[0] != STX {
+            return Some(Why::NotStx);
+        }
+        if bytes.len() >= 3 && bytes[2] > 1 {
+            return Some(Why::UnknownFlag);
+        }
+        None
+    }
+
+    fn looked(&mut self) -> Next
         ensures { NextIs self.old result self.new }
     {
         match look(&self.extras, self.window.bytes()) {
@@ -91,6 +156,7 @@ impl Reader {
     }
 
     // Skips the first byte.
+    #[inline(always)]
     fn skip(&mut self, why: Why) -> Next
         requires { 0 < length self.old.bytes }
         ensures answer { result ≡ Next.Skipped (slice_index self.old.bytes 0) why }

@@ -36,6 +36,7 @@ fn move_to_front(buffer: &mut [u8; 280], start: usize, end: usize)
 }
 
 // The same bytes: each is below 256.
+#[inline(always)]
 fn as_bytes(bytes: &[u8]) -> &[u8]
     ensures list { result.now ≡ bytes.now }
     ensures bytes { (k : ℕ) → slice_index result.now k < 256 }
@@ -54,6 +55,7 @@ impl Window {
         }
     }
 
+    #[inline(always)]
     pub(crate) fn bytes(&self) -> &[u8]
         ensures list { result.now ≡ self.now }
         ensures bytes { (k : ℕ) → slice_index result.now k < 256 }
@@ -76,6 +78,7 @@ impl Window {
     }
 
     /// Takes bytes off the front.
+    #[inline(always)]
     pub(crate) fn remove(&mut self, count: usize)
         requires { count ≤ length self.old }
         ensures { self.new ≡ drop count self.old }
