@@ -1,5 +1,5 @@
 -- A run of bytes in front of an STX is skipped byte by byte.
-use Rattle.std.proofs.Common.{◌≡◌, ◌≢◌, ℕ, zero, suc, ◌<◌, ◌≤◌, Bool, true, false, List, [], ◌∷◌, ◌++◌, ◌==◌, ◌&&◌, not, if◌then◌else◌, map, length, take, drop, slice_index, refl, sym, ap, ◌∙◌, subst, arith, append_assoc, append-nil}
+use Rattle.std.proofs.Common.{◌≡◌, ◌≢◌, ℕ, zero, suc, ◌<◌, ◌≤◌, Bool, true, false, List, [], ◌∷◌, ◌++◌, ◌==◌, if◌then◌else◌, map, length, take, drop, slice_index, refl, sym, ap, subst, arith, append_assoc, append-nil}
 use Rattle.std.specs.Prelude.{nat_lt}
 use Rattle.std.proofs.lemmas.Bool.Decides.{nat_tests}
 use Rattle.mav_frame.specs.Looks.{look_of}
@@ -27,6 +27,15 @@ stops (x ∷ xs) (suc n) within before found =
     let ih = stops xs n (omega arith) (λ k h. before (suc k) (omega arith)) (λ h. found (omega arith)) in
     let e : (x == 0xFD) ≡ false = differs x (before 0 (omega arith)) in
     subst (λ (t : Bool). (x ∷ take n xs ≡ (if t then [] else x ∷ before_stx xs)) × (drop n xs ≡ (if t then x ∷ xs else from_stx xs))) (sym e) (ap (λ (z : List ℕ). x ∷ z) ih.0, ih.1)
+
+shorter : (t : Bool) (x : ℕ) (xs : List ℕ) → length (from_stx xs) ≤ length xs → length (if t then x ∷ xs else from_stx xs) ≤ length (x ∷ xs)
+shorter true x xs h = omega arith
+shorter false x xs h = omega arith
+
+-- what stands behind the run isn't longer
+pub not_longer : (b : List ℕ) → length (from_stx b) ≤ length b
+not_longer [] = omega arith
+not_longer (x ∷ xs) = shorter (x == 0xFD) x xs (not_longer xs)
 
 some : (x : ℕ) (xs : List ℕ) → nat_lt 0 (length (x ∷ xs)) ≡ true
 some x xs = grind (arith, nat_tests)

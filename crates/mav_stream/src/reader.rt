@@ -102,6 +102,7 @@ impl Reader {
     /// Skips these bytes, at a few instructions a byte.
     pub fn skip_garbage(&mut self)
         ensures held { self.new ≡ record self.old { bytes = from_stx self.old.bytes } }
+        ensures room { length self.new.bytes ≤ length self.old.bytes }
         // The events given and those of these bytes begin the parse.
         ensures progress { (extras : List (ℕ × ℕ)) (taken : List ℕ) (given : List Event) → Progress extras taken given self.old → Progress extras taken (given ++ map not_stx (before_stx self.old.bytes)) self.new }
     {

@@ -1,4 +1,4 @@
-use Rattle.std.proofs.Common.{◌≡◌, ℕ, List, take, ap, ◌∙◌, sym}
+use Rattle.std.proofs.Common.{ap, ◌∙◌}
 use Rattle.mav_stream.specs.Held.{Held}
 use Rattle.mav_stream.specs.Garbage.{before_stx}
 use Rattle.mav_stream.proofs.GarbageRuns.{stops}
