@@ -1,0 +1,139 @@
+-- Steps of a node, whatever its core is.
+use Rattle.std.proofs.Common.{◌≡◌, ℕ, Bool, true, false, if◌then◌else◌, List, [], ◌∷◌, ◌++◌, Option, Some, None, Result, Ok, Err, refl, sym, ap, ◌∙◌, subst}
+use Rattle.std.specs.Prelude.{nat_lt, IfOk, IfErr}
+use Rattle.std.proofs.lemmas.List.{append-nil}
+use Rattle.mav_ports.specs.declared.names.Stream.{Stream}
+use Rattle.plan_items.specs.declared.messages.PlanMsg.{PlanMsg}
+use Rattle.mav_frame.specs.Packet.{Packet, SignatureBlock}
+use Rattle.mav_messages.specs.declared.messages.Message.{Message}
+use Rattle.mav_messages.specs.Plans.{message_of_plan}
+use Rattle.mav_sign.specs.declared.admission.Admit.{Admit}
+use Rattle.mav_sign.specs.declared.admission.Admit.TheVariants.{Admitted, Unsigned, BadSignature, NotLater, TooOld, TooManyStreams}
+use Rattle.mav_sign.specs.History.{answer_to, stream_of, next_in, greatest_stamp}
+use Rattle.mav_sign.specs.Endpoints.{EndpointState, AnswerIs, HeardIs}
+use Rattle.mav_sign.specs.declared.heard.Heard.TheVariants.{Message as HeardMessage, Other as HeardOther, Dropped as HeardDropped}
+use Rattle.field_layout.specs.Payload.{Represents}
+use Rattle.mav_messages.specs.Messages.{profile_definition, definition_of, values_of}
+use Rattle.mav_nodes.proofs.PlanPayloads.{none_carried}
+use Rattle.mav_nodes.specs.declared.news.News.{News}
+use Rattle.mav_nodes.specs.declared.link.Tried.{Tried}
+use Rattle.mav_nodes.specs.declared.link.Tried.TheVariants.{Plan, Other, Dropped}
+use Rattle.mav_nodes.specs.News.{NodeEvent, events_of}
+use Rattle.mav_nodes.specs.Payloads.{plan_in}
+use Rattle.mav_nodes.specs.Links.{Link, IsLink, Done, Outcome, done, behind, tries, sends, sent_at}
+use Rattle.mav_nodes.specs.Steps.{Side, CoreStep, answers, with_core, steps, takes, admits, hears}
+use Rattle.mav_nodes.specs.Promises.{Did, LinkDid, IsAnswer, IsTried}
+
+pub if_ok : {A E : Type 0} {P Q : A → Type 0} (r : Result A E) → ((a : A) → P a → Q a) → IfOk r P → IfOk r Q
+if_ok (Ok a) f h = f a h
+if_ok (Err e) f h = tt
+
+pub if_err : {A E : Type 0} {P Q : E → Type 0} (r : Result A E) → ((e : E) → P e → Q e) → IfErr r P → IfErr r Q
+if_err (Ok a) f h = tt
+if_err (Err e) f h = f e h
+
+-- a link's part was done, and nothing follows it
+pub core_did : {Core : Type 0} (core : Core) (outcome : Outcome Link) (endpoint : EndpointState) (Is : Side Core → Type 0) (before after : List News) → LinkDid outcome endpoint before after → ((link : Link) → IsLink link endpoint → Is (record { link = link; core = core })) → Did (with_core core [] outcome) Is before after
+core_did core None endpoint Is before after h f = h
+core_did core (Some d) endpoint Is before after h f =
+    (f d.node h.0, h.1 ∙ ap (λ (l : List NodeEvent). events_of before ++ l) (sym (append-nil d.events)))
+
+module _ {Core : Type 0} (step : Core → Stream → PlanMsg → CoreStep Core) (clock : ℕ) where
+  answered : (node : Side Core) (packet : Packet) (from : Stream) (message : PlanMsg) (answer : Admit) (block : Option SignatureBlock) → IsAnswer answer packet block (Plan from message) → admits step clock node packet answer block ≡ takes step clock node from (Some message)
+  answered node packet from message Admitted (Some block) h =
+      λ i. takes step clock node (sym h.0 i) (h.1 i)
+  answered node packet from message Admitted None h = absurd h
+  answered node packet from message Unsigned block h = absurd (let t : Plan from message ≡ Dropped Unsigned = h in cc)
+  answered node packet from message BadSignature block h = absurd (let t : Plan from message ≡ Dropped BadSignature = h in cc)
+  answered node packet from message (NotLater last) block h = absurd (let t : Plan from message ≡ Dropped (NotLater last) = h in cc)
+  answered node packet from message (TooOld local) block h = absurd (let t : Plan from message ≡ Dropped (TooOld local) = h in cc)
+  answered node packet from message TooManyStreams block h = absurd (let t : Plan from message ≡ Dropped TooManyStreams = h in cc)
+
+  -- a frame whose plan message was told
+  pub hears_plan : (node : Side Core) (packet : Packet) (from : Stream) (message : PlanMsg) → IsTried node.link packet (Plan from message) → hears step clock packet node ≡ takes step clock (record node { link = tries packet node.link }) from (Some message)
+  hears_plan node packet from message h =
+      answered (record node { link = tries packet node.link }) packet from message (answer_to node.link.key node.link.history packet) packet.block h
+
+  -- the messages that a node knows stay
+  abbrev LinkKeeps : Outcome Link → List (ℕ × ℕ) → Type 0
+  LinkKeeps None extras = Unit {0}
+  LinkKeeps (Some d) extras = d.node.extras ≡ extras
+
+  abbrev pub Keeps : Outcome (Side Core) → List (ℕ × ℕ) → Type 0
+  Keeps None extras = Unit {0}
+  Keeps (Some d) extras = d.node.link.extras ≡ extras
+
+  unless : (t : Bool) (d : Done Link) (extras : List (ℕ × ℕ)) → d.node.extras ≡ extras → LinkKeeps (if t then None else Some d) extras
+  unless true d extras e = tt
+  unless false d extras e = e
+
+  sends_keep : (message : Message) (link : Link) → LinkKeeps (sends clock message link) link.extras
+  sends_keep message link = unless (nat_lt greatest_stamp (next_in link.history clock)) _ link.extras refl
+
+  answers_keep : (answer : Option PlanMsg) (link : Link) → LinkKeeps (answers clock answer link) link.extras
+  answers_keep None link = refl
+  answers_keep (Some message) link = sends_keep (message_of_plan message) link
+
+  core_keeps : (core : Core) (last : List NodeEvent) (outcome : Outcome Link) (extras : List (ℕ × ℕ)) → LinkKeeps outcome extras → Keeps (with_core core last outcome) extras
+  core_keeps core last None extras h = tt
+  core_keeps core last (Some d) extras h = h
+
+  behind_keeps : (events : List NodeEvent) (outcome : Outcome (Side Core)) (extras : List (ℕ × ℕ)) → Keeps outcome extras → Keeps (behind events outcome) extras
+  behind_keeps events None extras h = tt
+  behind_keeps events (Some d) extras h = h
+
+  takes_keep : (node : Side Core) (from : Stream) (message : Option PlanMsg) → Keeps (takes step clock node from message) node.link.extras
+  takes_keep node from None = refl
+  takes_keep node from (Some message) =
+      let s = step node.core from message in
+      behind_keeps s.first (with_core s.core s.last (answers clock s.answer node.link)) node.link.extras (core_keeps s.core s.last (answers clock s.answer node.link) node.link.extras (answers_keep s.answer node.link))
+
+  admits_keep : (node : Side Core) (packet : Packet) (answer : Admit) (block : Option SignatureBlock) → Keeps (admits step clock node packet answer block) node.link.extras
+  admits_keep node packet Admitted (Some block) = takes_keep node (stream_of packet block) (plan_in packet.id packet.payload)
+  admits_keep node packet Admitted None = refl
+  admits_keep node packet Unsigned block = refl
+  admits_keep node packet BadSignature block = refl
+  admits_keep node packet (NotLater last) block = refl
+  admits_keep node packet (TooOld local) block = refl
+  admits_keep node packet TooManyStreams block = refl
+
+  pub hears_keep : (packet : Packet) (node : Side Core) → Keeps (hears step clock packet node) node.link.extras
+  hears_keep packet node =
+      admits_keep (record node { link = tries packet node.link }) packet (answer_to node.link.key node.link.history packet) packet.block
+
+-- what became of a frame, by what was heard of it
+pub heard_plan : (packet : Packet) (from : Stream) (message : Message) (answer : Admit) (block : Option SignatureBlock) (plan : PlanMsg) → AnswerIs answer packet block (HeardMessage from message) → (profile_definition packet.id ≡ Some (definition_of message) → Represents (definition_of message) packet.payload (values_of message) → plan_in packet.id packet.payload ≡ Some plan) → IsAnswer answer packet block (Plan from plan)
+heard_plan packet from message Admitted (Some block) plan h f = (h.0, f h.1 h.2)
+heard_plan packet from message Admitted None plan h f = h
+heard_plan packet from message Unsigned block plan h f = absurd (let t : HeardMessage from message ≡ HeardDropped Unsigned = h in cc)
+heard_plan packet from message BadSignature block plan h f = absurd (let t : HeardMessage from message ≡ HeardDropped BadSignature = h in cc)
+heard_plan packet from message (NotLater last) block plan h f = absurd (let t : HeardMessage from message ≡ HeardDropped (NotLater last) = h in cc)
+heard_plan packet from message (TooOld local) block plan h f = absurd (let t : HeardMessage from message ≡ HeardDropped (TooOld local) = h in cc)
+heard_plan packet from message TooManyStreams block plan h f = absurd (let t : HeardMessage from message ≡ HeardDropped TooManyStreams = h in cc)
+
+pub heard_none : (packet : Packet) (from : Stream) (message : Message) (answer : Admit) (block : Option SignatureBlock) → AnswerIs answer packet block (HeardMessage from message) → (profile_definition packet.id ≡ Some (definition_of message) → Represents (definition_of message) packet.payload (values_of message) → plan_in packet.id packet.payload ≡ None) → IsAnswer answer packet block Other
+heard_none packet from message Admitted (Some block) h f = f h.1 h.2
+heard_none packet from message Admitted None h f = h
+heard_none packet from message Unsigned block h f = absurd (let t : HeardMessage from message ≡ HeardDropped Unsigned = h in cc)
+heard_none packet from message BadSignature block h f = absurd (let t : HeardMessage from message ≡ HeardDropped BadSignature = h in cc)
+heard_none packet from message (NotLater last) block h f = absurd (let t : HeardMessage from message ≡ HeardDropped (NotLater last) = h in cc)
+heard_none packet from message (TooOld local) block h f = absurd (let t : HeardMessage from message ≡ HeardDropped (TooOld local) = h in cc)
+heard_none packet from message TooManyStreams block h f = absurd (let t : HeardMessage from message ≡ HeardDropped TooManyStreams = h in cc)
+
+pub heard_other : (packet : Packet) (from : Stream) (id : ℕ) (answer : Admit) (block : Option SignatureBlock) → AnswerIs answer packet block (HeardOther from id) → IsAnswer answer packet block Other
+heard_other packet from id Admitted (Some block) h = none_carried packet.id packet.payload h.2
+heard_other packet from id Admitted None h = h
+heard_other packet from id Unsigned block h = absurd (let t : HeardOther from id ≡ HeardDropped Unsigned = h in cc)
+heard_other packet from id BadSignature block h = absurd (let t : HeardOther from id ≡ HeardDropped BadSignature = h in cc)
+heard_other packet from id (NotLater last) block h = absurd (let t : HeardOther from id ≡ HeardDropped (NotLater last) = h in cc)
+heard_other packet from id (TooOld local) block h = absurd (let t : HeardOther from id ≡ HeardDropped (TooOld local) = h in cc)
+heard_other packet from id TooManyStreams block h = absurd (let t : HeardOther from id ≡ HeardDropped TooManyStreams = h in cc)
+
+-- the same, by a frame seen from inside
+pub plan_tried : {p q : Packet} → p ≡ q → (link : Link) (from : Stream) (message : Message) (plan : PlanMsg) → HeardIs link.key link.history q (HeardMessage from message) → (profile_definition p.id ≡ Some (definition_of message) → Represents (definition_of message) p.payload (values_of message) → plan_in p.id p.payload ≡ Some plan) → IsTried link q (Plan from plan)
+plan_tried {p} {q} e link from message plan h f =
+    subst (λ (z : Packet). IsTried link z (Plan from plan)) e (heard_plan p from message (answer_to link.key link.history p) p.block plan (subst (λ (z : Packet). HeardIs link.key link.history z (HeardMessage from message)) (sym e) h) f)
+
+pub none_tried : {p q : Packet} → p ≡ q → (link : Link) (from : Stream) (message : Message) → HeardIs link.key link.history q (HeardMessage from message) → (profile_definition p.id ≡ Some (definition_of message) → Represents (definition_of message) p.payload (values_of message) → plan_in p.id p.payload ≡ None) → IsTried link q Other
+none_tried {p} {q} e link from message h f =
+    subst (λ (z : Packet). IsTried link z Other) e (heard_none p from message (answer_to link.key link.history p) p.block (subst (λ (z : Packet). HeardIs link.key link.history z (HeardMessage from message)) (sym e) h) f)

@@ -1,0 +1,5 @@
+mod PlanPayloads
+mod Tables
+mod Cores
+mod Leads
+mod Sendings

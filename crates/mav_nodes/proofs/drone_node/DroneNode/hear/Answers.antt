@@ -1,0 +1,22 @@
+use Rattle.std.proofs.Common.{◌∙◌, sym, subst}
+use Rattle.mav_nodes.specs.Links.{Outcome, tries}
+use Rattle.mav_nodes.specs.Steps.{Side, hears}
+use Rattle.mav_nodes.specs.Nodes.{drone_core, DroneView, IsDrone}
+use Rattle.mav_nodes.specs.Promises.{DroneDid}
+use Rattle.plan_upload.specs.Drone.{DroneState}
+use Rattle.mav_nodes.proofs.Cores.{if_ok, if_err, hears_plan}
+use Rattle.mav_nodes.proofs.drone_node.DroneNode.hear.Goals as goal
+
+pub returns-in-Plan-clause-done : goal.returns-in-Plan-clause-done
+returns-in-Plan-clause-done c =
+    if_ok c.take.result (λ a done node is.
+    let inside = subst (IsDrone node) (sym c.self.view_is) is in
+    let same = hears_plan drone_core c.args.clock node c.args.frame.now c.in-Plan.from c.in-Plan.message (c.in-Plan.ensures.tried node.link inside.link) in
+    subst (λ (o : Outcome (Side DroneState)). DroneDid o c.take.new.self c.args.news.now.items c.take.new.news.items) (sym same) (done (record node { link = tries c.args.frame.now node.link }) (record { link = c.in-Plan.ensures.link node.link inside.link; drone = inside.drone }))) c.take.ensures.done
+
+pub returns-in-Plan-clause-spent : goal.returns-in-Plan-clause-spent
+returns-in-Plan-clause-spent c =
+    if_err c.take.result (λ fault spent node is stamps.
+    let inside = subst (IsDrone node) (sym c.self.view_is) is in
+    let same = hears_plan drone_core c.args.clock node c.args.frame.now c.in-Plan.from c.in-Plan.message (c.in-Plan.ensures.tried node.link inside.link) in
+    same ∙ spent (record node { link = tries c.args.frame.now node.link }) (record { link = c.in-Plan.ensures.link node.link inside.link; drone = inside.drone }) stamps) c.take.ensures.spent

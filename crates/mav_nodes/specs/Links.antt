@@ -1,0 +1,68 @@
+-- A node's end of its links: what it has heard and sent, and what it sends next.
+use Rattle.std.specs.Prelude.{ℕ, ◌≡◌, ◌+◌, ◌%◌, nat_lt, if◌then◌else◌, List, [], ◌∷◌, ◌++◌, Option, Some, None}
+use Rattle.mav_ports.specs.declared.names.Stream.{Stream}
+use Rattle.mav_frame.specs.Packet.{Packet}
+use Rattle.mav_messages.specs.declared.messages.Message.{Message}
+use Rattle.mav_sign.specs.History.{Entry, tried, sent, answer_to, next_in, greatest_stamp}
+use Rattle.mav_sign.specs.Kept.{Represents}
+use Rattle.mav_sign.specs.Endpoints.{EndpointState, after_frame}
+use Rattle.mav_nodes.specs.News.{NodeEvent, Sends}
+use Rattle.mav_nodes.specs.Signed.{signed_packet}
+
+-- its key, its stream, the CRC_EXTRA bytes of the messages that it knows, the history of the frames that it tried and the
+-- timestamps that it sent, and its next sequence number
+pub record Link : Type 0 where
+  pub key : List ℕ
+  pub me : Stream
+  pub extras : List (ℕ × ℕ)
+  pub history : List Entry
+  pub seq : ℕ
+
+-- it has heard and sent nothing
+abbrev pub new_link : List ℕ → Stream → List (ℕ × ℕ) → Link
+new_link key me extras = record { key = key; me = me; extras = extras; history = []; seq = 0 }
+
+-- an endpoint in this state
+pub record IsLink (link : Link) (endpoint : EndpointState) : Type 0 where
+  pub key : endpoint.key ≡ link.key
+  pub me : endpoint.me ≡ link.me
+  pub extras : endpoint.extras ≡ link.extras
+  pub seq : endpoint.seq ≡ link.seq
+  pub history : Represents endpoint.stamps link.history
+
+-- what a call leaves of a node, and what happened in it
+pub record Done (A : Type 0) : Type 0 where
+  pub node : A
+  pub events : List NodeEvent
+
+-- it is done, or no timestamp was left for a frame to send
+abbrev pub Outcome : Type 0 → Type 0
+Outcome A = Option (Done A)
+
+abbrev pub done : {A : Type 0} → A → List NodeEvent → Outcome A
+done node events = Some (record { node = node; events = events })
+
+-- the same behind earlier events
+abbrev pub behind : {A : Type 0} → List NodeEvent → Outcome A → Outcome A
+behind events None = None
+behind events (Some d) = done d.node (events ++ d.events)
+
+-- one thing and then another
+abbrev pub and_then : {A B : Type 0} → Outcome A → (A → Outcome B) → Outcome B
+and_then None next = None
+and_then (Some d) next = behind d.events (next d.node)
+
+-- a frame was tried
+abbrev pub tries : Packet → Link → Link
+tries packet link = record link { history = after_frame link.key link.history packet }
+
+-- the link after a frame at that timestamp
+abbrev pub sent_at : ℕ → Link → Link
+sent_at stamp link = record link { history = link.history ++ sent stamp ∷ []; seq = (link.seq + 1) % 256 }
+
+-- a message is sent: signed, with the next sequence number, at the next timestamp by the clock
+abbrev pub sends : ℕ → Message → Link → Outcome Link
+sends clock message link =
+    let stamp = next_in link.history clock in
+    if nat_lt greatest_stamp stamp then None
+    else done (sent_at stamp link) (Sends (signed_packet link.key link.extras link.me link.seq stamp message) message ∷ [])

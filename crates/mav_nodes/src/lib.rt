@@ -1,0 +1,27 @@
+//! Drones and stations as nodes over datagrams: each frame that comes in is tried, an admitted plan message goes to the
+//! node's plan core, and its answer is sent at once as a signed frame.
+//!
+//! A node tells all that happened as a list of [`News`]; a caller sends the frames among them. What a node does is a total
+//! function of its state, the datagram and the clock. It has no link of its own, and no clock.
+#![tactic(auto)]
+
+mod drone_node;
+mod faults;
+mod heartbeats;
+pub mod laws;
+mod link;
+mod news;
+mod orders;
+mod station_node;
+
+pub use drone_node::DroneNode;
+pub use faults::{NodeFault, OrderFault};
+pub use news::News;
+pub use orders::Order;
+pub use station_node::StationNode;
+use std::alloc::AllocError;
+
+pub type NoMemory = AllocError;
+
+#[cfg(test)]
+mod tests;

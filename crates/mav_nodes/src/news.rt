@@ -1,0 +1,28 @@
+// What happens in a node.
+use mav_frame::Frame;
+use mav_messages::Message;
+use mav_ports::Stream;
+use mav_sign::Admit;
+use plan_items::PlanKind;
+use plan_upload::Outcome;
+
+/// What happened in a node, in the order in which it did.
+#[derive(Drop)]
+pub enum News {
+    /// The node sent this frame, which carries the message.
+    Sent(Frame, Message),
+    /// A plan was installed.
+    Installed {
+        kind: PlanKind,
+        count: u16,
+        by: Stream,
+    },
+    /// A plan was emptied, also where it was so already.
+    Emptied {
+        kind: PlanKind,
+    },
+    /// A frame wasn't admitted.
+    Dropped(Admit),
+    /// The station's operation has ended.
+    Outcome(Outcome),
+}
