@@ -22,6 +22,3 @@ pub use station_node::StationNode;
 use std::alloc::AllocError;
 
 pub type NoMemory = AllocError;
-
-#[cfg(test)]
-mod tests;
