@@ -6,6 +6,8 @@ use Rattle.mav_frame.specs.Numbers.{number_at}
 use Rattle.mav_frame.specs.Packet.{SignatureBlock, Packet}
 use Rattle.mav_frame.specs.declared.looks.Look.{Look}
 use Rattle.mav_frame.specs.declared.looks.Look.TheVariants.{Frame, NotHere, More}
+use Rattle.mav_frame.specs.declared.looks.Sight.{Sight}
+use Rattle.mav_frame.specs.declared.looks.Sight.TheVariants.{Whole, NotHere as HereNot, More as MoreOf}
 use Rattle.mav_frame.specs.declared.looks.Why.TheVariants.{NotStx, UnknownFlag, UnknownId, BadCheck}
 
 -- the message id of a header
@@ -60,6 +62,18 @@ look_of extras b =
     else if nat_lt 1 (slice_index b 2) then NotHere UnknownFlag
     else if nat_lt (length b) 10 then More (10 - length b)
     else look_id (extra_of (id_at b) extras) b
+
+-- what the bytes begin with, by a sight of them
+abbrev pub look_by : Sight → List ℕ → Look
+look_by (Whole size) b = Frame (packet_at b) size
+look_by (HereNot why) b = NotHere why
+look_by (MoreOf lacking) b = More lacking
+
+-- a fact of a frame that was seen, and of its length
+abbrev pub IfWhole : Sight → (ℕ → Type 0) → Type 0
+IfWhole (Whole size) P = P size
+IfWhole (HereNot why) P = Unit {0}
+IfWhole (MoreOf lacking) P = Unit {0}
 
 -- a fact of a frame that was found, and of its length
 abbrev pub IfFrame : Look → (Packet → ℕ → Type 0) → Type 0

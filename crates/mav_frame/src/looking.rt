@@ -3,10 +3,10 @@ ghost use Rattle.std.specs.Prelude.{◌≡◌, ◌+◌, ◌≤◌, ◌++◌, ℕ
 ghost use Rattle.mav_frame.specs.Padding.{IsPadded};
 ghost use Rattle.mav_frame.specs.Packet.{Packet, FitsFrame};
 ghost use Rattle.mav_frame.specs.Encoding.{Encodes, IsSealed, encoding};
-ghost use Rattle.mav_frame.specs.Looks.{IfFrame, look_of, look_known as look_at_known, packet_at, frame_size_at, block_at, check_place};
+ghost use Rattle.mav_frame.specs.Looks.{IfFrame, IfWhole, look_by, look_of, look_known as look_at_known, packet_at, frame_size_at, block_at, check_place};
 
 use crate::encoding::STX;
-use crate::looks::{Look, Why};
+use crate::looks::{Look, Sight, Why};
 use crate::numbers::{number_2, number_3, number_6};
 use crate::{Block, Frame};
 use mav_ports::Name;
@@ -34,45 +34,75 @@ pub fn look(extras: &Extras, bytes: &[u8]) -> Look
 fn answer(extras: &Extras, bytes: &[u8]) -> Look
     ensures { result ≡ look_of extras.now bytes.now }
 {
+    match seen(extras, bytes) {
+        Sight::Whole(size) => Look::Frame(frame_of(bytes), size),
+        Sight::NotHere(why) => Look::NotHere(why),
+        Sight::More(lacking) => Look::More(lacking),
+    }
+}
+
+/// What the bytes begin with, without the frame.
+pub fn sight(extras: &Extras, bytes: &[u8]) -> Sight
+    ensures exact { look_by result bytes.now ≡ look_of extras.now bytes.now }
+    ensures whole { IfWhole result (λ size. frame_size_at bytes.now ≤ length bytes.now) }
+    // The bytes in front encode a frame.
+    ensures found { IfWhole result (λ size. (size ≤ length bytes.now) × Encodes extras.now (packet_at bytes.now) (take size bytes.now) × FitsFrame (packet_at bytes.now)) }
+{
+    seen(extras, bytes)
+}
+
+/// The frame that stands in front of the bytes, if one does.
+pub fn frame_at(bytes: &[u8]) -> Frame
+    requires { frame_size_at bytes.now ≤ length bytes.now }
+    ensures { result ≡ packet_at bytes.now }
+{
+    frame_of(bytes)
+}
+
+fn seen(extras: &Extras, bytes: &[u8]) -> Sight
+    ensures exact { look_by result bytes.now ≡ look_of extras.now bytes.now }
+    ensures whole { IfWhole result (λ size. frame_size_at bytes.now ≤ length bytes.now) }
+{
     let held = bytes.len();
     if held > 0 && bytes[0] != STX {
-        return Look::NotHere(Why::NotStx);
+        return Sight::NotHere(Why::NotStx);
     }
     if held < 3 {
-        return Look::More(3 - held);
+        return Sight::More(3 - held);
     }
     if bytes[2] > 1 {
-        return Look::NotHere(Why::UnknownFlag);
+        return Sight::NotHere(Why::UnknownFlag);
     }
     if held < HEADER_BYTES {
-        return Look::More(HEADER_BYTES - held);
+        return Sight::More(HEADER_BYTES - held);
     }
     let id = number_3(bytes, 7);
     match extras.get(id) {
-        None => Look::NotHere(Why::UnknownId),
-        Some(extra) => look_known(extra, bytes),
+        None => Sight::NotHere(Why::UnknownId),
+        Some(extra) => seen_known(extra, bytes),
     }
 }
 
 // The same, where the CRC_EXTRA of the id is known.
-fn look_known(extra: u8, bytes: &[u8]) -> Look
+fn seen_known(extra: u8, bytes: &[u8]) -> Sight
     requires header { 10 ≤ length bytes.now }
     requires flags { slice_index bytes.now 2 ≤ 1 }
-    ensures { result ≡ look_at_known extra bytes.now }
+    ensures exact { look_by result bytes.now ≡ look_at_known extra bytes.now }
+    ensures whole { IfWhole result (λ size. frame_size_at bytes.now ≤ length bytes.now) }
 {
     let held = bytes.len();
     let place = HEADER_BYTES + usize::from(bytes[1]);
     let size = place + CHECK_BYTES + if bytes[2] == 0 { 0 } else { BLOCK_BYTES };
     if held < size {
-        return Look::More(size - held);
+        return Sight::More(size - held);
     }
     let mut check = X25::new();
     check.push_all(&bytes[1..place]);
     check.push(extra);
     if number_2(bytes, place) == check.value() {
-        Look::Frame(frame_of(bytes), size)
+        Sight::Whole(size)
     } else {
-        Look::NotHere(Why::BadCheck)
+        Sight::NotHere(Why::BadCheck)
     }
 }
 
@@ -95,6 +125,7 @@ pub(crate) fn payload_of(bytes: &[u8]) -> [u8; 255]
     payload
 }
 
+#[inline(never)]
 fn frame_of(bytes: &[u8]) -> Frame
     requires { frame_size_at bytes.now ≤ length bytes.now }
     ensures { result ≡ packet_at bytes.now }

@@ -19,3 +19,11 @@ pub enum Look {
     NotHere(Why),
     More(usize),
 }
+
+/// The same without the frame: its length alone.
+#[derive(Clone, Copy, Debug, PartialEq, Eq)]
+pub enum Sight {
+    Whole(usize),
+    NotHere(Why),
+    More(usize),
+}

@@ -2,4 +2,5 @@ mod Windows
 pub mod Steps
 mod Answers
 mod GarbageRuns
+mod FlaggedRuns
 mod CallList

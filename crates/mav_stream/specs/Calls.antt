@@ -3,17 +3,19 @@ use Rattle.std.specs.Prelude.{ℕ, ◌≡◌, ◌-◌, ◌++◌, ◌∷◌, List
 use Rattle.mav_frame.specs.declared.events.Event.{Event}
 use Rattle.mav_stream.specs.Held.{Held, nothing_held}
 use Rattle.mav_stream.specs.Garbage.{before_stx, from_stx, not_stx}
+use Rattle.mav_stream.specs.Flagged.{before_other, from_other, unknown_flag}
 use Rattle.mav_stream.specs.Nexts.{NextIs, given_by}
 use Rattle.mav_stream.specs.Progress.{Progress, IsWhole}
 use Rattle.mav_stream.specs.declared.Next.{Next}
 use Rattle.mav_stream.specs.declared.Next.TheVariants.{Need}
 
--- `feed` of a piece, which took so many bytes; `end`; `next` and its answer; `skip_garbage` of these bytes
+-- `feed` of a piece, which took so many bytes; `end`; `next` and its answer; `skip_garbage` and `skip_flagged` of these bytes
 pub data Call : Type 0 where
   fed : List ℕ → ℕ → Call
   closed : Call
   asked : Next → Call
   swept : List ℕ → Call
+  passed : List ℕ → Call
 
 -- what the call does
 abbrev pub CallIs : Held → Call → Held → Type 0
@@ -22,6 +24,7 @@ CallIs old (fed piece count) new =
 CallIs old closed new = new ≡ record old { ended = true }
 CallIs old (asked answer) new = NextIs old answer new
 CallIs old (swept bytes) new = (bytes ≡ before_stx old.bytes) × (new ≡ record old { bytes = from_stx old.bytes })
+CallIs old (passed bytes) new = (bytes ≡ before_other old.bytes) × (new ≡ record old { bytes = from_other old.bytes })
 
 -- what the calls do, one after another
 abbrev pub CallsAre : Held → List Call → Held → Type 0
@@ -34,12 +37,14 @@ taken_by (fed piece count) = take count piece
 taken_by closed = []
 taken_by (asked answer) = []
 taken_by (swept bytes) = []
+taken_by (passed bytes) = []
 
 abbrev pub events_of : Call → List Event
 events_of (fed piece count) = []
 events_of closed = []
 events_of (asked answer) = given_by answer
 events_of (swept bytes) = map not_stx bytes
+events_of (passed bytes) = map unknown_flag bytes
 
 -- over any list of calls the events given begin the parse of the bytes taken
 abbrev pub AnyCalls : Type 0

@@ -2,4 +2,5 @@ pub mod Held
 pub mod Nexts
 pub mod Progress
 pub mod Garbage
+pub mod Flagged
 pub mod Calls

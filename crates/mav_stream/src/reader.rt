@@ -1,15 +1,16 @@
 // The reader of a stream.
-ghost use Rattle.std.specs.Prelude.{◌≡◌, ◌+◌, ◌-◌, ◌<◌, ◌≤◌, ◌≢◌, ◌++◌, ℕ, List, [], length, take, drop, min, map, slice_index, IfSome, true, false};
-ghost use Rattle.mav_frame.specs.Looks.{look_of};
+ghost use Rattle.std.specs.Prelude.{◌≡◌, ◌+◌, ◌-◌, ◌<◌, ◌≤◌, ◌≢◌, ◌++◌, ℕ, List, [], length, take, drop, min, map, slice_index, true, false};
 ghost use Rattle.mav_frame.specs.declared.events.Event.{Event};
 ghost use Rattle.mav_stream.specs.Garbage.{before_stx, from_stx, not_stx};
+ghost use Rattle.mav_stream.specs.Flagged.{is_flagged as is_flagged_at, before_other, from_other, unknown_flag};
 ghost use Rattle.mav_stream.specs.Held.{Held, nothing_held};
 ghost use Rattle.mav_stream.specs.Nexts.{NextIs, HasRoomBehind, given_by};
 ghost use Rattle.mav_stream.specs.Progress.{Progress, WholeAtNeed};
 
 use crate::Next;
 use crate::window::Window;
-use mav_frame::{Look, Why, look};
+use mav_frame::{Sight, Why, frame_at, sight};
+use memchr::memchr;
 use std::marker::Model;
 use x25_check::Extras;
 
@@ -22,12 +23,33 @@ fn stx_place(bytes: &[u8]) -> usize
     ensures before { (k : ℕ) → k < result → slice_index bytes.now k ≢ 0xFD }
     ensures found { result < length bytes.now → slice_index bytes.now result ≡ 0xFD }
 {
-    for (place, byte) in bytes.iter().enumerate() {
-        if *byte == STX {
+    match memchr(STX, bytes) {
+        Some(place) => place,
+        None => bytes.len(),
+    }
+}
+
+#[inline(always)]
+fn is_flagged(bytes: &[u8], place: usize) -> bool
+    requires { place + 2 < length bytes.now }
+    ensures { result ≡ is_flagged_at bytes.now place }
+{
+    bytes[place] == STX && bytes[place + 2] > 1
+}
+
+// How many STX with unknown flags stand in front.
+fn flagged_length(bytes: &[u8]) -> usize
+    ensures within { result ≤ length bytes.now }
+    ensures before { (k : ℕ) → k < result → is_flagged_at bytes.now k ≡ true }
+    ensures other { is_flagged_at bytes.now result ≡ false }
+{
+    let most = bytes.len().saturating_sub(2);
+    for place in 0..most {
+        if !is_flagged(bytes, place) {
             return place;
         }
     }
-    bytes.len()
+    most
 }
 
 /// A reader of one stream, which contracts see as the bytes that it holds: those taken that are in no event yet, at most 280.
@@ -88,7 +110,7 @@ impl Reader {
         ensures whole { (extras : List (ℕ × ℕ)) (taken : List ℕ) (given : List Event) → Progress extras taken given self.old → WholeAtNeed extras taken given result self.new }
     {
         let _held = self.window.bytes();
-        self.answer()
+        self.looked()
     }
 
     /// The bytes held in front of the first STX, or all where there is none: `next` would skip them one by one.
@@ -110,44 +132,38 @@ impl Reader {
         self.window.remove(count);
     }
 
-    // The answer: where the first three bytes tell it, without a look at the others.
-    #[inline(always)]
-    fn answer(&mut self) -> Next
-        ensures { NextIs self.old result self.new }
+    /// The STX held in front with an unknown flag two bytes on: `next` would skip them one by one.
+    pub fn flagged(&self) -> &[u8]
+        ensures { result.now ≡ before_other self.now.bytes }
     {
-        if let Some(why) = self.early() {
-            return self.skip(why);
-        }
-        self.looked()
+        let held = self.window.bytes();
+        &held[..flagged_length(held)]
     }
 
-    #[inline(always)]
-    fn early(&self) -> Option<Why>
-        ensures { IfSome result (λ why. look_of self.now.extras self.now.bytes ≡ Look.NotHere why) }
+    /// Skips these bytes.
+    pub fn skip_flagged(&mut self)
+        ensures held { self.new ≡ record self.old { bytes = from_other self.old.bytes } }
+        ensures room { length self.new.bytes ≤ length self.old.bytes }
+        // The events given and those of these bytes begin the parse.
+        ensures progress { (extras : List (ℕ × ℕ)) (taken : List ℕ) (given : List Event) → Progress extras taken given self.old → Progress extras taken (given ++ map unknown_flag (before_other self.old.bytes)) self.new }
     {
-        let bytes = self.window.bytes();
-        if bytes.is_empty() {
-            return None;
-        }
-        if bytes[0] != STX {
-            return Some(Why::NotStx);
-        }
-        if bytes.len() >= 3 && bytes[2] > 1 {
-            return Some(Why::UnknownFlag);
-        }
-        None
+        let flagged = flagged_length(self.window.bytes());
+        self.window.remove(flagged);
     }
 
+    #[inline(never)]
     fn looked(&mut self) -> Next
         ensures { NextIs self.old result self.new }
     {
-        match look(&self.extras, self.window.bytes()) {
-            Look::Frame(frame, size) => {
+        let bytes = self.window.bytes();
+        match sight(&self.extras, bytes) {
+            Sight::Whole(size) => {
+                let frame = frame_at(bytes);
                 self.window.remove(size);
                 Next::Frame(frame)
             }
-            Look::NotHere(why) => self.skip(why),
-            Look::More(_) => {
+            Sight::NotHere(why) => self.skip(why),
+            Sight::More(_) => {
                 if !self.ended || self.window.bytes().is_empty() {
                     return Next::Need;
                 }

@@ -1,21 +1,15 @@
 -- The fields of a frame, put one after another.
-use Rattle.std.proofs.Common.{◌≡◌, ℕ, suc, ◌+◌, List, [], ◌∷◌, ◌++◌, Some, length, take, drop, get_or, sym, ap, ◌∙◌, arith, append_assoc, drop-cons, length-take}
+use Rattle.std.proofs.Common.{◌≡◌, ℕ, suc, ◌+◌, List, [], ◌∷◌, ◌++◌, Some, length, drop, get_or, sym, ap, ◌∙◌, arith, append_assoc, append-nil, drop-cons}
 use Rattle.std.specs.Prelude.{slice_get}
-use Rattle.std.proofs.lemmas.List.{take-append-le}
 use Rattle.std.proofs.lemmas.Option.{get_or_from_slice_get, slice_get_within}
 use Rattle.field_layout.specs.declared.fields.Field.{Field}
 use Rattle.field_layout.proofs.Walking.{nowhere}
 use Rattle.mav_text.specs.FrameText.{value_text, field_text, fields_text}
 
--- what is kept of the text before is kept when more is put behind it
-pub kept_on : (start out more : List ℕ) (count : ℕ) → count ≡ length start → take count out ≡ start → take count (out ++ more) ≡ start
-kept_on start out more count is kept =
-    let long = ap length kept in
-    take-append-le count out more (omega (arith, long, length-take count out)) ∙ kept
-
--- a space, a name and a text put one after another are put as one
-pub together : (out name shown : List ℕ) → out ++ (32 ∷ []) ++ name ++ shown ≡ out ++ (32 ∷ (name ++ shown))
-together out name shown = append_assoc (out ++ (32 ∷ [])) name shown ∙ append_assoc out (32 ∷ []) (name ++ shown)
+-- a space, a name, an equals sign and a value put one after another are put as one
+pub together : (out text after behind name shown : List ℕ) → after ++ behind ≡ (out ++ (text ++ 32 ∷ [])) ++ name → after ++ ((behind ++ 61 ∷ []) ++ shown) ≡ (out ++ text) ++ ((32 ∷ name) ++ (61 ∷ shown))
+together out text after behind name shown put =
+    simp append_assoc (simp append_assoc at (ap (λ (t : List ℕ). t ++ 61 ∷ shown) put))
 
 pub field_put : (words : ℕ → Field → List ℕ) (place : ℕ) (all : List Field) (field : Field) (out after name shown : List ℕ) → slice_get all place ≡ Some field → after ≡ out ++ (32 ∷ (name ++ shown)) → name ≡ field.name → shown ≡ 61 ∷ value_text field (words place field) → after ++ fields_text words (place + 1) (drop (place + 1) all) ≡ out ++ fields_text words place (drop place all)
 field_put words place all field out after name shown got put named text =
@@ -28,3 +22,11 @@ field_put words place all field out after name shown got put named text =
     ap (λ (t : List ℕ). t ++ rest) (put ∙ whole)
     ∙ (append_assoc out (field_text field (words place field)) rest
     ∙ ap (λ (fields : List Field). out ++ fields_text words place fields) (sym split))
+
+-- a name, a sender, fields and a block put one after another are put as one
+pub frame_together : (out o1 t1 o2 t2 o3 t3 name sender fields block : List ℕ) → o1 ++ t1 ≡ (out ++ []) ++ name → o2 ++ t2 ≡ o1 ++ (t1 ++ sender) → o3 ++ t3 ≡ (o2 ++ t2) ++ fields → o3 ++ (t3 ++ block) ≡ out ++ (name ++ sender ++ fields ++ block)
+frame_together out o1 t1 o2 t2 o3 t3 name sender fields block first second third =
+    let front : o1 ++ t1 ≡ out ++ name = first ∙ ap (λ (t : List ℕ). t ++ name) (append-nil out) in
+    sym (append_assoc o3 t3 block)
+    ∙ (ap (λ (t : List ℕ). t ++ block) (third ∙ ap (λ (t : List ℕ). t ++ fields) (second ∙ (sym (append_assoc o1 t1 sender) ∙ ap (λ (t : List ℕ). t ++ sender) front)))
+    ∙ simp append_assoc)

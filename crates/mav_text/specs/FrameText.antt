@@ -15,6 +15,10 @@ use Rattle.mav_frame.specs.declared.looks.Why.TheVariants.{NotStx, UnknownFlag, 
 
 -- ---- numbers
 
+-- two decimal digits, the first of which may be 0
+abbrev pub pair_text : ℕ → List ℕ
+pair_text pair = (48 + pair / 10) ∷ (48 + pair % 10) ∷ []
+
 -- a hexadecimal digit, in lower case
 abbrev pub hex_digit : ℕ → ℕ
 hex_digit nibble = if nat_lt nibble 10 then 48 + nibble else 87 + nibble
@@ -132,3 +136,8 @@ why_text Short = codes "short"
 -- `OFFSET skip BYTE WHY` and the line end
 abbrev pub skip_line : ℕ → ℕ → Why → List ℕ
 skip_line offset byte why = decimal offset ++ codes " skip " ++ byte_hex byte ++ 32 ∷ why_text why ++ 10 ∷ []
+
+-- the lines of bytes that are skipped one after another for one reason, the first of which stands at `offset`
+abbrev pub skip_lines : ℕ → List ℕ → Why → List ℕ
+skip_lines offset [] why = []
+skip_lines offset (byte ∷ bytes) why = skip_line offset byte why ++ skip_lines (offset + 1) bytes why

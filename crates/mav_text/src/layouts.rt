@@ -4,7 +4,7 @@ ghost use Rattle.field_layout.specs.Definition.{all_fields};
 ghost use Rattle.mav_text.specs.LayoutText as spec;
 
 use crate::NoMemory;
-use crate::pieces::{put_number, put_text};
+use crate::pieces::{put_decimal, put_text};
 use dialect::type_word;
 use field_layout::{Field, Layout};
 
@@ -17,7 +17,7 @@ fn put_type(out: &mut Vec<u8>, field: &Field) -> Result<(), NoMemory>
         return Ok(());
     }
     put_text(out, "[")?;
-    put_number(out, field.len as u32)?;
+    put_decimal(u64::from(field.len), out)?;
     put_text(out, "]")
 }
 
@@ -32,7 +32,7 @@ fn put_field(
     ensures { OnOk result (out.new.items ≡ out.old.items ++ spec.field_line layout.now (place, field.now)) }
 {
     put_text(out, " ")?;
-    put_number(out, layout.offset(place) as u32)?;
+    put_decimal(u64::from(layout.offset(place)), out)?;
     put_text(out, " ")?;
     put_type(out, field)?;
     put_text(out, " ")?;
@@ -45,15 +45,15 @@ fn put_message(out: &mut Vec<u8>, layout: &Layout) -> Result<(), NoMemory>
     ensures { OnOk result (out.new.items ≡ out.old.items ++ spec.message_line layout.now) }
 {
     let def = layout.def();
-    put_number(out, def.id)?;
+    put_decimal(u64::from(def.id), out)?;
     put_text(out, " ")?;
     out.extend_from_slice(def.name.bytes())?;
     put_text(out, " len ")?;
-    put_number(out, layout.base_len() as u32)?;
+    put_decimal(u64::from(layout.base_len()), out)?;
     put_text(out, " full ")?;
-    put_number(out, layout.full_len() as u32)?;
+    put_decimal(u64::from(layout.full_len()), out)?;
     put_text(out, " extra ")?;
-    put_number(out, layout.crc_extra() as u32)?;
+    put_decimal(u64::from(layout.crc_extra()), out)?;
     put_text(out, "\n")
 }
 

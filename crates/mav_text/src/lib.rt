@@ -3,19 +3,23 @@
 //! Each call appends exactly its text, or leaves its output as it was.
 #![tactic(auto)]
 
+mod chunk;
 mod digits;
 mod fields;
 pub mod laws;
 mod layouts;
 mod pieces;
 mod skips;
+mod small;
 #[cfg(test)]
 mod tests;
 mod value;
 
-pub use fields::put_fields;
+pub use fields::{put_fields, put_fields_by};
 pub use layouts::put_layout;
-pub use skips::put_skip;
+pub use pieces::put_decimal;
+pub use skips::{put_skip, put_skips};
 use std::alloc::AllocError;
+pub use value::Text;
 
 pub type NoMemory = AllocError;

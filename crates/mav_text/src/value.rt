@@ -6,15 +6,18 @@ ghost use Rattle.field_layout.specs.Definition.{element_count, size_of};
 ghost use Rattle.field_layout.specs.Reading.{word_from, words_from};
 ghost use Rattle.mav_text.specs.FrameText.{byte_hex, word_hex, signed_text, number_text, char_text, chars_text, further_text, values_text, value_text, sender_text, block_text};
 
-use crate::digits::{byte_digits, write_decimal, write_hex};
+use crate::chunk::put_part;
+use crate::digits::{byte_digits, digit_count, word_digits, write_hex};
+use crate::small::small_digits;
 use field_layout::{Field, Ty};
+use itoa::write_digits;
 use mav_frame::{Block, Frame};
 use std::marker::Model;
 
-/// A text of at most 1,300 bytes, which contracts see as its list: the longest value, of 255 `int8_t`, has 1,276.
+/// A text of at most 2,048 bytes, which contracts see as its list: the longest value, of 255 `int8_t`, has 1,276.
 #[derive(Drop)]
-pub(crate) struct Text {
-    bytes: [u8; 1300],
+pub struct Text {
+    bytes: [u8; 2048],
     len: usize,
 }
 
@@ -25,10 +28,11 @@ impl Model for Text {
 
     ghost view = { λ t. take t.len t.bytes };
 
-    ghost invariant = { λ t. t.len ≤ 1300 };
+    ghost invariant = { λ t. t.len ≤ 2048 };
 }
 
 // The byte at a place of a payload, 0 past its end.
+#[inline(always)]
 fn byte_at(payload: &[u8], at: usize) -> u8
     ensures { result ≡ word_from payload.now at 1 }
 {
@@ -59,11 +63,12 @@ fn read_bytes(payload: &[u8], at: usize, size: usize) -> u64
 }
 
 impl Text {
-    pub(crate) fn new() -> Text
+    /// An empty text.
+    pub fn new() -> Text
         ensures { result ≡ [] }
     {
         Text {
-            bytes: [0; 1300],
+            bytes: [0; 2048],
             len: 0,
         }
     }
@@ -76,13 +81,14 @@ impl Text {
 
     pub(crate) fn bytes(&self) -> &[u8]
         ensures text { result.now ≡ self.now }
-        ensures short { length result.now ≤ 1300 }
+        ensures short { length result.now ≤ 2048 }
     {
         &self.bytes[..self.len]
     }
 
-    fn append(&mut self, text: &[u8])
-        requires { length self.old + length text.now ≤ 1300 }
+    #[inline(always)]
+    pub(crate) fn append(&mut self, text: &[u8])
+        requires { length self.old + length text.now ≤ 2048 }
         ensures text { self.new ≡ self.old ++ text.now }
         ensures len { length self.new ≡ length self.old + length text.now }
     {
@@ -90,28 +96,45 @@ impl Text {
         self.len += text.len();
     }
 
+    #[inline(always)]
     pub(crate) fn push(&mut self, byte: u8)
-        requires { length self.old < 1300 }
+        requires { length self.old < 2048 }
         ensures text { self.new ≡ self.old ++ byte ∷ [] }
         ensures len { length self.new ≡ length self.old + 1 }
     {
-        self.append(&[byte]);
+        self.bytes[self.len] = byte;
+        self.len += 1;
+    }
+
+    // A number below 256: four bytes of a table, of which as many count as the number has digits.
+    #[inline(always)]
+    fn small(&mut self, number: u8)
+        requires { length self.old + 4 ≤ 2048 }
+        ensures text { self.new ≡ self.old ++ decimal number }
+        ensures short { length self.new ≤ length self.old + 3 }
+    {
+        let (digits, len) = small_digits(number);
+        self.len = put_part(&mut self.bytes, self.len, digits, len);
     }
 
     fn decimal(&mut self, number: u64)
-        requires { length self.old + 20 ≤ 1300 }
+        requires { length self.old + 20 ≤ 2048 }
         ensures text { self.new ≡ self.old ++ decimal number }
         ensures short { length self.new ≤ length self.old + 20 }
     {
-        let mut digits = [0; 20];
-        let at = write_decimal(number, &mut digits);
-        self.append(&digits[at..]);
+        if number < 256 {
+            self.small(number as u8);
+            return;
+        }
+        let end = self.len + digit_count(number);
+        let _start = write_digits(number, &mut self.bytes, end);
+        self.len = end;
     }
 
     // A number of two's complement, whose negative values are the words from `half` on.
     fn signed(&mut self, word: u64, half: u64)
         requires word { word < 2 * half }
-        requires room { length self.old + 21 ≤ 1300 }
+        requires room { length self.old + 21 ≤ 2048 }
         ensures { self.new ≡ self.old ++ (if nat_lt word half then decimal word else 45 ∷ decimal (2 * half - word)) }
     {
         if word < half {
@@ -125,7 +148,7 @@ impl Text {
     // The digits of a word of `size` bytes, highest byte first.
     fn hex(&mut self, word: u64, size: usize)
         requires size { size ≤ 8 }
-        requires room { length self.old + 16 ≤ 1300 }
+        requires room { length self.old + 16 ≤ 2048 }
         ensures { self.new ≡ self.old ++ word_hex size word }
     {
         let mut digits = [0; 16];
@@ -136,7 +159,7 @@ impl Text {
     /// A value of that type.
     fn number(&mut self, ty: Ty, word: u64)
         requires word { word < 256 ^ element_size ty }
-        requires room { length self.old + 21 ≤ 1300 }
+        requires room { length self.old + 21 ≤ 2048 }
         ensures text { self.new ≡ self.old ++ number_text ty word }
         ensures short { length self.new ≤ length self.old + 4 * element_size ty }
     {
@@ -145,7 +168,7 @@ impl Text {
 
     fn put_number(&mut self, ty: Ty, word: u64)
         requires word { word < 256 ^ element_size ty }
-        requires room { length self.old + 21 ≤ 1300 }
+        requires room { length self.old + 21 ≤ 2048 }
         ensures { self.new ≡ self.old ++ number_text ty word }
     {
         match ty {
@@ -153,19 +176,40 @@ impl Text {
             Ty::I16 => self.signed(word, 1 << 15),
             Ty::I32 => self.signed(word, 1 << 31),
             Ty::I64 => self.signed(word, 1 << 63),
-            Ty::F32 => self.hex(word, 4),
+            Ty::F32 => self.append(&word_digits(word)),
             Ty::F64 => self.hex(word, 8),
             Ty::U8 | Ty::U16 | Ty::U32 | Ty::U64 | Ty::Version | Ty::Char => self.decimal(word),
+        }
+    }
+
+    // The same of bytes.
+    fn further_bytes(&mut self, payload: &[u8], at: usize, count: usize)
+        requires within { at + count ≤ 255 }
+        requires room { length self.old + 5 * count + 21 ≤ 2048 }
+        ensures text { self.new ≡ self.old ++ further_text Ty.U8 (words_from payload.now at 1 count) }
+        ensures short { length self.new ≤ length self.old + 5 * count }
+    {
+        let mut place = at;
+        let mut left = count;
+        while left > 0 {
+            self.push(b',');
+            self.small(byte_at(payload, place));
+            place += 1;
+            left -= 1;
         }
     }
 
     // Values with a comma in front of each.
     fn further(&mut self, ty: Ty, payload: &[u8], at: usize, count: usize)
         requires within { at + element_size ty * count ≤ 255 }
-        requires room { length self.old + 5 * (element_size ty * count) + 21 ≤ 1300 }
+        requires room { length self.old + 5 * (element_size ty * count) + 21 ≤ 2048 }
         ensures text { self.new ≡ self.old ++ further_text ty (words_from payload.now at (element_size ty) count) }
         ensures short { length self.new ≤ length self.old + 5 * (element_size ty * count) }
     {
+        if matches!(ty, Ty::U8) {
+            self.further_bytes(payload, at, count);
+            return;
+        }
         let size = ty.size();
         let mut place = at;
         let mut left = count;
@@ -180,7 +224,7 @@ impl Text {
     // The characters up to the first zero.
     fn chars(&mut self, payload: &[u8], at: usize, count: usize)
         requires within { at + count ≤ 255 }
-        requires room { length self.old + 4 * count ≤ 1300 }
+        requires room { length self.old + 4 * count ≤ 2048 }
         ensures text { self.new ≡ self.old ++ chars_text (words_from payload.now at 1 count) }
         ensures short { length self.new ≤ length self.old + 4 * count }
     {
@@ -198,7 +242,7 @@ impl Text {
     }
 
     fn char(&mut self, byte: u8)
-        requires { length self.old + 4 ≤ 1300 }
+        requires { length self.old + 4 ≤ 2048 }
         ensures text { self.new ≡ self.old ++ char_text byte }
         ensures short { length self.new ≤ length self.old + 4 }
     {
@@ -214,7 +258,7 @@ impl Text {
     fn values(&mut self, ty: Ty, payload: &[u8], at: usize, count: usize)
         requires some { 0 < count }
         requires within { at + element_size ty * count ≤ 255 }
-        requires room { length self.old ≤ 2 }
+        requires room { length self.old ≤ 701 }
         ensures text { self.new ≡ self.old ++ values_text ty (words_from payload.now at (element_size ty) count) }
         ensures short { length self.new ≤ length self.old + 5 * (element_size ty * count) }
     {
@@ -226,7 +270,7 @@ impl Text {
     /// A field's value, which begins at a place of the payload.
     pub(crate) fn value(&mut self, field: &Field, payload: &[u8], at: usize)
         requires within { at + size_of field.now ≤ 255 }
-        requires room { length self.old ≤ 1 }
+        requires room { length self.old ≤ 700 }
         ensures { self.new ≡ self.old ++ value_text field.now (words_from payload.now at (element_size field.now.ty) (element_count field.now)) }
     {
         let count = field.count();

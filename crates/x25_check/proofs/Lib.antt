@@ -1,3 +1,6 @@
 pub mod Bytewise
+pub mod Slicing
+pub mod TableEntries
+pub mod Eights
 pub mod Halving
 pub mod Parts

@@ -1,7 +1,9 @@
 // The checksum of a packet.
-ghost use Rattle.std.specs.Prelude.{◌≡◌, ℕ, ◌<◌, ◌^◌};
+ghost use Rattle.std.specs.Prelude.{◌≡◌, ℕ, ◌+◌, ◌<◌, ◌≤◌, ◌^◌, length};
 ghost use Rattle.x25_check.specs.Check.{after_byte, check_from};
+ghost use Rattle.x25_check.specs.Eights.{eight_at};
 
+use crate::tables::after_zeros;
 use std::marker::Model;
 
 /// A running CRC-16/MCRF4XX over the bytes that were pushed, which contracts see as its register
@@ -27,6 +29,51 @@ fn after(register: u16, byte: u8) -> u16
     (register >> 8) ^ (wide << 8) ^ (wide << 3) ^ (wide >> 4)
 }
 
+// The register after the eight bytes from a place on: what each of them makes of a register that was 0, with the
+// register's own two bytes in the first two.
+#[inline(always)]
+fn after_eight(register: u16, bytes: &[u8], at: usize) -> u16
+    requires { at + 8 ≤ length bytes.now }
+    ensures { result ≡ check_from register (eight_at at bytes.now) }
+{
+    let low = (register % 256) as u8;
+    let high = (register / 256) as u8;
+    let first = after_zeros(7, bytes[at] ^ low);
+    let second = after_zeros(6, bytes[at + 1] ^ high);
+    let third = after_zeros(5, bytes[at + 2]);
+    let fourth = after_zeros(4, bytes[at + 3]);
+    let fifth = after_zeros(3, bytes[at + 4]);
+    let sixth = after_zeros(2, bytes[at + 5]);
+    let seventh = after_zeros(1, bytes[at + 6]);
+    let eighth = after_zeros(0, bytes[at + 7]);
+    (first ^ second) ^ (third ^ (fourth ^ (fifth ^ (sixth ^ (seventh ^ eighth)))))
+}
+
+// The register after some bytes, one by one.
+#[inline(always)]
+fn after_each(register: u16, bytes: &[u8]) -> u16
+    ensures { result ≡ check_from register bytes.now }
+{
+    let mut now = register;
+    for byte in bytes {
+        now = after(now, *byte);
+    }
+    now
+}
+
+// The register after some bytes, eight at a time.
+fn after_all(register: u16, bytes: &[u8]) -> u16
+    ensures { result ≡ check_from register bytes.now }
+{
+    let mut now = register;
+    let mut at = 0;
+    while bytes.len() - at >= 8 {
+        now = after_eight(now, bytes, at);
+        at += 8;
+    }
+    after_each(now, &bytes[at..])
+}
+
 impl X25 {
     /// The register before the first byte.
     pub const START: u16 = 0xFFFF;
@@ -50,9 +97,7 @@ impl X25 {
     pub fn push_all(&mut self, bytes: &[u8])
         ensures { self.new ≡ check_from self.old bytes.now }
     {
-        for byte in bytes {
-            self.push(*byte);
-        }
+        self.register = after_all(self.register, bytes);
     }
 
     /// The check of all bytes that were pushed.

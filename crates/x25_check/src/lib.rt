@@ -6,6 +6,7 @@
 
 mod check;
 mod extras;
+mod tables;
 
 pub use check::X25;
 pub use extras::Extras;

@@ -1,8 +1,8 @@
 use Rattle.std.proofs.Common.{◌≡◌, ℕ, ◌<◌, ◌≤◌, List, [], ◌∷◌, ◌==◌, length, take, true, false, refl, sym, ap, ◌∙◌, subst, arith}
 use Rattle.std.proofs.lemmas.Bool.Decides.{nat_tests}
-use Rattle.mav_frame.specs.Packet.{FitsFrame}
+use Rattle.mav_frame.specs.Packet.{Packet, FitsFrame}
 use Rattle.mav_frame.specs.Encoding.{Encodes}
-use Rattle.mav_frame.specs.Looks.{look_of}
+use Rattle.mav_frame.specs.Looks.{look_of, packet_at}
 use Rattle.mav_frame.specs.declared.looks.Look.TheVariants.{Frame as Found, NotHere, More}
 use Rattle.mav_frame.specs.declared.events.Event.TheVariants.{Frame}
 use Rattle.mav_stream.specs.Held.{Held}
@@ -12,19 +12,20 @@ use Rattle.mav_stream.proofs.Answers.{gives_frame, gives_skip, gives_short, need
 use Rattle.mav_stream.proofs.reader.Reader.looked.Goals as goal
 use Rattle.mav_stream.proofs.reader.Reader.looked.Goals.{then-not-self-via-then-not-self, then-not-self-via-else-not-self+then-is_empty}
 
-pub returns-in-Frame : goal.returns-in-Frame
-returns-in-Frame c =
-    let i = c.self.inside in let p = c.in-Frame.frame in let n = c.in-Frame.size in
+pub returns-in-Whole : goal.returns-in-Whole
+returns-in-Whole c =
+    let i = c.self.inside in let n = c.in-Whole.size in let p = packet_at i.window in
     let held : Held = record { extras = i.extras; bytes = i.window; ended = i.ended } in
     let at : (look_of i.extras i.window ≡ Found p n) × ((n ≤ length i.window) × Encodes i.extras p (take n i.window) × FitsFrame p) =
-    subst (λ (z : List ℕ). (look_of i.extras z ≡ Found p n) × ((n ≤ length z) × Encodes i.extras p (take n z) × FitsFrame p)) c.bytes.ensures.list (sym c.in-Frame.ensures.exact, c.in-Frame.ensures.found) in
+    subst (λ (z : List ℕ). (look_of i.extras z ≡ Found (packet_at z) n) × ((n ≤ length z) × Encodes i.extras (packet_at z) (take n z) × FitsFrame (packet_at z))) c.bytes-bytes.ensures.list (sym c.in-Whole.ensures.exact, c.in-Whole.ensures.found) in
     let gives = subst (λ (z : List ℕ). Gives held (Frame p) (record held { bytes = z })) (sym c.remove.ensures) (gives_frame held p n at.0 at.1) in
-    subst (λ (z : Held). Gives z (Frame p) (record held { bytes = c.remove.new.self })) c.self.view_is gives
+    let frame : c.frame_at-frame.result ≡ p = c.frame_at-frame.ensures ∙ ap packet_at c.bytes-bytes.ensures.list in
+    subst (λ (z : Held). Gives z (Frame c.frame_at-frame.result) (record held { bytes = c.remove.new.self })) c.self.view_is (subst (λ (q : Packet). Gives held (Frame q) (record held { bytes = c.remove.new.self })) (sym frame) gives)
 
 pub returns-in-NotHere : goal.returns-in-NotHere
 returns-in-NotHere c =
     let i = c.self.inside in let now = c.args.self.now in let why = c.in-NotHere.why in
-    let at : look_of i.extras i.window ≡ NotHere why = subst (λ (z : List ℕ). look_of i.extras z ≡ NotHere why) c.bytes.ensures.list (sym c.in-NotHere.ensures.exact) in
+    let at : look_of i.extras i.window ≡ NotHere why = subst (λ (z : List ℕ). look_of i.extras z ≡ NotHere why) c.bytes-bytes.ensures.list (sym c.in-NotHere.ensures.exact) in
     let there : look_of now.extras now.bytes ≡ NotHere why = subst (λ (z : Held). look_of z.extras z.bytes ≡ NotHere why) c.self.view_is at in
     subst (λ (z : Next × Held). NextIs now z.0 z.1) (λ k. (sym c.skip.ensures.answer k, sym c.skip.ensures.held k)) (gives_skip now why (some_held now.extras now.bytes why there) there)
 
@@ -38,13 +39,13 @@ none (x ∷ xs) e = let long : length (x ∷ xs) ≡ 0 = grind (arith, nat_tests
 pub returns-then-not-self : goal.returns-then-not-self
 returns-then-not-self c =
     let i = c.self.inside in let now = c.args.self.now in let k = c.in-More.field-0 in
-    let at : look_of i.extras i.window ≡ More k = subst (λ (z : List ℕ). look_of i.extras z ≡ More k) c.bytes.ensures.list (sym c.in-More.ensures.exact) in
+    let at : look_of i.extras i.window ≡ More k = subst (λ (z : List ℕ). look_of i.extras z ≡ More k) c.bytes-bytes.ensures.list (sym c.in-More.ensures.exact) in
     let there : look_of now.extras now.bytes ≡ More k = subst (λ (z : Held). look_of z.extras z.bytes ≡ More k) c.self.view_is at in
     let over : i.ended ≡ now.ended = ap (λ (h : Held). h.ended) c.self.view_is in
     let held : i.window ≡ now.bytes = ap (λ (h : Held). h.bytes) c.self.view_is in
     needs now k there (elim c.then-not-self.branch [
       | then-not-self-via-then-not-self w ↦ λ ended. absurd (both (sym ended ∙ (sym over ∙ w.if-not-self.true)))
-      | then-not-self-via-else-not-self+then-is_empty w ↦ λ _. sym held ∙ (sym w.bytes-else-not-self.ensures.list ∙ none w.bytes-else-not-self.result.now (sym w.if-is_empty.ensures))
+      | then-not-self-via-else-not-self+then-is_empty w ↦ λ _. sym held ∙ (sym w.bytes.ensures.list ∙ none w.bytes.result.now (sym w.if-is_empty.ensures))
     ])
 
 not_none : (n : ℕ) → (n == 0) ≡ false → 0 < n
@@ -53,9 +54,9 @@ not_none n e = grind (arith, nat_tests)
 pub returns-else-is_empty : goal.returns-else-is_empty
 returns-else-is_empty c =
     let i = c.self.inside in let now = c.args.self.now in let k = c.in-More.field-0 in
-    let at : look_of i.extras i.window ≡ More k = subst (λ (z : List ℕ). look_of i.extras z ≡ More k) c.bytes.ensures.list (sym c.in-More.ensures.exact) in
+    let at : look_of i.extras i.window ≡ More k = subst (λ (z : List ℕ). look_of i.extras z ≡ More k) c.bytes-bytes.ensures.list (sym c.in-More.ensures.exact) in
     let there : look_of now.extras now.bytes ≡ More k = subst (λ (z : Held). look_of z.extras z.bytes ≡ More k) c.self.view_is at in
     let over : now.ended ≡ true = sym (ap (λ (h : Held). h.ended) c.self.view_is) ∙ c.if-not-self.false in
-    let held : c.bytes-else-not-self.result.now ≡ now.bytes = c.bytes-else-not-self.ensures.list ∙ ap (λ (h : Held). h.bytes) c.self.view_is in
-    let some : 0 < length now.bytes = subst (λ (z : List ℕ). 0 < length z) held (not_none (length c.bytes-else-not-self.result.now) (sym c.if-is_empty.ensures)) in
+    let held : c.bytes.result.now ≡ now.bytes = c.bytes.ensures.list ∙ ap (λ (h : Held). h.bytes) c.self.view_is in
+    let some : 0 < length now.bytes = subst (λ (z : List ℕ). 0 < length z) held (not_none (length c.bytes.result.now) (sym c.if-is_empty.ensures)) in
     subst (λ (z : Next × Held). NextIs now z.0 z.1) (λ j. (sym c.skip-in-More.ensures.answer j, sym c.skip-in-More.ensures.held j)) (gives_short now k some over there)

@@ -1,0 +1,35 @@
+-- What stands in the tables of digits.
+use Rattle.std.proofs.Common.{◌≡◌, ℕ, zero, suc, ◌+◌, ◌-◌, ◌*◌, ◌/◌, ◌%◌, ◌<◌, Bool, true, ◌&&◌, T, eqb, List, get_or, inl, inr, arith, eq-zero-or-pos, eqb→eq}
+use lib.Ieee.Fits.{and_l, and_r}
+use Rattle.mav_text.specs.declared.digits.TheConstants.{PAIRS, HEX}
+use Rattle.mav_text.specs.FrameText.{hex_digit}
+
+abbrev are_pairs : ℕ → Bool
+are_pairs zero = true
+are_pairs (suc p) = (eqb (get_or PAIRS (p * 2) 0) (48 + p / 10) && eqb (get_or PAIRS (p * 2 + 1) 0) (48 + p % 10)) && are_pairs p
+
+pairs_below : (n p : ℕ) → T (are_pairs n) → p < n → (get_or PAIRS (p * 2) 0 ≡ 48 + p / 10) × (get_or PAIRS (p * 2 + 1) 0 ≡ 48 + p % 10)
+pairs_below zero p t h = absurd (omega arith)
+pairs_below (suc n) p t h =
+    elim (eq-zero-or-pos (n - p)) [
+      | inl z ↦ let e : p ≡ n = omega arith in let a = and_l _ (are_pairs n) t in rw e (eqb→eq _ _ (and_l _ _ a), eqb→eq _ _ (and_r _ _ a))
+      | inr g ↦ pairs_below n p (and_r _ (are_pairs n) t) (omega arith)
+    ]
+
+pub pairs_at : (p : ℕ) → p < 100 → (get_or PAIRS (p * 2) 0 ≡ 48 + p / 10) × (get_or PAIRS (p * 2 + 1) 0 ≡ 48 + p % 10)
+pairs_at p h = pairs_below 100 p tt h
+
+abbrev are_hex : ℕ → Bool
+are_hex zero = true
+are_hex (suc p) = (eqb (get_or HEX (p * 2) 0) (hex_digit (p / 16)) && eqb (get_or HEX (p * 2 + 1) 0) (hex_digit (p % 16))) && are_hex p
+
+hex_below : (n p : ℕ) → T (are_hex n) → p < n → (get_or HEX (p * 2) 0 ≡ hex_digit (p / 16)) × (get_or HEX (p * 2 + 1) 0 ≡ hex_digit (p % 16))
+hex_below zero p t h = absurd (omega arith)
+hex_below (suc n) p t h =
+    elim (eq-zero-or-pos (n - p)) [
+      | inl z ↦ let e : p ≡ n = omega arith in let a = and_l _ (are_hex n) t in rw e (eqb→eq _ _ (and_l _ _ a), eqb→eq _ _ (and_r _ _ a))
+      | inr g ↦ hex_below n p (and_r _ (are_hex n) t) (omega arith)
+    ]
+
+pub hex_at : (p : ℕ) → p < 256 → (get_or HEX (p * 2) 0 ≡ hex_digit (p / 16)) × (get_or HEX (p * 2 + 1) 0 ≡ hex_digit (p % 16))
+hex_at p h = hex_below 256 p tt h

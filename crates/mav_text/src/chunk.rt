@@ -1,0 +1,34 @@
+// Texts that are put together in a fixed chunk of bytes, of which those up to a place count.
+ghost use Rattle.std.specs.Prelude.{◌≡◌, ◌+◌, ◌≤◌, ◌∷◌, [], ◌++◌, length, take};
+
+/// Puts the first `len` bytes of a part at a place, and answers the place behind them. All of the part is copied, since
+/// a copy of fixed size is the fastest.
+#[inline(always)]
+pub(crate) fn put_part<const N: usize>(
+    chunk: &mut [u8; N],
+    at: usize,
+    part: &[u8],
+    len: usize,
+) -> usize
+    requires room { at + length part.now ≤ N }
+    requires len { len ≤ length part.now }
+    ensures place { result ≡ at + len }
+    ensures text { take result chunk.new ≡ take at chunk.old ++ take len part.now }
+{
+    let bytes = &mut chunk[..];
+    bytes[at..at + part.len()].copy_from_slice(part);
+    at + len
+}
+
+/// Puts two bytes at a place, and answers the place behind them.
+#[inline(always)]
+pub(crate) fn put_two<const N: usize>(chunk: &mut [u8; N], at: usize, two: [u8; 2]) -> usize
+    requires { at + 2 ≤ N }
+    ensures place { result ≡ at + 2 }
+    ensures text { take result chunk.new ≡ take at chunk.old ++ two }
+{
+    let [first, second] = two;
+    chunk[at] = first;
+    chunk[at + 1] = second;
+    at + 2
+}
