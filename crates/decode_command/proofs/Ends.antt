@@ -6,7 +6,7 @@ use Rattle.std.specs.Result.{result_err}
 use Rattle.std.specs.Io.KnownBytes.{append_known, prepend_known}
 use Rattle.mav_ports.specs.Puts.{Sent, SentFront}
 use Rattle.mav_ports.proofs.Known.{sent_all}
-use Rattle.field_layout.specs.Definition.{Definition}
+use Rattle.decode_command.specs.declared.known.Known.{Known}
 use Rattle.dialect.specs.Messages.{extras_of}
 use Rattle.mav_frame.specs.declared.events.Event.{Event}
 use Rattle.command_ends.specs.declared.halts.Halt.{Halt}
@@ -22,35 +22,35 @@ use Rattle.decode_command.specs.Decodes.{Drained, Front, Finished, Unfinished}
 use Rattle.decode_command.specs.declared.decoder.Decoder.{Decoder}
 use Rattle.decode_command.proofs.Parses.{final_is, incremental_is}
 
-module _ (defs : List Definition) where
+module _ (known : Known) where
   -- within the limit nothing stops a run, and all lines are written
-  pub goes_on : (ended : Bool) (taken : List ℕ) → length taken ≤ most_input_bytes → (decode_script defs).stop ended taken ≡ None
+  pub goes_on : (ended : Bool) (taken : List ℕ) → length taken ≤ most_input_bytes → (decode_script known).stop ended taken ≡ None
   goes_on ended taken fits = ap (λ (b : Bool). if b then Some (AtLimit InputBytes) else None) (le-ltb most_input_bytes (length taken) fits)
 
-  pub report_within : (ended : Bool) (taken : List ℕ) → length taken ≤ most_input_bytes → (decode_script defs).report ended taken ≡ lines_at defs ended taken
-  report_within ended taken fits = ap (λ (b : Bool). if b then lines_at defs false (take most_input_bytes taken) else lines_at defs ended taken) (le-ltb most_input_bytes (length taken) fits)
+  pub report_within : (ended : Bool) (taken : List ℕ) → length taken ≤ most_input_bytes → (decode_script known).report ended taken ≡ lines_at known ended taken
+  report_within ended taken fits = ap (λ (b : Bool). if b then lines_at known false (take most_input_bytes taken) else lines_at known ended taken) (le-ltb most_input_bytes (length taken) fits)
 
   -- past it a run stops, and the lines up to it are written
-  pub stops : (ended : Bool) (taken : List ℕ) → most_input_bytes < length taken → (decode_script defs).stop ended taken ≡ Some (AtLimit InputBytes)
+  pub stops : (ended : Bool) (taken : List ℕ) → most_input_bytes < length taken → (decode_script known).stop ended taken ≡ Some (AtLimit InputBytes)
   stops ended taken long = ap (λ (b : Bool). if b then Some (AtLimit InputBytes) else None) (lt-ltb most_input_bytes (length taken) long)
 
-  pub report_past : (ended : Bool) (taken : List ℕ) → most_input_bytes < length taken → (decode_script defs).report ended taken ≡ lines_at defs false (take most_input_bytes taken)
-  report_past ended taken long = ap (λ (b : Bool). if b then lines_at defs false (take most_input_bytes taken) else lines_at defs ended taken) (lt-ltb most_input_bytes (length taken) long)
+  pub report_past : (ended : Bool) (taken : List ℕ) → most_input_bytes < length taken → (decode_script known).report ended taken ≡ lines_at known false (take most_input_bytes taken)
+  report_past ended taken long = ap (λ (b : Bool). if b then lines_at known false (take most_input_bytes taken) else lines_at known ended taken) (lt-ltb most_input_bytes (length taken) long)
 
   -- all lines of the bytes taken were sent
-  pub all_lines : (taken : List ℕ) (decoder : Decoder) (before now : Option (List ℕ)) → decoder.reader.ended ≡ false → decoder.text.items ≡ [] → Drained defs taken decoder before now → now ≡ append_known before (lines_at defs false taken)
+  pub all_lines : (taken : List ℕ) (decoder : Decoder) (before now : Option (List ℕ)) → decoder.reader.ended ≡ false → decoder.text.items ≡ [] → Drained known taken decoder before now → now ≡ append_known before (lines_at known false taken)
   all_lines taken decoder before now still empty d =
       let given = d.decoding.given in
-      let events : incremental_events (extras_of defs) taken ≡ given = incremental_is (extras_of defs) given decoder.reader.bytes taken (d.whole.incremental still) in
-      sent_all before now (event_lines defs given) (subst (λ (held : List ℕ). Sent before now (event_lines defs given) held) empty d.decoding.sent)
-      ∙ ap (λ (es : List Event). append_known before (event_lines defs es)) (sym events)
+      let events : incremental_events (extras_of known.dialect) taken ≡ given = incremental_is (extras_of known.dialect) given decoder.reader.bytes taken (d.whole.incremental still) in
+      sent_all before now (event_lines known given) (subst (λ (held : List ℕ). Sent before now (event_lines known given) held) empty d.decoding.sent)
+      ∙ ap (λ (es : List Event). append_known before (event_lines known es)) (sym events)
 
   module _ (o : Outside) (lb la sb sa : Option (List ℕ)) where
     not_ended : IsTrue false → o.spent
     not_ended never = absurd (cc never)
 
     -- a read failed, or the input gave nothing for too long
-    pub untold_fault : (taken : List ℕ) (decoder : Decoder) → lb ≡ prepend_known taken la → length taken ≤ most_input_bytes → decoder.reader.ended ≡ false → decoder.text.items ≡ [] → Drained defs taken decoder sb sa → o.failed → Untold (decode_script defs) o lb la sb sa (Some ReadFault)
+    pub untold_fault : (taken : List ℕ) (decoder : Decoder) → lb ≡ prepend_known taken la → length taken ≤ most_input_bytes → decoder.reader.ended ≡ false → decoder.text.items ≡ [] → Drained known taken decoder sb sa → o.failed → Untold (decode_script known) o lb la sb sa (Some ReadFault)
     untold_fault taken decoder took fits still empty d failed = record {
       taken = taken;
       ended = false;
@@ -60,7 +60,7 @@ module _ (defs : List Definition) where
       wrote = all_lines taken decoder sb sa still empty d ∙ ap (append_known sb) (sym (report_within false taken fits));
     }
 
-    pub untold_idle : (taken : List ℕ) (decoder : Decoder) → lb ≡ prepend_known taken la → length taken ≤ most_input_bytes → decoder.reader.ended ≡ false → decoder.text.items ≡ [] → Drained defs taken decoder sb sa → o.idled → Untold (decode_script defs) o lb la sb sa (Some TurnsSpent)
+    pub untold_idle : (taken : List ℕ) (decoder : Decoder) → lb ≡ prepend_known taken la → length taken ≤ most_input_bytes → decoder.reader.ended ≡ false → decoder.text.items ≡ [] → Drained known taken decoder sb sa → o.idled → Untold (decode_script known) o lb la sb sa (Some TurnsSpent)
     untold_idle taken decoder took fits still empty d idled = record {
       taken = taken;
       ended = false;
@@ -71,7 +71,7 @@ module _ (defs : List Definition) where
     }
 
     -- more bytes were read than the limit allows
-    pub untold_limit : (taken : List ℕ) (decoder : Decoder) → lb ≡ prepend_known taken la → most_input_bytes < length taken → decoder.reader.ended ≡ false → decoder.text.items ≡ [] → Drained defs (take most_input_bytes taken) decoder sb sa → Untold (decode_script defs) o lb la sb sa (Some (Stopped (AtLimit InputBytes)))
+    pub untold_limit : (taken : List ℕ) (decoder : Decoder) → lb ≡ prepend_known taken la → most_input_bytes < length taken → decoder.reader.ended ≡ false → decoder.text.items ≡ [] → Drained known (take most_input_bytes taken) decoder sb sa → Untold (decode_script known) o lb la sb sa (Some (Stopped (AtLimit InputBytes)))
     untold_limit taken decoder took long still empty d = record {
       taken = taken;
       ended = false;
@@ -82,35 +82,35 @@ module _ (defs : List Definition) where
     }
 
     -- the writing halted
-    untold_halted : (taken : List ℕ) (halt : Halt) → lb ≡ prepend_known taken la → (halt ≡ WriteFault) ⊎ (halt ≡ NoMemory) → (halt ≡ WriteFault → o.refused) → SentFront sb sa ((decode_script defs).report false taken) → Untold (decode_script defs) o lb la sb sa (Some halt)
+    untold_halted : (taken : List ℕ) (halt : Halt) → lb ≡ prepend_known taken la → (halt ≡ WriteFault) ⊎ (halt ≡ NoMemory) → (halt ≡ WriteFault → o.refused) → SentFront sb sa ((decode_script known).report false taken) → Untold (decode_script known) o lb la sb sa (Some halt)
     untold_halted taken halt took (inl is) refused front =
-        subst (λ (h : Halt). Untold (decode_script defs) o lb la sb sa (Some h)) (sym is)
+        subst (λ (h : Halt). Untold (decode_script known) o lb la sb sa (Some h)) (sym is)
         (record { taken = taken; ended = false; took = took; at_end = not_ended; cause = refused is; wrote = front })
     untold_halted taken halt took (inr is) refused front =
-        subst (λ (h : Halt). Untold (decode_script defs) o lb la sb sa (Some h)) (sym is)
+        subst (λ (h : Halt). Untold (decode_script known) o lb la sb sa (Some h)) (sym is)
         (record { taken = taken; ended = false; took = took; at_end = not_ended; cause = tt; wrote = front })
 
-    pub untold_within : (taken : List ℕ) (halt : Halt) → lb ≡ prepend_known taken la → length taken ≤ most_input_bytes → (halt ≡ WriteFault) ⊎ (halt ≡ NoMemory) → (halt ≡ WriteFault → o.refused) → Front defs taken sb sa → Untold (decode_script defs) o lb la sb sa (Some halt)
+    pub untold_within : (taken : List ℕ) (halt : Halt) → lb ≡ prepend_known taken la → length taken ≤ most_input_bytes → (halt ≡ WriteFault) ⊎ (halt ≡ NoMemory) → (halt ≡ WriteFault → o.refused) → Front known taken sb sa → Untold (decode_script known) o lb la sb sa (Some halt)
     untold_within taken halt took fits error refused front =
         untold_halted taken halt took error refused (subst (SentFront sb sa) (sym (report_within false taken fits)) front)
 
-    pub untold_past : (taken : List ℕ) (halt : Halt) → lb ≡ prepend_known taken la → most_input_bytes < length taken → (halt ≡ WriteFault) ⊎ (halt ≡ NoMemory) → (halt ≡ WriteFault → o.refused) → Front defs (take most_input_bytes taken) sb sa → Untold (decode_script defs) o lb la sb sa (Some halt)
+    pub untold_past : (taken : List ℕ) (halt : Halt) → lb ≡ prepend_known taken la → most_input_bytes < length taken → (halt ≡ WriteFault) ⊎ (halt ≡ NoMemory) → (halt ≡ WriteFault → o.refused) → Front known (take most_input_bytes taken) sb sa → Untold (decode_script known) o lb la sb sa (Some halt)
     untold_past taken halt took long error refused front =
         untold_halted taken halt took error refused (subst (SentFront sb sa) (sym (report_past false taken long)) front)
 
     -- the input ended
-    whole_text : (taken : List ℕ) → length taken ≤ most_input_bytes → text_so_far (decode_script defs) true taken ≡ decode_text defs (final_events (extras_of defs) taken)
-    whole_text taken fits = ap (λ (text : List ℕ). text ++ last_line (final_events (extras_of defs) taken)) (report_within true taken fits)
+    whole_text : (taken : List ℕ) → length taken ≤ most_input_bytes → text_so_far (decode_script known) true taken ≡ decode_text known (final_events (extras_of known.dialect) taken)
+    whole_text taken fits = ap (λ (text : List ℕ). text ++ last_line (final_events (extras_of known.dialect) taken)) (report_within true taken fits)
 
-    untold_unfinished : (taken : List ℕ) (halt : Halt) → lb ≡ prepend_known taken la → o.spent → length taken ≤ most_input_bytes → (halt ≡ WriteFault) ⊎ (halt ≡ NoMemory) → (halt ≡ WriteFault → o.refused) → Unfinished defs taken sb sa → Untold (decode_script defs) o lb la sb sa (Some halt)
+    untold_unfinished : (taken : List ℕ) (halt : Halt) → lb ≡ prepend_known taken la → o.spent → length taken ≤ most_input_bytes → (halt ≡ WriteFault) ⊎ (halt ≡ NoMemory) → (halt ≡ WriteFault → o.refused) → Unfinished known taken sb sa → Untold (decode_script known) o lb la sb sa (Some halt)
     untold_unfinished taken halt took spent fits (inl is) refused front =
-        subst (λ (h : Halt). Untold (decode_script defs) o lb la sb sa (Some h)) (sym is)
+        subst (λ (h : Halt). Untold (decode_script known) o lb la sb sa (Some h)) (sym is)
         (record { taken = taken; ended = true; took = took; at_end = λ e. spent; cause = refused is; wrote = subst (SentFront sb sa) (sym (whole_text taken fits)) front })
     untold_unfinished taken halt took spent fits (inr is) refused front =
-        subst (λ (h : Halt). Untold (decode_script defs) o lb la sb sa (Some h)) (sym is)
+        subst (λ (h : Halt). Untold (decode_script known) o lb la sb sa (Some h)) (sym is)
         (record { taken = taken; ended = true; took = took; at_end = λ e. spent; cause = tt; wrote = subst (SentFront sb sa) (sym (whole_text taken fits)) front })
 
-    pub untold_end : (taken : List ℕ) (r : Result (Unit {0}) Halt) → lb ≡ prepend_known taken la → o.spent → length taken ≤ most_input_bytes → OnOk r (Finished defs taken sb sa) → IfErr r (λ halt. Unfinished defs taken sb sa) → IfErr r (λ halt. (halt ≡ WriteFault) ⊎ (halt ≡ NoMemory)) → (IsErrOf r WriteFault → o.refused) → Untold (decode_script defs) o lb la sb sa (result_err r)
+    pub untold_end : (taken : List ℕ) (r : Result (Unit {0}) Halt) → lb ≡ prepend_known taken la → o.spent → length taken ≤ most_input_bytes → OnOk r (Finished known taken sb sa) → IfErr r (λ halt. Unfinished known taken sb sa) → IfErr r (λ halt. (halt ≡ WriteFault) ⊎ (halt ≡ NoMemory)) → (IsErrOf r WriteFault → o.refused) → Untold (decode_script known) o lb la sb sa (result_err r)
     untold_end taken (Ok x) took spent fits done unfinished error refused = record {
       taken = taken;
       ended = true;
@@ -118,8 +118,8 @@ module _ (defs : List Definition) where
       at_end = λ e. spent;
       cause = (refl, goes_on true taken fits);
       wrote =
-          let events : done.given ≡ final_events (extras_of defs) taken = sym (final_is (extras_of defs) done.given taken done.final) in
-          done.sent ∙ ap (λ (es : List Event). append_known sb (decode_text defs es)) events ∙ ap (append_known sb) (sym (whole_text taken fits));
+          let events : done.given ≡ final_events (extras_of known.dialect) taken = sym (final_is (extras_of known.dialect) done.given taken done.final) in
+          done.sent ∙ ap (λ (es : List Event). append_known sb (decode_text known es)) events ∙ ap (append_known sb) (sym (whole_text taken fits));
     }
     untold_end taken (Err halt) took spent fits done unfinished error refused =
         untold_unfinished taken halt took spent fits error (λ e. refused (ap Err e)) unfinished
@@ -130,5 +130,5 @@ up_to_limit taken piece left e =
     ap (λ (n : ℕ). take n (taken ++ piece)) (sym e) ∙ take-append-add taken piece left
 
 -- a run under the same definitions
-pub same_script : (defs others : List Definition) (o : Outside) (lb la sb sa : Option (List ℕ)) (end : Option Halt) → defs ≡ others → Untold (decode_script defs) o lb la sb sa end → Untold (decode_script others) o lb la sb sa end
-same_script defs others o lb la sb sa end same u = subst (λ (d : List Definition). Untold (decode_script d) o lb la sb sa end) same u
+pub same_script : (known others : Known) (o : Outside) (lb la sb sa : Option (List ℕ)) (end : Option Halt) → known ≡ others → Untold (decode_script known) o lb la sb sa end → Untold (decode_script others) o lb la sb sa end
+same_script known others o lb la sb sa end same u = subst (λ (d : Known). Untold (decode_script d) o lb la sb sa end) same u

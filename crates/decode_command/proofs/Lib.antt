@@ -1,8 +1,8 @@
-pub mod Digits
 pub mod Results
 pub mod Parses
 pub mod Lines
 pub mod Steps
+pub mod Sweeps
 pub mod Fronts
 pub mod Pieces
 pub mod Ends

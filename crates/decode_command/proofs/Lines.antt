@@ -1,32 +1,56 @@
 -- The lines of more events.
-use Rattle.std.proofs.Common.{◌≡◌, ℕ, ◌+◌, List, [], ◌∷◌, ◌++◌, refl, sym, ap, ◌∙◌, arith, append_assoc, append-nil}
-use Rattle.field_layout.specs.Definition.{Definition}
+use Rattle.std.proofs.Common.{◌≡◌, ℕ, ◌+◌, List, [], ◌∷◌, ◌++◌, length, map, refl, sym, ap, ◌∙◌, arith, append_assoc}
+use Rattle.decode_command.specs.declared.known.Known.{Known}
+use Rattle.mav_frame.specs.declared.looks.Why.{Why}
 use Rattle.mav_frame.specs.declared.events.Event.{Event}
-use Rattle.decode_command.specs.DecodeText.{event_size, frames_of, skips_of, event_line, lines_from, bytes_in, frames_in, skips_in}
+use Rattle.mav_frame.specs.declared.events.Event.TheVariants.{Skipped}
+use Rattle.mav_text.specs.FrameText.{skip_line, skip_lines}
+use Rattle.decode_command.specs.DecodeText.{event_size, event_line, lines_from, bytes_in, frames_in, skips_in}
 
 -- the lines of the first events, and of those behind them
-pub lines_append : (defs : List Definition) (offset : ℕ) (xs ys : List Event) → lines_from defs offset (xs ++ ys) ≡ lines_from defs offset xs ++ lines_from defs (offset + bytes_in xs) ys
-lines_append defs offset [] ys = ap (λ (n : ℕ). lines_from defs n ys) (omega arith)
-lines_append defs offset (x ∷ xs) ys =
+pub lines_append : (known : Known) (offset : ℕ) (xs ys : List Event) → lines_from known offset (xs ++ ys) ≡ lines_from known offset xs ++ lines_from known (offset + bytes_in xs) ys
+lines_append known offset [] ys = ap (λ (n : ℕ). lines_from known n ys) (omega arith)
+lines_append known offset (x ∷ xs) ys =
     let there : offset + event_size x + bytes_in xs ≡ offset + (event_size x + bytes_in xs) = omega arith in
-    ap (λ (more : List ℕ). event_line defs offset x ++ more) (lines_append defs (offset + event_size x) xs ys ∙ ap (λ (n : ℕ). lines_from defs (offset + event_size x) xs ++ lines_from defs n ys) there)
-    ∙ sym (append_assoc (event_line defs offset x) (lines_from defs (offset + event_size x) xs) (lines_from defs (offset + (event_size x + bytes_in xs)) ys))
+    ap (λ (more : List ℕ). event_line known offset x ++ more) (lines_append known (offset + event_size x) xs ys ∙ ap (λ (n : ℕ). lines_from known (offset + event_size x) xs ++ lines_from known n ys) there)
+    ∙ sym (append_assoc (event_line known offset x) (lines_from known (offset + event_size x) xs) (lines_from known (offset + (event_size x + bytes_in xs)) ys))
 
--- one more line
-pub lines_more : (defs : List Definition) (given : List Event) (event : Event) → lines_from defs 0 (given ++ event ∷ []) ≡ lines_from defs 0 given ++ event_line defs (bytes_in given) event
-lines_more defs given event =
+-- more lines behind the first
+pub lines_more : (known : Known) (given more : List Event) → lines_from known 0 (given ++ more) ≡ lines_from known 0 given ++ lines_from known (bytes_in given) more
+lines_more known given more =
     let there : 0 + bytes_in given ≡ bytes_in given = omega arith in
-    lines_append defs 0 given (event ∷ [])
-    ∙ ap (λ (text : List ℕ). lines_from defs 0 given ++ text) (append-nil (event_line defs (0 + bytes_in given) event) ∙ ap (λ (n : ℕ). event_line defs n event) there)
+    lines_append known 0 given more ∙ ap (λ (n : ℕ). lines_from known 0 given ++ lines_from known n more) there
 
-pub bytes_more : (given : List Event) (event : Event) → bytes_in (given ++ event ∷ []) ≡ bytes_in given + event_size event
-bytes_more [] event = omega arith
-bytes_more (x ∷ xs) event = omega (arith, bytes_more xs event)
+-- the event of a byte that is skipped for that reason
+abbrev pub skipped_for : Why → ℕ → Event
+skipped_for why byte = Skipped byte why
 
-pub frames_more : (given : List Event) (event : Event) → frames_in (given ++ event ∷ []) ≡ frames_in given + frames_of event
-frames_more [] event = omega arith
-frames_more (x ∷ xs) event = omega (arith, frames_more xs event)
+-- the lines of bytes that are skipped for one reason
+pub run_lines : (known : Known) (why : Why) (offset : ℕ) (bytes : List ℕ) → skip_lines offset bytes why ≡ lines_from known offset (map (skipped_for why) bytes)
+run_lines known why offset [] = refl
+run_lines known why offset (b ∷ bs) = ap (λ (text : List ℕ). skip_line offset b why ++ text) (run_lines known why (offset + 1) bs)
 
-pub skips_more : (given : List Event) (event : Event) → skips_in (given ++ event ∷ []) ≡ skips_in given + skips_of event
-skips_more [] event = omega arith
-skips_more (x ∷ xs) event = omega (arith, skips_more xs event)
+pub bytes_more : (given more : List Event) → bytes_in (given ++ more) ≡ bytes_in given + bytes_in more
+bytes_more [] more = omega arith
+bytes_more (x ∷ xs) more = omega (arith, bytes_more xs more)
+
+pub frames_more : (given more : List Event) → frames_in (given ++ more) ≡ frames_in given + frames_in more
+frames_more [] more = omega arith
+frames_more (x ∷ xs) more = omega (arith, frames_more xs more)
+
+pub skips_more : (given more : List Event) → skips_in (given ++ more) ≡ skips_in given + skips_in more
+skips_more [] more = omega arith
+skips_more (x ∷ xs) more = omega (arith, skips_more xs more)
+
+-- sums over bytes that are skipped so
+pub run_bytes : (why : Why) (bytes : List ℕ) → bytes_in (map (skipped_for why) bytes) ≡ length bytes
+run_bytes why [] = refl
+run_bytes why (b ∷ bs) = omega (arith, run_bytes why bs)
+
+pub run_frames : (why : Why) (bytes : List ℕ) → frames_in (map (skipped_for why) bytes) ≡ 0
+run_frames why [] = refl
+run_frames why (b ∷ bs) = omega (arith, run_frames why bs)
+
+pub run_skips : (why : Why) (bytes : List ℕ) → skips_in (map (skipped_for why) bytes) ≡ length bytes
+run_skips why [] = refl
+run_skips why (b ∷ bs) = omega (arith, run_skips why bs)

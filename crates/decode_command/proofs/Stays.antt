@@ -2,7 +2,7 @@
 use Rattle.std.proofs.Common.{◌≡◌, ◌∙◌, ◌<◌, ◌≤◌, ℕ, ltb, if◌then◌else◌, Bool, true, false, List, ◌++◌, length, take, refl, sym, ap, arith, Option, Some, None, length-append}
 use Rattle.std.proofs.lemmas.Bool.{ltb-true}
 use Rattle.std.proofs.lemmas.List.{take-append-le}
-use Rattle.field_layout.specs.Definition.{Definition}
+use Rattle.decode_command.specs.declared.known.Known.{Known}
 use Rattle.command_ends.specs.declared.stops.Limit.TheVariants.{InputBytes}
 use Rattle.command_ends.specs.declared.stops.Stop.{Stop}
 use Rattle.command_ends.specs.declared.stops.Stop.TheVariants.{AtLimit}
@@ -13,21 +13,21 @@ use Rattle.decode_command.proofs.Ends.{stops, report_past}
 longer : (taken more : List ℕ) → most_input_bytes < length taken → most_input_bytes < length (taken ++ more)
 longer taken more long = omega (arith, long, length-append taken more)
 
-stays_past : (defs : List Definition) (ended : Bool) (taken more : List ℕ) → most_input_bytes < length taken → (decode_script defs).report ended (taken ++ more) ≡ (decode_script defs).report false taken
-stays_past defs ended taken more long =
+stays_past : (known : Known) (ended : Bool) (taken more : List ℕ) → most_input_bytes < length taken → (decode_script known).report ended (taken ++ more) ≡ (decode_script known).report false taken
+stays_past known ended taken more long =
     let within : most_input_bytes ≤ length taken = omega (arith, long) in
-    report_past defs ended (taken ++ more) (longer taken more long)
-    ∙ ap (lines_at defs false) (take-append-le most_input_bytes taken more within)
-    ∙ sym (report_past defs false taken long)
+    report_past known ended (taken ++ more) (longer taken more long)
+    ∙ ap (lines_at known false) (take-append-le most_input_bytes taken more within)
+    ∙ sym (report_past known false taken long)
 
-stays_at : (defs : List Definition) (ended : Bool) (taken more : List ℕ) (stop : Stop) (long : Bool) → ltb most_input_bytes (length taken) ≡ long → (if long then Some (AtLimit InputBytes) else None) ≡ Some stop → ((decode_script defs).stop ended (taken ++ more) ≡ Some stop) × ((decode_script defs).report ended (taken ++ more) ≡ (decode_script defs).report false taken)
-stays_at defs ended taken more stop true is e =
+stays_at : (known : Known) (ended : Bool) (taken more : List ℕ) (stop : Stop) (long : Bool) → ltb most_input_bytes (length taken) ≡ long → (if long then Some (AtLimit InputBytes) else None) ≡ Some stop → ((decode_script known).stop ended (taken ++ more) ≡ Some stop) × ((decode_script known).report ended (taken ++ more) ≡ (decode_script known).report false taken)
+stays_at known ended taken more stop true is e =
     let long = ltb-true most_input_bytes (length taken) is in
-    (stops defs ended (taken ++ more) (longer taken more long) ∙ e, stays_past defs ended taken more long)
-stays_at defs ended taken more stop false is e = absurd (cc e)
+    (stops known ended (taken ++ more) (longer taken more long) ∙ e, stays_past known ended taken more long)
+stays_at known ended taken more stop false is e = absurd (cc e)
 
 -- a run that is stopped stays stopped
-pub decode_steady : (defs : List Definition) → Steady (decode_script defs)
-decode_steady defs = record {
-  stays = λ ended taken more stop e. stays_at defs ended taken more stop (ltb most_input_bytes (length taken)) refl e;
+pub decode_steady : (known : Known) → Steady (decode_script known)
+decode_steady known = record {
+  stays = λ ended taken more stop e. stays_at known ended taken more stop (ltb most_input_bytes (length taken)) refl e;
 }

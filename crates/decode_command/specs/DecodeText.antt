@@ -1,13 +1,16 @@
 -- The text of a parse.
-use Rattle.std.specs.Prelude.{ℕ, ◌+◌, List, [], ◌∷◌, ◌++◌, length, codes, Option, Some, None}
+use Rattle.std.specs.Prelude.{ℕ, ◌+◌, if◌then◌else◌, List, [], ◌∷◌, ◌++◌, length, codes, Option, Some, None}
+use Rattle.std.specs.Str.{bytes_eq}
 use Rattle.std.specs.Fmt.{decimal}
 use Rattle.field_layout.specs.Definition.{Definition}
 use Rattle.dialect.specs.Messages.{definition_with}
-use Rattle.mav_frame.specs.Packet.{Packet}
+use Rattle.mav_frame.specs.Packet.{Packet, SignatureBlock}
 use Rattle.mav_frame.specs.Encoding.{encoding}
 use Rattle.mav_frame.specs.declared.events.Event.{Event}
 use Rattle.mav_frame.specs.declared.events.Event.TheVariants.{Frame, Skipped}
 use Rattle.mav_text.specs.FrameText.{frame_text, skip_line}
+use Rattle.mav_sign.specs.Signing.{signature_of}
+use Rattle.decode_command.specs.declared.known.Known.{Known}
 
 -- how many bytes an event takes, how many frames it is, and how many skipped bytes
 abbrev pub event_size : Event → ℕ
@@ -22,23 +25,29 @@ abbrev pub skips_of : Event → ℕ
 skips_of (Frame packet) = 0
 skips_of (Skipped byte why) = 1
 
+-- whether a signature is that of the key, behind a signed frame where there is a key
+abbrev pub verdict_text : Option (List ℕ) → Packet → Option SignatureBlock → List ℕ
+verdict_text None packet block = []
+verdict_text (Some key) packet None = []
+verdict_text (Some key) packet (Some block) = if bytes_eq block.sig (signature_of key packet block.link block.stamp) then codes " good" else codes " bad"
+
 -- `OFFSET NAME SYS.COMP #SEQ field=value ..`; a frame of a parse has the id of a message
-abbrev pub frame_line : Option Definition → ℕ → Packet → List ℕ
-frame_line None offset packet = []
-frame_line (Some def) offset packet = decimal offset ++ 32 ∷ frame_text def packet ++ 10 ∷ []
+abbrev pub frame_line : Option Definition → Option (List ℕ) → ℕ → Packet → List ℕ
+frame_line None key offset packet = []
+frame_line (Some def) key offset packet = decimal offset ++ 32 ∷ frame_text def packet ++ (verdict_text key packet packet.block ++ 10 ∷ [])
 
 -- the line of a frame, or of a skipped byte
-abbrev pub event_line : List Definition → ℕ → Event → List ℕ
-event_line defs offset (Frame packet) = frame_line (definition_with packet.id defs) offset packet
-event_line defs offset (Skipped byte why) = skip_line offset byte why
+abbrev pub event_line : Known → ℕ → Event → List ℕ
+event_line known offset (Frame packet) = frame_line (definition_with packet.id known.dialect) known.key offset packet
+event_line known offset (Skipped byte why) = skip_line offset byte why
 
 -- the lines of events, of which the first stands at an offset
-abbrev pub lines_from : List Definition → ℕ → List Event → List ℕ
-lines_from defs offset [] = []
-lines_from defs offset (event ∷ events) = event_line defs offset event ++ lines_from defs (offset + event_size event) events
+abbrev pub lines_from : Known → ℕ → List Event → List ℕ
+lines_from known offset [] = []
+lines_from known offset (event ∷ events) = event_line known offset event ++ lines_from known (offset + event_size event) events
 
-abbrev pub event_lines : List Definition → List Event → List ℕ
-event_lines defs events = lines_from defs 0 events
+abbrev pub event_lines : Known → List Event → List ℕ
+event_lines known events = lines_from known 0 events
 
 -- sums over events
 abbrev pub bytes_in : List Event → ℕ
@@ -61,5 +70,5 @@ abbrev pub last_line : List Event → List ℕ
 last_line events = counts_line (frames_in events) (skips_in events)
 
 -- the whole text
-abbrev pub decode_text : List Definition → List Event → List ℕ
-decode_text defs events = event_lines defs events ++ last_line events
+abbrev pub decode_text : Known → List Event → List ℕ
+decode_text known events = event_lines known events ++ last_line events

@@ -8,9 +8,11 @@ ghost use Rattle.decode_command.specs.Decodes.{Drained, IsWithin};
 ghost use Rattle.decode_command.specs.Script.{decode_script, most_input_bytes};
 
 use crate::decoder::Decoder;
+use crate::known::Known;
 use command_ends::{Halt, Limit, Stop, read_on};
 use dialect::Dialect;
 use mav_ports::{Got, Sink, Source};
+use mav_sign::Key;
 use std::alloc::Global;
 
 // How much is read at once.
@@ -18,22 +20,22 @@ const PIECE_BYTES: usize = 65_536;
 
 const MOST_INPUT_BYTES: usize = 268_435_456;
 
-/// Decodes an input by a dialect. The lines of what was read are written before more is read. Why
+/// Decodes an input by what is known. The lines of what was read are written before more is read. Why
 /// the run halted, if it did, isn't written.
 pub fn decode_by<S: Source, K: Sink>(
     alloc: Global,
-    dialect: Dialect,
+    known: Known,
     main: &mut S,
     out: &mut K,
 ) -> Result<(), Halt>
-    ensures untold { Untold (decode_script dialect) (outside
+    ensures untold { Untold (decode_script known) (outside
         (S.has_ended main.new × IsSpent (S.left main.new)) (S.faults main.old) (S.faults main.new)
         (S.idles main.old) (S.idles main.new) (K.faults out.old) (K.faults out.new))
         (S.left main.old) (S.left main.new) (K.sent out.old) (K.sent out.new)
         (result_err result) }
     ensures sound { ¬ IsErrOf result Halt.WriteFault → K.faults out.new ≡ K.faults out.old }
 {
-    let mut decoder = Decoder::new(alloc, dialect)?;
+    let mut decoder = Decoder::new(alloc, known)?;
     let mut buf = vec![in alloc; 0u8; PIECE_BYTES]?;
     decode_all(&mut decoder, main, &mut buf, out)
 }
@@ -50,8 +52,8 @@ fn decode_all<S: Source, K: Sink>(
     requires start { decoder.old.offset + length decoder.old.reader.bytes ≡ 0 }
     requires still { decoder.old.reader.ended ≡ false }
     requires empty { decoder.old.text.items ≡ [] }
-    ensures untold { Drained decoder.old.dialect [] decoder.old (K.sent out.old) (K.sent out.old)
-        → Untold (decode_script decoder.old.dialect) (outside
+    ensures untold { Drained decoder.old.known [] decoder.old (K.sent out.old) (K.sent out.old)
+        → Untold (decode_script decoder.old.known) (outside
         (S.has_ended main.new × IsSpent (S.left main.new)) (S.faults main.old) (S.faults main.new)
         (S.idles main.old) (S.idles main.new) (K.faults out.old) (K.faults out.new))
         (S.left main.old) (S.left main.new) (K.sent out.old) (K.sent out.new)
@@ -76,9 +78,15 @@ fn decode_all<S: Source, K: Sink>(
     }
 }
 
-/// Decodes an input by the built-in profile.
-pub fn decode<S: Source, K: Sink>(alloc: Global, main: &mut S, out: &mut K) -> Result<(), Halt>
-    ensures untold { Untold (decode_script profile_definitions) (outside
+/// Decodes an input by the built-in profile, and by a key where there is one.
+pub fn decode<S: Source, K: Sink>(
+    alloc: Global,
+    key: Option<Key>,
+    main: &mut S,
+    out: &mut K,
+) -> Result<(), Halt>
+    ensures untold { Untold
+        (decode_script (record { dialect = profile_definitions; key = key })) (outside
         (S.has_ended main.new × IsSpent (S.left main.new)) (S.faults main.old) (S.faults main.new)
         (S.idles main.old) (S.idles main.new) (K.faults out.old) (K.faults out.new))
         (S.left main.old) (S.left main.new) (K.sent out.old) (K.sent out.new)
@@ -86,5 +94,5 @@ pub fn decode<S: Source, K: Sink>(alloc: Global, main: &mut S, out: &mut K) -> R
     ensures sound { ¬ IsErrOf result Halt.WriteFault → K.faults out.new ≡ K.faults out.old }
 {
     let dialect = Dialect::profile(alloc)?;
-    decode_by(alloc, dialect, main, out)
+    decode_by(alloc, Known { dialect, key }, main, out)
 }

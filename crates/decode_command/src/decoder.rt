@@ -1,22 +1,23 @@
 // A stream that is decoded as its bytes come.
-ghost use Rattle.std.specs.Prelude.{◌≡◌, ◌<◌, ◌+◌, ◌++◌, ◌⊎◌, ℕ, List, [], length, true, false, IfOk, IfErr, OnOk, IsErrOf};
+ghost use Rattle.std.specs.Prelude.{◌≡◌, ◌<◌, ◌≤◌, ◌+◌, ◌++◌, ◌∷◌, ◌⊎◌, ℕ, List, [], length, map, true, false, IfOk, IfErr, OnOk, IsErrOf};
 ghost use Rattle.std.specs.declared.option.Option.{Option};
 ghost use Rattle.mav_ports.specs.Counts.{Rose};
-ghost use Rattle.field_layout.specs.Definition.{Definition};
+ghost use Rattle.decode_command.specs.declared.known.Known.{Known};
 ghost use Rattle.mav_frame.specs.declared.events.Event.TheVariants.{Frame as FrameEvent, Skipped};
+ghost use Rattle.mav_stream.specs.Garbage.{before_stx, not_stx};
+ghost use Rattle.mav_stream.specs.Flagged.{before_other, unknown_flag};
 ghost use Rattle.mav_stream.specs.Held.{nothing_held};
 ghost use Rattle.dialect.specs.Messages.{extras_of};
 ghost use Rattle.decode_command.specs.DecodeText.{event_size, counts_line};
-ghost use Rattle.decode_command.specs.Decodes.{Decoding, Drained, Halted, Front, Finished, Unfinished, Puts, IsWithin, Stepped, StepHalted};
+ghost use Rattle.decode_command.specs.Decodes.{Decoding, Drained, Halted, Front, Finished, Unfinished, PutsLine, Puts, IsWithin, Stepped, StepHalted};
 
-use crate::decimals::write_decimal;
+use crate::known::Known;
 use crate::writing::{ENOUGH_BYTES, put_frame, write, write_enough};
 use command_ends::Halt;
-use dialect::Dialect;
 use mav_frame::{Frame, Why};
 use mav_ports::{NoMemory, Sink};
 use mav_stream::{Next, Reader};
-use mav_text::put_skip;
+use mav_text::{Text, put_decimal, put_skip, put_skips};
 use std::alloc::Global;
 
 // More than a line has.
@@ -25,9 +26,11 @@ const LINE_BYTES: usize = 8192;
 /// A stream of which some bytes were taken: what is held of it, and the lines that aren't written yet.
 #[derive(Drop)]
 pub struct Decoder {
-    dialect: Dialect,
+    known: Known,
     reader: Reader,
     text: Vec<u8>,
+    /// Of the last frame.
+    fields: Text,
     /// Where the next event stands.
     offset: u64,
     frames: u64,
@@ -35,17 +38,18 @@ pub struct Decoder {
 }
 
 impl Decoder {
-    pub(crate) fn new(alloc: Global, dialect: Dialect) -> Result<Decoder, NoMemory>
-        ensures dialect { IfOk result (λ d. d.dialect ≡ dialect) }
-        ensures reader { IfOk result (λ d. d.reader ≡ nothing_held (extras_of dialect)) }
+    pub(crate) fn new(alloc: Global, known: Known) -> Result<Decoder, NoMemory>
+        ensures known { IfOk result (λ d. d.known ≡ known) }
+        ensures reader { IfOk result (λ d. d.reader ≡ nothing_held (extras_of known.dialect)) }
         ensures text { IfOk result (λ d. d.text.items ≡ []) }
         ensures counts { IfOk result (λ d. (d.offset ≡ 0) × (d.frames ≡ 0) × (d.skipped ≡ 0)) }
     {
-        let reader = Reader::new(dialect.extras().copy()?);
+        let reader = Reader::new(known.dialect.extras().copy()?);
         Ok(Decoder {
-            dialect,
+            known,
             reader,
             text: Vec::with_capacity(alloc, ENOUGH_BYTES + LINE_BYTES)?,
+            fields: Text::new(),
             offset: 0,
             frames: 0,
             skipped: 0,
@@ -63,12 +67,12 @@ impl Decoder {
         ensures room { OnOk result (length self.new.reader.bytes < 280) }
         ensures still { OnOk result (self.new.reader.ended ≡ false) }
         ensures empty { OnOk result (self.new.text.items ≡ []) }
-        ensures drained { (defs : List Definition) (taken : List ℕ) (before : Option (List ℕ))
-            → Drained defs taken self.old before (K.sent out.old)
-            → OnOk result (Drained defs (taken ++ piece.now) self.new before (K.sent out.new)) }
-        ensures halted { (defs : List Definition) (taken : List ℕ) (before : Option (List ℕ))
-            → Drained defs taken self.old before (K.sent out.old)
-            → IfErr result (λ _. Front defs (taken ++ piece.now) before (K.sent out.new)) }
+        ensures drained { (known : Known) (taken : List ℕ) (before : Option (List ℕ))
+            → Drained known taken self.old before (K.sent out.old)
+            → OnOk result (Drained known (taken ++ piece.now) self.new before (K.sent out.new)) }
+        ensures halted { (known : Known) (taken : List ℕ) (before : Option (List ℕ))
+            → Drained known taken self.old before (K.sent out.old)
+            → IfErr result (λ _. Front known (taken ++ piece.now) before (K.sent out.new)) }
         ensures error { IfErr result (λ e. (e ≡ Halt.WriteFault) ⊎ (e ≡ Halt.NoMemory)) }
         ensures rose { IsErrOf result Halt.WriteFault
             → Rose (K.faults out.old) (K.faults out.new) }
@@ -86,12 +90,12 @@ impl Decoder {
     /// The input ended: writes the lines of what is held, and the last line.
     pub(crate) fn finish<K: Sink>(&mut self, out: &mut K) -> Result<(), Halt>
         requires { IsWithin self.old 0 }
-        ensures done { (defs : List Definition) (taken : List ℕ) (before : Option (List ℕ))
-            → Drained defs taken self.old before (K.sent out.old)
-            → OnOk result (Finished defs taken before (K.sent out.new)) }
-        ensures halted { (defs : List Definition) (taken : List ℕ) (before : Option (List ℕ))
-            → Drained defs taken self.old before (K.sent out.old)
-            → IfErr result (λ _. Unfinished defs taken before (K.sent out.new)) }
+        ensures done { (known : Known) (taken : List ℕ) (before : Option (List ℕ))
+            → Drained known taken self.old before (K.sent out.old)
+            → OnOk result (Finished known taken before (K.sent out.new)) }
+        ensures halted { (known : Known) (taken : List ℕ) (before : Option (List ℕ))
+            → Drained known taken self.old before (K.sent out.old)
+            → IfErr result (λ _. Unfinished known taken before (K.sent out.new)) }
         ensures error { IfErr result (λ e. (e ≡ Halt.WriteFault) ⊎ (e ≡ Halt.NoMemory)) }
         ensures rose { IsErrOf result Halt.WriteFault
             → Rose (K.faults out.old) (K.faults out.new) }
@@ -112,12 +116,12 @@ impl Decoder {
             ≡ self.old.offset + length self.old.reader.bytes) }
         ensures room { OnOk result (length self.new.reader.bytes < 280) }
         ensures ended { OnOk result (self.new.reader.ended ≡ self.old.reader.ended) }
-        ensures drained { (defs : List Definition) (taken : List ℕ) (before : Option (List ℕ))
-            → Decoding defs taken self.old before (K.sent out.old)
-            → OnOk result (Drained defs taken self.new before (K.sent out.new)) }
-        ensures halted { (defs : List Definition) (taken : List ℕ) (before : Option (List ℕ))
-            → Decoding defs taken self.old before (K.sent out.old)
-            → IfErr result (λ _. Halted defs taken self.new before (K.sent out.new)
+        ensures drained { (known : Known) (taken : List ℕ) (before : Option (List ℕ))
+            → Decoding known taken self.old before (K.sent out.old)
+            → OnOk result (Drained known taken self.new before (K.sent out.new)) }
+        ensures halted { (known : Known) (taken : List ℕ) (before : Option (List ℕ))
+            → Decoding known taken self.old before (K.sent out.old)
+            → IfErr result (λ _. Halted known taken self.new before (K.sent out.new)
             × (self.new.reader.ended ≡ self.old.reader.ended)) }
         ensures error { IfErr result (λ e. (e ≡ Halt.WriteFault) ⊎ (e ≡ Halt.NoMemory)) }
         ensures rose { IsErrOf result Halt.WriteFault
@@ -126,6 +130,7 @@ impl Decoder {
             → K.faults out.new ≡ K.faults out.old }
     {
         loop {
+            self.sweep(out)?;
             match self.reader.next() {
                 Next::Frame(frame) => self.frame(&frame, out)?,
                 Next::Skipped(byte, why) => self.skip(byte, why, out)?,
@@ -134,12 +139,120 @@ impl Decoder {
         }
     }
 
+    // Puts the lines of runs of bytes that are skipped for one reason.
+    fn sweep<K: Sink>(&mut self, out: &mut K) -> Result<(), Halt>
+        requires { IsWithin self.old 0 }
+        ensures within { OnOk result (IsWithin self.new 0) }
+        ensures sum { OnOk result (self.new.offset + length self.new.reader.bytes
+            ≡ self.old.offset + length self.old.reader.bytes) }
+        ensures room { OnOk result (length self.new.reader.bytes ≤ length self.old.reader.bytes) }
+        ensures ended { self.new.reader.ended ≡ self.old.reader.ended }
+        ensures decoding { (known : Known) (taken : List ℕ) (before : Option (List ℕ))
+            → Decoding known taken self.old before (K.sent out.old)
+            → OnOk result (Decoding known taken self.new before (K.sent out.new)) }
+        ensures halted { (known : Known) (taken : List ℕ) (before : Option (List ℕ))
+            → Decoding known taken self.old before (K.sent out.old)
+            → IfErr result (λ _. Halted known taken self.new before (K.sent out.new)) }
+        ensures error { IfErr result (λ e. (e ≡ Halt.WriteFault) ⊎ (e ≡ Halt.NoMemory)) }
+        ensures rose { IsErrOf result Halt.WriteFault
+            → Rose (K.faults out.old) (K.faults out.new) }
+        ensures sound { ¬ IsErrOf result Halt.WriteFault
+            → K.faults out.new ≡ K.faults out.old }
+    {
+        self.sweep_garbage(out)?;
+        self.sweep_flagged(out)
+    }
+
+    // Puts the lines of the bytes in front of the next STX.
+    fn sweep_garbage<K: Sink>(&mut self, out: &mut K) -> Result<(), Halt>
+        requires { IsWithin self.old 0 }
+        ensures within { OnOk result (IsWithin self.new 0) }
+        ensures sum { OnOk result (self.new.offset + length self.new.reader.bytes
+            ≡ self.old.offset + length self.old.reader.bytes) }
+        ensures room { OnOk result (length self.new.reader.bytes ≤ length self.old.reader.bytes) }
+        ensures ended { self.new.reader.ended ≡ self.old.reader.ended }
+        ensures decoding { (known : Known) (taken : List ℕ) (before : Option (List ℕ))
+            → Decoding known taken self.old before (K.sent out.old)
+            → OnOk result (Decoding known taken self.new before (K.sent out.new)) }
+        ensures halted { (known : Known) (taken : List ℕ) (before : Option (List ℕ))
+            → Decoding known taken self.old before (K.sent out.old)
+            → IfErr result (λ _. Halted known taken self.new before (K.sent out.new)) }
+        ensures error { IfErr result (λ e. (e ≡ Halt.WriteFault) ⊎ (e ≡ Halt.NoMemory)) }
+        ensures rose { IsErrOf result Halt.WriteFault
+            → Rose (K.faults out.old) (K.faults out.new) }
+        ensures sound { ¬ IsErrOf result Halt.WriteFault
+            → K.faults out.new ≡ K.faults out.old }
+    {
+        if self.reader.garbage().is_empty() {
+            return Ok(());
+        }
+        self.append_garbage()?;
+        self.reader.skip_garbage();
+        write_enough(&mut self.text, out)
+    }
+
+    // Puts the lines of the STX in front whose flags are unknown.
+    fn sweep_flagged<K: Sink>(&mut self, out: &mut K) -> Result<(), Halt>
+        requires { IsWithin self.old 0 }
+        ensures within { OnOk result (IsWithin self.new 0) }
+        ensures sum { OnOk result (self.new.offset + length self.new.reader.bytes
+            ≡ self.old.offset + length self.old.reader.bytes) }
+        ensures room { OnOk result (length self.new.reader.bytes ≤ length self.old.reader.bytes) }
+        ensures ended { self.new.reader.ended ≡ self.old.reader.ended }
+        ensures decoding { (known : Known) (taken : List ℕ) (before : Option (List ℕ))
+            → Decoding known taken self.old before (K.sent out.old)
+            → OnOk result (Decoding known taken self.new before (K.sent out.new)) }
+        ensures halted { (known : Known) (taken : List ℕ) (before : Option (List ℕ))
+            → Decoding known taken self.old before (K.sent out.old)
+            → IfErr result (λ _. Halted known taken self.new before (K.sent out.new)) }
+        ensures error { IfErr result (λ e. (e ≡ Halt.WriteFault) ⊎ (e ≡ Halt.NoMemory)) }
+        ensures rose { IsErrOf result Halt.WriteFault
+            → Rose (K.faults out.old) (K.faults out.new) }
+        ensures sound { ¬ IsErrOf result Halt.WriteFault
+            → K.faults out.new ≡ K.faults out.old }
+    {
+        if self.reader.flagged().is_empty() {
+            return Ok(());
+        }
+        self.append_flagged()?;
+        self.reader.skip_flagged();
+        write_enough(&mut self.text, out)
+    }
+
+    fn append_garbage(&mut self) -> Result<(), NoMemory>
+        requires { IsWithin self.old 0 }
+        ensures lines { OnOk result
+            (Puts (map not_stx (before_stx self.old.reader.bytes)) self.old self.new) }
+        ensures reader { self.new.reader ≡ self.old.reader }
+    {
+        let bytes = self.reader.garbage();
+        let count = bytes.len() as u64;
+        put_skips(self.offset, bytes, Why::NotStx, &mut self.text)?;
+        self.offset += count;
+        self.skipped += count;
+        Ok(())
+    }
+
+    fn append_flagged(&mut self) -> Result<(), NoMemory>
+        requires { IsWithin self.old 0 }
+        ensures lines { OnOk result
+            (Puts (map unknown_flag (before_other self.old.reader.bytes)) self.old self.new) }
+        ensures reader { self.new.reader ≡ self.old.reader }
+    {
+        let bytes = self.reader.flagged();
+        let run = bytes.len() as u64;
+        put_skips(self.offset, bytes, Why::UnknownFlag, &mut self.text)?;
+        self.offset += run;
+        self.skipped += run;
+        Ok(())
+    }
+
     // Puts the line of a frame.
     fn frame<K: Sink>(&mut self, frame: &Frame, out: &mut K) -> Result<(), Halt>
         requires { IsWithin self.old (event_size (FrameEvent frame.now)) }
-        ensures done { OnOk result (Stepped (FrameEvent frame.now) self.old self.new
+        ensures done { OnOk result (Stepped (FrameEvent frame.now ∷ []) self.old self.new
             (K.sent out.old) (K.sent out.new)) }
-        ensures halted { IfErr result (λ _. StepHalted (FrameEvent frame.now) self.old self.new
+        ensures halted { IfErr result (λ _. StepHalted (FrameEvent frame.now ∷ []) self.old self.new
             (K.sent out.old) (K.sent out.new)) }
         ensures error { IfErr result (λ e. (e ≡ Halt.WriteFault) ⊎ (e ≡ Halt.NoMemory)) }
         ensures rose { IsErrOf result Halt.WriteFault
@@ -154,9 +267,9 @@ impl Decoder {
     // Puts the line of a skipped byte.
     fn skip<K: Sink>(&mut self, byte: u8, why: Why, out: &mut K) -> Result<(), Halt>
         requires { IsWithin self.old 1 }
-        ensures done { OnOk result (Stepped (Skipped byte why) self.old self.new
+        ensures done { OnOk result (Stepped (Skipped byte why ∷ []) self.old self.new
             (K.sent out.old) (K.sent out.new)) }
-        ensures halted { IfErr result (λ _. StepHalted (Skipped byte why) self.old self.new
+        ensures halted { IfErr result (λ _. StepHalted (Skipped byte why ∷ []) self.old self.new
             (K.sent out.old) (K.sent out.new)) }
         ensures error { IfErr result (λ e. (e ≡ Halt.WriteFault) ⊎ (e ≡ Halt.NoMemory)) }
         ensures rose { IsErrOf result Halt.WriteFault
@@ -170,10 +283,16 @@ impl Decoder {
 
     fn append_frame(&mut self, frame: &Frame) -> Result<(), NoMemory>
         requires { IsWithin self.old (event_size (FrameEvent frame.now)) }
-        ensures line { OnOk result (Puts (FrameEvent frame.now) self.old self.new) }
+        ensures line { OnOk result (PutsLine (FrameEvent frame.now) self.old self.new) }
         ensures reader { self.new.reader ≡ self.old.reader }
     {
-        put_frame(&self.dialect, self.offset, frame, &mut self.text)?;
+        put_frame(
+            &self.known,
+            self.offset,
+            frame,
+            &mut self.fields,
+            &mut self.text,
+        )?;
         self.offset += frame.size() as u64;
         self.frames += 1;
         Ok(())
@@ -181,7 +300,7 @@ impl Decoder {
 
     fn append_skip(&mut self, byte: u8, why: Why) -> Result<(), NoMemory>
         requires { IsWithin self.old 1 }
-        ensures line { OnOk result (Puts (Skipped byte why) self.old self.new) }
+        ensures line { OnOk result (PutsLine (Skipped byte why) self.old self.new) }
         ensures reader { self.new.reader ≡ self.old.reader }
     {
         put_skip(self.offset, byte, why, &mut self.text)?;
@@ -195,13 +314,10 @@ impl Decoder {
 fn put_counts(frames: u64, skipped: u64, text: &mut Vec<u8>) -> Result<(), NoMemory>
     ensures { OnOk result (text.new.items ≡ text.old.items ++ counts_line frames skipped) }
 {
-    let mut digits = [0; 20];
     text.extend_from_slice(b"frames ")?;
-    let first = write_decimal(frames, &mut digits);
-    text.extend_from_slice(&digits[first..])?;
+    put_decimal(frames, text)?;
     text.extend_from_slice(b" skipped ")?;
-    let first = write_decimal(skipped, &mut digits);
-    text.extend_from_slice(&digits[first..])?;
+    put_decimal(skipped, text)?;
     text.push(b'\n')?;
     Ok(())
 }

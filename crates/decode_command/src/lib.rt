@@ -1,15 +1,16 @@
 //! The command `decode`: every frame of a stream as a line of text, and every byte that is in none.
 //!
-//! [`decode`] knows the messages of the built-in profile, [`decode_by`] those of a dialect. The input
-//! is read in pieces, and the lines of a piece are written before more is read, in constant memory.
+//! [`decode`] knows the messages of the built-in profile, [`decode_by`] those of a dialect. With a
+//! key a signed frame is told to be good or bad. The input is read in pieces, and the lines of a piece are written before more is read, in constant memory.
 //! `specs/Script.antt` says what stops a run and what it writes. The text of a halt isn't written
 //! here.
 #![tactic(auto)]
 
 mod commands;
-mod decimals;
 mod decoder;
+mod known;
 pub mod laws;
 mod writing;
 
 pub use commands::{decode, decode_by};
+pub use known::Known;

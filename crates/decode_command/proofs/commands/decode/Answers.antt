@@ -7,4 +7,4 @@ use Rattle.decode_command.proofs.commands.decode.Goals as goal
 pub returns-in_err-dialect-clause-untold : goal.returns-in_err-dialect-clause-untold
 returns-in_err-dialect-clause-untold g c =
     let e = err_from_is_err_and c.from_residual.result c.from_residual.ensures.1 in
-    rw (e.1, e.2) (untold_nothing (decode_script profile_definitions) _ (g.S.Source.left c.args.main.now) (g.K.Sink.sent c.args.out.now))
+    rw (e.1, e.2) (untold_nothing (decode_script (record { dialect = profile_definitions; key = c.args.key })) _ (g.S.Source.left c.args.main.now) (g.K.Sink.sent c.args.out.now))

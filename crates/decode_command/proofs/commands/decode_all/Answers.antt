@@ -34,7 +34,7 @@ loop-count-preserved g c =
             taken ++ take count buf,
             took_more taken (take count buf) (g.S.Source.left c.args.main.now) (g.S.Source.left c.loop-count.main) (g.S.Source.left c.read_on.new.source) took read.bytes,
             omega (arith, more, len, test),
-            after.drained c.args.decoder.now.dialect taken (g.K.Sink.sent c.args.out.now) d,
+            after.drained c.args.decoder.now.known taken (g.K.Sink.sent c.args.out.now) d,
           );
       faults = read.sound (λ e. cc) ∙ inv.faults;
       idles = omega (arith, read.idles, inv.idles);
@@ -44,7 +44,7 @@ loop-count-preserved g c =
 pub returns-in_err-take-in-Bytes-clause-untold : goal.returns-in_err-take-in-Bytes-clause-untold
 returns-in_err-take-in-Bytes-clause-untold g c =
     let inv = c.loop-count.invariant in let buf = c.read_on.new.buf in let count = c.in-Bytes.count in let left = c.loop-count.left in
-    let read = c.in-Bytes.ensures in let test = c.if-count-left.true in let defs = c.args.decoder.now.dialect in
+    let read = c.in-Bytes.ensures in let test = c.if-count-left.true in let known = c.args.decoder.now.known in
     let halt = c.in_err-take-in-Bytes.field-0.0 in let err = c.in_err-take-in-Bytes.ensures in
     let sb = g.K.Sink.sent c.args.out.now in let sa = g.K.Sink.sent c.take.new.out in
     let e = err_from_is_err_and c.from_residual.result c.from_residual.ensures.1 in
@@ -52,49 +52,49 @@ returns-in_err-take-in-Bytes-clause-untold g c =
     let (taken, took, len, d) = inv.drained start in
     let more = read_length taken buf count read.within.1 in
     let below : left ≤ count = omega (arith, test) in
-    untold_past defs _ (g.S.Source.left c.args.main.now) (g.S.Source.left c.read_on.new.source) sb sa (taken ++ take count buf) halt
+    untold_past known _ (g.S.Source.left c.args.main.now) (g.S.Source.left c.read_on.new.source) sb sa (taken ++ take count buf) halt
     (took_more taken (take count buf) (g.S.Source.left c.args.main.now) (g.S.Source.left c.loop-count.main) (g.S.Source.left c.read_on.new.source) took read.bytes)
     (omega (arith, more, len, test)) err.error
     (λ f. subst (λ n. Rose n (g.K.Sink.faults c.take.new.out)) inv.refusals (err.rose (ap Err f)))
-    (subst (λ (bytes : List ℕ). Front defs bytes sb sa) (sym (limited taken buf count left below len)) (err.halted defs taken sb d)))
+    (subst (λ (bytes : List ℕ). Front known bytes sb sa) (sym (limited taken buf count left below len)) (err.halted known taken sb d)))
 
 pub returns-then-count-left-clause-untold : goal.returns-then-count-left-clause-untold
 returns-then-count-left-clause-untold g c =
     let inv = c.loop-count.invariant in let buf = c.read_on.new.buf in let count = c.in-Bytes.count in let left = c.loop-count.left in
-    let read = c.in-Bytes.ensures in let test = c.if-count-left.true in let defs = c.args.decoder.now.dialect in
+    let read = c.in-Bytes.ensures in let test = c.if-count-left.true in let known = c.args.decoder.now.known in
     let after = c.in_ok-take-in-Bytes.ensures in
     let sb = g.K.Sink.sent c.args.out.now in let sa = g.K.Sink.sent c.take.new.out in
     λ start.
     let (taken, took, len, d) = inv.drained start in
     let more = read_length taken buf count read.within.1 in
     let below : left ≤ count = omega (arith, test) in
-    untold_limit defs _ (g.S.Source.left c.args.main.now) (g.S.Source.left c.read_on.new.source) sb sa (taken ++ take count buf) c.take.new.self
+    untold_limit known _ (g.S.Source.left c.args.main.now) (g.S.Source.left c.read_on.new.source) sb sa (taken ++ take count buf) c.take.new.self
     (took_more taken (take count buf) (g.S.Source.left c.args.main.now) (g.S.Source.left c.loop-count.main) (g.S.Source.left c.read_on.new.source) took read.bytes)
     (omega (arith, more, len, test)) after.still after.empty
-    (subst (λ (bytes : List ℕ). Drained defs bytes c.take.new.self sb sa) (sym (limited taken buf count left below len)) (after.drained defs taken sb d))
+    (subst (λ (bytes : List ℕ). Drained known bytes c.take.new.self sb sa) (sym (limited taken buf count left below len)) (after.drained known taken sb d))
 
 pub returns-in_err-take-in-Bytes-2-clause-untold : goal.returns-in_err-take-in-Bytes-2-clause-untold
 returns-in_err-take-in-Bytes-2-clause-untold g c =
     let inv = c.loop-count.invariant in let buf = c.read_on.new.buf in let count = c.in-Bytes.count in
-    let read = c.in-Bytes.ensures in let test = c.if-count-left.false in let defs = c.args.decoder.now.dialect in
+    let read = c.in-Bytes.ensures in let test = c.if-count-left.false in let known = c.args.decoder.now.known in
     let halt = c.in_err-take-in-Bytes-2.field-0.0 in let err = c.in_err-take-in-Bytes-2.ensures in
     let sb = g.K.Sink.sent c.args.out.now in let sa = g.K.Sink.sent c.take-in-Bytes.new.out in
     let e = err_from_is_err_and c.from_residual-in_err-take-in-Bytes-2.result c.from_residual-in_err-take-in-Bytes-2.ensures.1 in
     rw (e.1, e.2) (λ start.
     let (taken, took, len, d) = inv.drained start in
     let more = read_length taken buf count read.within.1 in
-    untold_within defs _ (g.S.Source.left c.args.main.now) (g.S.Source.left c.read_on.new.source) sb sa (taken ++ take count buf) halt
+    untold_within known _ (g.S.Source.left c.args.main.now) (g.S.Source.left c.read_on.new.source) sb sa (taken ++ take count buf) halt
     (took_more taken (take count buf) (g.S.Source.left c.args.main.now) (g.S.Source.left c.loop-count.main) (g.S.Source.left c.read_on.new.source) took read.bytes)
     (omega (arith, more, len, test)) err.error
     (λ f. subst (λ n. Rose n (g.K.Sink.faults c.take-in-Bytes.new.out)) inv.refusals (err.rose (ap Err f)))
-    (err.halted defs taken sb d))
+    (err.halted known taken sb d))
 
 pub returns-in-Idle-clause-untold : goal.returns-in-Idle-clause-untold
 returns-in-Idle-clause-untold g c =
     let inv = c.loop-count.invariant in let read = c.in-Idle.ensures in
     λ start.
     let (taken, took, len, d) = inv.drained start in
-    untold_idle c.args.decoder.now.dialect _ (g.S.Source.left c.args.main.now) (g.S.Source.left c.read_on.new.source) (g.K.Sink.sent c.args.out.now) (g.K.Sink.sent c.loop-count.out) taken c.loop-count.decoder
+    untold_idle c.args.decoder.now.known _ (g.S.Source.left c.args.main.now) (g.S.Source.left c.read_on.new.source) (g.K.Sink.sent c.args.out.now) (g.K.Sink.sent c.loop-count.out) taken c.loop-count.decoder
     (took_none taken (g.S.Source.left c.args.main.now) (g.S.Source.left c.loop-count.main) (g.S.Source.left c.read_on.new.source) took read.bytes)
     (omega (arith, len)) inv.still inv.empty d
     (λ below. omega (arith, read.idled refl below, inv.idles))
@@ -105,10 +105,10 @@ returns-in-End-clause-untold g c =
     let sb = g.K.Sink.sent c.args.out.now in
     λ start.
     let (taken, took, len, d) = inv.drained start in
-    untold_end c.args.decoder.now.dialect _ (g.S.Source.left c.args.main.now) (g.S.Source.left c.read_on.new.source) sb (g.K.Sink.sent c.finish.new.out) taken c.finish.result
+    untold_end c.args.decoder.now.known _ (g.S.Source.left c.args.main.now) (g.S.Source.left c.read_on.new.source) sb (g.K.Sink.sent c.finish.new.out) taken c.finish.result
     (took_none taken (g.S.Source.left c.args.main.now) (g.S.Source.left c.loop-count.main) (g.S.Source.left c.read_on.new.source) took read.bytes)
     (read.ended refl) (omega (arith, len))
-    (c.finish.ensures.done c.args.decoder.now.dialect taken sb d) (c.finish.ensures.halted c.args.decoder.now.dialect taken sb d) c.finish.ensures.error
+    (c.finish.ensures.done c.args.decoder.now.known taken sb d) (c.finish.ensures.halted c.args.decoder.now.known taken sb d) c.finish.ensures.error
     (λ e. subst (λ n. Rose n (g.K.Sink.faults c.finish.new.out)) inv.refusals (c.finish.ensures.rose e))
 
 pub returns-in-Failed-clause-untold : goal.returns-in-Failed-clause-untold
@@ -116,7 +116,7 @@ returns-in-Failed-clause-untold g c =
     let inv = c.loop-count.invariant in let read = c.in-Failed.ensures in
     λ start.
     let (taken, took, len, d) = inv.drained start in
-    untold_fault c.args.decoder.now.dialect _ (g.S.Source.left c.args.main.now) (g.S.Source.left c.read_on.new.source) (g.K.Sink.sent c.args.out.now) (g.K.Sink.sent c.loop-count.out) taken c.loop-count.decoder
+    untold_fault c.args.decoder.now.known _ (g.S.Source.left c.args.main.now) (g.S.Source.left c.read_on.new.source) (g.K.Sink.sent c.args.out.now) (g.K.Sink.sent c.loop-count.out) taken c.loop-count.decoder
     (took_none taken (g.S.Source.left c.args.main.now) (g.S.Source.left c.loop-count.main) (g.S.Source.left c.read_on.new.source) took read.bytes)
     (omega (arith, len)) inv.still inv.empty d
     (subst (λ n. Rose n (g.S.Source.faults c.read_on.new.source)) inv.faults (read.failed refl))

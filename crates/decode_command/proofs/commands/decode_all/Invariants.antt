@@ -11,9 +11,9 @@ invariant-loop-count g l = record {
   room : length l.decoder.reader.bytes < 280;
   still : l.decoder.reader.ended ≡ false;
   empty : l.decoder.text.items ≡ [];
-  drained : Drained l.initial.decoder.dialect [] l.initial.decoder (g.K.Sink.sent l.initial.out) (g.K.Sink.sent l.initial.out)
+  drained : Drained l.initial.decoder.known [] l.initial.decoder (g.K.Sink.sent l.initial.out) (g.K.Sink.sent l.initial.out)
       → (taken : List ℕ) × (g.S.Source.left l.initial.main ≡ prepend_known taken (g.S.Source.left l.main)) × (length taken + l.left ≡ most_input_bytes)
-      × Drained l.initial.decoder.dialect taken l.decoder (g.K.Sink.sent l.initial.out) (g.K.Sink.sent l.out);
+      × Drained l.initial.decoder.known taken l.decoder (g.K.Sink.sent l.initial.out) (g.K.Sink.sent l.out);
   faults : g.S.Source.faults l.main ≡ g.S.Source.faults l.initial.main;
   idles : g.S.Source.idles l.initial.main ≤ g.S.Source.idles l.main;
   refusals : g.K.Sink.faults l.out ≡ g.K.Sink.faults l.initial.out;

@@ -1,17 +1,17 @@
 use Rattle.std.proofs.Common.{◌≡◌, ◌+◌, ℕ, List, length}
 use Rattle.std.specs.declared.option.Option.{Option}
-use Rattle.field_layout.specs.Definition.{Definition}
+use Rattle.decode_command.specs.declared.known.Known.{Known}
 use Rattle.decode_command.specs.Decodes.{Decoding, IsWithin}
 use Rattle.decode_command.proofs.decoder.Decoder.drain.Given as goal
 
-abbrev pub invariant-loop-frame : goal.invariant-loop-frame
-invariant-loop-frame g l = record {
+abbrev pub invariant-loop-self : goal.invariant-loop-self
+invariant-loop-self g l = record {
   within : IsWithin l.self 0;
   sum : l.self.offset + length l.self.reader.bytes ≡ l.initial.self.offset + length l.initial.self.reader.bytes;
   ended : l.self.reader.ended ≡ l.initial.self.reader.ended;
-  decoding : (defs : List Definition) (taken : List ℕ) (before : Option (List ℕ)) → Decoding defs taken l.initial.self before (g.K.Sink.sent l.initial.out) → Decoding defs taken l.self before (g.K.Sink.sent l.out);
+  decoding : (known : Known) (taken : List ℕ) (before : Option (List ℕ)) → Decoding known taken l.initial.self before (g.K.Sink.sent l.initial.out) → Decoding known taken l.self before (g.K.Sink.sent l.out);
   refusals : g.K.Sink.faults l.out ≡ g.K.Sink.faults l.initial.out;
 }
 
-abbrev pub decreases-loop-frame : goal.decreases-loop-frame
-decreases-loop-frame g l = length l.self.reader.bytes
+abbrev pub decreases-loop-self : goal.decreases-loop-self
+decreases-loop-self g l = length l.self.reader.bytes

@@ -9,32 +9,32 @@ use Rattle.decode_command.proofs.decoder.Decoder.finish.Goals as goal
 pub returns-in_err-drain-clause-halted : goal.returns-in_err-drain-clause-halted
 returns-in_err-drain-clause-halted g c =
     let e = err_from_is_err_and c.from_residual.result c.from_residual.ensures.1 in
-    rw e.1 (λ defs taken before d.
-    halted_unfinished defs taken c.drain.new.self before (g.K.Sink.sent c.drain.new.out)
-    (c.in_err-drain.ensures.halted defs taken before (decoding_fed defs taken taken c.args.self.now c.end.new.self before (g.K.Sink.sent c.args.out.now) d.decoding (λ given p. c.end.ensures.progress _ taken given p))).0)
+    rw e.1 (λ known taken before d.
+    halted_unfinished known taken c.drain.new.self before (g.K.Sink.sent c.drain.new.out)
+    (c.in_err-drain.ensures.halted known taken before (decoding_fed known taken taken c.args.self.now c.end.new.self before (g.K.Sink.sent c.args.out.now) d.decoding (λ given p. c.end.ensures.progress _ taken given p))).0)
 
 pub returns-in_err-put_counts-clause-halted : goal.returns-in_err-put_counts-clause-halted
 returns-in_err-put_counts-clause-halted g c =
     let e = err_from_is_err_and c.from_residual-in_err-put_counts.result c.from_residual-in_err-put_counts.ensures.1 in
     let ended = c.in_ok-drain.ensures.ended ∙ ap (λ (h : Held). h.ended) c.end.ensures.held in
-    rw e.1 (λ defs taken before d.
-    uncounted defs taken c.drain.new.self before (g.K.Sink.sent c.drain.new.out) ended
-    (c.in_ok-drain.ensures.drained defs taken before (decoding_fed defs taken taken c.args.self.now c.end.new.self before (g.K.Sink.sent c.args.out.now) d.decoding (λ given p. c.end.ensures.progress _ taken given p))))
+    rw e.1 (λ known taken before d.
+    uncounted known taken c.drain.new.self before (g.K.Sink.sent c.drain.new.out) ended
+    (c.in_ok-drain.ensures.drained known taken before (decoding_fed known taken taken c.args.self.now c.end.new.self before (g.K.Sink.sent c.args.out.now) d.decoding (λ given p. c.end.ensures.progress _ taken given p))))
 
 pub returns-clause-done : goal.returns-clause-done
 returns-clause-done g c =
     let ended = c.in_ok-drain.ensures.ended ∙ ap (λ (h : Held). h.ended) c.end.ensures.held in
-    λ defs taken before d.
+    λ known taken before d.
     on_ok_both c.write.result c.write.ensures.moved c.write.ensures.empty (λ moved empty.
-    finished defs taken c.drain.new.self before (g.K.Sink.sent c.drain.new.out) ended
-    (c.in_ok-drain.ensures.drained defs taken before (decoding_fed defs taken taken c.args.self.now c.end.new.self before (g.K.Sink.sent c.args.out.now) d.decoding (λ given p. c.end.ensures.progress _ taken given p)))
+    finished known taken c.drain.new.self before (g.K.Sink.sent c.drain.new.out) ended
+    (c.in_ok-drain.ensures.drained known taken before (decoding_fed known taken taken c.args.self.now c.end.new.self before (g.K.Sink.sent c.args.out.now) d.decoding (λ given p. c.end.ensures.progress _ taken given p)))
     (g.K.Sink.sent c.write.new.out) c.put_counts.new.text.items c.write.new.text.items c.in_ok-put_counts.ensures moved empty)
 
 pub returns-clause-halted : goal.returns-clause-halted
 returns-clause-halted g c =
     let ended = c.in_ok-drain.ensures.ended ∙ ap (λ (h : Held). h.ended) c.end.ensures.held in
-    λ defs taken before d.
+    λ known taken before d.
     if_err c.write.result
-    (unfinished defs taken c.drain.new.self before (g.K.Sink.sent c.drain.new.out) ended
-    (c.in_ok-drain.ensures.drained defs taken before (decoding_fed defs taken taken c.args.self.now c.end.new.self before (g.K.Sink.sent c.args.out.now) d.decoding (λ given p. c.end.ensures.progress _ taken given p)))
+    (unfinished known taken c.drain.new.self before (g.K.Sink.sent c.drain.new.out) ended
+    (c.in_ok-drain.ensures.drained known taken before (decoding_fed known taken taken c.args.self.now c.end.new.self before (g.K.Sink.sent c.args.out.now) d.decoding (λ given p. c.end.ensures.progress _ taken given p)))
     (g.K.Sink.sent c.write.new.out) c.put_counts.new.text.items c.in_ok-put_counts.ensures c.write.ensures.front)

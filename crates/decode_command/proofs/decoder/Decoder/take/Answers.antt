@@ -21,9 +21,9 @@ loop-place-preserved g c =
       sum = omega (arith, after.sum, fed, inv.sum);
       room = after.room;
       still = after.ended ∙ (ap (λ (h : Held). h.ended) c.feed-place.ensures.held ∙ inv.still);
-      drained = λ defs taken before d.
-          after.drained defs _ before
-          (part_fed defs taken piece place n l.self c.feed-place.new.self before (g.K.Sink.sent l.out) short (inv.drained defs taken before d) (λ given p. c.feed-place.ensures.progress _ _ given inv.still p));
+      drained = λ known taken before d.
+          after.drained known _ before
+          (part_fed known taken piece place n l.self c.feed-place.new.self before (g.K.Sink.sent l.out) short (inv.drained known taken before d) (λ given p. c.feed-place.ensures.progress _ _ given inv.still p));
       refusals = after.sound (λ e. cc) ∙ inv.refusals;
     }
 
@@ -36,21 +36,21 @@ returns-in_err-drain-clause-halted g c =
     let short : n ≤ length piece - place = omega (arith, count, long) in
     let still = ap (λ (h : Held). h.ended) c.feed-place.ensures.held ∙ inv.still in
     let e = err_from_is_err_and c.from_residual.result c.from_residual.ensures.1 in
-    rw e.1 (λ defs taken before d.
-    let h = c.in_err-drain.ensures.halted defs _ before
-    (part_fed defs taken piece place n l.self c.feed-place.new.self before (g.K.Sink.sent l.out) short (inv.drained defs taken before d) (λ given p. c.feed-place.ensures.progress _ _ given inv.still p)) in
-    piece_halted defs taken piece (place + n) c.drain.new.self before (g.K.Sink.sent c.drain.new.out) (h.1 ∙ still) h.0)
+    rw e.1 (λ known taken before d.
+    let h = c.in_err-drain.ensures.halted known _ before
+    (part_fed known taken piece place n l.self c.feed-place.new.self before (g.K.Sink.sent l.out) short (inv.drained known taken before d) (λ given p. c.feed-place.ensures.progress _ _ given inv.still p)) in
+    piece_halted known taken piece (place + n) c.drain.new.self before (g.K.Sink.sent c.drain.new.out) (h.1 ∙ still) h.0)
 
 pub returns-clause-drained : goal.returns-clause-drained
-returns-clause-drained g c = λ defs taken before d.
+returns-clause-drained g c = λ known taken before d.
     let l = c.loop-place in
     on_ok c.write.result c.write.ensures.moved (λ moved.
-    drained_written defs _ l.self (record l.self { text = c.write.new.text }) before (g.K.Sink.sent l.out) (g.K.Sink.sent c.write.new.out)
-    (piece_whole defs taken c.args.piece.now l.place l.self before (g.K.Sink.sent l.out) c.loop-place-test.false (l.invariant.drained defs taken before d)) moved refl)
+    drained_written known _ l.self (record l.self { text = c.write.new.text }) before (g.K.Sink.sent l.out) (g.K.Sink.sent c.write.new.out)
+    (piece_whole known taken c.args.piece.now l.place l.self before (g.K.Sink.sent l.out) c.loop-place-test.false (l.invariant.drained known taken before d)) moved refl)
 
 pub returns-clause-halted : goal.returns-clause-halted
-returns-clause-halted g c = λ defs taken before d.
+returns-clause-halted g c = λ known taken before d.
     let l = c.loop-place in
     if_err c.write.result
-    (drained_front defs _ l.self before (g.K.Sink.sent l.out) (g.K.Sink.sent c.write.new.out) l.invariant.still
-    (piece_whole defs taken c.args.piece.now l.place l.self before (g.K.Sink.sent l.out) c.loop-place-test.false (l.invariant.drained defs taken before d)) c.write.ensures.front)
+    (drained_front known _ l.self before (g.K.Sink.sent l.out) (g.K.Sink.sent c.write.new.out) l.invariant.still
+    (piece_whole known taken c.args.piece.now l.place l.self before (g.K.Sink.sent l.out) c.loop-place-test.false (l.invariant.drained known taken before d)) c.write.ensures.front)

@@ -1,6 +1,6 @@
 use Rattle.std.proofs.Common.{◌≡◌, ◌<◌, ◌≤◌, ◌+◌, ◌-◌, ◌++◌, ℕ, List, length, take, false}
 use Rattle.std.specs.declared.option.Option.{Option}
-use Rattle.field_layout.specs.Definition.{Definition}
+use Rattle.decode_command.specs.declared.known.Known.{Known}
 use Rattle.decode_command.specs.Decodes.{Drained, IsWithin}
 use Rattle.decode_command.proofs.decoder.Decoder.take.Given as goal
 
@@ -11,7 +11,7 @@ invariant-loop-place g l = record {
   sum : l.self.offset + length l.self.reader.bytes ≡ l.initial.self.offset + length l.initial.self.reader.bytes + l.place;
   room : length l.self.reader.bytes < 280;
   still : l.self.reader.ended ≡ false;
-  drained : (defs : List Definition) (taken : List ℕ) (before : Option (List ℕ)) → Drained defs taken l.initial.self before (g.K.Sink.sent l.initial.out) → Drained defs (taken ++ take l.place l.piece) l.self before (g.K.Sink.sent l.out);
+  drained : (known : Known) (taken : List ℕ) (before : Option (List ℕ)) → Drained known taken l.initial.self before (g.K.Sink.sent l.initial.out) → Drained known (taken ++ take l.place l.piece) l.self before (g.K.Sink.sent l.out);
   refusals : g.K.Sink.faults l.out ≡ g.K.Sink.faults l.initial.out;
 }
 
