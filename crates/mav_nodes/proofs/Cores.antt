@@ -1,6 +1,6 @@
 -- Steps of a node, whatever its core is.
-use Rattle.std.proofs.Common.{◌≡◌, ℕ, Bool, true, false, if◌then◌else◌, List, [], ◌∷◌, ◌++◌, Option, Some, None, Result, Ok, Err, refl, sym, ap, ◌∙◌, subst}
-use Rattle.std.specs.Prelude.{nat_lt, IfOk, IfErr}
+use Rattle.std.proofs.Common.{◌≡◌, ℕ, Bool, true, false, if◌then◌else◌, List, [], ◌++◌, Option, Some, None, Result, Ok, Err, refl, sym, ap, ◌∙◌, subst}
+use Rattle.std.specs.Prelude.{map, nat_lt, IfOk, IfErr}
 use Rattle.std.proofs.lemmas.List.{append-nil}
 use Rattle.mav_ports.specs.declared.names.Stream.{Stream}
 use Rattle.plan_items.specs.declared.messages.PlanMsg.{PlanMsg}
@@ -16,12 +16,11 @@ use Rattle.field_layout.specs.Payload.{Represents}
 use Rattle.mav_messages.specs.Messages.{profile_definition, definition_of, values_of}
 use Rattle.mav_nodes.proofs.PlanPayloads.{none_carried}
 use Rattle.mav_nodes.specs.declared.news.News.{News}
-use Rattle.mav_nodes.specs.declared.link.Tried.{Tried}
 use Rattle.mav_nodes.specs.declared.link.Tried.TheVariants.{Plan, Other, Dropped}
-use Rattle.mav_nodes.specs.News.{NodeEvent, events_of}
+use Rattle.mav_nodes.specs.News.{NodeEvent, shown, events_of}
 use Rattle.mav_nodes.specs.Payloads.{plan_in}
-use Rattle.mav_nodes.specs.Links.{Link, IsLink, Done, Outcome, done, behind, tries, sends, sent_at}
-use Rattle.mav_nodes.specs.Steps.{Side, CoreStep, answers, with_core, steps, takes, admits, hears}
+use Rattle.mav_nodes.specs.Links.{Link, IsLink, Done, Outcome, behind, tries, sends}
+use Rattle.mav_nodes.specs.Steps.{Side, CoreStep, answers, with_core, takes, admits, hears}
 use Rattle.mav_nodes.specs.Promises.{Did, LinkDid, IsAnswer, IsTried}
 
 pub if_ok : {A E : Type 0} {P Q : A → Type 0} (r : Result A E) → ((a : A) → P a → Q a) → IfOk r P → IfOk r Q
@@ -36,7 +35,7 @@ if_err (Err e) f h = f e h
 pub core_did : {Core : Type 0} (core : Core) (outcome : Outcome Link) (endpoint : EndpointState) (Is : Side Core → Type 0) (before after : List News) → LinkDid outcome endpoint before after → ((link : Link) → IsLink link endpoint → Is (record { link = link; core = core })) → Did (with_core core [] outcome) Is before after
 core_did core None endpoint Is before after h f = h
 core_did core (Some d) endpoint Is before after h f =
-    (f d.node h.0, h.1 ∙ ap (λ (l : List NodeEvent). events_of before ++ l) (sym (append-nil d.events)))
+    (f d.node h.0, h.1 ∙ ap (λ (l : List NodeEvent). events_of before ++ map shown l) (sym (append-nil d.events)))
 
 module _ {Core : Type 0} (step : Core → Stream → PlanMsg → CoreStep Core) (clock : ℕ) where
   answered : (node : Side Core) (packet : Packet) (from : Stream) (message : PlanMsg) (answer : Admit) (block : Option SignatureBlock) → IsAnswer answer packet block (Plan from message) → admits step clock node packet answer block ≡ takes step clock node from (Some message)

@@ -1,7 +1,7 @@
 -- A datagram, frame by frame: what was done so far, and what the rest of the datagram leads to.
-use Rattle.std.proofs.Common.{◌≡◌, ℕ, suc, ◌+◌, ◌-◌, ◌<◌, ◌≤◌, List, [], ◌∷◌, ◌++◌, length, drop, get_or, slice_range, length-take, length-drop, Option, Some, None, refl, sym, ap, ◌∙◌, subst, arith, append_assoc}
-use Rattle.std.specs.Prelude.{All}
-use Rattle.std.proofs.lemmas.List.{append-nil, drop-drop, take_all}
+use Rattle.std.proofs.Common.{◌≡◌, ℕ, suc, ◌+◌, ◌-◌, ◌<◌, List, [], ◌∷◌, ◌++◌, length, drop, get_or, slice_range, length-take, length-drop, Some, None, refl, sym, ap, ◌∙◌, subst, arith, append_assoc}
+use Rattle.std.specs.Prelude.{All, map}
+use Rattle.std.proofs.lemmas.List.{append-nil, drop-drop, map-append, take_all}
 use Rattle.std.proofs.lemmas.List.Elements.{All-nil, All-cons, All-drop}
 use Rattle.mav_ports.specs.declared.names.Stream.{Stream}
 use Rattle.plan_items.specs.declared.messages.PlanMsg.{PlanMsg}
@@ -14,8 +14,8 @@ use Rattle.mav_frame.specs.declared.looks.Why.{Why}
 use Rattle.mav_frame.proofs.ParsedByFunction.{parse_goes_on}
 use Rattle.mav_sign.specs.Endpoints.{frames_of}
 use Rattle.mav_nodes.specs.declared.news.News.{News}
-use Rattle.mav_nodes.specs.News.{NodeEvent, events_of}
-use Rattle.mav_nodes.specs.Links.{Done, Outcome, behind, and_then}
+use Rattle.mav_nodes.specs.News.{NodeEvent, Shown, shown, events_of}
+use Rattle.mav_nodes.specs.Links.{Outcome, behind, and_then}
 use Rattle.mav_nodes.specs.Steps.{Side, CoreStep, hears, hears_all, receives}
 use Rattle.mav_nodes.specs.Promises.{Did}
 use Rattle.mav_nodes.proofs.Cores.{Keeps, hears_keep}
@@ -25,11 +25,13 @@ behind_twice first next None = refl
 behind_twice first next (Some d) = ap (λ (l : List NodeEvent). Some (record { node = d.node; events = l })) (sym (append_assoc first next d.events))
 
 module _ {Core : Type 0} (step : Core → Stream → PlanMsg → CoreStep Core) (clock : ℕ) where
-  -- the node is so now, and the news told so far are those before what the other bytes lead to
+  -- the node is so now, and the news told so far say what was done before what the other bytes lead to
   pub record Leads (total : Outcome (Side Core)) (left : List ℕ) (Is : Side Core → Type 0) (news : List News) : Type 0 where
     pub node : Side Core
     pub is : Is node
-    pub leads : total ≡ behind (events_of news) (receives step clock left node)
+    pub events : List NodeEvent
+    pub said : events_of news ≡ map shown events
+    pub leads : total ≡ behind events (receives step clock left node)
 
   nothing : (left : List ℕ) → length left ≡ 0 → left ≡ []
   nothing [] e = refl
@@ -43,7 +45,9 @@ module _ {Core : Type 0} (step : Core → Stream → PlanMsg → CoreStep Core) 
   leads_at_first node bytes Is news none is = record {
     node = node;
     is = is;
-    leads = sym (ap (λ (l : List News). behind (events_of l) (receives step clock bytes node)) none ∙ behind_none (receives step clock bytes node));
+    events = [];
+    said = ap events_of none;
+    leads = sym (behind_none (receives step clock bytes node));
   }
 
   -- a skipped byte
@@ -51,36 +55,40 @@ module _ {Core : Type 0} (step : Core → Stream → PlanMsg → CoreStep Core) 
   leads_past total left rest Is news byte why l bytes more at = record {
     node = l.node;
     is = l.is;
-    leads = l.leads ∙ ap (λ (events : List Event). behind (events_of news) (hears_all step clock (frames_of events) l.node)) (parse_goes_on l.node.link.extras (Skipped byte why) left rest bytes more at);
+    events = l.events;
+    said = l.said;
+    leads = l.leads ∙ ap (λ (events : List Event). behind l.events (hears_all step clock (frames_of events) l.node)) (parse_goes_on l.node.link.extras (Skipped byte why) left rest bytes more at);
   }
 
-  here : (total : Outcome (Side Core)) (left rest : List ℕ) (Is : Side Core → Type 0) (news : List News) (packet : Packet) → (l : Leads total left Is news) → All (λ x. x < 256) left → All (λ x. x < 256) rest → EventAt l.node.link.extras (Frame packet) left rest → total ≡ behind (events_of news) (and_then (hears step clock packet l.node) (hears_all step clock (frames_of (final_parse l.node.link.extras rest))))
+  here : (total : Outcome (Side Core)) (left rest : List ℕ) (Is : Side Core → Type 0) (news : List News) (packet : Packet) → (l : Leads total left Is news) → All (λ x. x < 256) left → All (λ x. x < 256) rest → EventAt l.node.link.extras (Frame packet) left rest → total ≡ behind l.events (and_then (hears step clock packet l.node) (hears_all step clock (frames_of (final_parse l.node.link.extras rest))))
   here total left rest Is news packet l bytes more at =
-      l.leads ∙ ap (λ (events : List Event). behind (events_of news) (hears_all step clock (frames_of events) l.node)) (parse_goes_on l.node.link.extras (Frame packet) left rest bytes more at)
+      l.leads ∙ ap (λ (events : List Event). behind l.events (hears_all step clock (frames_of events) l.node)) (parse_goes_on l.node.link.extras (Frame packet) left rest bytes more at)
 
-  goes_on : (total first : Outcome (Side Core)) (extras : List (ℕ × ℕ)) (rest : List ℕ) (Is : Side Core → Type 0) (news after : List News) → Keeps step clock first extras → total ≡ behind (events_of news) (and_then first (hears_all step clock (frames_of (final_parse extras rest)))) → Did first Is news after → Leads total rest Is after
-  goes_on total None extras rest Is news after kept e did = absurd did
-  goes_on total (Some d) extras rest Is news after kept e did = record {
+  goes_on : (total first : Outcome (Side Core)) (extras : List (ℕ × ℕ)) (rest : List ℕ) (Is : Side Core → Type 0) (news after : List News) (events : List NodeEvent) → Keeps step clock first extras → events_of news ≡ map shown events → total ≡ behind events (and_then first (hears_all step clock (frames_of (final_parse extras rest)))) → Did first Is news after → Leads total rest Is after
+  goes_on total None extras rest Is news after events kept said e did = absurd did
+  goes_on total (Some d) extras rest Is news after events kept said e did = record {
     node = d.node;
     is = did.0;
-    leads = e ∙ (behind_twice (events_of news) d.events (hears_all step clock (frames_of (final_parse extras rest)) d.node) ∙ λ i. behind (sym did.1 i) (hears_all step clock (frames_of (final_parse (sym kept i) rest)) d.node));
+    events = events ++ d.events;
+    said = did.1 ∙ (ap (λ (l : List Shown). l ++ map shown d.events) said ∙ sym (map-append shown events d.events));
+    leads = e ∙ (behind_twice events d.events (hears_all step clock (frames_of (final_parse extras rest)) d.node) ∙ λ i. behind (events ++ d.events) (hears_all step clock (frames_of (final_parse (sym kept i) rest)) d.node));
   }
 
   -- a frame
   pub leads_on : (total : Outcome (Side Core)) (left rest : List ℕ) (Is Now : Side Core → Type 0) (news after : List News) (packet : Packet) → (l : Leads total left Is news) → All (λ x. x < 256) left → All (λ x. x < 256) rest → EventAt l.node.link.extras (Frame packet) left rest → Did (hears step clock packet l.node) Now news after → Leads total rest Now after
   leads_on total left rest Is Now news after packet l bytes more at did =
-      goes_on total (hears step clock packet l.node) l.node.link.extras rest Now news after (hears_keep step clock packet l.node) (here total left rest Is news packet l bytes more at) did
+      goes_on total (hears step clock packet l.node) l.node.link.extras rest Now news after l.events (hears_keep step clock packet l.node) l.said (here total left rest Is news packet l bytes more at) did
 
   -- a frame whose answer has no timestamp left
   pub leads_to_none : (total : Outcome (Side Core)) (left rest : List ℕ) (Is : Side Core → Type 0) (news : List News) (packet : Packet) → (l : Leads total left Is news) → All (λ x. x < 256) left → All (λ x. x < 256) rest → EventAt l.node.link.extras (Frame packet) left rest → hears step clock packet l.node ≡ None → total ≡ None
   leads_to_none total left rest Is news packet l bytes more at none =
-      here total left rest Is news packet l bytes more at ∙ ap (λ (o : Outcome (Side Core)). behind (events_of news) (and_then o (hears_all step clock (frames_of (final_parse l.node.link.extras rest))))) none
+      here total left rest Is news packet l bytes more at ∙ ap (λ (o : Outcome (Side Core)). behind l.events (and_then o (hears_all step clock (frames_of (final_parse l.node.link.extras rest))))) none
 
   -- nothing is left
   pub leads_whole : (total : Outcome (Side Core)) (left : List ℕ) (Is : Side Core → Type 0) (news : List News) → length left ≡ 0 → Leads total left Is news → Did total Is [] news
   leads_whole total left Is news empty l =
-      let e : total ≡ behind (events_of news) (receives step clock [] l.node) = l.leads ∙ ap (λ (b : List ℕ). behind (events_of news) (receives step clock b l.node)) (nothing left empty) in
-      subst (λ (o : Outcome (Side Core)). Did o Is [] news) (sym e) (l.is, sym (append-nil (events_of news)))
+      let e : total ≡ behind l.events (receives step clock [] l.node) = l.leads ∙ ap (λ (b : List ℕ). behind l.events (receives step clock b l.node)) (nothing left empty) in
+      subst (λ (o : Outcome (Side Core)). Did o Is [] news) (sym e) (l.is, l.said ∙ ap (map shown) (sym (append-nil l.events)))
 
 -- the bytes of a part of a datagram
 pub part_bytes : (bytes : List ℕ) (place : ℕ) → ((i : ℕ) → get_or bytes i 0 < 256) → All (λ x. x < 256) (drop place bytes)

@@ -2,4 +2,5 @@ mod PlanPayloads
 mod Tables
 mod Cores
 mod Leads
-mod Sendings
+pub mod Bounds
+pub mod Sendings

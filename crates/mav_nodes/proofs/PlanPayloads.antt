@@ -1,15 +1,12 @@
 -- What a payload carries is what is read from it.
-use Rattle.std.proofs.Common.{◌≡◌, ℕ, ℤ, ◌==◌, Bool, true, false, List, [], ◌∷◌, Option, Some, None, refl, sym, ap, ◌∙◌, subst, arith, get_or, if◌then◌else◌}
-use Rattle.std.specs.Prelude.{find, slice_index}
+use Rattle.std.proofs.Common.{◌≡◌, ℕ, ◌==◌, Bool, true, false, List, [], ◌∷◌, Option, Some, None, refl, sym, ap, ◌∙◌, subst, arith, if◌then◌else◌}
+use Rattle.std.specs.Prelude.{find}
 use Rattle.std.proofs.lemmas.Bool.Decides.{nat_tests}
-use Rattle.std.specs.Int.{w32, cast_signed, cast_unsigned}
 use Rattle.field_layout.specs.Definition.{Definition}
 use Rattle.field_layout.specs.Payload.{Represents}
 use Rattle.field_layout.proofs.Unique.{one_list}
 use Rattle.field_layout.proofs.Decoding.{IsBytes, decoded_all, decoded_represents}
 use Rattle.dialect.specs.Profile.{profile_definitions, ping_definition, mission_request_list_definition, mission_count_definition, mission_clear_all_definition, mission_ack_definition, mission_request_int_definition, mission_item_int_definition}
-use Rattle.mav_ports.specs.declared.names.Name.{Name}
-use Rattle.plan_items.specs.declared.messages.PlanMsg.{PlanMsg}
 use Rattle.plan_items.specs.declared.messages.PlanMsg.TheVariants as plan
 use Rattle.mav_messages.specs.declared.messages.Message.{Message}
 use Rattle.mav_messages.specs.declared.messages.Message.TheVariants.{Heartbeat, Ping, ParamRequestRead, ParamRequestList, ParamValue, ParamSet, GlobalPositionInt, MissionCurrent, MissionRequestList, MissionCount, MissionClearAll, MissionItemReached, MissionAck, MissionRequestInt, MissionItemInt, CommandLong, CommandAck, FileTransferProtocol, Statustext}

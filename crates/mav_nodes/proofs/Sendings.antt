@@ -1,5 +1,5 @@
 -- A frame's bytes, read again.
-use Rattle.std.proofs.Common.{◌≡◌, ℕ, zero, suc, ◌+◌, ◌%◌, ◌/◌, ◌<◌, List, [], ◌∷◌, ◌++◌, Option, Some, None, refl, sym, arith}
+use Rattle.std.proofs.Common.{◌≡◌, ℕ, zero, suc, ◌%◌, ◌/◌, ◌^◌, ◌<◌, List, [], ◌∷◌, ◌++◌, Option, Some, None, refl, sym, ap, ◌∙◌, arith}
 use Rattle.std.specs.Prelude.{All, IfSome}
 use Rattle.std.proofs.lemmas.List.{append-nil}
 use Rattle.std.proofs.lemmas.List.Elements.{All-nil, All-cons, All-append}
@@ -12,10 +12,31 @@ use Rattle.field_layout.proofs.Unique.{truncated_represents}
 use Rattle.mav_frame.proofs.ParsedByFunction.{bytes_at, parse_goes_on}
 use Rattle.mav_messages.specs.Messages.{definition_of, values_of}
 use Rattle.mav_nodes.proofs.PlanPayloads.{plan_read}
-use Rattle.mav_nodes.specs.Laws.{ParsesAlone, SignedVerifies, PlanReadsBack}
-
-abbrev Small : ℕ → Type 0
-Small x = x < 256
+use Rattle.std.specs.List.{AllByRecursion}
+use Rattle.std.proofs.lemmas.List.Elements.{All-from_recursion}
+use Rattle.x25_check.specs.Extras.{extra_of}
+use Rattle.field_layout.specs.CrcExtra.{crc_extra_of}
+use Rattle.field_layout.specs.Definition.{Definition, all_fields}
+use Rattle.field_layout.specs.Payload.{FitsLayout}
+use Rattle.dialect.specs.Messages.{extras_of}
+use Rattle.dialect.specs.Profile.{profile_definitions}
+use Rattle.mav_ports.specs.declared.names.Stream.{Stream}
+use Rattle.mav_frame.specs.Encoding.{checksum}
+use Rattle.mav_frame.specs.Parse.{Final}
+use Rattle.mav_frame.specs.declared.events.Event.{Event}
+use Rattle.mav_frame.specs.declared.events.Event.TheVariants.{Skipped}
+use Rattle.mav_frame.specs.FinalParse.{final_parse}
+use Rattle.mav_frame.proofs.ParsedByFunction.{final_is_function}
+use Rattle.mav_messages.specs.declared.messages.Message.{Message}
+use Rattle.mav_sign.specs.Endpoints.{frames_of}
+use Rattle.mav_sign.specs.Kept.{IsStream}
+use Rattle.mav_messages.proofs.Decoded.{fits_layout}
+use Rattle.mav_sign.proofs.Profiles.{profile_has}
+use Rattle.mav_nodes.specs.Nodes.{drone_heartbeat, station_heartbeat}
+use Rattle.mav_nodes.proofs.Bounds.{Small, check_small, signature_small, signature_length, payload_small, id_small, payload_short}
+use Rattle.mav_nodes.proofs.Tables.{profile_known}
+use Rattle.mav_nodes.specs.Signed.{known_extra, unsealed_packet, sealed_packet, signed_packet}
+use Rattle.mav_nodes.specs.Laws.{ParsesAlone, SignedVerifies, PlanReadsBack, ReadsAlone, EverySendingReadsBack, EveryFrameReadsAlone, SameBytesSameFrame, HeartbeatsFit}
 
 digits : (count number : ℕ) → All Small (little_endian count number)
 digits zero number = All-nil Small
@@ -53,3 +74,82 @@ signed_verifies key extras me seq stamp message = refl
 pub plan_reads_back : PlanReadsBack
 plan_reads_back message fits item small =
     sym (plan_read message (truncated (serialised (definition_of message) (values_of message))) (bytes_at _ small) item (truncated_represents (definition_of message) (values_of message) fits))
+
+alone : (extras : List (ℕ × ℕ)) (packet : Packet) → FitsFrame packet → IsSealed extras packet → ReadsAlone extras packet
+alone extras packet fits sealed = record { fits = fits; sealed = sealed; parses = parses_alone extras packet fits sealed }
+
+-- ---- what a node sends
+
+module _ (key : List ℕ) (extras : List (ℕ × ℕ)) (me : Stream) (seq stamp : ℕ) (message : Message) where
+  sent_fits : IsStream me → seq < 256 → stamp < 2 ^ 48 → FitsLayout (definition_of message) (values_of message) → FitsFrame (signed_packet key extras me seq stamp message)
+  sent_fits is seq_small stamp_small fits = record {
+    compat = omega arith;
+    seq = seq_small;
+    sys = is.sys;
+    comp = is.comp;
+    id = id_small message;
+    length = payload_short message fits;
+    payload = payload_small message;
+    check = check_small (checked_bytes (unsealed_packet me seq stamp message) ++ known_extra (extra_of (definition_of message).id extras) ∷ []);
+    block = record {
+      link = is.link;
+      stamp = stamp_small;
+      length = signature_length key (sealed_packet extras (unsealed_packet me seq stamp message)) me.link stamp;
+      bytes = signature_small key (sealed_packet extras (unsealed_packet me seq stamp message)) me.link stamp;
+    };
+  }
+
+  sent_sealed : (extra : ℕ) → extra_of (definition_of message).id extras ≡ Some extra → IsSealed extras (signed_packet key extras me seq stamp message)
+  sent_sealed extra known = record {
+    extra = extra;
+    known = known;
+    right = ap (λ found. checksum (unsealed_packet me seq stamp message) (known_extra found)) known;
+  }
+
+  sent_alone : (extra : ℕ) → extra_of (definition_of message).id extras ≡ Some extra → IsStream me → seq < 256 → stamp < 2 ^ 48 → FitsLayout (definition_of message) (values_of message) → ReadsAlone extras (signed_packet key extras me seq stamp message)
+  sent_alone extra known is seq_small stamp_small fits =
+      alone extras (signed_packet key extras me seq stamp message) (sent_fits is seq_small stamp_small fits) (sent_sealed extra known)
+
+pub every_sending_reads_back : EverySendingReadsBack
+every_sending_reads_back key me seq stamp message is seq_small stamp_small fits = record {
+  frame = sent_alone key (extras_of profile_definitions) me seq stamp message (crc_extra_of (definition_of message)) (profile_has (λ (def : Definition). extra_of def.id (extras_of profile_definitions) ≡ Some (crc_extra_of def)) profile_known message) is seq_small stamp_small fits.values;
+  verifies = signed_verifies key (extras_of profile_definitions) me seq stamp message;
+  plan = plan_reads_back message fits.values fits.item (payload_small message);
+}
+
+-- ---- what a parse finds
+
+found_alone : (extras : List (ℕ × ℕ)) (events : List Event) (bytes : List ℕ) → Final extras events bytes → AllByRecursion (ReadsAlone extras) (frames_of events)
+found_alone extras [] bytes final = tt
+found_alone extras (Frame packet ∷ events) bytes final =
+    (alone extras packet final.1.0 final.1.1, found_alone extras events final.0 final.2)
+found_alone extras (Skipped byte why ∷ events) bytes final = found_alone extras events final.0 final.2
+
+pub every_frame_reads_alone : EveryFrameReadsAlone
+every_frame_reads_alone extras bytes small =
+    All-from_recursion (ReadsAlone extras) (frames_of (final_parse extras bytes)) (found_alone extras (final_parse extras bytes) bytes (final_is_function extras bytes small))
+
+one_event : (one other : Packet) → ◌≡◌ {A = List Event} (Frame one ∷ []) (Frame other ∷ []) → one ≡ other
+one_event one other same = cc
+
+pub same_bytes_same_frame : SameBytesSameFrame
+same_bytes_same_frame extras one other reads also same =
+    one_event one other (sym reads.parses ∙ (ap (final_parse extras) same ∙ also.parses))
+
+-- ---- the HEARTBEATs
+
+drone_values : FitsLayout (definition_of drone_heartbeat) (values_of drone_heartbeat)
+drone_values =
+    fits_layout (all_fields (definition_of drone_heartbeat)) (values_of drone_heartbeat) ((refl, omega arith), ((refl, omega arith), ((refl, omega arith), ((refl, omega arith), ((refl, omega arith), ((refl, omega arith), tt))))))
+
+station_values : FitsLayout (definition_of station_heartbeat) (values_of station_heartbeat)
+station_values =
+    fits_layout (all_fields (definition_of station_heartbeat)) (values_of station_heartbeat) ((refl, omega arith), ((refl, omega arith), ((refl, omega arith), ((refl, omega arith), ((refl, omega arith), ((refl, omega arith), tt))))))
+
+pub heartbeats_fit : HeartbeatsFit
+heartbeats_fit = record {
+  drone = record { values = drone_values; item = tt };
+  drone_plan = refl;
+  station = record { values = station_values; item = tt };
+  station_plan = refl;
+}

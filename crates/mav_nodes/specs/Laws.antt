@@ -1,16 +1,21 @@
 -- What a node sends, read again.
-use Rattle.std.specs.Prelude.{ℕ, ◌≡◌, ◌<◌, List, [], ◌∷◌, All}
+use Rattle.std.specs.Prelude.{ℕ, ◌≡◌, ◌<◌, ◌^◌, List, [], ◌∷◌, All, None}
 use Rattle.mav_ports.specs.declared.names.Stream.{Stream}
 use Rattle.mav_frame.specs.Packet.{Packet, FitsFrame}
 use Rattle.mav_frame.specs.Encoding.{encoding, IsSealed}
 use Rattle.mav_frame.specs.FinalParse.{final_parse}
 use Rattle.mav_frame.specs.declared.events.Event.TheVariants.{Frame}
 use Rattle.field_layout.specs.Payload.{serialised, truncated, FitsLayout}
+use Rattle.dialect.specs.Messages.{extras_of}
+use Rattle.dialect.specs.Profile.{profile_definitions}
 use Rattle.mav_messages.specs.declared.messages.Message.{Message}
 use Rattle.mav_messages.specs.Messages.{definition_of, values_of}
 use Rattle.mav_messages.specs.Plans.{plan_of}
 use Rattle.mav_nodes.specs.Payloads.{ItemFits, plan_in}
 use Rattle.mav_sign.specs.Signing.{Verifies}
+use Rattle.mav_sign.specs.Kept.{IsStream}
+use Rattle.mav_sign.specs.Endpoints.{frames_of}
+use Rattle.mav_nodes.specs.Nodes.{drone_heartbeat, station_heartbeat}
 use Rattle.mav_nodes.specs.Signed.{signed_packet}
 
 -- the bytes of a frame parse to exactly that frame
@@ -29,3 +34,47 @@ PlanReadsBack =
     (message : Message) → FitsLayout (definition_of message) (values_of message) → ItemFits (plan_of message)
     → All (λ byte. byte < 256) (truncated (serialised (definition_of message) (values_of message)))
     → plan_in (definition_of message).id (truncated (serialised (definition_of message) (values_of message))) ≡ plan_of message
+
+-- a frame fits, its checksum is right, and its bytes parse to exactly it
+pub record ReadsAlone (extras : List (ℕ × ℕ)) (packet : Packet) : Type 0 where
+  pub fits : FitsFrame packet
+  pub sealed : IsSealed extras packet
+  pub parses : final_parse extras (encoding packet) ≡ Frame packet ∷ []
+
+-- the frame in which a node sends a message
+abbrev pub sent_packet : List ℕ → Stream → ℕ → ℕ → Message → Packet
+sent_packet key me seq stamp message = signed_packet key (extras_of profile_definitions) me seq stamp message
+
+-- it reads back as it was sent, verifies under the key, and carries the plan message of the message, or none
+pub record ReadsBack (key : List ℕ) (me : Stream) (seq stamp : ℕ) (message : Message) : Type 0 where
+  pub frame : ReadsAlone (extras_of profile_definitions) (sent_packet key me seq stamp message)
+  pub verifies : Verifies key (sent_packet key me seq stamp message) (sent_packet key me seq stamp message).block
+  pub plan : plan_in (sent_packet key me seq stamp message).id (sent_packet key me seq stamp message).payload ≡ plan_of message
+
+-- a message whose values fit its layout
+pub record FitsMessage (message : Message) : Type 0 where
+  pub values : FitsLayout (definition_of message) (values_of message)
+  pub item : ItemFits (plan_of message)
+
+-- what every node sends reads back
+abbrev pub EverySendingReadsBack : Type 0
+EverySendingReadsBack =
+    (key : List ℕ) (me : Stream) (seq stamp : ℕ) (message : Message)
+    → IsStream me → seq < 256 → stamp < 2 ^ 48 → FitsMessage message → ReadsBack key me seq stamp message
+
+-- each frame that a parse of bytes finds
+abbrev pub EveryFrameReadsAlone : Type 0
+EveryFrameReadsAlone =
+    (extras : List (ℕ × ℕ)) (bytes : List ℕ) → All (λ byte. byte < 256) bytes → All (ReadsAlone extras) (frames_of (final_parse extras bytes))
+
+-- frames with the same bytes are the same
+abbrev pub SameBytesSameFrame : Type 0
+SameBytesSameFrame =
+    (extras : List (ℕ × ℕ)) (one other : Packet) → ReadsAlone extras one → ReadsAlone extras other → encoding one ≡ encoding other → one ≡ other
+
+-- the HEARTBEATs of nodes fit, and are no plan messages
+pub record HeartbeatsFit : Type 0 where
+  pub drone : FitsMessage drone_heartbeat
+  pub drone_plan : plan_of drone_heartbeat ≡ None
+  pub station : FitsMessage station_heartbeat
+  pub station_plan : plan_of station_heartbeat ≡ None

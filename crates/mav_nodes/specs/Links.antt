@@ -3,7 +3,7 @@ use Rattle.std.specs.Prelude.{ℕ, ◌≡◌, ◌+◌, ◌%◌, nat_lt, if◌the
 use Rattle.mav_ports.specs.declared.names.Stream.{Stream}
 use Rattle.mav_frame.specs.Packet.{Packet}
 use Rattle.mav_messages.specs.declared.messages.Message.{Message}
-use Rattle.mav_sign.specs.History.{Entry, tried, sent, answer_to, next_in, greatest_stamp}
+use Rattle.mav_sign.specs.History.{Entry, sent, next_in, greatest_stamp}
 use Rattle.mav_sign.specs.Kept.{Represents}
 use Rattle.mav_sign.specs.Endpoints.{EndpointState, after_frame}
 use Rattle.mav_nodes.specs.News.{NodeEvent, Sends}

@@ -1,6 +1,7 @@
--- What happens to a node, as its calls tell it.
-use Rattle.std.specs.Prelude.{ℕ, List, map}
+-- What happens to a node, and what its calls tell of it.
+use Rattle.std.specs.Prelude.{ℕ, List, length, map}
 use Rattle.mav_ports.specs.declared.names.Stream.{Stream}
+use Rattle.plan_items.specs.declared.items.Item.{Item}
 use Rattle.plan_items.specs.declared.kinds.PlanKind.{PlanKind}
 use Rattle.plan_upload.specs.Station.{Told}
 use Rattle.plan_upload.specs.Outcomes.{told_of}
@@ -13,8 +14,8 @@ use Rattle.mav_nodes.specs.declared.news.News.TheVariants.{Sent, Installed, Empt
 pub data NodeEvent : Type 0 where
   -- a frame was sent, which carries the message
   Sends : (packet : Packet) (message : Message) → NodeEvent
-  -- a plan was installed, with so many items, uploaded by a stream
-  Installs : (kind : PlanKind) (count : ℕ) (by : Stream) → NodeEvent
+  -- a plan was installed, uploaded by a stream
+  Installs : (kind : PlanKind) (items : List Item) (by : Stream) → NodeEvent
   -- the plan of a kind was emptied
   Empties : (kind : PlanKind) → NodeEvent
   -- a frame was not admitted
@@ -22,12 +23,28 @@ pub data NodeEvent : Type 0 where
   -- an operation has ended
   Ends : (told : Told) → NodeEvent
 
-abbrev pub event_of : News → NodeEvent
-event_of (Sent frame message) = Sends frame message
-event_of (Installed kind count by) = Installs kind count by
-event_of (Emptied kind) = Empties kind
-event_of (Dropped answer) = Drops answer
-event_of (Outcome outcome) = Ends (told_of outcome)
+-- what news say of an event: of an installed plan, how many items it has
+pub data Shown : Type 0 where
+  Shows_sent : (packet : Packet) (message : Message) → Shown
+  Shows_installed : (kind : PlanKind) (count : ℕ) (by : Stream) → Shown
+  Shows_emptied : (kind : PlanKind) → Shown
+  Shows_dropped : (answer : Admit) → Shown
+  Shows_ended : (told : Told) → Shown
 
-abbrev pub events_of : List News → List NodeEvent
-events_of news = map event_of news
+abbrev pub shown : NodeEvent → Shown
+shown (Sends packet message) = Shows_sent packet message
+shown (Installs kind items by) = Shows_installed kind (length items) by
+shown (Empties kind) = Shows_emptied kind
+shown (Drops answer) = Shows_dropped answer
+shown (Ends told) = Shows_ended told
+
+-- what a piece of news says
+abbrev pub said_by : News → Shown
+said_by (Sent frame message) = Shows_sent frame message
+said_by (Installed kind count by) = Shows_installed kind count by
+said_by (Emptied kind) = Shows_emptied kind
+said_by (Dropped answer) = Shows_dropped answer
+said_by (Outcome outcome) = Shows_ended (told_of outcome)
+
+abbrev pub events_of : List News → List Shown
+events_of news = map said_by news

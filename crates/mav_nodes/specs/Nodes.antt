@@ -1,8 +1,7 @@
 -- Drones and stations as nodes.
-use Rattle.std.specs.Prelude.{ℕ, ◌≡◌, List, [], ◌∷◌, length, true, Option, Some, None}
+use Rattle.std.specs.Prelude.{ℕ, ◌≡◌, List, [], ◌∷◌, true, Option, Some, None}
 use Rattle.mav_ports.specs.declared.names.Stream.{Stream}
 use Rattle.plan_items.specs.declared.items.Item.{Item}
-use Rattle.plan_items.specs.declared.kinds.PlanKind.{PlanKind}
 use Rattle.plan_items.specs.declared.kinds.PlanKind.TheVariants.{Mission, Fence, Rally}
 use Rattle.plan_items.specs.declared.messages.PlanMsg.{PlanMsg}
 use Rattle.plan_items.specs.Kinds.{number_of}
@@ -10,8 +9,8 @@ use Rattle.plan_upload.specs.declared.changes.Change.{Change}
 use Rattle.plan_upload.specs.declared.changes.Change.TheVariants.{Same, Install, Empty}
 use Rattle.plan_upload.specs.Changes.{change_by}
 use Rattle.plan_upload.specs.Plans.{Plans, plan_at, no_plans}
-use Rattle.plan_upload.specs.Drone.{DroneState, drone_step, fresh_drone}
-use Rattle.plan_upload.specs.Station.{StationState, StationStep, Told, station_step, fresh_station, begin_upload, untold}
+use Rattle.plan_upload.specs.Drone.{DroneState, DroneTick, drone_step, drone_tick, fresh_drone}
+use Rattle.plan_upload.specs.Station.{StationState, StationStep, Told, station_step, station_tick, station_cancel, fresh_station, begin_upload, begin_clear, begin_get, untold}
 use Rattle.dialect.specs.Messages.{extras_of}
 use Rattle.dialect.specs.Profile.{profile_definitions}
 use Rattle.mav_messages.specs.declared.messages.Message.{Message}
@@ -20,9 +19,11 @@ use Rattle.mav_sign.specs.Endpoints.{EndpointState}
 use Rattle.plan_items.specs.Plans.{items_of}
 use Rattle.plan_items.specs.declared.plans.Plan.{Plan}
 use Rattle.plan_upload.specs.declared.faults.OpFault.{OpFault}
-use Rattle.plan_upload.specs.Refusals.{upload_refusal}
+use Rattle.plan_upload.specs.declared.faults.OpFault.TheVariants.{NoMemory}
+use Rattle.plan_upload.specs.Kinds.{clear_number}
+use Rattle.plan_upload.specs.Refusals.{upload_refusal, refusal, first_of}
 use Rattle.mav_nodes.specs.declared.orders.Order.{Order}
-use Rattle.mav_nodes.specs.declared.orders.Order.TheVariants.{Begin}
+use Rattle.mav_nodes.specs.declared.orders.Order.TheVariants.{Begin, Cancel, Clear, Get}
 use Rattle.mav_nodes.specs.News.{NodeEvent, Installs, Empties, Ends}
 use Rattle.mav_nodes.specs.Links.{IsLink, Outcome, new_link, sends}
 use Rattle.mav_nodes.specs.Steps.{Side, CoreStep, with_core, steps, receives}
@@ -32,7 +33,7 @@ use Rattle.mav_nodes.specs.Steps.{Side, CoreStep, with_core, steps, receives}
 -- a change of a drone's plans by a stream; the plans are those after it
 abbrev pub change_events : Stream → Plans → Change → List NodeEvent
 change_events by plans Same = []
-change_events by plans (Install kind) = Installs kind (length (plan_at plans (number_of kind))) by ∷ []
+change_events by plans (Install kind) = Installs kind (plan_at plans (number_of kind)) by ∷ []
 change_events by plans (Empty None) = Empties Mission ∷ Empties Fence ∷ Empties Rally ∷ []
 change_events by plans (Empty (Some kind)) = Empties kind ∷ []
 
@@ -56,6 +57,18 @@ new_drone key sys = record {
 
 abbrev pub drone_receives : ℕ → List ℕ → Side DroneState → Outcome (Side DroneState)
 drone_receives clock datagram node = receives drone_core clock datagram node
+
+-- what a tick sends, without the stream that it is for, which the message names too
+abbrev pub tick_answer : Option (Stream × PlanMsg) → Option PlanMsg
+tick_answer None = None
+tick_answer (Some sent) = Some sent.1
+
+abbrev pub drone_waits : DroneTick → CoreStep DroneState
+drone_waits tick = record { core = tick.drone; first = []; answer = tick_answer tick.answer; last = [] }
+
+-- time passes
+abbrev pub drone_ticks : ℕ → Side DroneState → Outcome (Side DroneState)
+drone_ticks clock node = steps clock node.link (drone_waits (drone_tick node.core))
 
 -- HEARTBEAT of a drone: a quadrotor with a generic autopilot, disarmed and active (MAVLink guide, Heartbeat Protocol)
 abbrev pub drone_heartbeat : Message
@@ -102,6 +115,10 @@ new_station key me boot = record {
 abbrev pub station_receives : ℕ → List ℕ → Side StationState → Outcome (Side StationState)
 station_receives clock datagram node = receives station_core clock datagram node
 
+-- time passes
+abbrev pub station_ticks : ℕ → Side StationState → Outcome (Side StationState)
+station_ticks clock node = steps clock node.link (station_does (station_tick node.core))
+
 -- HEARTBEAT of a station: a ground station without an autopilot
 abbrev pub station_heartbeat : Message
 station_heartbeat =
@@ -115,6 +132,18 @@ abbrev pub station_begins : ℕ → Stream → ℕ → List Item → Side Statio
 station_begins clock drone kind plan node =
     steps clock node.link (station_does (begin_upload node.core drone kind plan))
 
+-- it gives its operation up
+abbrev pub station_cancels : ℕ → Side StationState → Outcome (Side StationState)
+station_cancels clock node = steps clock node.link (station_does (station_cancel node.core))
+
+-- it begins a clear of the plan of a kind, and with 255 of all three
+abbrev pub station_clears : ℕ → Stream → ℕ → Side StationState → Outcome (Side StationState)
+station_clears clock drone kind node = steps clock node.link (station_does (begin_clear node.core drone kind))
+
+-- it begins a download
+abbrev pub station_gets : ℕ → Stream → ℕ → Side StationState → Outcome (Side StationState)
+station_gets clock drone kind node = steps clock node.link (station_does (begin_get node.core drone kind))
+
 pub record StationView : Type 0 where
   pub link : EndpointState
   pub station : StationState
@@ -123,12 +152,35 @@ pub record IsStation (node : Side StationState) (view : StationView) : Type 0 wh
   pub link : IsLink node.link view.link
   pub station : view.station ≡ node.core
 
--- an order: what the station does, why it refuses, and the plan that it is given
+-- an order: what its core does, what the station does, and why it refuses
+abbrev pub order_step : StationState → Order → StationStep
+order_step station (Begin drone kind plan) = begin_upload station drone (number_of kind) (items_of plan)
+order_step station Cancel = station_cancel station
+order_step station (Clear drone kind) = begin_clear station drone (clear_number kind)
+order_step station (Get drone kind) = begin_get station drone (number_of kind)
+
 abbrev pub station_obeys : ℕ → Order → Side StationState → Outcome (Side StationState)
 station_obeys clock (Begin drone kind plan) node = station_begins clock drone (number_of kind) (items_of plan) node
+station_obeys clock Cancel node = station_cancels clock node
+station_obeys clock (Clear drone kind) node = station_clears clock drone (clear_number kind) node
+station_obeys clock (Get drone kind) node = station_gets clock drone (number_of kind) node
 
 abbrev pub order_refusal : StationState → Order → Option OpFault
 order_refusal station (Begin drone kind plan) = upload_refusal station (number_of kind) (items_of plan)
+order_refusal station Cancel = None
+order_refusal station (Clear drone kind) = refusal station
+order_refusal station (Get drone kind) = refusal station
 
-abbrev pub order_plan : Order → Plan
-order_plan (Begin drone kind plan) = plan
+-- why an order without a plan fails in the core: a download also where its buffer finds no memory
+abbrev pub order_fault : StationState → Order → Option OpFault
+order_fault station (Begin drone kind plan) = None
+order_fault station Cancel = None
+order_fault station (Clear drone kind) = refusal station
+order_fault station (Get drone kind) = first_of (refusal station) (Some NoMemory)
+
+-- the plan that an order gives
+abbrev pub order_plan : Order → Option Plan
+order_plan (Begin drone kind plan) = Some plan
+order_plan Cancel = None
+order_plan (Clear drone kind) = None
+order_plan (Get drone kind) = None

@@ -1,5 +1,5 @@
 -- What calls promise of a node: how they leave it, and which news they append.
-use Rattle.std.specs.Prelude.{ℕ, ◌≡◌, List, ◌++◌, Option, Some, None}
+use Rattle.std.specs.Prelude.{ℕ, ◌≡◌, List, ◌++◌, map, Option, Some, None}
 use Rattle.plan_upload.specs.Drone.{DroneState}
 use Rattle.plan_upload.specs.Station.{StationState}
 use Rattle.mav_sign.specs.Endpoints.{EndpointState}
@@ -11,19 +11,19 @@ use Rattle.mav_nodes.specs.declared.news.News.{News}
 use Rattle.mav_nodes.specs.declared.link.Tried.{Tried}
 use Rattle.mav_nodes.specs.declared.link.Tried.TheVariants.{Plan, Other, Dropped}
 use Rattle.mav_nodes.specs.Payloads.{plan_in}
-use Rattle.mav_nodes.specs.News.{events_of}
+use Rattle.mav_nodes.specs.News.{shown, events_of}
 use Rattle.mav_nodes.specs.Links.{Link, IsLink, Outcome}
 use Rattle.mav_nodes.specs.Steps.{Side}
-use Rattle.mav_nodes.specs.Nodes.{DroneView, IsDrone, StationView, IsStation, station_obeys, order_refusal, order_plan}
+use Rattle.mav_nodes.specs.Nodes.{DroneView, IsDrone, StationView, IsStation, station_obeys, order_refusal, order_plan, order_fault}
 use Rattle.mav_nodes.specs.declared.orders.Order.{Order}
 use Rattle.mav_nodes.specs.declared.faults.OrderFault.{OrderFault}
-use Rattle.mav_nodes.specs.declared.faults.OrderFault.TheVariants.{Begin, Node}
+use Rattle.mav_nodes.specs.declared.faults.OrderFault.TheVariants.{Begin, Op, Node}
 use Rattle.mav_nodes.specs.declared.faults.NodeFault.TheVariants.{StampsSpent}
 
 -- this was done: the node is so, and these news came behind the earlier ones
 abbrev pub Did : {A : Type 0} → Outcome A → (A → Type 0) → List News → List News → Type 0
 Did None Is before after = ⊥
-Did (Some d) Is before after = Is d.node × (events_of after ≡ events_of before ++ d.events)
+Did (Some d) Is before after = Is d.node × (events_of after ≡ events_of before ++ map shown d.events)
 
 -- of a link
 abbrev pub LinkDid : Outcome Link → EndpointState → List News → List News → Type 0
@@ -48,16 +48,21 @@ DroneDid outcome view before after = Did outcome (λ node. IsDrone node view) be
 abbrev pub StationDid : Outcome (Side StationState) → StationView → List News → List News → Type 0
 StationDid outcome view before after = Did outcome (λ node. IsStation node view) before after
 
--- an order was refused, for the first cause, and its plan is handed back; or no timestamp was left for the message that
--- it sends
+-- an order was refused, for the first cause; an upload's plan is handed back
+abbrev pub IsRefusal : StationState → Order → OrderFault → Type 0
+IsRefusal station order (Begin fault) = (order_refusal station order ≡ Some fault.why) × (order_plan order ≡ Some fault.plan)
+IsRefusal station order (Op fault) = order_fault station order ≡ Some fault
+IsRefusal station order (Node fault) = ⊥
+
+-- the same, or no timestamp was left for the message that is sent for it
 abbrev pub OrderFails : ℕ → Order → StationView → OrderFault → Type 0
-OrderFails clock order station (Begin fault) =
-    (order_refusal station.station order ≡ Some fault.why) × (fault.plan ≡ order_plan order)
 OrderFails clock order station (Node fault) =
     (order_refusal station.station order ≡ None)
     × ((node : Side StationState) → IsStation node station → fault ≡ StampsSpent → station_obeys clock order node ≡ None)
+OrderFails clock order station refusal = IsRefusal station.station order refusal
 
 -- a refused order changes nothing
 abbrev pub OrderKeeps : StationView → StationView → OrderFault → Type 0
 OrderKeeps before after (Begin fault) = after ≡ before
+OrderKeeps before after (Op fault) = after ≡ before
 OrderKeeps before after (Node fault) = Unit {0}

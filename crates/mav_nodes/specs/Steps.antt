@@ -1,6 +1,6 @@
 -- What a node does at frames, whatever its core is: each is tried, the core takes the plan message of an admitted one, and
 -- its answer is sent before the next frame is tried.
-use Rattle.std.specs.Prelude.{ℕ, ◌≡◌, List, [], ◌∷◌, ◌++◌, Option, Some, None}
+use Rattle.std.specs.Prelude.{ℕ, List, [], ◌∷◌, ◌++◌, Option, Some, None}
 use Rattle.mav_ports.specs.declared.names.Stream.{Stream}
 use Rattle.plan_items.specs.declared.messages.PlanMsg.{PlanMsg}
 use Rattle.mav_frame.specs.Packet.{Packet, SignatureBlock}
@@ -9,10 +9,10 @@ use Rattle.mav_messages.specs.Plans.{message_of_plan}
 use Rattle.mav_sign.specs.declared.admission.Admit.{Admit}
 use Rattle.mav_sign.specs.declared.admission.Admit.TheVariants.{Admitted}
 use Rattle.mav_sign.specs.History.{answer_to, stream_of}
-use Rattle.mav_sign.specs.Endpoints.{EndpointState, frames_of}
+use Rattle.mav_sign.specs.Endpoints.{frames_of}
 use Rattle.mav_nodes.specs.News.{NodeEvent, Drops}
 use Rattle.mav_nodes.specs.Payloads.{plan_in}
-use Rattle.mav_nodes.specs.Links.{Link, IsLink, Done, Outcome, done, behind, and_then, tries, sends}
+use Rattle.mav_nodes.specs.Links.{Link, Outcome, done, behind, and_then, tries, sends}
 
 -- a node: its end of the links, and its core
 pub record Side (Core : Type 0) : Type 0 where

@@ -1,11 +1,11 @@
 // A drone as a node.
-ghost use Rattle.std.specs.Prelude.{◌≡◌, ◌++◌, None, Some, [], length, IfOk, IfErr};
+ghost use Rattle.std.specs.Prelude.{◌≡◌, ◌++◌, map, None, Some, [], IfOk, IfErr};
 ghost use Rattle.plan_items.specs.Kinds.{number_of};
 ghost use Rattle.plan_upload.specs.Drone.{DroneState};
 ghost use Rattle.plan_upload.specs.Plans.{plan_at};
-ghost use Rattle.mav_nodes.specs.News.{Installs, event_of, events_of};
+ghost use Rattle.mav_nodes.specs.News.{Installs, shown, said_by, events_of};
 ghost use Rattle.mav_nodes.specs.Steps.{Side, takes, hears};
-ghost use Rattle.mav_nodes.specs.Nodes.{IsDrone, new_drone, drone_core, drone_receives, drone_beats, change_events};
+ghost use Rattle.mav_nodes.specs.Nodes.{IsDrone, new_drone, drone_core, drone_receives, drone_ticks, drone_beats, change_events};
 ghost use Rattle.mav_nodes.specs.Promises.{DroneDid};
 
 use crate::heartbeats::drone_heartbeat;
@@ -48,7 +48,7 @@ fn tell_change(
     news: &mut Vec<News>,
 ) -> Result<(), NodeFault>
     ensures told { IfOk result (λ done. events_of news.new.items
-        ≡ events_of news.old.items ++ change_events by drone.now.plans change) }
+        ≡ events_of news.old.items ++ map shown (change_events by drone.now.plans change)) }
     ensures fault { IfErr result (λ fault. fault ≡ NodeFault.NoMemory) }
 {
     match change {
@@ -72,7 +72,7 @@ fn tell_change(
 
 // The news that the drone's plan of a kind was installed.
 fn installed(drone: &Drone, kind: PlanKind, by: Stream) -> News
-    ensures { event_of result ≡ Installs kind (length (plan_at drone.now.plans (number_of kind))) by }
+    ensures { said_by result ≡ shown (Installs kind (plan_at drone.now.plans (number_of kind)) by) }
 {
     News::Installed {
         kind,
@@ -158,6 +158,22 @@ impl DroneNode {
             }
             place += size;
         }
+        Ok(news)
+    }
+
+    /// Time passes: an open upload asks again or is closed, and an idle download is closed.
+    pub fn tick(&mut self, clock: u64) -> Result<Vec<News>, NodeFault>
+        ensures done { IfOk result (λ news. (node : Side DroneState) → IsDrone node self.old
+            → DroneDid (drone_ticks clock node) self.new [] news.items) }
+        ensures spent { IfErr result (λ fault. (node : Side DroneState) → IsDrone node self.old
+            → fault ≡ NodeFault.StampsSpent → drone_ticks clock node ≡ None) }
+    {
+        let answer = match self.drone.tick() {
+            Some((_, message)) => Some(message),
+            None => None,
+        };
+        let mut news = Vec::new(self.alloc);
+        self.link.answer(answer, clock, &mut news)?;
         Ok(news)
     }
 

@@ -1,6 +1,6 @@
 // Why a call of a node fails.
 use mav_sign::StampsSpent as SpentStamps;
-use plan_upload::BeginFault;
+use plan_upload::{BeginFault, OpFault};
 use std::alloc::{AllocError, AllocFailed};
 
 /// Why a node is given up: after it, the node isn't used again.
@@ -53,6 +53,8 @@ impl From<SpentStamps> for NodeFault {
 pub enum OrderFault {
     /// The upload was refused, and its plan is handed back.
     Begin(BeginFault),
+    /// The clear or the download was refused.
+    Op(OpFault),
     /// The station is given up.
     Node(NodeFault),
 }

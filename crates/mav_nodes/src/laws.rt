@@ -1,5 +1,5 @@
 //! Laws of what nodes send: functions without a body, whose contract is the law.
-ghost use Rattle.mav_nodes.specs.Laws.{ParsesAlone, SignedVerifies, PlanReadsBack};
+ghost use Rattle.mav_nodes.specs.Laws.{ParsesAlone, SignedVerifies, PlanReadsBack, EverySendingReadsBack, EveryFrameReadsAlone, SameBytesSameFrame, HeartbeatsFit};
 
 /// The bytes of a frame parse to exactly that frame.
 pub fn parses_alone()
@@ -14,4 +14,24 @@ pub fn signed_verifies()
 /// The payload of a message carries its plan message.
 pub fn plan_reads_back()
     ensures { PlanReadsBack }
+{}
+
+/// What a node sends reads back as it was sent.
+pub fn every_sending_reads_back()
+    ensures { EverySendingReadsBack }
+{}
+
+/// The bytes of each frame that a parse finds parse to exactly that frame.
+pub fn every_frame_reads_alone()
+    ensures { EveryFrameReadsAlone }
+{}
+
+/// Frames with the same bytes are the same frame.
+pub fn same_bytes_same_frame()
+    ensures { SameBytesSameFrame }
+{}
+
+/// What nodes say of themselves can be sent, and is no plan message.
+pub fn heartbeats_fit()
+    ensures { HeartbeatsFit }
 {}

@@ -11,4 +11,16 @@ pub enum Order {
         kind: PlanKind,
         plan: Plan,
     },
+    /// To give its operation up.
+    Cancel,
+    /// To empty a drone's plan of a kind, and with None all three.
+    Clear {
+        drone: Stream,
+        kind: Option<PlanKind>,
+    },
+    /// To download a drone's plan of a kind.
+    Get {
+        drone: Stream,
+        kind: PlanKind,
+    },
 }

@@ -1,11 +1,11 @@
 // A ground station as a node.
-ghost use Rattle.std.specs.Prelude.{◌≡◌, ◌++◌, None, Some, [], IfOk, IfErr, OnOk};
+ghost use Rattle.std.specs.Prelude.{◌≡◌, ◌++◌, map, None, Some, [], IfOk, IfErr, OnOk, OnErr};
 ghost use Rattle.plan_upload.specs.Station.{StationState, StationStep, untold};
-ghost use Rattle.mav_nodes.specs.News.{events_of};
+ghost use Rattle.mav_nodes.specs.News.{shown, events_of};
 ghost use Rattle.mav_nodes.specs.Links.{Link as LinkState, IsLink};
 ghost use Rattle.mav_nodes.specs.Steps.{Side, steps, takes, hears};
-ghost use Rattle.mav_nodes.specs.Nodes.{IsStation, new_station, station_core, station_receives, station_beats, station_does, station_obeys, order_refusal, told_events};
-ghost use Rattle.mav_nodes.specs.Promises.{StationDid, OrderFails, OrderKeeps};
+ghost use Rattle.mav_nodes.specs.Nodes.{IsStation, new_station, station_core, station_receives, station_ticks, station_beats, station_does, station_obeys, order_step, order_refusal, told_events};
+ghost use Rattle.mav_nodes.specs.Promises.{StationDid, IsRefusal, OrderFails, OrderKeeps};
 
 use crate::heartbeats::station_heartbeat;
 use crate::link::{Link, Tried};
@@ -52,7 +52,7 @@ impl StationNode {
     // Hands out the outcome that the core has reached, if any.
     fn tell_outcome(&mut self, news: &mut Vec<News>) -> Result<(), NodeFault>
         ensures told { IfOk result (λ done. events_of news.new.items
-            ≡ events_of news.old.items ++ told_events self.old.station.outcome) }
+            ≡ events_of news.old.items ++ map shown (told_events self.old.station.outcome)) }
         ensures station { IfOk result (λ done. self.new ≡ record self.old { station = untold self.old.station }) }
         ensures fault { IfErr result (λ fault. fault ≡ NodeFault.NoMemory) }
     {
@@ -76,8 +76,7 @@ impl StationNode {
             → fault ≡ NodeFault.StampsSpent → takes station_core clock node from (Some message.now) ≡ None) }
     {
         let answer = self.station.step(from, message);
-        self.link.answer(answer, clock, news)?;
-        self.tell_outcome(news)
+        self.after(answer, clock, news)
     }
 
     // One frame.
@@ -118,17 +117,48 @@ impl StationNode {
         Ok(news)
     }
 
-    // The core has begun an upload, and sends this.
-    fn begun(&mut self, message: PlanMsg, clock: u64, news: &mut Vec<News>) -> Result<(), NodeFault>
+    // The core has done a step, and sends this, if anything.
+    fn after(
+        &mut self,
+        answer: Option<PlanMsg>,
+        clock: u64,
+        news: &mut Vec<News>,
+    ) -> Result<(), NodeFault>
         ensures done { IfOk result (λ done. (link : LinkState) (step : StationStep) → IsLink link self.old.link
-            → self.old.station ≡ step.station → Some message ≡ step.answer
+            → self.old.station ≡ step.station → answer ≡ step.answer
             → StationDid (steps clock link (station_does step)) self.new news.old.items news.new.items) }
         ensures spent { IfErr result (λ fault. (link : LinkState) (step : StationStep) → IsLink link self.old.link
-            → Some message ≡ step.answer → fault ≡ NodeFault.StampsSpent
+            → answer ≡ step.answer → fault ≡ NodeFault.StampsSpent
             → steps clock link (station_does step) ≡ None) }
     {
-        self.link.answer(Some(message), clock, news)?;
+        self.link.answer(answer, clock, news)?;
         self.tell_outcome(news)
+    }
+
+    // What the core sends first for an order, if anything.
+    fn obey(&mut self, order: Order) -> Result<Option<PlanMsg>, OrderFault>
+        ensures link { self.new.link ≡ self.old.link }
+        ensures station { OnOk result (self.new.station ≡ (order_step self.old.station order).station) }
+        ensures answer { IfOk result (λ answer. answer ≡ (order_step self.old.station order).answer) }
+        ensures accepted { OnOk result (order_refusal self.old.station order ≡ None) }
+        ensures fault { IfErr result (λ fault. IsRefusal self.old.station order fault) }
+        ensures unchanged { OnErr result (self.new ≡ self.old) }
+    {
+        match order {
+            Order::Begin { drone, kind, plan } => match self.station.begin(drone, kind, plan) {
+                Ok(message) => Ok(Some(message)),
+                Err(fault) => Err(OrderFault::Begin(fault)),
+            },
+            Order::Cancel => Ok(self.station.cancel()),
+            Order::Clear { drone, kind } => match self.station.clear(drone, kind) {
+                Ok(message) => Ok(Some(message)),
+                Err(fault) => Err(OrderFault::Op(fault)),
+            },
+            Order::Get { drone, kind } => match self.station.get(drone, kind) {
+                Ok(message) => Ok(Some(message)),
+                Err(fault) => Err(OrderFault::Op(fault)),
+            },
+        }
     }
 
     /// Follows an order, or refuses it. The message that it sends for it is among the news.
@@ -139,16 +169,25 @@ impl StationNode {
         ensures fault { IfErr result (λ fault. OrderFails clock order self.old fault) }
         ensures unchanged { IfErr result (λ fault. OrderKeeps self.old self.new fault) }
     {
-        let Order::Begin { drone, kind, plan } = order;
-        let message = match self.station.begin(drone, kind, plan) {
-            Ok(message) => message,
-            Err(fault) => return Err(OrderFault::Begin(fault)),
-        };
+        let answer = self.obey(order)?;
         let mut news = Vec::new(self.alloc);
-        match self.begun(message, clock, &mut news) {
+        match self.after(answer, clock, &mut news) {
             Ok(()) => Ok(news),
             Err(fault) => Err(OrderFault::Node(fault)),
         }
+    }
+
+    /// Time passes: what an operation sends again, or how it goes on.
+    pub fn tick(&mut self, clock: u64) -> Result<Vec<News>, NodeFault>
+        ensures done { IfOk result (λ news. (node : Side StationState) → IsStation node self.old
+            → StationDid (station_ticks clock node) self.new [] news.items) }
+        ensures spent { IfErr result (λ fault. (node : Side StationState) → IsStation node self.old
+            → fault ≡ NodeFault.StampsSpent → station_ticks clock node ≡ None) }
+    {
+        let answer = self.station.tick();
+        let mut news = Vec::new(self.alloc);
+        self.after(answer, clock, &mut news)?;
+        Ok(news)
     }
 
     /// Sends HEARTBEAT.

@@ -1,7 +1,7 @@
 mod Fronts
-mod Histories
+pub mod Histories
 mod Keeping
-mod Profiles
+pub mod Profiles
 mod Sending
 mod Hearing
 mod Streaming

@@ -1,7 +1,7 @@
 use Rattle.std.proofs.Common.{◌∙◌, sym, subst}
 use Rattle.mav_nodes.specs.Links.{Outcome, tries}
-use Rattle.mav_nodes.specs.Steps.{Side, hears}
-use Rattle.mav_nodes.specs.Nodes.{drone_core, DroneView, IsDrone}
+use Rattle.mav_nodes.specs.Steps.{Side}
+use Rattle.mav_nodes.specs.Nodes.{drone_core, IsDrone}
 use Rattle.mav_nodes.specs.Promises.{DroneDid}
 use Rattle.plan_upload.specs.Drone.{DroneState}
 use Rattle.mav_nodes.proofs.Cores.{if_ok, if_err, hears_plan}

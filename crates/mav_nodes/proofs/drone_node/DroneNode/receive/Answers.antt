@@ -1,13 +1,8 @@
-use Rattle.std.proofs.Common.{◌≡◌, ℕ, ◌+◌, ◌-◌, ◌≤◌, List, length, drop, Option, None, sym, ap, ◌∙◌, subst, arith, length-drop}
+use Rattle.std.proofs.Common.{ℕ, ◌+◌, drop, sym, ap, ◌∙◌, arith}
 use Rattle.std.proofs.lemmas.Result.{err_from_is_err_and}
-use Rattle.plan_upload.specs.Drone.{DroneState}
 use Rattle.mav_frame.specs.declared.events.Event.TheVariants.{Frame, Skipped}
-use Rattle.mav_nodes.specs.declared.news.News.{News}
-use Rattle.mav_nodes.specs.declared.faults.NodeFault.{NodeFault}
-use Rattle.mav_nodes.specs.declared.faults.NodeFault.TheVariants.{StampsSpent}
-use Rattle.mav_nodes.specs.Steps.{Side}
 use Rattle.mav_nodes.specs.Nodes.{IsDrone, DroneView, drone_core, drone_receives}
-use Rattle.mav_nodes.proofs.Leads.{Leads, leads_at_first, leads_past, leads_on, leads_to_none, leads_whole, event_here, part_bytes, part_length}
+use Rattle.mav_nodes.proofs.Leads.{leads_past, leads_on, leads_to_none, event_here, part_bytes, part_length}
 use Rattle.mav_nodes.proofs.drone_node.DroneNode.receive.Goals.{in-Frame+in_ok-hear-in-Frame, in-Skipped}
 use Rattle.mav_nodes.proofs.drone_node.DroneNode.receive.Goals as goal
 
