@@ -2,14 +2,13 @@
 use Rattle.std.specs.Prelude.{ℕ, ◌+◌, ◌-◌, ◌==◌, nat_lt, Bool, true, false, if◌then◌else◌, List, [], ◌∷◌, ◌++◌, length, take, slice_index, Option, Some, None, Ok, Err}
 use Rattle.std.specs.declared.result.Result.{Result}
 use Rattle.std.specs.List.{slice_split}
-use Rattle.fleet_world.specs.declared.faults.Bound.{Bound}
-use Rattle.fleet_world.specs.declared.faults.Reason.{Reason}
-use Rattle.fleet_world.specs.declared.faults.Reason.TheVariants.{Long}
-use Rattle.fleet_world.specs.Scene.{Scene, empty_scene}
-use Rattle.fleet_world.specs.Grammar.{line_of, most_line_bytes}
-use Rattle.fleet_world.specs.Reasons.{reason_against}
-use Rattle.fleet_world.specs.Events.{Event, events_text}
-use Rattle.fleet_world.specs.Steps.{Step, after_line, closing_text}
+use Rattle.scenario_lines.specs.declared.faults.Reason.{Reason}
+use Rattle.scenario_lines.specs.declared.faults.Reason.TheVariants.{Long}
+use Rattle.scenario_lines.specs.Grammar.{line_of, most_line_bytes}
+use Rattle.scenario_lines.specs.Reasons.{reason_against}
+use Rattle.fleet_report.specs.Events.{Event, events_text}
+use Rattle.fleet_world.specs.Scene.{Scene, empty_scene, standing_of}
+use Rattle.fleet_world.specs.Steps.{Step, Halt, after_line, closing_text}
 
 -- lines end with LF
 abbrev pub is_newline : ℕ → Bool
@@ -41,7 +40,7 @@ without_cr raw = if slice_index raw (length raw - 1) == 13 then take (length raw
 pub data Stop : Type 0 where
   Bad : (line : ℕ) (reason : Reason) → Stop
   Too_many_lines : Stop
-  At_limit : (limit : Bound) → Stop
+  Halted : (halt : Halt) → Stop
 
 pub record Played : Type 0 where
   pub scene : Scene
@@ -55,9 +54,9 @@ most_lines = 100000
 abbrev pub stopped : Played → Stop → Played
 stopped p stop = record p { stop = Some stop }
 
-abbrev pub goes_on : Played → Result Step Bound → Played
+abbrev pub goes_on : Played → Result Step Halt → Played
 goes_on p (Ok t) = record { scene = t.scene; events = p.events ++ t.events; stop = None }
-goes_on p (Err limit) = stopped p (At_limit limit)
+goes_on p (Err halt) = stopped p (Halted halt)
 
 abbrev pub judged : Played → ℕ → List ℕ → Option Reason → Played
 judged p number text (Some reason) = stopped p (Bad number reason)
@@ -68,7 +67,7 @@ abbrev pub line_played : Played → ℕ → List ℕ → Played
 line_played p number raw =
     if nat_lt most_lines number then stopped p Too_many_lines
     else if nat_lt most_line_bytes (length raw) then stopped p (Bad number Long)
-    else judged p number (without_cr raw) (reason_against p.scene (without_cr raw))
+    else judged p number (without_cr raw) (reason_against (standing_of p.scene) (without_cr raw))
 
 -- the lines from `number` on, up to the first at which the scenario stops
 abbrev pub unless_stopped : Option Stop → Played → Played → Played
@@ -79,8 +78,9 @@ abbrev pub lines_played : Played → ℕ → List (List ℕ) → Played
 lines_played p number [] = p
 lines_played p number (raw ∷ more) = unless_stopped p.stop p (lines_played (line_played p number raw) (number + 1) more)
 
-abbrev pub at_start : Played
-at_start = record { scene = empty_scene; events = []; stop = None }
+-- under a key, which all nodes have
+abbrev pub at_start : List ℕ → Played
+at_start key = record { scene = empty_scene key; events = []; stop = None }
 
 -- a last line without LF keeps its CR, and counts where it isn't empty
 abbrev pub last_played : Played → ℕ → List ℕ → Played
@@ -88,7 +88,7 @@ last_played p number [] = p
 last_played p number (b ∷ bs) =
     if nat_lt most_lines number then stopped p Too_many_lines
     else if nat_lt most_line_bytes (length (b ∷ bs)) then stopped p (Bad number Long)
-    else judged p number (b ∷ bs) (reason_against p.scene (b ∷ bs))
+    else judged p number (b ∷ bs) (reason_against (standing_of p.scene) (b ∷ bs))
 
 -- an unfinished line stops a scenario as soon as it is too long
 abbrev pub part_played : Played → ℕ → List ℕ → Played
@@ -102,14 +102,15 @@ abbrev pub rest_played : Bool → Played → ℕ → List ℕ → Played
 rest_played true p number rest = last_played p number rest
 rest_played false p number rest = part_played p number rest
 
-abbrev pub played : Bool → List ℕ → Played
-played ended bytes =
-    let lines = lines_played at_start 1 (whole_lines bytes) in
+abbrev pub played : List ℕ → Bool → List ℕ → Played
+played key ended bytes =
+    let lines = lines_played (at_start key) 1 (whole_lines bytes) in
     unless_stopped lines.stop lines (rest_played ended lines (length (whole_lines bytes) + 1) (unfinished bytes))
 
--- the report of what was played, and that of a whole scenario with its closing plans
-abbrev pub report_of : Played → List ℕ
-report_of p = events_text p.events
+-- the report of what was played, and that of a whole scenario with its closing plans; `frames` says whether it prints
+-- the frames' bytes
+abbrev pub report_of : Bool → Played → List ℕ
+report_of frames p = events_text frames p.events
 
-abbrev pub whole_report : Played → List ℕ
-whole_report p = events_text p.events ++ closing_text p.scene.nodes
+abbrev pub whole_report : Bool → Played → List ℕ
+whole_report frames p = events_text frames p.events ++ closing_text p.scene.nodes

@@ -1,173 +1,242 @@
--- What a scenario line does to the world: the scene after it and its events, or the limit that it meets.
-use Rattle.std.specs.Prelude.{◌≡◌, ℕ, pos, zero, suc, ◌+◌, ◌+ℤ◌, nat_lt, true, if◌then◌else◌, List, [], ◌∷◌, ◌++◌, length, slice_get, slice_set, position, Option, Some, None, Ok, Err}
+-- What a scenario line does to the world: the scene after it and its events, or why it isn't done.
+use Rattle.std.specs.Prelude.{ℕ, pos, zero, suc, ◌+◌, ◌-◌, ◌+ℤ◌, nat_lt, nat_le, if◌then◌else◌, List, [], ◌∷◌, ◌++◌, length, slice_get, slice_set, position, Option, Some, None, Ok, Err}
 use Rattle.std.specs.declared.result.Result.{Result}
 use Rattle.mav_ports.specs.declared.names.Name.{Name}
+use Rattle.mav_frame.specs.Packet.{Packet}
+use Rattle.mav_frame.specs.Encoding.{encoding}
 use Rattle.plan_items.specs.declared.items.Item.{Item}
-use Rattle.plan_items.specs.declared.messages.PlanMsg.{PlanMsg}
 use Rattle.plan_items.specs.Kinds.{number_of}
+use Rattle.plan_upload.specs.Kinds.{clear_number}
 use Rattle.plan_upload.specs.declared.faults.OpFault.{OpFault}
-use Rattle.plan_upload.specs.Addresses.{same_name}
-use Rattle.plan_upload.specs.declared.changes.Change.{Change}
-use Rattle.plan_upload.specs.declared.changes.Change.TheVariants.{Same, Install, Empty}
-use Rattle.plan_upload.specs.Changes.{change_by}
-use Rattle.plan_upload.specs.Plans.{Plans, no_plans, plan_at}
-use Rattle.plan_upload.specs.Drone.{DroneStep, drone_step, fresh_drone}
-use Rattle.plan_upload.specs.Station.{StationState, StationStep, Told, station_step, fresh_station, begin_upload, untold}
-use Rattle.plan_upload.specs.Refusals.{upload_refusal}
+use Rattle.plan_upload.specs.Addresses.{node_of, same_name}
+use Rattle.plan_upload.specs.Drone.{DroneState}
+use Rattle.plan_upload.specs.Station.{StationState}
+use Rattle.plan_upload.specs.Refusals.{upload_refusal, refusal}
+use Rattle.mav_nodes.specs.News.{NodeEvent, Sends, Installs, Empties, Drops, Ends}
+use Rattle.mav_nodes.specs.Links.{Outcome, done}
+use Rattle.mav_nodes.specs.Steps.{Side}
+use Rattle.mav_nodes.specs.Nodes.{new_drone, drone_receives, drone_beats, drone_ticks, new_station, station_receives, station_beats, station_ticks, station_begins, station_cancels, station_clears, station_gets}
+use Rattle.scenario_lines.specs.declared.lines.Line.{Line}
+use Rattle.scenario_lines.specs.declared.lines.Line.TheVariants.{Blank, Drone as DroneLine, Station as StationLine, Item as OneItem, Items, Empty, Begin, Cancel, Clear, Get, Heartbeat, Deliver, Flow, Noise, Tick, Clock}
+use Rattle.fleet_report.specs.Events.{Event, Sent, Installed, Emptied, Dropped, Missing, Refused, Ended, plan_text}
 use Rattle.fleet_world.specs.declared.faults.Bound.{Bound}
-use Rattle.fleet_world.specs.declared.faults.Bound.TheVariants.{Frames}
-use Rattle.fleet_world.specs.declared.lines.Line.{Line}
-use Rattle.fleet_world.specs.declared.lines.Line.TheVariants.{Blank, Drone, Station, Item as OneItem, Items, Begin, Flow}
-use Rattle.fleet_world.specs.declared.nodes.Node.{Node}
-use Rattle.fleet_world.specs.declared.nodes.Node.TheVariants.{Drone as DroneNode, Station as StationNode}
-use Rattle.fleet_world.specs.declared.nodes.Frame.{Frame}
-use Rattle.fleet_world.specs.Scene.{Scene, drone_name, node_name, is_called, stream_of}
-use Rattle.fleet_world.specs.Events.{Event, Sent, Installed, Emptied, Refused, Ended, plan_text, events_text}
+use Rattle.fleet_world.specs.declared.faults.Bound.TheVariants.{Frames, Drones, Stations}
+use Rattle.fleet_world.specs.Scene.{Scene, Node, Drone, Station, stream_of, node_name, is_named, is_station_named, drones_in, stations_in}
 
 pub record Step : Type 0 where
   pub scene : Scene
   pub events : List Event
 
+-- why a line isn't done: a limit is met, or a node has no timestamp left
+pub data Halt : Type 0 where
+  At_limit : (limit : Bound) → Halt
+  Stamps_spent : Halt
+
 -- nothing happens
-abbrev pub rests : Scene → Result Step Bound
+abbrev pub rests : Scene → Result Step Halt
 rests s = Ok (record { scene = s; events = [] })
 
 -- one step behind events that came before it
-abbrev pub behind : List Event → Result Step Bound → Result Step Bound
+abbrev pub behind : List Event → Result Step Halt → Result Step Halt
 behind events (Ok t) = Ok (record { scene = t.scene; events = events ++ t.events })
-behind events (Err b) = Err b
+behind events (Err halt) = Err halt
 
 -- one step and then another
-abbrev pub and_then : Result Step Bound → (Scene → Result Step Bound) → Result Step Bound
+abbrev pub and_then : Result Step Halt → (Scene → Result Step Halt) → Result Step Halt
 and_then (Ok t) next = behind t.events (next t.scene)
-and_then (Err b) next = Err b
+and_then (Err halt) next = Err halt
 
 abbrev pub most_frames : ℕ
 most_frames = 100000
 
--- a node sends a message: it is the next frame of the scenario, unless the limit of frames is met
-abbrev pub sends : Scene → Name → Option PlanMsg → Result Step Bound
-sends s from None = rests s
-sends s from (Some m) =
-    if nat_lt (length s.sent) most_frames then Ok (record {
-      scene = record s { sent = s.sent ++ record { from = from; message = m } ∷ [] };
-      events = Sent (length s.sent + 1) from m ∷ [];
+abbrev pub most_drones : ℕ
+most_drones = 16
+
+abbrev pub most_stations : ℕ
+most_stations = 16
+
+-- ---- what a node does
+
+-- the frames among what happened in a node
+abbrev pub packets_in : List NodeEvent → List Packet
+packets_in [] = []
+packets_in (Sends packet message ∷ es) = packet ∷ packets_in es
+packets_in (Installs kind items by ∷ es) = packets_in es
+packets_in (Empties kind ∷ es) = packets_in es
+packets_in (Drops answer ∷ es) = packets_in es
+packets_in (Ends told ∷ es) = packets_in es
+
+-- what is told of what happened in a node, where so many frames were sent before
+abbrev pub told_by : Name → ℕ → List NodeEvent → List Event
+told_by node before [] = []
+told_by node before (Sends packet message ∷ es) = Sent (before + 1) packet message ∷ told_by node (before + 1) es
+told_by node before (Installs kind items by ∷ es) = Installed node (number_of kind) items (node_of by) ∷ told_by node before es
+told_by node before (Empties kind ∷ es) = Emptied node (number_of kind) ∷ told_by node before es
+told_by node before (Drops answer ∷ es) = Dropped node answer ∷ told_by node before es
+told_by node before (Ends told ∷ es) = Ended node told ∷ told_by node before es
+
+abbrev pub as_drone : Outcome (Side DroneState) → Outcome Node
+as_drone None = None
+as_drone (Some d) = done (Drone d.node) d.events
+
+abbrev pub as_station : Outcome (Side StationState) → Outcome Node
+as_station None = None
+as_station (Some d) = done (Station d.node) d.events
+
+abbrev pub node_receives : ℕ → List ℕ → Node → Outcome Node
+node_receives clock datagram (Drone n) = as_drone (drone_receives clock datagram n)
+node_receives clock datagram (Station n) = as_station (station_receives clock datagram n)
+
+abbrev pub node_beats : ℕ → Node → Outcome Node
+node_beats clock (Drone n) = as_drone (drone_beats clock n)
+node_beats clock (Station n) = as_station (station_beats clock n)
+
+abbrev pub node_ticks : ℕ → Node → Outcome Node
+node_ticks clock (Drone n) = as_drone (drone_ticks clock n)
+node_ticks clock (Station n) = as_station (station_ticks clock n)
+
+-- the node at place `k` has done this: its frames are the next of the scenario
+abbrev pub node_does : Scene → ℕ → Name → Outcome Node → Result Step Halt
+node_does s k name None = Err Stamps_spent
+node_does s k name (Some d) =
+    if nat_le (length s.sent + length (packets_in d.events)) most_frames then Ok (record {
+      scene = record s { nodes = slice_set s.nodes k d.node; sent = s.sent ++ packets_in d.events };
+      events = told_by name (length s.sent) d.events;
     })
-    else Err Frames
+    else Err (At_limit Frames)
 
--- a change of a drone's plans by a message of the node `by`, as the report tells it; the plans are those after it
-abbrev pub plan_events : Name → Name → Plans → Change → List Event
-plan_events drone by plans Same = []
-plan_events drone by plans (Install kind) = Installed drone (number_of kind) (plan_at plans (number_of kind)) by ∷ []
-plan_events drone by plans (Empty None) = Emptied drone 0 ∷ Emptied drone 1 ∷ Emptied drone 2 ∷ []
-plan_events drone by plans (Empty (Some kind)) = Emptied drone (number_of kind) ∷ []
+-- the node at a place, and the one of a name, where there is one
+abbrev pub calls_at : Scene → ℕ → Option Node → (Node → Outcome Node) → Result Step Halt
+calls_at s k None call = rests s
+calls_at s k (Some node) call = node_does s k (node_name node) (call node)
 
--- an operation's end, as the report tells it
-abbrev pub end_events : Name → Option Told → List Event
-end_events station None = []
-end_events station (Some told) = Ended station told ∷ []
+abbrev pub calls_placed : Scene → Option ℕ → (Node → Outcome Node) → Result Step Halt
+calls_placed s None call = rests s
+calls_placed s (Some k) call = calls_at s k (slice_get s.nodes k) call
 
--- a step that ends with these events
-abbrev pub before : Result Step Bound → List Event → Result Step Bound
-before (Ok t) events = Ok (record { scene = t.scene; events = t.events ++ events })
-before (Err b) events = Err b
+abbrev pub calls : Scene → Name → (Node → Outcome Node) → Result Step Halt
+calls s name call = calls_placed s (position (is_named name) s.nodes) call
 
--- the scene with the node at place `k` replaced
-abbrev pub with_node : Scene → ℕ → Node → Scene
-with_node s k node = record s { nodes = slice_set s.nodes k node }
+-- ---- frames that are given
 
--- a drone's step at a message of the node `by`: the change of its plans, then what it sends
-abbrev pub drone_steps : Scene → ℕ → Name → DroneStep → Result Step Bound
-drone_steps s k by t =
-    behind (plan_events (drone_name t.drone.sys) by t.drone.plans (change_by t.event))
-    (sends (with_node s k (DroneNode t.drone)) (drone_name t.drone.sys) t.answer)
+-- a frame is given to a node as one datagram, unless the node is its sender
+abbrev pub given_to : Scene → ℕ → Packet → Option Node → Result Step Halt
+given_to s k p None = rests s
+given_to s k p (Some node) =
+    if same_name (node_name node) p.from then rests s else node_does s k (node_name node) (node_receives s.clock (encoding p) node)
 
--- a station's step: what it sends, then the outcome that it has to hand out
-abbrev pub station_steps : Scene → ℕ → StationStep → Result Step Bound
-station_steps s k t =
-    before (sends (with_node s k (StationNode (untold t.station))) t.station.me t.answer) (end_events t.station.me t.station.outcome)
+-- it is given to `n` nodes, from place `k` on
+abbrev pub given_from : Scene → ℕ → ℕ → Packet → Result Step Halt
+given_from s k zero p = rests s
+given_from s k (suc n) p = and_then (given_to s k p (slice_get s.nodes k)) (λ t. given_from t (k + 1) n p)
 
--- the node at place `k` hears a frame of another node
-abbrev pub node_hears : Scene → ℕ → Frame → Node → Result Step Bound
-node_hears s k f (DroneNode d) = drone_steps s k f.from (drone_step true d (stream_of f.from) f.message)
-node_hears s k f (StationNode t) = station_steps s k (station_step t (stream_of f.from) f.message)
-
-abbrev pub given_to : Scene → ℕ → Frame → Option Node → Result Step Bound
-given_to s k f None = rests s
-given_to s k f (Some node) = if same_name (node_name node) f.from then rests s else node_hears s k f node
-
--- a frame is given to `n` nodes, from place `k` on
-abbrev pub given_from : Scene → ℕ → ℕ → Frame → Result Step Bound
-given_from s k zero f = rests s
-given_from s k (suc n) f = and_then (given_to s k f (slice_get s.nodes k)) (λ t. given_from t (k + 1) n f)
-
--- a frame is given to every node but its sender, in the order in which they were named
-abbrev pub given_to_all : Scene → Frame → Result Step Bound
-given_to_all s f = given_from s 0 (length s.nodes) f
+-- to every node but its sender, in the order in which they were named
+abbrev pub given_to_all : Scene → Packet → Result Step Halt
+given_to_all s p = given_from s 0 (length s.nodes) p
 
 -- the next frame of a flow, where there is one
-abbrev pub flow_next : Scene → Option Frame → (Scene → Result Step Bound) → Result Step Bound
+abbrev pub flow_next : Scene → Option Packet → (Scene → Result Step Halt) → Result Step Halt
 flow_next s None next = rests s
-flow_next s (Some f) next = and_then (given_to_all (record s { given = s.given + 1 }) f) next
+flow_next s (Some p) next = and_then (given_to_all (record s { given = s.given + 1 }) p) next
 
 -- at most `k` frames are given
-abbrev pub flows : ℕ → Scene → Result Step Bound
+abbrev pub flows : ℕ → Scene → Result Step Halt
 flows zero s = rests s
 flows (suc k) s = flow_next s (slice_get s.sent s.given) (flows k)
+
+-- a sent frame is given to a node once more, also to its sender
+abbrev pub delivers : Scene → ℕ → Name → Option Packet → Result Step Halt
+delivers s number name None = Ok (record { scene = s; events = Missing number ∷ [] })
+delivers s number name (Some p) = calls s name (node_receives s.clock (encoding p))
+
+-- ---- orders to stations
+
+-- a station line: from here on frames are given by the flows that follow
+abbrev pub station_line : Scene → Scene
+station_line s = record s { given = length s.sent }
+
+abbrev pub refuses : Scene → Side StationState → OpFault → Result Step Halt
+refuses s node why = Ok (record { scene = s; events = Refused (node_of node.link.me) why ∷ [] })
+
+-- an order that the station refuses, or does
+abbrev pub orders : Scene → ℕ → Side StationState → Option OpFault → Outcome (Side StationState) → Result Step Halt
+orders s k node (Some why) outcome = refuses s node why
+orders s k node None outcome = node_does s k (node_of node.link.me) (as_station outcome)
+
+-- an upload of the draft, which becomes empty; a refused one leaves it
+abbrev pub upload_begins : Scene → ℕ → Side StationState → Name → ℕ → Option OpFault → Result Step Halt
+upload_begins s k node drone kind (Some why) = refuses s node why
+upload_begins s k node drone kind None =
+    node_does (record s { draft = [] }) k (node_of node.link.me) (as_station (station_begins s.clock (stream_of drone) kind s.draft node))
+
+-- the station at a place, and the one of a name, where there is one
+abbrev pub orders_at : Scene → ℕ → Option Node → (ℕ → Side StationState → Result Step Halt) → Result Step Halt
+orders_at s k None order = rests s
+orders_at s k (Some (Drone n)) order = rests s
+orders_at s k (Some (Station n)) order = order k n
+
+abbrev pub orders_placed : Scene → Option ℕ → (ℕ → Side StationState → Result Step Halt) → Result Step Halt
+orders_placed s None order = rests s
+orders_placed s (Some k) order = orders_at s k (slice_get s.nodes k) order
+
+abbrev pub orders_to : Scene → Name → (ℕ → Side StationState → Result Step Halt) → Result Step Halt
+orders_to s name order = orders_placed s (position (is_station_named name) s.nodes) order
+
+abbrev pub begins : Scene → Name → Name → ℕ → Result Step Halt
+begins s station drone kind = orders_to s station (λ k node. upload_begins s k node drone kind (upload_refusal node.core kind s.draft))
+
+abbrev pub cancels : Scene → Name → Result Step Halt
+cancels s station = orders_to s station (λ k node. orders s k node None (station_cancels s.clock node))
+
+abbrev pub clears : Scene → Name → Name → ℕ → Result Step Halt
+clears s station drone kind =
+    orders_to s station (λ k node. orders s k node (refusal node.core) (station_clears s.clock (stream_of drone) kind node))
+
+abbrev pub gets : Scene → Name → Name → ℕ → Result Step Halt
+gets s station drone kind =
+    orders_to s station (λ k node. orders s k node (refusal node.core) (station_gets s.clock (stream_of drone) kind node))
+
+-- ---- lines
 
 -- n items, the i-th from 0 with the x of the first plus i
 abbrev pub items_from : ℕ → Item → ℕ → List Item
 items_from zero first i = []
 items_from (suc n) first i = record first { x = first.x +ℤ pos i } ∷ items_from n first (i + 1)
 
--- a station begins an upload of the draft; a refused one leaves the draft
-abbrev pub upload_begins : Scene → ℕ → StationState → Name → ℕ → Option OpFault → Result Step Bound
-upload_begins s k t drone kind (Some why) = Ok (record { scene = s; events = Refused t.me why ∷ [] })
-upload_begins s k t drone kind None =
-    let begun = begin_upload t (stream_of drone) kind s.draft in
-    sends (with_node (record s { draft = [] }) k (StationNode begun.station)) t.me begun.answer
-
-abbrev pub begins_at : Scene → ℕ → Option Node → Name → ℕ → Result Step Bound
-begins_at s k None drone kind = rests s
-begins_at s k (Some (DroneNode d)) drone kind = rests s
-begins_at s k (Some (StationNode t)) drone kind = upload_begins s k t drone kind (upload_refusal t kind s.draft)
-
--- the station at a place begins, where there is one
-abbrev pub begins : Scene → Option ℕ → Name → ℕ → Result Step Bound
-begins s None drone kind = rests s
-begins s (Some k) drone kind = begins_at s k (slice_get s.nodes k) drone kind
-
--- a station line: from here on frames are given by the flows that follow
-abbrev pub station_line : Scene → Scene
-station_line s = record s { given = length s.sent }
+-- one node more
+abbrev pub joins : Scene → Node → Result Step Halt
+joins s node = rests (record s { nodes = s.nodes ++ node ∷ [] })
 
 -- one line
-abbrev pub after_line : Scene → Line → Result Step Bound
+abbrev pub after_line : Scene → Line → Result Step Halt
 after_line s Blank = rests s
-after_line s (Drone sys x y) = rests (record s { nodes = s.nodes ++ DroneNode (fresh_drone sys no_plans) ∷ [] })
-after_line s (Station sys comp) = rests (record s { nodes = s.nodes ++ StationNode (fresh_station sys comp 0 0) ∷ [] })
+after_line s (DroneLine sys x y) =
+    if nat_lt (drones_in s.nodes) most_drones then joins s (Drone (new_drone s.key sys)) else Err (At_limit Drones)
+after_line s (StationLine sys comp) =
+    if nat_lt (stations_in s.nodes) most_stations
+    then joins s (Station (new_station s.key (stream_of (record { sys = sys; comp = comp })) 0))
+    else Err (At_limit Stations)
 after_line s (OneItem item) = rests (record s { draft = s.draft ++ item ∷ [] })
 after_line s (Items n first) = rests (record s { draft = s.draft ++ items_from n first 0 })
-after_line s (Begin station drone kind) = begins (station_line s) (position (is_called station) s.nodes) drone (number_of kind)
+after_line s Empty = rests (record s { draft = [] })
+after_line s (Begin station drone kind) = begins (station_line s) station drone (number_of kind)
+after_line s (Cancel station) = cancels (station_line s) station
+after_line s (Clear station drone kind) = clears (station_line s) station drone (clear_number kind)
+after_line s (Get station drone kind) = gets (station_line s) station drone (number_of kind)
+after_line s (Heartbeat node) = calls s node (node_beats s.clock)
+after_line s (Deliver number node) = delivers s number node (slice_get s.sent (number - 1))
 after_line s (Flow k) = flows k s
+after_line s (Noise node bytes) = calls s node (node_receives s.clock bytes)
+after_line s (Tick node) = calls s node (node_ticks s.clock)
+after_line s (Clock n) = rests (record s { clock = s.clock + n })
 
 -- the closing plans: of each drone in the order named, and each kind
 abbrev pub closing_of : Node → List ℕ
-closing_of (DroneNode d) =
-    plan_text (drone_name d.sys) 0 d.plans.mission ++ plan_text (drone_name d.sys) 1 d.plans.fence
-    ++ plan_text (drone_name d.sys) 2 d.plans.rally
-closing_of (StationNode s) = []
+closing_of (Drone n) =
+    plan_text (node_of n.link.me) 0 n.core.plans.mission ++ plan_text (node_of n.link.me) 1 n.core.plans.fence
+    ++ plan_text (node_of n.link.me) 2 n.core.plans.rally
+closing_of (Station n) = []
 
 abbrev pub closing_text : List Node → List ℕ
 closing_text [] = []
 closing_text (n ∷ ns) = closing_of n ++ closing_text ns
-
--- a step leaves this scene, and adds its text to a report
-abbrev pub IsDone : Result Step Bound → Scene → List ℕ → List ℕ → Type 0
-IsDone (Ok t) s before after = (t.scene ≡ s) × (after ≡ before ++ events_text t.events)
-IsDone (Err limit) s before after = ⊥
-
--- what a step leaves and prints
-abbrev pub IsStep : Result Step Bound → Scene → List ℕ → Type 0
-IsStep (Ok t) s text = (t.scene ≡ s) × (events_text t.events ≡ text)
-IsStep (Err limit) s text = ⊥

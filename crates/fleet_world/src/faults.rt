@@ -1,45 +1,15 @@
-// Why a line is refused, and which limit it meets.
+// Why a line isn't done.
+use mav_nodes::NodeFault;
 use std::alloc::{AllocError, AllocFailed};
-
-/// The first reason against a scenario line, in this order but for the arguments, which are tested
-/// from left to right.
-#[derive(Clone, Copy, Debug, PartialEq, Eq)]
-pub enum Reason {
-    /// More than 4,096 bytes.
-    Long,
-    /// No word of the grammar.
-    Word,
-    /// A line that this program doesn't do yet.
-    Later,
-    /// The number of words.
-    Count,
-    /// The spelling or the range of a number.
-    Number,
-    /// No node of that name was named before in that role.
-    Node,
-    Kind,
-    Hex,
-    /// The name is taken.
-    Twice,
-    /// The x of the last item leaves 32 bits.
-    Range,
-    /// More than 2,000 items in the draft.
-    Draft,
-    Clock,
-}
-
-#[derive(Clone, Copy, Debug, PartialEq, Eq)]
-pub enum LineFault {
-    Bad(Reason),
-    NoMemory,
-}
 
 /// The limits of a scenario.
 #[derive(Clone, Copy, Debug, PartialEq, Eq)]
 pub enum Bound {
     /// 100,000 frames sent.
     Frames,
+    /// 16 drones.
     Drones,
+    /// 16 stations.
     Stations,
 }
 
@@ -47,17 +17,18 @@ pub enum Bound {
 #[derive(Clone, Copy, Debug, PartialEq, Eq)]
 pub enum WorldFault {
     Limit(Bound),
+    Node(NodeFault),
     NoMemory,
 }
 
-impl From<AllocError> for LineFault {
+impl From<NodeFault> for WorldFault {
     ghost use Rattle.std.specs.Prelude.{◌≡◌};
-    ghost use Rattle.fleet_world.specs.declared.faults.LineFault.TheVariants.{NoMemory};
+    ghost use Rattle.fleet_world.specs.declared.faults.WorldFault.TheVariants.{Node};
 
-    ghost from_gives = { λ _ e. e ≡ NoMemory };
+    ghost from_gives = { λ fault e. e ≡ Node fault };
 
-    fn from(_: AllocError) -> Self {
-        LineFault::NoMemory
+    fn from(fault: NodeFault) -> Self {
+        WorldFault::Node(fault)
     }
 }
 

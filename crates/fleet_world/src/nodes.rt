@@ -1,98 +1,77 @@
-// The nodes of a world, and what they send.
-ghost use Rattle.std.specs.Prelude.{◌≡◌};
-ghost use Rattle.fleet_world.specs.Scene.{stream_of};
-ghost use Rattle.fleet_world.specs.Hearing.{IsNews, IsHeard};
+// A node, whichever it is.
+ghost use Rattle.std.specs.Prelude.{◌≡◌, None, Some, [], IfOk, IfErr};
+ghost use Rattle.mav_nodes.specs.Steps.{Side};
+ghost use Rattle.mav_nodes.specs.Nodes.{order_refusal, station_obeys};
+ghost use Rattle.plan_upload.specs.Station.{StationState};
+ghost use Rattle.fleet_world.specs.Scene.{Node as SceneNode, Station as SceneStation};
+ghost use Rattle.fleet_world.specs.Seen.{IsNode};
+ghost use Rattle.fleet_world.specs.Steps.{node_receives, node_beats, node_ticks, as_station};
+ghost use Rattle.fleet_world.specs.Promises.{NodeDid, Refuses};
 
-use crate::hearing::{Heard, News};
-use crate::roles::drone_name;
-use mav_ports::{Name, Stream};
-use plan_items::PlanMsg;
-use plan_upload::{Change, Drone, Station};
-
-/// Every node signs on link 0.
-const LINK: u8 = 0;
+use mav_nodes::{DroneNode, News, NodeFault, Order, OrderFault, StationNode};
+use std::alloc::Global;
 
 #[derive(Drop)]
 pub enum Node {
-    Drone(Drone),
-    Station(Station),
-}
-
-/// A plan message that a node has sent.
-#[derive(Clone, Copy, Debug, PartialEq, Eq)]
-pub struct Frame {
-    pub from: Name,
-    pub message: PlanMsg,
-}
-
-// The stream of a node.
-pub(crate) fn stream(name: Name) -> Stream
-    ensures { result ≡ stream_of name }
-{
-    Stream {
-        sys: name.sys,
-        comp: name.comp,
-        link: LINK,
-    }
-}
-
-// What a step changed in the drone's plans, by what it would change.
-fn news(change: Change, drone: &Drone) -> News
-    ensures { IsNews drone.now.plans change result }
-{
-    match change {
-        Change::Same => News::Nothing,
-        Change::Install(kind) => News::Installed {
-            kind,
-            count: drone.plan(kind).len(),
-        },
-        Change::Empty(kind) => News::Emptied(kind),
-    }
-}
-
-fn hear_as_drone(drone: &mut Drone, from: Stream, message: &PlanMsg) -> Heard
-    ensures { IsHeard (Node.Drone drone.old) from message.now result (Node.Drone drone.new) }
-{
-    let change = drone.change(from, message);
-    let answer = drone.step(from, message);
-    Heard::Drone {
-        name: drone_name(drone.sys()),
-        news: news(change, drone),
-        answer,
-    }
-}
-
-fn hear_as_station(station: &mut Station, from: Stream, message: &PlanMsg) -> Heard
-    ensures { IsHeard (Node.Station station.old) from message.now result (Node.Station station.new) }
-{
-    let answer = station.step(from, message);
-    let outcome = station.outcome();
-    Heard::Station {
-        name: station.me(),
-        answer,
-        outcome,
-    }
+    Drone(DroneNode),
+    Station(StationNode),
 }
 
 impl Node {
-    ghost use Rattle.fleet_world.specs.Scene.{node_name};
-
-    pub(crate) fn name(&self) -> Name
-        ensures { result ≡ node_name self.now }
+    /// Takes a datagram.
+    pub(crate) fn receive(&mut self, datagram: &[u8], clock: u64) -> Result<Vec<News>, NodeFault>
+        ensures done { IfOk result (λ news. (node : SceneNode) → IsNode node self.old
+            → NodeDid (node_receives clock datagram.now node) self.new news.items) }
+        ensures spent { IfErr result (λ fault. (node : SceneNode) → IsNode node self.old
+            → fault ≡ NodeFault.StampsSpent → node_receives clock datagram.now node ≡ None) }
     {
         match self {
-            Node::Drone(drone) => drone_name(drone.sys()),
-            Node::Station(station) => station.me(),
+            Node::Drone(drone) => drone.receive(datagram, clock),
+            Node::Station(station) => station.receive(datagram, clock),
         }
     }
 
-    // One message of another node.
-    pub(crate) fn hear(&mut self, from: Stream, message: &PlanMsg) -> Heard
-        ensures { IsHeard self.old from message.now result self.new }
+    /// Sends HEARTBEAT.
+    pub(crate) fn heartbeat(&mut self, clock: u64) -> Result<Vec<News>, NodeFault>
+        ensures done { IfOk result (λ news. (node : SceneNode) → IsNode node self.old
+            → NodeDid (node_beats clock node) self.new news.items) }
+        ensures spent { IfErr result (λ fault. (node : SceneNode) → IsNode node self.old
+            → fault ≡ NodeFault.StampsSpent → node_beats clock node ≡ None) }
     {
         match self {
-            Node::Drone(drone) => hear_as_drone(drone, from, message),
-            Node::Station(station) => hear_as_station(station, from, message),
+            Node::Drone(drone) => drone.heartbeat(clock),
+            Node::Station(station) => station.heartbeat(clock),
+        }
+    }
+
+    /// Time passes.
+    pub(crate) fn tick(&mut self, clock: u64) -> Result<Vec<News>, NodeFault>
+        ensures done { IfOk result (λ news. (node : SceneNode) → IsNode node self.old
+            → NodeDid (node_ticks clock node) self.new news.items) }
+        ensures spent { IfErr result (λ fault. (node : SceneNode) → IsNode node self.old
+            → fault ≡ NodeFault.StampsSpent → node_ticks clock node ≡ None) }
+    {
+        match self {
+            Node::Drone(drone) => drone.tick(clock),
+            Node::Station(station) => station.tick(clock),
+        }
+    }
+
+    /// A station follows an order, or refuses it; a drone does nothing.
+    pub(crate) fn order(
+        &mut self,
+        alloc: Global,
+        order: Order,
+        clock: u64,
+    ) -> Result<Vec<News>, OrderFault>
+        ensures done { IfOk result (λ news. (node : Side StationState) → IsNode (SceneStation node) self.old
+            → (order_refusal node.core order ≡ None) × NodeDid (as_station (station_obeys clock order node)) self.new news.items) }
+        ensures fault { IfErr result (λ fault. (node : Side StationState) → IsNode (SceneStation node) self.old
+            → Refuses clock node order (self.new ≡ self.old) fault) }
+    {
+        match self {
+            Node::Drone(_) => Ok(Vec::new(alloc)),
+            Node::Station(station) => station.order(order, clock),
         }
     }
 }

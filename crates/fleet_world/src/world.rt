@@ -1,92 +1,99 @@
 // The world of a scenario.
-ghost use Rattle.std.specs.Prelude.{◌≡◌, Err, IfOk, IfErr};
-ghost use Rattle.fleet_world.specs.Scene.{empty_scene};
-ghost use Rattle.fleet_world.specs.Faults.{IfLimit};
-ghost use Rattle.fleet_world.specs.Permits.{IsPermitted};
-ghost use Rattle.fleet_world.specs.Steps.{after_line, closing_text, IsStep};
+ghost use Rattle.std.specs.Prelude.{◌≡◌, [], IfOk, IfErr, None, Some};
+ghost use Rattle.scenario_lines.specs.Faults.{IfBad};
+ghost use Rattle.scenario_lines.specs.Grammar.{line_of};
+ghost use Rattle.scenario_lines.specs.Permits.{IsPermitted};
+ghost use Rattle.scenario_lines.specs.Reasons.{reason_against};
+ghost use Rattle.fleet_world.specs.Scene.{Scene, empty_scene};
+ghost use Rattle.fleet_world.specs.Seen.{IsScene, standing_in};
+ghost use Rattle.fleet_world.specs.Steps.{after_line, closing_text};
+ghost use Rattle.fleet_world.specs.Promises.{IsStep, IsHalt};
 
-use crate::drafts::add_items;
-use crate::{Frame, Line, NoMemory, Node, Report, WorldFault};
+use crate::fleet::Fleet;
+use crate::sent::SentFrames;
+use crate::{NoMemory, WorldFault};
+use fleet_report::Report;
+use mav_sign::Key;
 use plan_items::Plan;
-use plan_upload::{Drone, Station};
+use scenario_lines::{Line, LineFault, read};
 use std::alloc::Global;
 use std::marker::Model;
 
-/// A station's boot time, and how many of its PING numbers were used before.
-const BOOT: u64 = 0;
+#[cfg(test)]
+mod tests;
 
-const PINGS: u32 = 0;
-
+/// The nodes of a scenario, the frames that they sent, and the draft of a plan. Contracts say which scene it is in.
 #[derive(Drop)]
 pub struct World {
     pub(crate) alloc: Global,
-    pub(crate) nodes: Vec<Node>,
-    pub(crate) sent: Vec<Frame>,
+    pub(crate) fleet: Fleet,
+    pub(crate) sent: SentFrames,
     pub(crate) given: usize,
     pub(crate) draft: Plan,
+    frames: bool,
 }
 
 impl Model for World {
-    ghost use Rattle.std.specs.Prelude.{◌≤◌, vec_len};
     ghost use Rattle.plan_items.specs.Plans.{items_of};
-    ghost use Rattle.fleet_world.specs.Scene.{Scene};
+    ghost use Rattle.fleet_world.specs.Seen.{World};
 
-    ghost Value = { Scene };
+    ghost Value = { World };
 
-    ghost view = { λ w. record { nodes = w.nodes.items; sent = w.sent.items; given = w.given; draft = items_of w.draft } };
+    ghost view = { λ w. record { fleet = w.fleet; sent = w.sent; given = w.given; draft = items_of w.draft; frames = w.frames } };
 }
 
 impl World {
-    /// A world with no node and an empty draft.
-    pub fn new(alloc: Global) -> Result<World, NoMemory>
-        ensures { IfOk result (λ world. world ≡ empty_scene) }
+    /// A world with no node and an empty draft, whose nodes all have this key. `frames` says whether reports print frames
+    /// whole.
+    pub fn new(alloc: Global, key: Key, frames: bool) -> Result<World, NoMemory>
+        ensures { IfOk result (λ world. IsScene (empty_scene key) frames world) }
     {
         Ok(World {
             alloc,
-            nodes: Vec::new(alloc),
-            sent: Vec::new(alloc),
+            fleet: Fleet::new(alloc, key),
+            sent: SentFrames::new(alloc),
             given: 0,
             draft: Plan::new(alloc),
+            frames,
         })
     }
 
-    /// One line. After a fault the world is given up.
-    pub fn line(&mut self, line: Line) -> Result<Report, WorldFault>
-        requires { IsPermitted self.old line }
-        ensures ok { IfOk result (λ report. IsStep (after_line self.old line) self.new report) }
-        ensures limit { IfErr result (λ e. IfLimit e (λ b. after_line self.old line ≡ Err b)) }
+    /// What a line says, without its LF and without a CR before it, or the first reason against it.
+    pub fn read(&self, text: &[u8]) -> Result<Line, LineFault>
+        ensures ok { IfOk result (λ line. (reason_against (standing_in self.now) text.now ≡ None) × (line ≡ line_of text.now)) }
+        ensures permitted { IfOk result (IsPermitted (standing_in self.now)) }
+        ensures bad { IfErr result (λ e. IfBad e (λ r. reason_against (standing_in self.now) text.now ≡ Some r)) }
     {
-        let mut report = Report::new(self.alloc);
-        match line {
-            Line::Blank => {}
-            Line::Drone { sys, .. } => {
-                let drone = Drone::new(self.alloc, sys)?;
-                self.nodes.push(Node::Drone(drone))?;
-            }
-            Line::Station { sys, comp } => {
-                let station = Station::new(self.alloc, sys, comp, BOOT, PINGS)?;
-                self.nodes.push(Node::Station(station))?;
-            }
-            Line::Item { item } => self.draft.push(item)?,
-            Line::Items { n, first } => add_items(&mut self.draft, n, first)?,
-            Line::Begin {
-                station,
-                drone,
-                kind,
-            } => self.begin(station, drone, kind, &mut report)?,
-            Line::Flow { k } => self.flow(k, &mut report)?,
-        }
+        let drafted = self.draft.len();
+        read(
+            self.alloc,
+            self.fleet.roster(),
+            drafted,
+            self.fleet.clock(),
+            text,
+        )
+    }
+
+    /// One line, and what it prints. After a fault the world is given up.
+    pub fn line(&mut self, line: Line) -> Result<Report, WorldFault>
+        requires { IsPermitted (standing_in self.old) line }
+        ensures done { IfOk result (λ report. (scene : Scene) → IsScene scene self.old.frames self.old
+            → IsStep (after_line scene line) self.old.frames self.new report) }
+        ensures halt { IfErr result (λ fault. (scene : Scene) → IsScene scene self.old.frames self.old
+            → IsHalt (after_line scene line) fault) }
+    {
+        let mut report = Report::new(self.alloc, self.frames);
+        self.act(line, &mut report)?;
         Ok(report)
     }
 
     /// The closing plans: of each drone in the order in which they were named, and each kind.
     pub fn finish(&self) -> Result<Report, NoMemory>
-        ensures { IfOk result (λ report. report ≡ closing_text self.now.nodes) }
+        ensures { IfOk result (λ report. (scene : Scene) → IsScene scene self.now.frames self.now
+            → report.text ≡ closing_text scene.nodes) }
     {
-        let mut report = Report::new(self.alloc);
-        for node in &self.nodes {
-            report.closing(node)?;
-        }
+        let mut report = Report::new(self.alloc, self.frames);
+        self.fleet.close(&mut report)?;
         Ok(report)
     }
 }

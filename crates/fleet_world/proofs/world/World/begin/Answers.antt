@@ -1,11 +1,16 @@
-use Rattle.std.proofs.Common.{sym, ◌∙◌}
-use Rattle.fleet_world.proofs.Beginnings.{nothing_begun, refused_begun}
+use Rattle.std.proofs.Common.{◌≡◌, List, Some, position, subst}
+use Rattle.fleet_world.specs.Scene.{Node, is_station_named}
+use Rattle.fleet_world.specs.Seen.{IsFleet, World}
+use Rattle.fleet_world.proofs.Ordering.{begin_did, begin_halt}
 use Rattle.fleet_world.proofs.world.World.begin.Goals as goal
 
-pub returns-in-Nothing-clause-ok : goal.returns-in-Nothing-clause-ok
-returns-in-Nothing-clause-ok c =
-    rw (← c.skip_sent.ensures) (nothing_begun _ _ _ _ _ _ _ _ _ (sym c.station_place-place.ensures ∙ c.in-Some.is) c.in-Nothing.ensures c.put_back.ensures)
+pub returns-clause-done : goal.returns-clause-done
+returns-clause-done c =
+    let place = subst (λ (z : World). (nodes : List Node) → IsFleet nodes z.fleet → Some c.in-Some.place ≡ position (is_station_named c.args.station) nodes) c.self.view_is c.in-Some.ensures in
+    begin_did c.args.self.now _ _ _ _ _ _ c.args.kind c.take_draft-plan.result c.skip_sent.ensures place c.take_draft-plan.ensures.items c.take_draft-plan.ensures.after c.stream-drone.ensures
+    _ c.order_at.new.self c.args.report.now c.order_at.new.report c.order_at.ensures.done
 
-pub returns-in_ok-refused-in-Refused-clause-ok : goal.returns-in_ok-refused-in-Refused-clause-ok
-returns-in_ok-refused-in-Refused-clause-ok c =
-    rw (← c.skip_sent.ensures) (refused_begun _ _ _ _ _ _ _ _ _ _ _ _ (sym c.station_place-place.ensures ∙ c.in-Some.is) c.in-Refused.ensures c.put_back-in-Refused.ensures c.in_ok-refused-in-Refused.ensures)
+pub returns-clause-halt : goal.returns-clause-halt
+returns-clause-halt c =
+    let place = subst (λ (z : World). (nodes : List Node) → IsFleet nodes z.fleet → Some c.in-Some.place ≡ position (is_station_named c.args.station) nodes) c.self.view_is c.in-Some.ensures in
+    begin_halt c.args.self.now _ _ _ _ _ _ c.args.kind c.take_draft-plan.result c.skip_sent.ensures place c.take_draft-plan.ensures.items c.take_draft-plan.ensures.after c.stream-drone.ensures _ c.order_at.ensures.halt

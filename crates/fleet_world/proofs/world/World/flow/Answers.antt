@@ -1,7 +1,24 @@
-use Rattle.fleet_world.proofs.Giving.{flow_some}
+use Rattle.std.proofs.Common.{ℕ, Option, subst}
+use Rattle.fleet_world.specs.Flowing.{IsTaken}
+use Rattle.std.proofs.lemmas.Result.{err_from_is_err_and}
+use Rattle.fleet_world.proofs.Leading.{flow_start, flow_more, flow_halt, flow_none, flow_end}
 use Rattle.fleet_world.proofs.world.World.flow.Goals as goal
 
+pub loop-turn-init : goal.loop-turn-init
+loop-turn-init c = flow_start _ _ _ _
+
 pub loop-turn-preserved : goal.loop-turn-preserved
-loop-turn-preserved c =
-    flow_some _ _ _ _ _ _ _ c.in-Some.frame _ _ _ c.loop-turn-test.true c.next_frame.ensures.frame c.in-Some.is c.next_frame.ensures.after
-    c.loop-turn.invariant c.in_ok-give_to_all.ensures.ok
+loop-turn-preserved c = flow_more _ _ _ _ _ _ _ _ _ _ _ c.loop-turn-test.true c.in-Some.ensures c.loop-turn.invariant c.in_ok-give_to_all.ensures.done
+
+pub returns-in_default-clause-done : goal.returns-in_default-clause-done
+returns-in_default-clause-done c = λ scene is.
+    flow_none _ _ _ _ _ _ _ _ c.loop-turn-test.true
+    (subst (λ (o : Option ℕ). IsTaken c.loop-turn.self o c.next_frame.new.self) c.in_default.is c.next_frame.ensures) c.loop-turn.invariant scene is
+
+pub returns-in_err-give_to_all-clause-halt : goal.returns-in_err-give_to_all-clause-halt
+returns-in_err-give_to_all-clause-halt c =
+    let p = err_from_is_err_and c.from_residual.result c.from_residual.ensures.1 in
+    rw (p.1, p.2) (flow_halt _ _ _ _ _ _ _ _ _ _ c.loop-turn-test.true c.in-Some.ensures c.loop-turn.invariant c.in_err-give_to_all.ensures.halt)
+
+pub returns-clause-done : goal.returns-clause-done
+returns-clause-done c = λ scene is. flow_end _ _ _ _ _ _ _ c.loop-turn-test.false c.loop-turn.invariant scene is

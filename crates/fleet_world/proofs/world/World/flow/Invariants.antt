@@ -1,7 +1,5 @@
-use Rattle.std.proofs.Common.{◌-◌}
-use Rattle.fleet_world.specs.Steps.{flows}
-use Rattle.fleet_world.proofs.Leading.{Leads}
+use Rattle.fleet_world.proofs.Leading.{Flowed}
 use Rattle.fleet_world.proofs.world.World.flow.Given as goal
 
 abbrev pub invariant-loop-turn : goal.invariant-loop-turn
-invariant-loop-turn l = Leads (flows l.most l.initial.self) (flows (l.most - l._turn) l.self) l.initial.report l.report
+invariant-loop-turn l = Flowed l.initial.self.frames l.initial.self l._turn l.most l.self l.initial.report l.report

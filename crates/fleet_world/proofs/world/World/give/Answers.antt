@@ -1,10 +1,12 @@
-use Rattle.std.proofs.Common.{◌∙◌}
-use Rattle.fleet_world.proofs.Leading.{limit_in}
-use Rattle.fleet_world.proofs.Giving.{tells_drone}
+use Rattle.fleet_world.proofs.WorldCalls.{give_rests, give_did, give_halt}
 use Rattle.fleet_world.proofs.world.World.give.Goals as goal
 
-pub returns-in-Drone-clause-limit : goal.returns-in-Drone-clause-limit
-returns-in-Drone-clause-limit c =
-    let away = rw c.if-is_sender.false at c.is_sender.ensures in
-    let told = tells_drone _ _ _ _ _ _ _ c.in-Drone.ensures away in
-    limit_in c.tell_drone.result _ _ (λ b h. told.step_is ∙ h) (c.tell_drone.ensures.limit told.plans told.change)
+pub returns-then-is_sender-clause-done : goal.returns-then-is_sender-clause-done
+returns-then-is_sender-clause-done c = λ scene packet is found.
+    give_rests _ c.args.self.now _ c.args.number _ c.args.report.now scene packet _ c.if-is_sender.true (c.is_sender.ensures scene packet is found) is
+
+pub returns-clause-done : goal.returns-clause-done
+returns-clause-done c = give_did _ _ _ _ _ _ _ _ c.if-is_sender.false c.is_sender.ensures c.call_at.ensures.done
+
+pub returns-clause-halt : goal.returns-clause-halt
+returns-clause-halt c = give_halt _ c.args.self.now _ _ c.args.report.now c.args.report.now _ _ c.if-is_sender.false c.is_sender.ensures c.call_at.ensures.halt

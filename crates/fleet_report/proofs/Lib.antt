@@ -1,0 +1,2 @@
+mod ItemLines
+mod WordDigits

@@ -1,0 +1,48 @@
+-- What happens in a scenario, and what the report prints of it.
+use Rattle.std.specs.Prelude.{ℕ, if◌then◌else◌, Bool, List, [], ◌∷◌, ◌++◌, length, codes}
+use Rattle.std.specs.Fmt.{decimal}
+use Rattle.hex.specs.Hex.{encode_lower}
+use Rattle.mav_ports.specs.declared.names.Name.{Name}
+use Rattle.plan_items.specs.declared.items.Item.{Item}
+use Rattle.plan_upload.specs.declared.faults.OpFault.{OpFault}
+use Rattle.plan_upload.specs.Station.{Told}
+use Rattle.mav_frame.specs.Packet.{Packet}
+use Rattle.mav_frame.specs.Encoding.{encoding}
+use Rattle.mav_messages.specs.declared.messages.Message.{Message}
+use Rattle.mav_sign.specs.declared.admission.Admit.{Admit}
+use Rattle.fleet_report.specs.Texts.{space, newline, name_text, kind_text, message_text, items_text, code_of, refusal_text, outcome_text}
+
+pub data Event : Type 0 where
+  Sent : (number : ℕ) (packet : Packet) (message : Message) → Event  -- the number-th frame of the scenario
+  Installed : (drone : Name) (kind : ℕ) (items : List Item) (by : Name) → Event
+  Emptied : (drone : Name) (kind : ℕ) → Event
+  Dropped : (node : Name) (answer : Admit) → Event  -- a frame that the node didn't admit
+  Missing : (number : ℕ) → Event  -- no frame of that number was sent
+  Refused : (station : Name) (why : OpFault) → Event
+  Ended : (station : Name) (told : Told) → Event
+
+-- the whole frame in hexadecimal digits, where frames are printed
+abbrev pub frame_text : Bool → Packet → List ℕ
+frame_text frames packet = if frames then space ++ encode_lower (encoding packet) ++ newline else []
+
+-- whether frames are printed whole comes first
+abbrev pub event_text : Bool → Event → List ℕ
+event_text frames (Sent number packet message) =
+    decimal number ++ space ++ name_text packet.from ++ space ++ message_text message ++ newline ++ frame_text frames packet
+event_text frames (Installed drone kind items by) =
+    codes "install " ++ name_text drone ++ space ++ kind_text kind ++ space ++ decimal (length items)
+    ++ codes " from " ++ name_text by ++ newline
+event_text frames (Emptied drone kind) = codes "clear " ++ name_text drone ++ space ++ kind_text kind ++ newline
+event_text frames (Dropped node answer) = codes "drop " ++ name_text node ++ space ++ decimal (code_of answer) ++ newline
+event_text frames (Missing number) = codes "no frame " ++ decimal number ++ newline
+event_text frames (Refused station why) = codes "refused " ++ name_text station ++ space ++ refusal_text why ++ newline
+event_text frames (Ended station told) = codes "outcome " ++ name_text station ++ space ++ outcome_text told
+
+abbrev pub events_text : Bool → List Event → List ℕ
+events_text frames [] = []
+events_text frames (e ∷ es) = event_text frames e ++ events_text frames es
+
+-- a plan as it stands at the end: its line, and one for each item
+abbrev pub plan_text : Name → ℕ → List Item → List ℕ
+plan_text drone kind items =
+    codes "plan " ++ name_text drone ++ space ++ kind_text kind ++ space ++ decimal (length items) ++ newline ++ items_text 0 items

@@ -1,0 +1,141 @@
+-- How names, kinds, messages, items and causes are printed.
+use Rattle.std.specs.Prelude.{ℕ, ◌+◌, ◌/◌, ◌%◌, ◌==◌, if◌then◌else◌, Bool, List, [], ◌∷◌, ◌++◌, length, codes, Option, Some, None}
+use Rattle.std.specs.List.{list_any}
+use Rattle.std.specs.Fmt.{decimal, signed_decimal}
+use Rattle.hex.specs.Hex.{encode_lower}
+use Rattle.mav_ports.specs.declared.names.Name.{Name}
+use Rattle.plan_items.specs.declared.items.Item.{Item}
+use Rattle.plan_items.specs.declared.messages.PlanMsg.{PlanMsg}
+use Rattle.plan_items.specs.declared.messages.PlanMsg.TheVariants.{Count, Request, Item as Give, Ack, List as Listing, Clear, Ping}
+use Rattle.plan_upload.specs.declared.faults.OpFault.{OpFault}
+use Rattle.plan_upload.specs.declared.faults.OpFault.TheVariants.{Busy, EmptyPlan, PingsSpent, NotFit, NoMemory}
+use Rattle.plan_upload.specs.Plans.{every_kind}
+use Rattle.plan_upload.specs.Station.{Told, Told_installed, Told_not_installed, Told_unknown, Told_cleared, Told_got, Told_ended}
+use Rattle.field_layout.specs.Definition.{Definition, all_fields}
+use Rattle.field_layout.specs.Target.{is_target}
+use Rattle.mav_messages.specs.declared.messages.Message.{Message}
+use Rattle.mav_messages.specs.Messages.{definition_of, values_of}
+use Rattle.mav_messages.specs.Plans.{plan_of}
+use Rattle.mav_messages.specs.Targets.{target_in}
+use Rattle.mav_sign.specs.declared.admission.Admit.{Admit}
+use Rattle.mav_sign.specs.declared.admission.Admit.TheVariants.{Admitted, Unsigned, BadSignature, NotLater, TooOld, TooManyStreams}
+
+abbrev pub space : List ℕ
+space = 32 ∷ []
+
+abbrev pub newline : List ℕ
+newline = 10 ∷ []
+
+abbrev pub name_text : Name → List ℕ
+name_text name = decimal name.sys ++ 46 ∷ decimal name.comp
+
+abbrev pub kind_text : ℕ → List ℕ
+kind_text kind =
+    if kind == 0 then codes "mission"
+    else if kind == 1 then codes "fence"
+    else if kind == 2 then codes "rally"
+    else if kind == every_kind then codes "all"
+    else decimal kind
+
+-- ---- messages
+
+-- a message of the mission protocol by its name and numbers
+abbrev pub said : PlanMsg → List ℕ
+said (Ping to usec seq) = codes "PING " ++ decimal seq
+said (Count to count kind) = codes "COUNT " ++ kind_text kind ++ space ++ decimal count
+said (Request to seq kind) = codes "REQUEST " ++ kind_text kind ++ space ++ decimal seq
+said (Give to seq kind item) = codes "ITEM " ++ kind_text kind ++ space ++ decimal seq
+said (Ack to code kind) = codes "ACK " ++ decimal code ++ space ++ kind_text kind
+said (Listing to kind) = codes "LIST " ++ kind_text kind
+said (Clear to kind) = codes "CLEAR " ++ kind_text kind
+
+abbrev pub addressee : PlanMsg → Name
+addressee (Ping to usec seq) = to
+addressee (Count to count kind) = to
+addressee (Request to seq kind) = to
+addressee (Give to seq kind item) = to
+addressee (Ack to code kind) = to
+addressee (Listing to kind) = to
+addressee (Clear to kind) = to
+
+-- whom it is for
+abbrev pub to_text : Name → List ℕ
+to_text name = codes " to " ++ name_text name
+
+abbrev pub plan_message_text : PlanMsg → List ℕ
+plan_message_text m = said m ++ to_text (addressee m)
+
+-- a message has target fields, base or extension
+abbrev pub has_target : Definition → Bool
+has_target def = list_any (is_target (codes "target_system")) (all_fields def)
+
+-- whom a message is for, where it has target fields
+abbrev pub target_field : Message → Option Name
+target_field m = if has_target (definition_of m) then Some (target_in (definition_of m) (values_of m)) else None
+
+abbrev pub target_text : Option Name → List ℕ
+target_text None = []
+target_text (Some name) = to_text name
+
+-- any other message by its name in the definitions, and whom it is for
+abbrev pub other_message_text : Message → List ℕ
+other_message_text m = (definition_of m).name ++ target_text (target_field m)
+
+abbrev pub carried_text : Message → Option PlanMsg → List ℕ
+carried_text m (Some plan) = plan_message_text plan
+carried_text m None = other_message_text m
+
+abbrev pub message_text : Message → List ℕ
+message_text m = carried_text m (plan_of m)
+
+-- ---- items
+
+-- a word of 32 bits in eight digits
+abbrev pub big_endian : ℕ → List ℕ
+big_endian w = w / 16777216 ∷ w / 65536 % 256 ∷ w / 256 % 256 ∷ w % 256 ∷ []
+
+abbrev pub word_text : ℕ → List ℕ
+word_text w = encode_lower (big_endian w)
+
+abbrev pub words_text : List ℕ → List ℕ
+words_text [] = []
+words_text (w ∷ ws) = word_text w ++ space ++ words_text ws
+
+-- an item's line: SEQ FRAME COMMAND CURRENT AUTOCONTINUE P1 P2 P3 P4 X Y Z
+abbrev pub item_text : ℕ → Item → List ℕ
+item_text seq item =
+    decimal seq ++ space ++ decimal item.frame ++ space ++ decimal item.command ++ space
+    ++ decimal item.current ++ space ++ decimal item.autocontinue ++ space
+    ++ words_text item.p
+    ++ signed_decimal item.x ++ space ++ signed_decimal item.y ++ space ++ word_text item.z ++ newline
+
+-- the lines of items, the first of them with this number
+abbrev pub items_text : ℕ → List Item → List ℕ
+items_text seq [] = []
+items_text seq (item ∷ items) = item_text seq item ++ items_text (seq + 1) items
+
+-- ---- causes and outcomes
+
+-- the code of an answer to a frame (MAVLink guide, Message Signing: Accepting Signed Packets)
+abbrev pub code_of : Admit → ℕ
+code_of Admitted = 0
+code_of Unsigned = 1
+code_of BadSignature = 2
+code_of (NotLater last) = 3
+code_of (TooOld local) = 4
+code_of TooManyStreams = 5
+
+abbrev pub refusal_text : OpFault → List ℕ
+refusal_text (Busy phase) = codes "busy " ++ decimal phase
+refusal_text EmptyPlan = codes "empty"
+refusal_text PingsSpent = codes "pings spent"
+refusal_text (NotFit limit) = codes "not fit " ++ decimal limit
+refusal_text NoMemory = []
+
+abbrev pub outcome_text : Told → List ℕ
+outcome_text Told_installed = codes "installed" ++ newline
+outcome_text (Told_not_installed code) = codes "not installed " ++ decimal code ++ newline
+outcome_text Told_unknown = codes "unknown" ++ newline
+outcome_text Told_cleared = codes "cleared" ++ newline
+outcome_text (Told_got items) = codes "got " ++ decimal (length items) ++ newline ++ items_text 0 items
+outcome_text (Told_ended code) = codes "ended " ++ decimal code ++ newline

@@ -1,0 +1,15 @@
+//! What happens in a scenario, as a text: one method of [`Report`] for each event, and one for a plan at the end.
+//!
+//! A report is a list of bytes that grows. It knows nothing of the world that it tells of, and decides nothing.
+#![tactic(auto)]
+
+mod items;
+mod messages;
+mod report;
+mod texts;
+
+pub use report::Report;
+use std::alloc::AllocError;
+
+/// There was no memory.
+pub type NoMemory = AllocError;

@@ -1,0 +1,125 @@
+// How messages are written.
+ghost use Rattle.std.specs.Prelude.{◌≡◌, Some};
+ghost use Rattle.mav_messages.specs.Messages.{definition_of};
+ghost use Rattle.fleet_report.specs.Texts.{said, addressee, target_field, target_text, message_text};
+
+use crate::texts::{KindText, NameText};
+use mav_messages::Message;
+use mav_ports::Name;
+use plan_items::PlanMsg;
+use std::fmt;
+
+/// A message of the mission protocol by its name and numbers.
+#[derive(Drop)]
+struct SaidText(PlanMsg);
+
+impl fmt::Display for SaidText {
+    ghost output = { λ text. Some (said text.0) };
+
+    fn fmt<W: fmt::Write>(&self, f: &mut fmt::Formatter<W>) -> fmt::Result {
+        match self.0 {
+            PlanMsg::Ping { seq, .. } => write!(f, "PING {seq}"),
+            PlanMsg::Count { count, kind, .. } => write!(f, "COUNT {} {count}", KindText(kind)),
+            PlanMsg::Request { seq, kind, .. } => write!(f, "REQUEST {} {seq}", KindText(kind)),
+            PlanMsg::Item { seq, kind, .. } => write!(f, "ITEM {} {seq}", KindText(kind)),
+            PlanMsg::Ack { code, kind, .. } => write!(f, "ACK {code} {}", KindText(kind)),
+            PlanMsg::List { kind, .. } => write!(f, "LIST {}", KindText(kind)),
+            PlanMsg::Clear { kind, .. } => write!(f, "CLEAR {}", KindText(kind)),
+        }
+    }
+}
+
+// Whom a message of the mission protocol is for.
+fn addressee_of(message: &PlanMsg) -> Name
+    ensures { result ≡ addressee message.now }
+{
+    match *message {
+        PlanMsg::Ping { to, .. }
+        | PlanMsg::Count { to, .. }
+        | PlanMsg::Request { to, .. }
+        | PlanMsg::Item { to, .. }
+        | PlanMsg::Ack { to, .. }
+        | PlanMsg::List { to, .. }
+        | PlanMsg::Clear { to, .. } => to,
+    }
+}
+
+// The name of a message in the definitions.
+fn name_of(message: &Message) -> &'static str
+    ensures { result.now ≡ (definition_of message.now).name }
+{
+    match message {
+        Message::Heartbeat(_) => "HEARTBEAT",
+        Message::Ping(_) => "PING",
+        Message::ParamRequestRead(_) => "PARAM_REQUEST_READ",
+        Message::ParamRequestList(_) => "PARAM_REQUEST_LIST",
+        Message::ParamValue(_) => "PARAM_VALUE",
+        Message::ParamSet(_) => "PARAM_SET",
+        Message::GlobalPositionInt(_) => "GLOBAL_POSITION_INT",
+        Message::MissionCurrent(_) => "MISSION_CURRENT",
+        Message::MissionRequestList(_) => "MISSION_REQUEST_LIST",
+        Message::MissionCount(_) => "MISSION_COUNT",
+        Message::MissionClearAll(_) => "MISSION_CLEAR_ALL",
+        Message::MissionItemReached(_) => "MISSION_ITEM_REACHED",
+        Message::MissionAck(_) => "MISSION_ACK",
+        Message::MissionRequestInt(_) => "MISSION_REQUEST_INT",
+        Message::MissionItemInt(_) => "MISSION_ITEM_INT",
+        Message::CommandLong(_) => "COMMAND_LONG",
+        Message::CommandAck(_) => "COMMAND_ACK",
+        Message::FileTransferProtocol(_) => "FILE_TRANSFER_PROTOCOL",
+        Message::Statustext(_) => "STATUSTEXT",
+    }
+}
+
+// Whom a message is for, where it has target fields.
+fn target_of(message: &Message) -> Option<Name>
+    ensures { result ≡ target_field message.now }
+{
+    let (sys, comp) = match message {
+        Message::Ping(m) => (m.target_system, m.target_component),
+        Message::ParamRequestRead(m) => (m.target_system, m.target_component),
+        Message::ParamRequestList(m) => (m.target_system, m.target_component),
+        Message::ParamSet(m) => (m.target_system, m.target_component),
+        Message::MissionRequestList(m) => (m.target_system, m.target_component),
+        Message::MissionCount(m) => (m.target_system, m.target_component),
+        Message::MissionClearAll(m) => (m.target_system, m.target_component),
+        Message::MissionAck(m) => (m.target_system, m.target_component),
+        Message::MissionRequestInt(m) => (m.target_system, m.target_component),
+        Message::MissionItemInt(m) => (m.target_system, m.target_component),
+        Message::CommandLong(m) => (m.target_system, m.target_component),
+        Message::CommandAck(m) => (m.target_system, m.target_component),
+        Message::FileTransferProtocol(m) => (m.target_system, m.target_component),
+        _ => return None,
+    };
+    Some(Name { sys, comp })
+}
+
+// Whom a message is for, behind its name.
+#[derive(Drop)]
+struct ToText(Option<Name>);
+
+impl fmt::Display for ToText {
+    ghost output = { λ text. Some (target_text text.0) };
+
+    fn fmt<W: fmt::Write>(&self, f: &mut fmt::Formatter<W>) -> fmt::Result {
+        match self.0 {
+            Some(name) => write!(f, " to {}", NameText(name)),
+            None => Ok(()),
+        }
+    }
+}
+
+/// What a frame carries: a message of the mission protocol by its numbers, any other by its name.
+#[derive(Drop)]
+pub(crate) struct MessageText(pub(crate) Message);
+
+impl fmt::Display for MessageText {
+    ghost output = { λ text. Some (message_text text.0) };
+
+    fn fmt<W: fmt::Write>(&self, f: &mut fmt::Formatter<W>) -> fmt::Result {
+        match self.0.to_plan() {
+            Some(plan) => write!(f, "{} to {}", SaidText(plan), NameText(addressee_of(&plan))),
+            None => write!(f, "{}{}", name_of(&self.0), ToText(target_of(&self.0))),
+        }
+    }
+}

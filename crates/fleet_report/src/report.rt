@@ -1,0 +1,166 @@
+// The text of what happens.
+ghost use Rattle.std.specs.Prelude.{◌≡◌, List, [], length, string_bytes, OnOk, IfOk};
+ghost use Rattle.plan_items.specs.declared.items.Item.{Item};
+ghost use Rattle.plan_items.specs.Kinds.{number_of};
+ghost use Rattle.plan_items.specs.Plans.{items_of};
+ghost use Rattle.plan_upload.specs.Outcomes.{told_of};
+ghost use Rattle.mav_frame.specs.Encoding.{encoding};
+ghost use Rattle.hex.specs.Hex.{encode_lower};
+ghost use Rattle.fleet_report.specs.Events.{Sent, Installed, Emptied, Dropped, Missing, Refused, Ended, plan_text, frame_text};
+ghost use Rattle.fleet_report.specs.Reports.{told, with_text};
+
+use crate::NoMemory;
+use crate::items::put_items;
+use crate::messages::MessageText;
+use crate::texts::{KindText, NameText, RefusalText, code};
+use mav_frame::{Frame, encode};
+use mav_messages::Message;
+use mav_ports::Name;
+use mav_sign::Admit;
+use plan_items::{Plan, PlanKind};
+use plan_upload::{OpFault, Outcome};
+use std::alloc::Global;
+use std::marker::Model;
+
+#[cfg(test)]
+mod tests;
+
+/// The text that a line, or the end of a scenario, adds to the report. Contracts see its bytes, and whether frames are
+/// printed whole.
+///
+/// Each call adds the text of one event. After an `Err` part of it may stand there, and the report is given up.
+#[derive(Drop)]
+pub struct Report {
+    alloc: Global,
+    frames: bool,
+    text: String,
+}
+
+impl Model for Report {
+    ghost use Rattle.std.specs.Prelude.{string_bytes};
+    ghost use Rattle.fleet_report.specs.Reports.{ReportState};
+
+    ghost Value = { ReportState };
+
+    ghost view = { λ r. record { frames = r.frames; text = string_bytes r.text } };
+}
+
+// The bytes of a frame in hexadecimal digits.
+fn frame_digits(alloc: Global, frame: &Frame) -> Result<String, NoMemory>
+    ensures { IfOk result (λ digits. string_bytes digits ≡ encode_lower (encoding frame.now)) }
+{
+    let mut bytes = [0; 280];
+    let size = encode(frame, &mut bytes);
+    hex::encode(alloc, &bytes[..size])
+}
+
+impl Report {
+    /// An empty report. `frames` says whether frames are printed whole.
+    pub fn new(alloc: Global, frames: bool) -> Report
+        ensures { result ≡ record { frames = frames; text = [] } }
+    {
+        Report {
+            alloc,
+            frames,
+            text: String::new(alloc),
+        }
+    }
+
+    pub fn bytes(&self) -> &[u8]
+        ensures { result.now ≡ self.now.text }
+    {
+        self.text.as_bytes()
+    }
+
+    // The frame in whole, where frames are printed.
+    fn frame(&mut self, frame: &Frame) -> Result<(), NoMemory>
+        ensures { OnOk result (self.new ≡ with_text self.old (frame_text self.old.frames frame.now)) }
+    {
+        if !self.frames {
+            return Ok(());
+        }
+        let digits = frame_digits(self.alloc, frame)?;
+        writeln!(self.text, " {digits}")
+    }
+
+    /// A frame was sent, the `number`-th of the scenario, which carries the message.
+    pub fn sent(&mut self, number: usize, frame: &Frame, message: &Message) -> Result<(), NoMemory>
+        ensures { OnOk result (self.new ≡ told self.old (Sent number frame.now message.now)) }
+    {
+        let (from, text) = (NameText(frame.from), MessageText(*message));
+        writeln!(self.text, "{number} {from} {text}")?;
+        self.frame(frame)
+    }
+
+    /// A drone installed a plan of `count` items that the node `by` sent.
+    pub fn installed(
+        &mut self,
+        drone: Name,
+        kind: PlanKind,
+        count: usize,
+        by: Name,
+    ) -> Result<(), NoMemory>
+        ensures { OnOk result ((items : List Item) → length items ≡ count
+            → self.new ≡ told self.old (Installed drone (number_of kind) items by)) }
+    {
+        let (drone, kind, by) = (NameText(drone), KindText(kind.number()), NameText(by));
+        writeln!(self.text, "install {drone} {kind} {count} from {by}")
+    }
+
+    /// A drone's plan became empty.
+    pub fn emptied(&mut self, drone: Name, kind: PlanKind) -> Result<(), NoMemory>
+        ensures { OnOk result (self.new ≡ told self.old (Emptied drone (number_of kind))) }
+    {
+        let (drone, kind) = (NameText(drone), KindText(kind.number()));
+        writeln!(self.text, "clear {drone} {kind}")
+    }
+
+    /// A node didn't admit a frame.
+    pub fn dropped(&mut self, node: Name, answer: Admit) -> Result<(), NoMemory>
+        ensures { OnOk result (self.new ≡ told self.old (Dropped node answer)) }
+    {
+        writeln!(self.text, "drop {} {}", NameText(node), code(answer))
+    }
+
+    /// No frame of that number was sent.
+    pub fn missing(&mut self, number: u64) -> Result<(), NoMemory>
+        ensures { OnOk result (self.new ≡ told self.old (Missing number)) }
+    {
+        writeln!(self.text, "no frame {number}")
+    }
+
+    /// A station refused a new operation.
+    pub fn refused(&mut self, station: Name, why: OpFault) -> Result<(), NoMemory>
+        ensures { OnOk result (self.new ≡ told self.old (Refused station why)) }
+    {
+        let (station, why) = (NameText(station), RefusalText(why));
+        writeln!(self.text, "refused {station} {why}")
+    }
+
+    /// A station's operation ended.
+    pub fn ended(&mut self, station: Name, outcome: &Outcome) -> Result<(), NoMemory>
+        ensures { OnOk result (self.new ≡ told self.old (Ended station (told_of outcome.now))) }
+    {
+        write!(self.text, "outcome {} ", NameText(station))?;
+        match outcome {
+            Outcome::Installed => writeln!(self.text, "installed"),
+            Outcome::NotInstalled(code) => writeln!(self.text, "not installed {code}"),
+            Outcome::Unknown => writeln!(self.text, "unknown"),
+            Outcome::Cleared => writeln!(self.text, "cleared"),
+            Outcome::Got(plan) => {
+                writeln!(self.text, "got {}", plan.len())?;
+                put_items(&mut self.text, plan)
+            }
+            Outcome::Ended(code) => writeln!(self.text, "ended {code}"),
+        }
+    }
+
+    /// A plan of a drone as it stands at the end of a scenario.
+    pub fn plan(&mut self, drone: Name, kind: PlanKind, plan: &Plan) -> Result<(), NoMemory>
+        ensures { OnOk result (self.new ≡ with_text self.old (plan_text drone (number_of kind) (items_of plan.now))) }
+    {
+        let (drone, kind) = (NameText(drone), KindText(kind.number()));
+        writeln!(self.text, "plan {drone} {kind} {}", plan.len())?;
+        put_items(&mut self.text, plan)
+    }
+}

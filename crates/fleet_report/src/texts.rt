@@ -1,0 +1,71 @@
+// How names, kinds and causes are written.
+ghost use Rattle.std.specs.Prelude.{◌≡◌, Some};
+ghost use Rattle.fleet_report.specs.Texts.{name_text, kind_text, refusal_text, code_of};
+
+use mav_ports::Name;
+use mav_sign::Admit;
+use plan_items::PlanKind;
+use plan_upload::OpFault;
+use std::fmt;
+
+/// A node, as `1.190`.
+#[derive(Drop)]
+pub(crate) struct NameText(pub(crate) Name);
+
+impl fmt::Display for NameText {
+    ghost output = { λ text. Some (name_text text.0) };
+
+    fn fmt<W: fmt::Write>(&self, f: &mut fmt::Formatter<W>) -> fmt::Result {
+        write!(f, "{}.{}", self.0.sys, self.0.comp)
+    }
+}
+
+/// The number of a kind, by its word where it has one.
+#[derive(Drop)]
+pub(crate) struct KindText(pub(crate) u8);
+
+impl fmt::Display for KindText {
+    ghost output = { λ text. Some (kind_text text.0) };
+
+    fn fmt<W: fmt::Write>(&self, f: &mut fmt::Formatter<W>) -> fmt::Result {
+        match PlanKind::of(self.0) {
+            Some(PlanKind::Mission) => write!(f, "mission"),
+            Some(PlanKind::Fence) => write!(f, "fence"),
+            Some(PlanKind::Rally) => write!(f, "rally"),
+            None if self.0 == PlanKind::ALL => write!(f, "all"),
+            None => write!(f, "{}", self.0),
+        }
+    }
+}
+
+/// Why a station refuses an operation.
+#[derive(Drop)]
+pub(crate) struct RefusalText(pub(crate) OpFault);
+
+impl fmt::Display for RefusalText {
+    ghost output = { λ text. Some (refusal_text text.0) };
+
+    fn fmt<W: fmt::Write>(&self, f: &mut fmt::Formatter<W>) -> fmt::Result {
+        match self.0 {
+            OpFault::Busy { phase } => write!(f, "busy {phase}"),
+            OpFault::EmptyPlan => write!(f, "empty"),
+            OpFault::PingsSpent => write!(f, "pings spent"),
+            OpFault::NotFit { limit } => write!(f, "not fit {limit}"),
+            OpFault::NoMemory => Ok(()),
+        }
+    }
+}
+
+/// The code of an answer to a frame.
+pub(crate) fn code(answer: Admit) -> u8
+    ensures { result ≡ code_of answer }
+{
+    match answer {
+        Admit::Admitted => 0,
+        Admit::Unsigned => 1,
+        Admit::BadSignature => 2,
+        Admit::NotLater { .. } => 3,
+        Admit::TooOld { .. } => 4,
+        Admit::TooManyStreams => 5,
+    }
+}

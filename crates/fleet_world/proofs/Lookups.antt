@@ -1,0 +1,90 @@
+-- Look-ups by names, and counts.
+use Rattle.std.proofs.Common.{◌≡◌, ℕ, suc, ◌+◌, ◌-◌, Bool, true, false, not, cond, nat_lt, List, [], ◌∷◌, length, map, position, Option, Some, None, refl, sym, ap, ◌∙◌, arith}
+use Rattle.std.proofs.lemmas.List.{length-map}
+use Rattle.std.specs.List.{position_or_len}
+use Rattle.std.proofs.Common.{◌<◌, ◌≤◌, drop, get_or, drop-cons, add-one}
+use Rattle.mav_ports.specs.declared.names.Name.{Name}
+use Rattle.scenario_lines.specs.declared.roster.Role.TheVariants.{Station as StationRole}
+use Rattle.scenario_lines.specs.Standing.{is_called, is_in_role}
+use Rattle.fleet_world.specs.declared.nodes.Node.{Node as SeenNode}
+use Rattle.fleet_world.specs.declared.nodes.Node.TheVariants.{Drone as SeenDrone, Station as SeenStation}
+use Rattle.fleet_world.specs.Counts.{is_seen_drone, counted}
+use Rattle.fleet_world.specs.Scene.{Node, Drone, Station, named, names_of, is_named, is_station_named, drones_in, stations_in}
+use Rattle.fleet_world.specs.Seen.{AreNodes, Fleet, IsFleet}
+
+-- a search goes by the tests of the elements
+module _ {A B : Type 0} (p : A → Bool) (q : B → Bool) (f : A → B) (same : (x : A) → q (f x) ≡ p x) where
+  place_by : (xs : List A) → position_or_len q (map f xs) ≡ position_or_len p xs
+  place_by [] = refl
+  place_by (x ∷ xs) = ap (λ (b : Bool). cond (not b) (1 + position_or_len q (map f xs)) 0) (same x) ∙ ap (λ (n : ℕ). cond (not (p x)) (1 + n) 0) (place_by xs)
+
+  position_by : (xs : List A) → position q (map f xs) ≡ position p xs
+  position_by xs =
+      ap (λ (n : ℕ). cond (nat_lt n (length (map f xs))) (Some n) None) (place_by xs)
+      ∙ ap (λ (n : ℕ). cond (nat_lt (position_or_len p xs) n) (Some (position_or_len p xs)) None) (length-map xs f)
+
+called_named : (name : Name) (node : Node) → is_called name (named node) ≡ is_named name node
+called_named name (Drone n) = refl
+called_named name (Station n) = refl
+
+station_named : (name : Name) (node : Node) → is_in_role StationRole name (named node) ≡ is_station_named name node
+station_named name (Drone n) = refl
+station_named name (Station n) = refl
+
+pub place_named : (name : Name) (nodes : List Node) (fleet inside : Fleet) (found : Option ℕ) → inside ≡ fleet → IsFleet nodes fleet → found ≡ position (is_called name) inside.roster → found ≡ position (is_named name) nodes
+place_named name nodes fleet inside found same f is =
+    is ∙ ap (λ (z : Fleet). position (is_called name) z.roster) same ∙ ap (position (is_called name)) f.names
+    ∙ position_by (is_named name) (is_called name) named (called_named name) nodes
+
+pub place_of_station : (name : Name) (nodes : List Node) (fleet inside : Fleet) (found : Option ℕ) → inside ≡ fleet → IsFleet nodes fleet → found ≡ position (is_in_role StationRole name) inside.roster → found ≡ position (is_station_named name) nodes
+place_of_station name nodes fleet inside found same f is =
+    is ∙ ap (λ (z : Fleet). position (is_in_role StationRole name) z.roster) same ∙ ap (position (is_in_role StationRole name)) f.names
+    ∙ position_by (is_station_named name) (is_in_role StationRole name) named (station_named name) nodes
+
+-- ---- counts
+
+none_more : (n : ℕ) → 0 + n ≡ n
+none_more n = omega arith
+
+-- one element more was counted
+pub counted_one : {A : Type 0} (p : A → Bool) (xs : List A) (i : ℕ) (x : A) (count total : ℕ) → i < length xs → x ≡ get_or xs i x → count + counted p (drop i xs) ≡ total → (count + cond (p x) 1 0) + counted p (drop (i + 1) xs) ≡ total
+counted_one p xs i x count total within is before =
+    let next : drop i xs ≡ x ∷ drop (i + 1) xs = drop-cons xs i x within ∙ ap (λ (y : _). y ∷ drop (suc i) xs) (sym is) ∙ ap (λ (n : ℕ). x ∷ drop n xs) (sym (add-one i)) in
+    let split : counted p (drop i xs) ≡ cond (p x) 1 0 + counted p (drop (i + 1) xs) = ap (counted p) next in
+    omega (arith, split, before)
+
+one_bit : (b : Bool) → cond b 1 0 ≤ 1
+one_bit true = omega arith
+one_bit false = omega arith
+
+-- the same of a count in a loop
+pub counted_more : {A : Type 0} (p : A → Bool) (xs : List A) (i : ℕ) (x : A) (count total add : ℕ) → i < length xs → x ≡ get_or xs i x → add ≡ cond (p x) 1 0 → count + counted p (drop i xs) ≡ total → (count + add) + counted p (drop (i + 1) xs) ≡ total
+counted_more p xs i x count total add within is one before =
+    ap (λ (n : ℕ). (count + n) + counted p (drop (i + 1) xs)) one ∙ counted_one p xs i x count total within is before
+
+pub count_few : (i count add : ℕ) (test : Bool) → add ≡ cond test 1 0 → count ≤ i → count + add ≤ i + 1
+count_few i count add test one few = let bit = one_bit test in omega (arith, bit, one, few)
+
+pub drones_counted : (nodes : List Node) (seen : List SeenNode) → AreNodes nodes seen → counted is_seen_drone seen ≡ drones_in nodes
+drones_counted [] [] are = refl
+drones_counted [] (v ∷ vs) are = absurd are
+drones_counted (n ∷ ns) [] are = absurd are
+drones_counted (Drone n ∷ ns) (SeenDrone v ∷ vs) are = ap (λ (n : ℕ). 1 + n) (drones_counted ns vs are.1)
+drones_counted (Drone n ∷ ns) (SeenStation v ∷ vs) are = absurd are.0
+drones_counted (Station n ∷ ns) (SeenDrone v ∷ vs) are = absurd are.0
+drones_counted (Station n ∷ ns) (SeenStation v ∷ vs) are = none_more _ ∙ drones_counted ns vs are.1
+
+all_counted : (nodes : List Node) → length (names_of nodes) ≡ drones_in nodes + stations_in nodes
+all_counted [] = refl
+all_counted (Drone n ∷ ns) = let more : length (names_of ns) ≡ drones_in ns + stations_in ns = all_counted ns in omega arith
+all_counted (Station n ∷ ns) = let more : length (names_of ns) ≡ drones_in ns + stations_in ns = all_counted ns in omega arith
+
+pub drones_are : (nodes : List Node) (fleet inside : Fleet) (seen : List SeenNode) (drones : ℕ) → inside ≡ fleet → IsFleet nodes fleet → seen ≡ inside.nodes → drones ≡ counted is_seen_drone seen → drones ≡ drones_in nodes
+drones_are nodes fleet inside seen drones same f is found =
+    found ∙ ap (λ (l : List SeenNode). counted is_seen_drone l) (is ∙ ap (λ (z : Fleet). z.nodes) same)
+    ∙ drones_counted nodes fleet.nodes f.are
+
+pub stations_are : (nodes : List Node) (fleet inside : Fleet) (total drones : ℕ) → inside ≡ fleet → IsFleet nodes fleet → total ≡ length inside.roster → drones ≡ drones_in nodes → total - drones ≡ stations_in nodes
+stations_are nodes fleet inside total drones same f whole found =
+    let all : total ≡ drones_in nodes + stations_in nodes = whole ∙ ap (λ (z : Fleet). length z.roster) same ∙ ap length f.names ∙ all_counted nodes in
+    omega arith

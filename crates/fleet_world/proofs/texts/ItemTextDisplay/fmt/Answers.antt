@@ -1,5 +1,0 @@
-use Rattle.std.proofs.Common.{append_assoc}
-use Rattle.fleet_world.proofs.texts.ItemTextDisplay.fmt.Goals as goal
-
-pub returns-clause-writes : goal.returns-clause-writes
-returns-clause-writes g c = simp append_assoc (simp append_assoc at c.writeln.ensures.writes)

@@ -1,0 +1,83 @@
+-- Scenarios whose foreign bytes bring nothing that a node hadn't signed: each frame in a `noise` line that verifies under
+-- the key had been sent before that line, with the same bytes. That is what signatures are trusted for.
+use Rattle.std.specs.Prelude.{ℕ, ◌≡◌, ◌+◌, ◌⊎◌, nat_lt, Bool, true, false, if◌then◌else◌, List, [], ◌∷◌, length, slice_get, Option, Some, None}
+use Rattle.dialect.specs.Messages.{extras_of}
+use Rattle.dialect.specs.Profile.{profile_definitions}
+use Rattle.mav_frame.specs.Packet.{Packet}
+use Rattle.mav_frame.specs.Encoding.{encoding}
+use Rattle.mav_frame.specs.FinalParse.{final_parse}
+use Rattle.mav_sign.specs.Signing.{Verifies}
+use Rattle.mav_sign.specs.Endpoints.{frames_of}
+use Rattle.scenario_lines.specs.declared.faults.Reason.{Reason}
+use Rattle.scenario_lines.specs.declared.lines.Line.{Line}
+use Rattle.scenario_lines.specs.declared.lines.Line.TheVariants.{Blank, Drone, Station, Item as OneItem, Items, Empty, Begin, Cancel, Clear, Get, Heartbeat, Deliver, Flow, Noise, Tick, Clock}
+use Rattle.scenario_lines.specs.Grammar.{line_of, most_line_bytes}
+use Rattle.scenario_lines.specs.Reasons.{reason_against}
+use Rattle.fleet_world.specs.Scene.{Scene, standing_of}
+use Rattle.fleet_world.specs.Scenario.{Stop, Played, at_start, line_played, lines_played, most_lines, whole_lines, unfinished, without_cr}
+
+-- one of these frames has the same bytes
+abbrev pub WasSent : List Packet → Packet → Type 0
+WasSent [] p = ⊥
+WasSent (q ∷ qs) p = (encoding q ≡ encoding p) ⊎ WasSent qs p
+
+-- each frame of the bytes that verifies was sent before
+abbrev pub AuthenticBytes : Scene → List ℕ → Type 0
+AuthenticBytes s bytes =
+    (place : ℕ) (p : Packet) → slice_get (frames_of (final_parse (extras_of profile_definitions) bytes)) place ≡ Some p
+    → Verifies s.key p p.block → WasSent s.sent p
+
+abbrev pub AuthenticLine : Scene → Line → Type 0
+AuthenticLine s (Noise node bytes) = AuthenticBytes s bytes
+AuthenticLine s Blank = Unit {0}
+AuthenticLine s (Drone sys x y) = Unit {0}
+AuthenticLine s (Station sys comp) = Unit {0}
+AuthenticLine s (OneItem item) = Unit {0}
+AuthenticLine s (Items n first) = Unit {0}
+AuthenticLine s Empty = Unit {0}
+AuthenticLine s (Begin station drone kind) = Unit {0}
+AuthenticLine s (Cancel station) = Unit {0}
+AuthenticLine s (Clear station drone kind) = Unit {0}
+AuthenticLine s (Get station drone kind) = Unit {0}
+AuthenticLine s (Heartbeat node) = Unit {0}
+AuthenticLine s (Deliver number node) = Unit {0}
+AuthenticLine s (Flow k) = Unit {0}
+AuthenticLine s (Tick node) = Unit {0}
+AuthenticLine s (Clock n) = Unit {0}
+
+-- what a text says, where there is no reason against it
+abbrev pub line_read : List ℕ → Option Reason → Option Line
+line_read text None = Some (line_of text)
+line_read text (Some reason) = None
+
+-- the line that is done at line `number`, if any: its bytes with the CR, and what they say
+abbrev pub line_done : Scene → ℕ → List ℕ → List ℕ → Option Line
+line_done s number raw text =
+    if nat_lt most_lines number then None
+    else if nat_lt most_line_bytes (length raw) then None
+    else line_read text (reason_against (standing_of s) text)
+
+abbrev pub AuthenticDone : Scene → Option Line → Type 0
+AuthenticDone s None = Unit {0}
+AuthenticDone s (Some line) = AuthenticLine s line
+
+abbrev pub UnlessStopped : Option Stop → Type 0 → Type 0
+UnlessStopped None T = T
+UnlessStopped (Some stop) T = Unit {0}
+
+-- each line that is done, from line `number` on
+abbrev pub AuthenticLines : Played → ℕ → List (List ℕ) → Type 0
+AuthenticLines p number [] = Unit {0}
+AuthenticLines p number (raw ∷ more) =
+    UnlessStopped p.stop (AuthenticDone p.scene (line_done p.scene number raw (without_cr raw)) × AuthenticLines (line_played p number raw) (number + 1) more)
+
+-- a last line without LF
+abbrev pub AuthenticLast : Bool → Played → ℕ → List ℕ → Type 0
+AuthenticLast false p number rest = Unit {0}
+AuthenticLast true p number [] = Unit {0}
+AuthenticLast true p number (b ∷ bs) = UnlessStopped p.stop (AuthenticDone p.scene (line_done p.scene number (b ∷ bs) (b ∷ bs)))
+
+-- the whole scenario, played under a key
+pub record Authentic (key : List ℕ) (ended : Bool) (bytes : List ℕ) : Type 0 where
+  pub lines : AuthenticLines (at_start key) 1 (whole_lines bytes)
+  pub last : AuthenticLast ended (lines_played (at_start key) 1 (whole_lines bytes)) (length (whole_lines bytes) + 1) (unfinished bytes)

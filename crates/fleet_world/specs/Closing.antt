@@ -1,0 +1,8 @@
+-- What the end of a scenario tells of the node at a place.
+use Rattle.std.specs.Prelude.{ℕ, List, [], Option, Some, None}
+use Rattle.fleet_world.specs.Scene.{Node}
+use Rattle.fleet_world.specs.Steps.{closing_of}
+
+abbrev pub closing_at : Option Node → List ℕ
+closing_at None = []
+closing_at (Some node) = closing_of node

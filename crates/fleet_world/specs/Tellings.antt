@@ -1,0 +1,54 @@
+-- What the world does with what a node did, and what a node is asked.
+use Rattle.std.specs.Prelude.{ℕ, ◌+◌, nat_le, if◌then◌else◌, List, [], ◌∷◌, ◌++◌, length, slice_get, Option, Some, None, Ok, Err}
+use Rattle.std.specs.declared.result.Result.{Result}
+use Rattle.mav_ports.specs.declared.names.Name.{Name}
+use Rattle.mav_nodes.specs.News.{NodeEvent}
+use Rattle.mav_nodes.specs.Links.{Outcome}
+use Rattle.mav_nodes.specs.Steps.{Side}
+use Rattle.mav_nodes.specs.Nodes.{station_obeys, order_refusal, order_plan}
+use Rattle.mav_nodes.specs.declared.orders.Order.{Order}
+use Rattle.plan_items.specs.declared.plans.Plan.{Plan}
+use Rattle.plan_items.specs.Plans.{items_of}
+use Rattle.plan_upload.specs.declared.faults.OpFault.{OpFault}
+use Rattle.plan_upload.specs.Station.{StationState}
+use Rattle.fleet_report.specs.Events.{Event, Refused, events_text}
+use Rattle.fleet_report.specs.Reports.{ReportState, with_text}
+use Rattle.fleet_world.specs.declared.faults.Bound.TheVariants.{Frames}
+use Rattle.fleet_world.specs.declared.calls.Call.{Call}
+use Rattle.fleet_world.specs.declared.calls.Call.TheVariants.{Take, Noise, Heartbeat, Tick}
+use Rattle.fleet_world.specs.Scene.{Scene, Node}
+use Rattle.fleet_world.specs.Seen.{World, bytes_of}
+use Rattle.fleet_world.specs.Steps.{Step, Halt, At_limit, most_frames, packets_in, told_by, as_station, node_does, node_receives, node_beats, node_ticks}
+
+-- a report with the text of these events more
+abbrev pub reports : ReportState → List Event → ReportState
+reports report events = with_text report (events_text report.frames events)
+
+-- a node of this name has done this: its frames are the next of the scenario
+abbrev pub tells : Scene → Name → List NodeEvent → Result Step Halt
+tells s name events =
+    if nat_le (length s.sent + length (packets_in events)) most_frames then Ok (record {
+      scene = record s { sent = s.sent ++ packets_in events };
+      events = told_by name (length s.sent) events;
+    })
+    else Err (At_limit Frames)
+
+-- what a node does at a call
+abbrev pub called : World → Call → Node → Outcome Node
+called w (Take number) node = node_receives w.fleet.clock (bytes_of (slice_get w.sent number)) node
+called w (Noise bytes) node = node_receives w.fleet.clock bytes node
+called w Heartbeat node = node_beats w.fleet.clock node
+called w Tick node = node_ticks w.fleet.clock node
+
+-- the draft where the plan of a refused order is handed back
+abbrev pub handed_back : Scene → Option Plan → Scene
+handed_back s None = s
+handed_back s (Some plan) = record s { draft = items_of plan }
+
+-- an order that a station refuses, or follows
+abbrev pub obeys_or : Scene → ℕ → Name → Side StationState → Order → Option OpFault → Result Step Halt
+obeys_or s k name node order (Some why) = Ok (record { scene = handed_back s (order_plan order); events = Refused name why ∷ [] })
+obeys_or s k name node order None = node_does s k name (as_station (station_obeys s.clock order node))
+
+abbrev pub obeys : Scene → ℕ → Name → Side StationState → Order → Result Step Halt
+obeys s k name node order = obeys_or s k name node order (order_refusal node.core order)

@@ -1,0 +1,119 @@
+// Calls of nodes, and what is told of them.
+ghost use Rattle.std.specs.Prelude.{◌≡◌, ◌-◌, ◌+◌, nat_le, List, [], map, length, option_map, slice_get, OnOk, IfOk, IfErr};
+ghost use Rattle.mav_nodes.specs.News.{NodeEvent, shown, events_of};
+ghost use Rattle.fleet_world.specs.Scene.{Scene, Node as SceneNode};
+ghost use Rattle.fleet_world.specs.Seen.{IsFleet, IsScene};
+ghost use Rattle.fleet_world.specs.Steps.{most_frames, calls, calls_at, delivers};
+ghost use Rattle.fleet_world.specs.Tellings.{called, tells};
+ghost use Rattle.fleet_world.specs.Promises.{FleetDid, IsSpent, WorldDid, IsHalt};
+
+use crate::calls::Call;
+use crate::telling::{frames_in, tell_all};
+use crate::{Bound, World, WorldFault};
+use fleet_report::Report;
+use mav_nodes::{News, NodeFault};
+use mav_ports::Name;
+
+const MOST_FRAMES: usize = 100_000;
+
+// Behind so many frames there is room for more of them.
+fn has_room(sent: usize, frames: usize) -> bool
+    ensures { result ≡ nat_le (sent + frames) most_frames }
+{
+    sent <= MOST_FRAMES && frames <= MOST_FRAMES - sent
+}
+
+impl World {
+    // A node of this name has told this: its frames are the next of the scenario.
+    pub(crate) fn tell(
+        &mut self,
+        name: Name,
+        news: &[News],
+        report: &mut Report,
+    ) -> Result<(), WorldFault>
+        ensures done { OnOk result ((scene : Scene) → (events : List NodeEvent) → IsScene scene self.old.frames self.old
+            → events_of news.now ≡ map shown events
+            → WorldDid (tells scene name events) self.old.frames self.new report.old report.new) }
+        ensures halt { IfErr result (λ fault. (scene : Scene) → (events : List NodeEvent) → IsScene scene self.old.frames self.old
+            → events_of news.now ≡ map shown events → IsHalt (tells scene name events) fault) }
+    {
+        if !has_room(self.sent.len(), frames_in(news)) {
+            return Err(WorldFault::Limit(Bound::Frames));
+        }
+        tell_all(&mut self.sent, name, news, report)?;
+        Ok(())
+    }
+
+    // What the node at a place tells of a call.
+    fn news_of(&mut self, place: usize, call: &Call) -> Result<Vec<News>, NodeFault>
+        ensures done { IfOk result (λ news. (nodes : List SceneNode) → IsFleet nodes self.old.fleet
+            → FleetDid nodes place (slice_get nodes place) (called self.old call.now) self.new.fleet news.items) }
+        ensures spent { IfErr result (λ fault. (nodes : List SceneNode) → IsFleet nodes self.old.fleet
+            → fault ≡ NodeFault.StampsSpent → IsSpent (slice_get nodes place) (called self.old call.now)) }
+        ensures kept { self.new ≡ record self.old { fleet = record self.old.fleet { nodes = self.new.fleet.nodes } } }
+    {
+        match call {
+            Call::Take(number) => self.fleet.receive_at(place, self.sent.bytes(*number)),
+            Call::Noise(bytes) => self.fleet.receive_at(place, bytes.bytes()),
+            Call::Heartbeat => self.fleet.heartbeat_at(place),
+            Call::Tick => self.fleet.tick_at(place),
+        }
+    }
+
+    // The node at a place is called.
+    pub(crate) fn call_at(
+        &mut self,
+        place: usize,
+        call: &Call,
+        report: &mut Report,
+    ) -> Result<(), WorldFault>
+        ensures done { OnOk result ((scene : Scene) → IsScene scene self.old.frames self.old
+            → WorldDid (calls_at scene place (slice_get scene.nodes place) (called self.old call.now)) self.old.frames self.new report.old report.new) }
+        ensures halt { IfErr result (λ fault. (scene : Scene) → IsScene scene self.old.frames self.old
+            → IsHalt (calls_at scene place (slice_get scene.nodes place) (called self.old call.now)) fault) }
+    {
+        let Some(name) = self.fleet.name_at(place) else {
+            return Ok(());
+        };
+        let news = self.news_of(place, call)?;
+        self.tell(name, news.as_slice(), report)
+    }
+
+    // The node of this name is called.
+    pub(crate) fn call(
+        &mut self,
+        name: Name,
+        call: &Call,
+        report: &mut Report,
+    ) -> Result<(), WorldFault>
+        ensures done { OnOk result ((scene : Scene) → IsScene scene self.old.frames self.old
+            → WorldDid (calls scene name (called self.old call.now)) self.old.frames self.new report.old report.new) }
+        ensures halt { IfErr result (λ fault. (scene : Scene) → IsScene scene self.old.frames self.old
+            → IsHalt (calls scene name (called self.old call.now)) fault) }
+    {
+        match self.fleet.place_of(name) {
+            Some(place) => self.call_at(place, call, report),
+            None => Ok(()),
+        }
+    }
+
+    // The sent frame of that number, from 1, is given to the node of this name.
+    pub(crate) fn deliver(
+        &mut self,
+        number: u64,
+        name: Name,
+        report: &mut Report,
+    ) -> Result<(), WorldFault>
+        ensures done { OnOk result ((scene : Scene) → IsScene scene self.old.frames self.old
+            → WorldDid (delivers scene number name (slice_get scene.sent (number - 1))) self.old.frames self.new report.old report.new) }
+        ensures halt { IfErr result (λ fault. (scene : Scene) → IsScene scene self.old.frames self.old
+            → IsHalt (delivers scene number name (slice_get scene.sent (number - 1))) fault) }
+    {
+        let place = number.saturating_sub(1) as usize;
+        if place < self.sent.len() {
+            return self.call(name, &Call::Take(place), report);
+        }
+        report.missing(number)?;
+        Ok(())
+    }
+}

@@ -1,0 +1,65 @@
+// What the end of a scenario tells.
+ghost use Rattle.std.specs.Prelude.{◌≡◌, ◌++◌, [], List, OnOk, slice_get};
+ghost use Rattle.fleet_report.specs.Events.{plan_text};
+ghost use Rattle.fleet_report.specs.Reports.{with_text};
+ghost use Rattle.fleet_world.specs.Scene.{Node as SceneNode, node_name};
+ghost use Rattle.fleet_world.specs.Seen.{IsNode, IsFleet};
+ghost use Rattle.fleet_world.specs.Closing.{closing_at};
+ghost use Rattle.fleet_world.specs.Steps.{closing_of, closing_text};
+
+use crate::NoMemory;
+use crate::fleet::Fleet;
+use crate::nodes::Node;
+use fleet_report::Report;
+use mav_ports::Name;
+use plan_items::PlanKind;
+use plan_upload::Drone;
+
+// The plans of a drone.
+fn put_plans(report: &mut Report, name: Name, drone: &Drone) -> Result<(), NoMemory>
+    ensures { OnOk result (report.new ≡ with_text report.old (plan_text name 0 drone.now.plans.mission
+        ++ plan_text name 1 drone.now.plans.fence ++ plan_text name 2 drone.now.plans.rally)) }
+{
+    report.plan(name, PlanKind::Mission, drone.plan(PlanKind::Mission))?;
+    report.plan(name, PlanKind::Fence, drone.plan(PlanKind::Fence))?;
+    report.plan(name, PlanKind::Rally, drone.plan(PlanKind::Rally))
+}
+
+// What the end tells of a node of this name.
+fn close_node(node: &Node, name: Name, report: &mut Report) -> Result<(), NoMemory>
+    ensures { OnOk result ((one : SceneNode) → IsNode one node.now → name ≡ node_name one
+        → report.new ≡ with_text report.old (closing_of one)) }
+{
+    match node {
+        Node::Drone(drone) => put_plans(report, name, drone.plans()),
+        Node::Station(_) => Ok(()),
+    }
+}
+
+impl Fleet {
+    // The plans of the node at a place, where it is a drone.
+    fn close_at(&self, place: usize, report: &mut Report) -> Result<(), NoMemory>
+        ensures { OnOk result ((nodes : List SceneNode) → IsFleet nodes self.now
+            → report.new ≡ with_text report.old (closing_at (slice_get nodes place))) }
+    {
+        let Some(name) = self.name_at(place) else {
+            return Ok(());
+        };
+        if place < self.nodes.len() {
+            close_node(&self.nodes[place], name, report)
+        } else {
+            Ok(())
+        }
+    }
+
+    /// The plans of each drone in the order in which they were named.
+    pub(crate) fn close(&self, report: &mut Report) -> Result<(), NoMemory>
+        ensures { OnOk result ((nodes : List SceneNode) → IsFleet nodes self.now
+            → report.new ≡ with_text report.old (closing_text nodes)) }
+    {
+        for place in 0..self.len() {
+            self.close_at(place, report)?;
+        }
+        Ok(())
+    }
+}

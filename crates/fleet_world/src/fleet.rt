@@ -1,0 +1,254 @@
+// The nodes of a world: their names, their key and their clock.
+ghost use Rattle.std.specs.Prelude.{◌≡◌, if◌then◌else◌, ◌+◌, ◌<◌, ◌^◌, ◌++◌, ◌∷◌, None, Some, [], List, length, position, option_map, slice_get, IfOk, IfErr, OnOk};
+ghost use Rattle.mav_nodes.specs.Steps.{Side};
+ghost use Rattle.mav_nodes.specs.Nodes.{new_drone, new_station, order_refusal, station_obeys};
+ghost use Rattle.plan_upload.specs.Station.{StationState};
+ghost use Rattle.fleet_world.specs.Scene.{Node as SceneNode, Drone as SceneDrone, Station as SceneStation, node_name, is_named, is_station_named, drones_in, stations_in, stream_of};
+ghost use Rattle.fleet_world.specs.Seen.{no_fleet, IsFleet};
+ghost use Rattle.fleet_world.specs.Steps.{node_receives, node_beats, node_ticks, as_station};
+ghost use Rattle.fleet_world.specs.Promises.{FleetDid, Moved, IsSpent, Refuses};
+ghost use Rattle.fleet_world.specs.Counts.{is_seen_drone, counted};
+
+use crate::NoMemory;
+use crate::nodes::Node;
+use mav_nodes::{DroneNode, News, NodeFault, Order, OrderFault, StationNode};
+use mav_ports::{Name, Stream};
+use mav_sign::Key;
+use scenario_lines::{Named, Role, Roster};
+use std::alloc::Global;
+use std::marker::Model;
+
+// A drone is component 1 of its system.
+const AUTOPILOT: u8 = 1;
+
+// Every node signs on link 0.
+const LINK: u8 = 0;
+
+// When a station was started, in microseconds.
+const BOOT: u64 = 0;
+
+/// The nodes in the order in which they were named.
+#[derive(Drop)]
+pub(crate) struct Fleet {
+    alloc: Global,
+    key: Key,
+    pub(crate) nodes: Vec<Node>,
+    roster: Roster,
+    clock: u64,
+}
+
+impl Model for Fleet {
+    ghost use Rattle.fleet_world.specs.Seen.{Fleet};
+
+    ghost Value = { Fleet };
+
+    ghost view = { λ f. record { key = f.key; nodes = f.nodes.items; roster = f.roster; clock = f.clock } };
+}
+
+/// The stream of a node.
+pub(crate) fn stream(name: Name) -> Stream
+    ensures { result ≡ stream_of name }
+{
+    Stream {
+        sys: name.sys,
+        comp: name.comp,
+        link: LINK,
+    }
+}
+
+// 1 for a drone.
+fn drone_count(node: &Node) -> usize
+    ensures { result ≡ (if is_seen_drone node.now then 1 else 0) }
+{
+    match node {
+        Node::Drone(_) => 1,
+        Node::Station(_) => 0,
+    }
+}
+
+fn count_drones(nodes: &[Node]) -> usize
+    ensures { result ≡ counted is_seen_drone nodes.now }
+{
+    let mut count = 0;
+    for node in nodes {
+        count += drone_count(node);
+    }
+    count
+}
+
+impl Fleet {
+    pub(crate) fn new(alloc: Global, key: Key) -> Fleet
+        ensures { result ≡ no_fleet key }
+    {
+        Fleet {
+            alloc,
+            key,
+            nodes: Vec::new(alloc),
+            roster: Roster::new(alloc),
+            clock: 0,
+        }
+    }
+
+    pub(crate) fn roster(&self) -> &Roster
+        ensures { result.now ≡ self.now.roster }
+    {
+        &self.roster
+    }
+
+    pub(crate) fn clock(&self) -> u64
+        ensures { result ≡ self.now.clock }
+    {
+        self.clock
+    }
+
+    /// The clock goes up.
+    pub(crate) fn advance(&mut self, by: u64)
+        requires { self.old.clock + by < 2 ^ 64 }
+        ensures { self.new ≡ record self.old { clock = self.old.clock + by } }
+    {
+        self.clock += by;
+    }
+
+    /// A drone of this system joins, at that place.
+    pub(crate) fn add_drone(&mut self, sys: u8, x: i32, y: i32) -> Result<(), NoMemory>
+        ensures joins { OnOk result ((nodes : List SceneNode) → IsFleet nodes self.old
+            → IsFleet (nodes ++ SceneDrone (new_drone self.old.key sys) ∷ []) self.new) }
+        ensures kept { OnOk result (self.new ≡ record self.old { nodes = self.new.nodes; roster = self.new.roster }) }
+    {
+        let drone = DroneNode::new(self.alloc, self.key, sys, x, y)?;
+        self.nodes.push(Node::Drone(drone))?;
+        let name = Name {
+            sys,
+            comp: AUTOPILOT,
+        };
+        self.roster.push(Named {
+            role: Role::Drone,
+            name,
+        })
+    }
+
+    /// A station of this name joins.
+    pub(crate) fn add_station(&mut self, name: Name) -> Result<(), NoMemory>
+        ensures joins { OnOk result ((nodes : List SceneNode) → IsFleet nodes self.old
+            → IsFleet (nodes ++ SceneStation (new_station self.old.key (stream_of name) 0) ∷ []) self.new) }
+        ensures kept { OnOk result (self.new ≡ record self.old { nodes = self.new.nodes; roster = self.new.roster }) }
+    {
+        let station = StationNode::new(self.alloc, self.key, stream(name), BOOT)?;
+        self.nodes.push(Node::Station(station))?;
+        self.roster.push(Named {
+            role: Role::Station,
+            name,
+        })
+    }
+
+    /// The name of the node at a place.
+    pub(crate) fn name_at(&self, place: usize) -> Option<Name>
+        ensures { (nodes : List SceneNode) → IsFleet nodes self.now → result ≡ option_map node_name (slice_get nodes place) }
+    {
+        match self.roster.get(place) {
+            Some(named) => Some(named.name),
+            None => None,
+        }
+    }
+
+    // The node at a place takes a datagram.
+    pub(crate) fn receive_at(
+        &mut self,
+        place: usize,
+        datagram: &[u8],
+    ) -> Result<Vec<News>, NodeFault>
+        ensures done { IfOk result (λ news. (nodes : List SceneNode) → IsFleet nodes self.old
+            → FleetDid nodes place (slice_get nodes place) (node_receives self.old.clock datagram.now) self.new news.items) }
+        ensures spent { IfErr result (λ fault. (nodes : List SceneNode) → IsFleet nodes self.old
+            → fault ≡ NodeFault.StampsSpent → IsSpent (slice_get nodes place) (node_receives self.old.clock datagram.now)) }
+        ensures kept { self.new ≡ record self.old { nodes = self.new.nodes } }
+    {
+        if place < self.nodes.len() {
+            self.nodes[place].receive(datagram, self.clock)
+        } else {
+            Ok(Vec::new(self.alloc))
+        }
+    }
+
+    // The node at a place sends HEARTBEAT.
+    pub(crate) fn heartbeat_at(&mut self, place: usize) -> Result<Vec<News>, NodeFault>
+        ensures done { IfOk result (λ news. (nodes : List SceneNode) → IsFleet nodes self.old
+            → FleetDid nodes place (slice_get nodes place) (node_beats self.old.clock) self.new news.items) }
+        ensures spent { IfErr result (λ fault. (nodes : List SceneNode) → IsFleet nodes self.old
+            → fault ≡ NodeFault.StampsSpent → IsSpent (slice_get nodes place) (node_beats self.old.clock)) }
+        ensures kept { self.new ≡ record self.old { nodes = self.new.nodes } }
+    {
+        if place < self.nodes.len() {
+            self.nodes[place].heartbeat(self.clock)
+        } else {
+            Ok(Vec::new(self.alloc))
+        }
+    }
+
+    // Time passes for the node at a place.
+    pub(crate) fn tick_at(&mut self, place: usize) -> Result<Vec<News>, NodeFault>
+        ensures done { IfOk result (λ news. (nodes : List SceneNode) → IsFleet nodes self.old
+            → FleetDid nodes place (slice_get nodes place) (node_ticks self.old.clock) self.new news.items) }
+        ensures spent { IfErr result (λ fault. (nodes : List SceneNode) → IsFleet nodes self.old
+            → fault ≡ NodeFault.StampsSpent → IsSpent (slice_get nodes place) (node_ticks self.old.clock)) }
+        ensures kept { self.new ≡ record self.old { nodes = self.new.nodes } }
+    {
+        if place < self.nodes.len() {
+            self.nodes[place].tick(self.clock)
+        } else {
+            Ok(Vec::new(self.alloc))
+        }
+    }
+
+    // The station at a place follows an order, or refuses it.
+    pub(crate) fn order_at(&mut self, place: usize, order: Order) -> Result<Vec<News>, OrderFault>
+        ensures done { IfOk result (λ news. (nodes : List SceneNode) → (node : Side StationState) → IsFleet nodes self.old
+            → slice_get nodes place ≡ Some (SceneStation node)
+            → (order_refusal node.core order ≡ None)
+            × Moved nodes place (as_station (station_obeys self.old.clock order node)) self.new news.items) }
+        ensures fault { IfErr result (λ fault. (nodes : List SceneNode) → (node : Side StationState) → IsFleet nodes self.old
+            → slice_get nodes place ≡ Some (SceneStation node)
+            → Refuses self.old.clock node order (IsFleet nodes self.new) fault) }
+        ensures kept { self.new ≡ record self.old { nodes = self.new.nodes } }
+    {
+        if place < self.nodes.len() {
+            self.nodes[place].order(self.alloc, order, self.clock)
+        } else {
+            Ok(Vec::new(self.alloc))
+        }
+    }
+
+    /// The place of the node of a name.
+    pub(crate) fn place_of(&self, name: Name) -> Option<usize>
+        ensures { (nodes : List SceneNode) → IsFleet nodes self.now → result ≡ position (is_named name) nodes }
+    {
+        self.roster.place_of_name(name)
+    }
+
+    /// The place of the station of a name.
+    pub(crate) fn place_of_station(&self, name: Name) -> Option<usize>
+        ensures { (nodes : List SceneNode) → IsFleet nodes self.now → result ≡ position (is_station_named name) nodes }
+    {
+        self.roster.place_of(Role::Station, name)
+    }
+
+    pub(crate) fn len(&self) -> usize
+        ensures { (nodes : List SceneNode) → IsFleet nodes self.now → result ≡ length nodes }
+    {
+        self.roster.len()
+    }
+
+    /// How many drones there are.
+    pub(crate) fn drones(&self) -> usize
+        ensures { (nodes : List SceneNode) → IsFleet nodes self.now → result ≡ drones_in nodes }
+    {
+        count_drones(&self.nodes)
+    }
+
+    /// How many stations there are.
+    pub(crate) fn stations(&self) -> usize
+        ensures { (nodes : List SceneNode) → IsFleet nodes self.now → result ≡ stations_in nodes }
+    {
+        self.roster.len().saturating_sub(self.drones())
+    }
+}

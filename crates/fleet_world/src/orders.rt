@@ -1,0 +1,172 @@
+// Orders to stations.
+ghost use Rattle.std.specs.Prelude.{◌≡◌, List, [], None, Some, OnOk, IfOk, IfErr, slice_get};
+ghost use Rattle.mav_nodes.specs.Steps.{Side};
+ghost use Rattle.mav_nodes.specs.Nodes.{station_obeys, order_refusal};
+ghost use Rattle.plan_items.specs.Kinds.{number_of};
+ghost use Rattle.plan_items.specs.Plans.{items_of};
+ghost use Rattle.plan_upload.specs.Kinds.{clear_number};
+ghost use Rattle.plan_upload.specs.Addresses.{node_of};
+ghost use Rattle.plan_upload.specs.Station.{StationState};
+ghost use Rattle.fleet_world.specs.Scene.{Scene, Node as SceneNode, Station as SceneStation};
+ghost use Rattle.fleet_world.specs.Seen.{IsFleet, IsScene};
+ghost use Rattle.fleet_world.specs.Steps.{as_station, station_line, orders_to, begins, clears, gets};
+ghost use Rattle.fleet_world.specs.Tellings.{obeys};
+ghost use Rattle.fleet_world.specs.Promises.{Moved, Refuses, WorldDid, IsHalt, RefusedTold, IsGivenUp};
+
+use crate::fleet::stream;
+use crate::{World, WorldFault};
+use fleet_report::Report;
+use mav_nodes::{News, Order, OrderFault};
+use mav_ports::Name;
+use plan_items::{Plan, PlanKind};
+use plan_upload::OpFault;
+use std::mem;
+
+impl World {
+    // The flows that follow give what is sent from here on.
+    fn skip_sent(&mut self)
+        ensures { (scene : Scene) → IsScene scene self.old.frames self.old → IsScene (station_line scene) self.old.frames self.new }
+    {
+        self.given = self.sent.len();
+    }
+
+    fn take_draft(&mut self) -> Plan
+        ensures items { items_of result ≡ self.old.draft }
+        ensures after { self.new ≡ record self.old { draft = [] } }
+    {
+        mem::replace(&mut self.draft, Plan::new(self.alloc))
+    }
+
+    // A refusal is told, and a plan that is handed back becomes the draft.
+    fn refuse(
+        &mut self,
+        station: Name,
+        fault: OrderFault,
+        report: &mut Report,
+    ) -> Result<(), WorldFault>
+        ensures done { OnOk result (RefusedTold station fault self.old self.new report.old report.new) }
+        ensures halt { IfErr result (λ e. IsGivenUp fault e) }
+    {
+        match fault {
+            OrderFault::Begin(fault) => {
+                self.draft = fault.plan;
+                report.refused(station, fault.why)?;
+                Ok(())
+            }
+            OrderFault::Op(OpFault::NoMemory) => Err(WorldFault::NoMemory),
+            OrderFault::Op(why) => {
+                report.refused(station, why)?;
+                Ok(())
+            }
+            OrderFault::Node(fault) => Err(WorldFault::Node(fault)),
+        }
+    }
+
+    // What the station at a place tells of an order.
+    fn news_of_order(&mut self, place: usize, order: Order) -> Result<Vec<News>, OrderFault>
+        ensures done { IfOk result (λ news. (nodes : List SceneNode) → (node : Side StationState) → IsFleet nodes self.old.fleet
+            → slice_get nodes place ≡ Some (SceneStation node)
+            → (order_refusal node.core order ≡ None)
+            × Moved nodes place (as_station (station_obeys self.old.fleet.clock order node)) self.new.fleet news.items) }
+        ensures fault { IfErr result (λ fault. (nodes : List SceneNode) → (node : Side StationState) → IsFleet nodes self.old.fleet
+            → slice_get nodes place ≡ Some (SceneStation node)
+            → Refuses self.old.fleet.clock node order (IsFleet nodes self.new.fleet) fault) }
+        ensures kept { self.new ≡ record self.old { fleet = record self.old.fleet { nodes = self.new.fleet.nodes } } }
+    {
+        self.fleet.order_at(place, order)
+    }
+
+    // The station at a place follows an order, or refuses it.
+    fn order_at(
+        &mut self,
+        place: usize,
+        station: Name,
+        order: Order,
+        report: &mut Report,
+    ) -> Result<(), WorldFault>
+        ensures done { OnOk result ((scene : Scene) → (node : Side StationState) → IsScene scene self.old.frames self.old
+            → slice_get scene.nodes place ≡ Some (SceneStation node)
+            → WorldDid (obeys scene place station node order) self.old.frames self.new report.old report.new) }
+        ensures halt { IfErr result (λ fault. (scene : Scene) → (node : Side StationState) → IsScene scene self.old.frames self.old
+            → slice_get scene.nodes place ≡ Some (SceneStation node) → IsHalt (obeys scene place station node order) fault) }
+    {
+        match self.news_of_order(place, order) {
+            Ok(news) => self.tell(station, news.as_slice(), report),
+            Err(fault) => self.refuse(station, fault, report),
+        }
+    }
+
+    // The station of this name is given an order without a plan.
+    pub(crate) fn order(
+        &mut self,
+        station: Name,
+        order: Order,
+        report: &mut Report,
+    ) -> Result<(), WorldFault>
+        ensures done { OnOk result ((scene : Scene) → IsScene scene self.old.frames self.old
+            → WorldDid (orders_to (station_line scene) station (λ k node. obeys (station_line scene) k (node_of node.link.me) node order)) self.old.frames self.new report.old report.new) }
+        ensures halt { IfErr result (λ fault. (scene : Scene) → IsScene scene self.old.frames self.old
+            → IsHalt (orders_to (station_line scene) station (λ k node. obeys (station_line scene) k (node_of node.link.me) node order)) fault) }
+    {
+        self.skip_sent();
+        match self.fleet.place_of_station(station) {
+            Some(place) => self.order_at(place, station, order, report),
+            None => Ok(()),
+        }
+    }
+
+    // A clear of a drone's plans begins.
+    pub(crate) fn clear(
+        &mut self,
+        station: Name,
+        drone: Name,
+        kind: Option<PlanKind>,
+        report: &mut Report,
+    ) -> Result<(), WorldFault>
+        ensures done { OnOk result ((scene : Scene) → IsScene scene self.old.frames self.old
+            → WorldDid (clears (station_line scene) station drone (clear_number kind)) self.old.frames self.new report.old report.new) }
+        ensures halt { IfErr result (λ fault. (scene : Scene) → IsScene scene self.old.frames self.old
+            → IsHalt (clears (station_line scene) station drone (clear_number kind)) fault) }
+    {
+        let drone = stream(drone);
+        self.order(station, Order::Clear { drone, kind }, report)
+    }
+
+    // A download begins.
+    pub(crate) fn get(
+        &mut self,
+        station: Name,
+        drone: Name,
+        kind: PlanKind,
+        report: &mut Report,
+    ) -> Result<(), WorldFault>
+        ensures done { OnOk result ((scene : Scene) → IsScene scene self.old.frames self.old
+            → WorldDid (gets (station_line scene) station drone (number_of kind)) self.old.frames self.new report.old report.new) }
+        ensures halt { IfErr result (λ fault. (scene : Scene) → IsScene scene self.old.frames self.old
+            → IsHalt (gets (station_line scene) station drone (number_of kind)) fault) }
+    {
+        let drone = stream(drone);
+        self.order(station, Order::Get { drone, kind }, report)
+    }
+
+    // An upload of the draft begins; one that is refused leaves it.
+    pub(crate) fn begin(
+        &mut self,
+        station: Name,
+        drone: Name,
+        kind: PlanKind,
+        report: &mut Report,
+    ) -> Result<(), WorldFault>
+        ensures done { OnOk result ((scene : Scene) → IsScene scene self.old.frames self.old
+            → WorldDid (begins (station_line scene) station drone (number_of kind)) self.old.frames self.new report.old report.new) }
+        ensures halt { IfErr result (λ fault. (scene : Scene) → IsScene scene self.old.frames self.old
+            → IsHalt (begins (station_line scene) station drone (number_of kind)) fault) }
+    {
+        self.skip_sent();
+        let Some(place) = self.fleet.place_of_station(station) else {
+            return Ok(());
+        };
+        let (drone, plan) = (stream(drone), self.take_draft());
+        self.order_at(place, station, Order::Begin { drone, kind, plan }, report)
+    }
+}

@@ -1,0 +1,115 @@
+// The frames that were sent.
+ghost use Rattle.std.specs.Prelude.{◌≡◌, ◌≤◌, ◌++◌, ◌∷◌, [], length, option_map, slice_get, OnOk, OnErr, IfOk};
+ghost use Rattle.fleet_world.specs.Cuts.{cut, behind};
+ghost use Rattle.fleet_world.specs.Seen.{Kept, kept_as, bytes_of};
+
+use crate::NoMemory;
+use mav_frame::{Frame, encode};
+use mav_ports::Name;
+use std::alloc::Global;
+use std::marker::Model;
+
+// A frame's sender, and where its bytes stand.
+#[derive(Clone, Copy)]
+struct Place {
+    from: Name,
+    start: usize,
+    end: usize,
+}
+
+/// The bytes of the sent frames, one behind the other, with their senders. Contracts see a pair for each frame.
+#[derive(Drop)]
+pub(crate) struct SentFrames {
+    bytes: Vec<u8>,
+    places: Vec<Place>,
+}
+
+impl Model for SentFrames {
+    ghost use Rattle.std.specs.Prelude.{List};
+    ghost use Rattle.fleet_world.specs.Seen.{Kept};
+    ghost use Rattle.fleet_world.specs.Cuts.{cuts, AreWithin};
+
+    ghost Value = { List Kept };
+
+    ghost view = { λ f. cuts f.bytes.items f.places.items };
+
+    ghost invariant = { λ f. AreWithin f.bytes.items f.places.items };
+}
+
+fn place_at(places: &[Place], place: usize) -> Option<Place>
+    ensures { result ≡ slice_get places.now place }
+{
+    places.get(place).copied()
+}
+
+fn part(bytes: &[u8], at: Place) -> &[u8]
+    requires order { at.start ≤ at.end }
+    requires below { at.end ≤ length bytes.now }
+    ensures { result.now ≡ (cut bytes.now at).1 }
+{
+    &bytes[at.start..at.end]
+}
+
+// The bytes of a sender's frame join the others, and stand there.
+fn append(bytes: &mut Vec<u8>, from: Name, frame: &[u8]) -> Result<Place, NoMemory>
+    ensures joined { OnOk result (bytes.new.items ≡ bytes.old.items ++ frame.now) }
+    ensures place { IfOk result (λ place. place ≡ behind from bytes.old.items frame.now) }
+    ensures kept { OnErr result (bytes.new.items ≡ bytes.old.items) }
+{
+    let start = bytes.len();
+    bytes.extend_from_slice(frame)?;
+    Ok(Place {
+        from,
+        start,
+        end: bytes.len(),
+    })
+}
+
+impl SentFrames {
+    pub(crate) fn new(alloc: Global) -> SentFrames
+        ensures { result ≡ [] }
+    {
+        SentFrames {
+            bytes: Vec::new(alloc),
+            places: Vec::new(alloc),
+        }
+    }
+
+    #[tactic(auto, using(crate::proofs::CutBytes::cuts_length))]
+    pub(crate) fn len(&self) -> usize
+        ensures { result ≡ length self.now }
+    {
+        self.places.len()
+    }
+
+    /// Who sent the frame of a place, from 0.
+    pub(crate) fn sender(&self, place: usize) -> Option<Name>
+        ensures { result ≡ option_map (λ (kept : Kept). kept.0) (slice_get self.now place) }
+    {
+        match place_at(&self.places, place) {
+            Some(at) => Some(at.from),
+            None => None,
+        }
+    }
+
+    /// The bytes of the frame of a place; none where there is no such frame.
+    pub(crate) fn bytes(&self, place: usize) -> &[u8]
+        ensures { result.now ≡ bytes_of (slice_get self.now place) }
+    {
+        match place_at(&self.places, place) {
+            Some(at) => part(&self.bytes, at),
+            None => &[],
+        }
+    }
+
+    /// One frame more.
+    pub(crate) fn push(&mut self, frame: &Frame) -> Result<(), NoMemory>
+        ensures { OnOk result (self.new ≡ self.old ++ kept_as frame.now ∷ []) }
+    {
+        let mut bytes = [0; 280];
+        let size = encode(frame, &mut bytes);
+        let place = append(&mut self.bytes, frame.from, &bytes[..size])?;
+        self.places.push(place)?;
+        Ok(())
+    }
+}

@@ -1,0 +1,11 @@
+pub mod Places
+pub mod Digits
+pub mod Names
+pub mod WireWords
+pub mod ReadWords
+pub mod ReadItems
+pub mod Forms
+pub mod FirstWords
+pub mod ItemForms
+pub mod WholeLines
+pub mod Permitted

@@ -1,0 +1,7 @@
+pub mod Words
+pub mod Standing
+pub mod Grammar
+pub mod Reasons
+pub mod Permits
+pub mod Faults
+pub mod Readings

@@ -1,0 +1,115 @@
+// What a word of a line has to be, and the reason against one that isn't.
+ghost use Rattle.std.specs.Prelude.{◌≤◌, IfOk};
+
+use crate::numbers::{integer, number, wire_word};
+use crate::spellings::{kind, kind_or_all, name};
+use crate::words::Words;
+use crate::{Reason, Role, Roster};
+use mav_ports::Name;
+use plan_items::{Item, PlanKind};
+
+impl Words<'_> {
+    ghost use Rattle.std.specs.Prelude.{◌≡◌, ◌<◌};
+    ghost use Rattle.scenario_lines.specs.Readings.{whole, signed, signed_or_zero, wire_or_zero, named, plan_kind, plan_kind_or_all, read_item};
+    ghost use Rattle.scenario_lines.specs.Standing.{has_name, has_drone, has_station};
+
+    pub(crate) fn whole(&self, place: usize, low: u64, high: u64) -> Result<u64, Reason>
+        ensures exact { result ≡ whole self.now place low high }
+        ensures least { IfOk result (λ n. low ≤ n) }
+        ensures most { IfOk result (λ n. n ≤ high) }
+    {
+        number(self.at(place), low, high).ok_or(Reason::Number)
+    }
+
+    pub(crate) fn signed(&self, place: usize) -> Result<i32, Reason>
+        ensures { result ≡ signed self.now place }
+    {
+        integer(self.at(place)).ok_or(Reason::Number)
+    }
+
+    pub(crate) fn signed_or_zero(&self, place: usize) -> Result<i32, Reason>
+        ensures { result ≡ signed_or_zero self.now place }
+    {
+        if place < self.len() {
+            self.signed(place)
+        } else {
+            Ok(0)
+        }
+    }
+
+    pub(crate) fn wire_or_zero(&self, place: usize) -> Result<u32, Reason>
+        ensures { result ≡ wire_or_zero self.now place }
+    {
+        if place < self.len() {
+            wire_word(self.at(place)).ok_or(Reason::Hex)
+        } else {
+            Ok(0)
+        }
+    }
+
+    pub(crate) fn kind(&self, place: usize) -> Result<PlanKind, Reason>
+        ensures { result ≡ plan_kind self.now place }
+    {
+        kind(self.at(place)).ok_or(Reason::Kind)
+    }
+
+    pub(crate) fn kind_or_all(&self, place: usize) -> Result<Option<PlanKind>, Reason>
+        ensures { result ≡ plan_kind_or_all self.now place }
+    {
+        kind_or_all(self.at(place)).ok_or(Reason::Kind)
+    }
+
+    /// The node that the word at `place` names, in any role.
+    pub(crate) fn node(&self, place: usize, roster: &Roster) -> Result<Name, Reason>
+        ensures { result ≡ named (has_name roster.now) self.now place }
+    {
+        match name(self.at(place)) {
+            Some(name) if roster.has_name(name) => Ok(name),
+            _ => Err(Reason::Node),
+        }
+    }
+
+    pub(crate) fn drone(&self, place: usize, roster: &Roster) -> Result<Name, Reason>
+        ensures { result ≡ named (has_drone roster.now) self.now place }
+    {
+        match name(self.at(place)) {
+            Some(name) if roster.has_in_role(Role::Drone, name) => Ok(name),
+            _ => Err(Reason::Node),
+        }
+    }
+
+    pub(crate) fn station(&self, place: usize, roster: &Roster) -> Result<Name, Reason>
+        ensures { result ≡ named (has_station roster.now) self.now place }
+    {
+        match name(self.at(place)) {
+            Some(name) if roster.has_in_role(Role::Station, name) => Ok(name),
+            _ => Err(Reason::Node),
+        }
+    }
+
+    /// The item whose frame is the word at `place`.
+    pub(crate) fn item(&self, place: usize) -> Result<Item, Reason>
+        requires { place < 100 }
+        ensures { result ≡ read_item self.now place }
+    {
+        let frame = self.whole(place, 0, 255)? as u8;
+        let command = self.whole(place + 1, 0, 65535)? as u16;
+        let x = self.signed(place + 2)?;
+        let y = self.signed(place + 3)?;
+        let z = self.wire_or_zero(place + 4)?;
+        let p1 = self.wire_or_zero(place + 5)?;
+        let p2 = self.wire_or_zero(place + 6)?;
+        let p3 = self.wire_or_zero(place + 7)?;
+        let p4 = self.wire_or_zero(place + 8)?;
+        Ok(Item {
+            frame,
+            command,
+            current: 0,
+            autocontinue: 1,
+            p: [p1, p2, p3, p4],
+            x,
+            y,
+            z,
+        })
+    }
+}

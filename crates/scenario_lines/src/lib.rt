@@ -1,0 +1,29 @@
+//! What a line of a scenario says, or the first reason against it.
+//!
+//! `read` reads one line against what is known of the world: the nodes that were named (`Roster`), the
+//! items in the draft and the clock. `read_item_line` reads lines of items alone. Both are stated by
+//! definitions over plain lists (`reason_against`, `line_of`). Nothing here does what a line says.
+#![tactic(auto)]
+
+mod arguments;
+mod faults;
+mod happenings;
+mod items;
+mod laws;
+mod lines;
+mod nodes;
+mod numbers;
+mod orders;
+mod reading;
+mod roster;
+mod spellings;
+mod words;
+
+pub use faults::{LineFault, Reason};
+pub use laws::lines_read_are_permitted;
+pub use lines::Line;
+pub use reading::{read, read_item_line};
+pub use roster::{Named, Role, Roster};
+use std::alloc::AllocError;
+
+pub type NoMemory = AllocError;

@@ -1,0 +1,51 @@
+// The lines that name nodes.
+ghost use Rattle.std.specs.Prelude.{◌≡◌};
+ghost use Rattle.scenario_lines.specs.Standing.{drone_name};
+ghost use Rattle.scenario_lines.specs.Readings.{read_drone, read_station};
+
+use crate::words::Words;
+use crate::{Line, Reason, Roster};
+use mav_ports::Name;
+
+/// The component of every drone.
+const AUTOPILOT: u8 = 1;
+
+fn drone_name(sys: u8) -> Name
+    ensures { result ≡ drone_name sys }
+{
+    Name {
+        sys,
+        comp: AUTOPILOT,
+    }
+}
+
+/// `drone SYS [X Y]`
+pub(crate) fn read_drone(roster: &Roster, words: &Words) -> Result<Line, Reason>
+    ensures { result ≡ read_drone roster.now words.now }
+{
+    if words.len() != 2 && words.len() != 4 {
+        return Err(Reason::Count);
+    }
+    let sys = words.whole(1, 1, 255)? as u8;
+    let x = words.signed_or_zero(2)?;
+    let y = words.signed_or_zero(3)?;
+    if roster.has_name(drone_name(sys)) {
+        return Err(Reason::Twice);
+    }
+    Ok(Line::Drone { sys, x, y })
+}
+
+/// `station SYS COMP`
+pub(crate) fn read_station(roster: &Roster, words: &Words) -> Result<Line, Reason>
+    ensures { result ≡ read_station roster.now words.now }
+{
+    if words.len() != 3 {
+        return Err(Reason::Count);
+    }
+    let sys = words.whole(1, 1, 255)? as u8;
+    let comp = words.whole(2, 1, 255)? as u8;
+    if roster.has_name(Name { sys, comp }) {
+        return Err(Reason::Twice);
+    }
+    Ok(Line::Station { sys, comp })
+}

@@ -1,0 +1,78 @@
+// The lines that order something of a station, and the one that empties the draft for its orders.
+ghost use Rattle.std.specs.Prelude.{◌≡◌};
+ghost use Rattle.scenario_lines.specs.Readings.{read_empty, read_begin, read_cancel, read_clear, read_get};
+
+use crate::words::Words;
+use crate::{Line, Reason, Roster};
+
+/// `empty`
+pub(crate) fn read_empty(words: &Words) -> Result<Line, Reason>
+    ensures { result ≡ read_empty words.now }
+{
+    if words.len() != 1 {
+        return Err(Reason::Count);
+    }
+    Ok(Line::Empty)
+}
+
+/// `begin STATION DRONE KIND`
+pub(crate) fn read_begin(roster: &Roster, words: &Words) -> Result<Line, Reason>
+    ensures { result ≡ read_begin roster.now words.now }
+{
+    if words.len() != 4 {
+        return Err(Reason::Count);
+    }
+    let station = words.station(1, roster)?;
+    let drone = words.drone(2, roster)?;
+    let kind = words.kind(3)?;
+    Ok(Line::Begin {
+        station,
+        drone,
+        kind,
+    })
+}
+
+/// `cancel STATION`
+pub(crate) fn read_cancel(roster: &Roster, words: &Words) -> Result<Line, Reason>
+    ensures { result ≡ read_cancel roster.now words.now }
+{
+    if words.len() != 2 {
+        return Err(Reason::Count);
+    }
+    let station = words.station(1, roster)?;
+    Ok(Line::Cancel { station })
+}
+
+/// `clear STATION DRONE KIND`
+pub(crate) fn read_clear(roster: &Roster, words: &Words) -> Result<Line, Reason>
+    ensures { result ≡ read_clear roster.now words.now }
+{
+    if words.len() != 4 {
+        return Err(Reason::Count);
+    }
+    let station = words.station(1, roster)?;
+    let drone = words.drone(2, roster)?;
+    let kind = words.kind_or_all(3)?;
+    Ok(Line::Clear {
+        station,
+        drone,
+        kind,
+    })
+}
+
+/// `get STATION DRONE KIND`
+pub(crate) fn read_get(roster: &Roster, words: &Words) -> Result<Line, Reason>
+    ensures { result ≡ read_get roster.now words.now }
+{
+    if words.len() != 4 {
+        return Err(Reason::Count);
+    }
+    let station = words.station(1, roster)?;
+    let drone = words.drone(2, roster)?;
+    let kind = words.kind(3)?;
+    Ok(Line::Get {
+        station,
+        drone,
+        kind,
+    })
+}

@@ -1,0 +1,132 @@
+// The reading of scenario lines: by the first word, then its form's words from left to right.
+ghost use Rattle.std.specs.Prelude.{◌≡◌, false, IfOk, IfErr, Some, None, codes};
+ghost use Rattle.std.specs.Str.{bytes_eq};
+ghost use Rattle.scenario_lines.specs.Words.{word_at};
+ghost use Rattle.scenario_lines.specs.Standing.{standing_of};
+ghost use Rattle.scenario_lines.specs.Faults.{IfBad};
+ghost use Rattle.scenario_lines.specs.Grammar.{is_blank, line_of};
+ghost use Rattle.scenario_lines.specs.Reasons.{is_unbuilt, reason_against, item_reason_against};
+ghost use Rattle.scenario_lines.specs.Readings.{Says, reading, reading_items};
+ghost use Rattle.scenario_lines.specs.Permits.{IsPermitted, IsOfItems};
+
+use crate::happenings::{
+    read_clock, read_deliver, read_flow, read_heartbeat, read_noise, read_tick,
+};
+use crate::items::{read_item, read_items};
+use crate::nodes::{read_drone, read_station};
+use crate::orders::{read_begin, read_cancel, read_clear, read_empty, read_get};
+use crate::spellings::is_word;
+use crate::words::Words;
+use crate::{Line, LineFault, Reason, Roster};
+use std::alloc::Global;
+
+/// The most bytes of a line, without its end.
+const MOST_LINE_BYTES: usize = 4096;
+
+/// An empty line or a comment.
+fn is_blank(text: &[u8]) -> bool
+    ensures { result ≡ is_blank text.now }
+{
+    match text {
+        [] => true,
+        [first, ..] => *first == b'#',
+    }
+}
+
+/// The first word of a line that isn't built yet.
+fn is_unbuilt(word: &[u8]) -> bool
+    ensures { result ≡ is_unbuilt word.now }
+{
+    is_word(word, "command")
+        || is_word(word, "params")
+        || is_word(word, "sim")
+        || is_word(word, "where")
+}
+
+/// The line of some words but `noise`.
+fn read_words(roster: &Roster, drafted: usize, clock: u64, words: &Words) -> Result<Line, Reason>
+    requires { bytes_eq (word_at words.now 0) (codes "noise") ≡ false }
+    ensures { result ≡ reading (standing_of roster.now drafted clock) words.now }
+{
+    match words.at(0) {
+        first if is_word(first, "drone") => read_drone(roster, words),
+        first if is_word(first, "station") => read_station(roster, words),
+        first if is_word(first, "item") => read_item(drafted, words),
+        first if is_word(first, "items") => read_items(drafted, words),
+        first if is_word(first, "empty") => read_empty(words),
+        first if is_word(first, "begin") => read_begin(roster, words),
+        first if is_word(first, "cancel") => read_cancel(roster, words),
+        first if is_word(first, "clear") => read_clear(roster, words),
+        first if is_word(first, "get") => read_get(roster, words),
+        first if is_word(first, "heartbeat") => read_heartbeat(roster, words),
+        first if is_word(first, "deliver") => read_deliver(roster, words),
+        first if is_word(first, "flow") => read_flow(words),
+        first if is_word(first, "tick") => read_tick(roster, words),
+        first if is_word(first, "clock") => read_clock(clock, words),
+        first if is_unbuilt(first) => Err(Reason::Later),
+        _ => Err(Reason::Word),
+    }
+}
+
+fn read_item_words(drafted: usize, words: &Words) -> Result<Line, Reason>
+    ensures { result ≡ reading_items drafted words.now }
+{
+    match words.at(0) {
+        first if is_word(first, "item") => read_item(drafted, words),
+        first if is_word(first, "items") => read_items(drafted, words),
+        _ => Err(Reason::Word),
+    }
+}
+
+fn faulted(read: Result<Line, Reason>) -> Result<Line, LineFault>
+    ensures { Says read result }
+{
+    Ok(read?)
+}
+
+/// What a scenario line says in a world with these nodes, so many items in its draft and this
+/// clock, or the first reason against it. `text` is the line without its LF and without a CR before
+/// it. Words are parted by one space; an empty line and one that begins with `#` are blank.
+pub fn read(
+    alloc: Global,
+    roster: &Roster,
+    drafted: usize,
+    clock: u64,
+    text: &[u8],
+) -> Result<Line, LineFault>
+    ensures ok { IfOk result (λ line. (reason_against (standing_of roster.now drafted clock) text.now ≡ None) × (line ≡ line_of text.now)) }
+    ensures permitted { IfOk result (IsPermitted (standing_of roster.now drafted clock)) }
+    ensures bad { IfErr result (λ e. IfBad e (λ r. reason_against (standing_of roster.now drafted clock) text.now ≡ Some r)) }
+{
+    if text.len() > MOST_LINE_BYTES {
+        return Err(LineFault::Bad(Reason::Long));
+    }
+    if is_blank(text) {
+        return Ok(Line::Blank);
+    }
+    let words = Words::of(alloc, text)?;
+    if is_word(words.at(0), "noise") {
+        return read_noise(alloc, roster, &words);
+    }
+    faulted(read_words(roster, drafted, clock, &words))
+}
+
+/// The same where lines of items alone are read, as in a file of items, behind `drafted` items: any
+/// other first word is `word`.
+pub fn read_item_line(alloc: Global, drafted: usize, text: &[u8]) -> Result<Line, LineFault>
+    ensures ok { IfOk result (λ line. (item_reason_against drafted text.now ≡ None) × (line ≡ line_of text.now)) }
+    ensures items { IfOk result IsOfItems }
+    ensures bad { IfErr result (λ e. IfBad e (λ r. item_reason_against drafted text.now ≡ Some r)) }
+{
+    if text.len() > MOST_LINE_BYTES {
+        return Err(LineFault::Bad(Reason::Long));
+    }
+    if is_blank(text) {
+        return Ok(Line::Blank);
+    }
+    let words = Words::of(alloc, text)?;
+    faulted(read_item_words(drafted, &words))
+}
+
+#[cfg(test)]
+mod tests;
