@@ -1,31 +1,103 @@
 -- From a begin line that a station accepts, a long enough flow brings the upload to its end.
-use Rattle.std.proofs.Common.{◌≡◌, ◌∙◌, ℕ, zero, suc, ◌+◌, ◌*◌, ◌≤◌, true, false, nat_lt, List, [], ◌∷◌, length, Option, Some, None, refl, sym, ap, subst, arith}
-use Rattle.std.specs.Prelude.{IfOk, slice_get, slice_set, position}
-use Rattle.std.proofs.lemmas.Bool.{cond-true}
-use Rattle.plan_items.specs.declared.items.Item.{Item}
+use Rattle.std.proofs.Common.{◌≡◌, ◌≢◌, ◌∙◌, ℕ, zero, suc, ◌+◌, ◌*◌, ◌<◌, ◌≤◌, inl, inr, Bool, true, false, not, ◌&&◌, nat_lt, is_some, List, [], ◌∷◌, ◌++◌, length, slice_get, find, position, Option, Some, None, refl, sym, ap, subst, arith, length-append}
+use Rattle.std.specs.Prelude.{IfOk}
+use Rattle.std.specs.List.{position_or_len}
+use Rattle.std.proofs.lemmas.Bool.{cond-true, lt-ltb}
+use Rattle.std.proofs.lemmas.List.Folds.{find_at}
+use Rattle.mav_ports.specs.declared.names.Name.{Name}
 use Rattle.plan_items.specs.declared.kinds.PlanKind.{PlanKind}
+use Rattle.plan_items.specs.declared.messages.PlanMsg.{PlanMsg}
 use Rattle.plan_items.specs.Kinds.{number_of}
 use Rattle.plan_items.specs.Validation.{IsValid}
+use Rattle.plan_items.proofs.KindNumbers.{number_of-bound}
 use Rattle.plan_upload.specs.declared.faults.OpFault.{OpFault}
 use Rattle.plan_upload.specs.declared.faults.OpFault.TheVariants.{PingsSpent}
-use Rattle.plan_upload.specs.Addresses.{same_name}
-use Rattle.plan_upload.specs.Drone.{DroneState, is_other}
-use Rattle.plan_upload.specs.Station.{StationState, StationStep, Uploads, operation_of, is_synced, last_ping, pinging, sends as says, begin_upload}
+use Rattle.plan_upload.specs.Addresses.{node_of, same_name}
+use Rattle.plan_upload.specs.Drone.{DroneState, is_other, has_no_room, result_of, most_results}
+use Rattle.plan_upload.specs.Station.{StationState, StationStep, Uploads, operation_of, is_synced, last_ping, pinging, sends as says, begin_upload, untold}
 use Rattle.plan_upload.specs.Refusals.{busy_with, first_of, spent, empty_plan, unfit, upload_refusal}
-use Rattle.plan_safety.proofs.Keys.{by_test, name_same}
-use Rattle.fleet_world.specs.declared.lines.Line.TheVariants.{Begin}
-use Rattle.fleet_world.specs.declared.nodes.Node.TheVariants.{Drone as DroneNode, Station as StationNode}
-use Rattle.fleet_world.specs.declared.nodes.Frame.{Frame}
-use Rattle.fleet_world.specs.Scene.{Scene, drone_name, is_called, stream_of}
-use Rattle.fleet_world.specs.Steps.{Step, flows, with_node, station_line, upload_begins, begins_at, begins, after_line}
+use Rattle.plan_ranges.specs.Ranges.{NameInRange}
+use Rattle.mav_frame.specs.Packet.{Packet}
+use Rattle.mav_messages.specs.Plans.{message_of_plan}
+use Rattle.mav_sign.specs.History.{last_of, next_in, greatest_stamp}
+use Rattle.mav_nodes.specs.News.{Sends}
+use Rattle.mav_nodes.specs.Links.{Link, Outcome, done, behind, sent_at}
+use Rattle.mav_nodes.specs.Signed.{signed_packet}
+use Rattle.mav_nodes.specs.Steps.{Side, CoreStep, with_core, steps}
+use Rattle.mav_nodes.specs.Nodes.{station_does, station_begins, told_events}
+use Rattle.scenario_lines.specs.declared.roster.Named.{Named}
+use Rattle.scenario_lines.specs.declared.lines.Line.TheVariants.{Begin}
+use Rattle.scenario_lines.specs.Standing.{drone_name}
+use Rattle.fleet_world.specs.Scene.{Scene, Node, Drone, Station, node_name, named, stream_of, names_of, drones_in, is_station_named}
+use Rattle.fleet_world.specs.Steps.{Step, told_by, as_station, node_does, flows, station_line, upload_begins, orders_at, orders_placed, after_line}
+use Rattle.fleet_invariants.specs.Sound.{Sound}
+use Rattle.fleet_invariants.specs.Kept.{StepKeeps, OutcomeReads}
+use Rattle.fleet_invariants.proofs.Lists.{some_is, nowhere, within, set_there, set_elsewhere, last_there, at_end}
+use Rattle.fleet_invariants.proofs.Tests.{by_test, name_eq, name_same, name_is, differ}
+use Rattle.fleet_invariants.proofs.Histories.{next_later}
+use Rattle.fleet_invariants.proofs.Rooms.{room_for}
+use Rattle.fleet_invariants.proofs.Restated.{sound_restated}
+use Rattle.fleet_invariants.proofs.Calls.{sound_does}
 use Rattle.fleet_liveness.specs.Uncontended.{Upload, Installs}
-use Rattle.fleet_liveness.proofs.Steps.{ok_sends, with_answer}
-use Rattle.fleet_liveness.proofs.Pairs.{Order, Drone_first, Station_first, pair_of, scene_of}
-use Rattle.fleet_liveness.proofs.Conversation.{count_stage, ping_stage}
-use Rattle.fleet_liveness.proofs.Kept.{IsOwn, own_room}
-use Rattle.fleet_liveness.proofs.Reached.{Reached, Nobody, A_drone, A_station, A_pair, beside, no_station}
+use Rattle.fleet_liveness.proofs.Hearing.{Carries}
+use Rattle.fleet_liveness.proofs.Scenes.{same_place, few_streams, last_before, next_recent}
+use Rattle.fleet_liveness.proofs.Sendings.{reads_at, carries_last}
+use Rattle.fleet_liveness.proofs.Steps.{moved, does, does_nothing, weaker}
+use Rattle.fleet_liveness.proofs.Stages.{Stage, Pings, Counts, is_up, is_ping, message_of, costs, DroneIs, StationIs, station_untold, is_carried}
+use Rattle.fleet_liveness.proofs.Telling.{upload_of, goal_of, up_not_last}
+use Rattle.fleet_liveness.proofs.Waits.{Waits, sender, listener}
+use Rattle.fleet_liveness.proofs.Others.{no_frames_told}
+use Rattle.fleet_liveness.proofs.Rounds.{named_extra, extra, all_extra, no_extra}
+use Rattle.fleet_liveness.proofs.Landing.{lands}
 
--- a station that accepts has a PING number left
+-- the first element that a test holds of
+record First {A : Type 0} (test : A → Bool) (xs : List A) : Type 0 where
+  place : ℕ
+  element : A
+  is : position test xs ≡ Some place
+  there : slice_get xs place ≡ Some element
+  holds : test element ≡ true
+
+record Finds {A : Type 0} (test : A → Bool) (xs : List A) : Type 0 where
+  element : A
+  found : find test xs ≡ Some element
+  holds : test element ≡ true
+
+finds_more : {A : Type 0} (test : A → Bool) (z : A) (zs : List A) (k : ℕ) (x : A) → slice_get (z ∷ zs) k ≡ Some x → test x ≡ true → ((j : ℕ) → slice_get zs j ≡ Some x → Finds test zs) → (b : Bool) → test z ≡ b → Finds test (z ∷ zs)
+finds_more test z zs k x e h on true it = record { element = z; found = rw it refl; holds = it }
+finds_more test z zs zero x e h on false other = absurd (differ (test z) (ap test (some_is e) ∙ h) other)
+finds_more test z zs (suc k) x e h on false other = let f = on k e in record { element = f.element; found = rw other f.found; holds = f.holds }
+
+finds : {A : Type 0} (test : A → Bool) (xs : List A) (k : ℕ) (x : A) → slice_get xs k ≡ Some x → test x ≡ true → Finds test xs
+finds test [] k x e h = absurd (nowhere k x e)
+finds test (z ∷ zs) k x e h = finds_more test z zs k x e h (λ j f. finds test zs j x f h) (test z) refl
+
+first_of_all : {A : Type 0} (test : A → Bool) (xs : List A) (k : ℕ) (x : A) → slice_get xs k ≡ Some x → test x ≡ true → First test xs
+first_of_all test xs k x e h =
+    let f = finds test xs k x e h in
+    let there : slice_get xs (position_or_len test xs) ≡ Some f.element = sym (find_at test xs) ∙ f.found in
+    record {
+      place = position_or_len test xs;
+      element = f.element;
+      is = cond-true (nat_lt (position_or_len test xs) (length xs)) _ _ (lt-ltb _ _ (within xs (position_or_len test xs) f.element there));
+      there = there;
+      holds = f.holds;
+    }
+
+-- the drones among the nodes are those that may answer a PING more
+shifted : (b : Bool) (x : Named) (xs : List Named) (j n : ℕ) → extra b (x ∷ xs) (suc j) n ≡ extra b xs j n
+shifted b x xs j zero = refl
+shifted b x xs j (suc n) =
+    let one = named_extra b (slice_get xs j) in
+    ap (λ i. one + extra b (x ∷ xs) i n) (let e : suc j + 1 ≡ suc (j + 1) = omega arith in e) ∙ ap (λ z. one + z) (shifted b x xs (j + 1) n)
+
+drones_extra : (nodes : List Node) → all_extra true (names_of nodes) ≡ drones_in nodes
+drones_extra [] = refl
+drones_extra (Drone n ∷ ns) = ap (λ z. 1 + z) (shifted true (named (Drone n)) (names_of ns) 0 (length (names_of ns)) ∙ drones_extra ns)
+drones_extra (Station n ∷ ns) =
+    let e : extra true (names_of (Station n ∷ ns)) 1 (length (names_of ns)) ≡ drones_in ns = shifted true (named (Station n)) (names_of ns) 0 (length (names_of ns)) ∙ drones_extra ns in
+    omega arith
+
 third_none : (a b c d : Option OpFault) → first_of a (first_of b (first_of c d)) ≡ None → c ≡ None
 third_none None None None d e = refl
 third_none None None (Some x) d e = absurd (cc)
@@ -35,86 +107,206 @@ third_none (Some x) b c d e = absurd (cc)
 number_left : (t : StationState) → spent t ≡ None → nat_lt t.pings last_ping ≡ true
 number_left t = by_test (λ (z : Option OpFault). z ≡ None → nat_lt t.pings last_ping ≡ true) (nat_lt t.pings last_ping) None (Some PingsSpent) (λ e _. e) (λ _ e. absurd (cc))
 
--- where the station stands
-abbrev place_of : Order → ℕ
-place_of Drone_first = 1
-place_of Station_first = 0
+-- what a node sends at an order
+data Says {Core : Type 0} (clock : ℕ) (link : Link) (r : CoreStep Core) (answer : PlanMsg) : Type 0 where
+  Spent : steps clock link r ≡ None → Says clock link r answer
+  Said : (packet : Packet) → packet ≡ signed_packet link.key link.extras link.me link.seq (next_in link.history clock) (message_of_plan answer)
+      → steps clock link r ≡ done (record { link = sent_at (next_in link.history clock) link; core = r.core }) (r.first ++ Sends packet (message_of_plan answer) ∷ r.last) → Says clock link r answer
 
-found_at : (o : Order) (d : DroneState) (t : StationState) → position (is_called t.me) (pair_of o d t) ≡ Some (place_of o)
-found_at Drone_first d t = rw (name_same t.me) refl
-found_at Station_first d t = rw (name_same t.me) refl
+orders_say : {Core : Type 0} (clock : ℕ) (link : Link) (r : CoreStep Core) (answer : PlanMsg) → r.answer ≡ Some answer → Says clock link r answer
+orders_say clock link r answer is =
+    let stamp = next_in link.history clock in
+    by_test (λ (o : Outcome Link). steps clock link r ≡ behind r.first (with_core r.core r.last o) → Says clock link r answer) (nat_lt greatest_stamp stamp) _ _
+    (λ _ e. Spent e)
+    (λ _ e. Said (signed_packet link.key link.extras link.me link.seq stamp (message_of_plan answer)) refl e)
+    (ap (λ z. steps clock link (record r { answer = z })) is)
 
-station_at : (o : Order) (d : DroneState) (t : StationState) → slice_get (pair_of o d t) (place_of o) ≡ Some (StationNode t)
-station_at Drone_first d t = refl
-station_at Station_first d t = refl
+module _ (s : Scene) (g : Sound s) (dp sp : ℕ) (d : Side DroneState) (t : Side StationState) (d_there : slice_get s.nodes dp ≡ Some (Drone d)) (t_there : slice_get s.nodes sp ≡ Some (Station t))
+    (kind : PlanKind) (valid : IsValid (number_of kind) s.draft) (accepted : upload_refusal t.core (number_of kind) s.draft ≡ None) (free : is_other d.core.upload (stream_of t.core.me) ≡ false) where
+  abbrev sys : ℕ
+  sys = d.core.sys
 
-placed : (o : Order) (d : DroneState) (t u : StationState) → slice_set (pair_of o d t) (place_of o) (StationNode u) ≡ pair_of o d u
-placed Drone_first d t u = refl
-placed Station_first d t u = refl
+  abbrev me : Name
+  me = t.core.me
 
-module _ (o : Order) (d : DroneState) (t : StationState) (sent : List Frame) (draft : List Item) (kind : PlanKind) (apart : same_name (drone_name d.sys) t.me ≡ false) (own : IsOwn d.results (stream_of t.me)) (free : is_other d.upload (stream_of t.me) ≡ false) (valid : IsValid (number_of kind) draft) (accepted : upload_refusal t (number_of kind) draft ≡ None) where
-  abbrev pub upload : Upload
-  upload = record { station = t.me; drone = drone_name d.sys; kind = kind; plan = draft }
+  abbrev number : ℕ
+  number = number_of kind
+
+  d_named : node_name (Drone d) ≡ drone_name sys
+  d_named = let core = g.cores dp (Drone d) d_there in name_is (node_name (Drone d)) (drone_name sys) (sym core.1) core.2
+
+  t_named : node_name (Station t) ≡ me
+  t_named = sym (g.cores sp (Station t) t_there).1
+
+  abbrev upload : Upload
+  upload = upload_of sys me kind s.draft valid
 
   -- a flow that is long enough ends the upload, from this scene on
-  abbrev pub LeadsOn : Scene → Type 0
-  LeadsOn s = (k : ℕ) → 2 * length draft + 6 ≤ k → IfOk (flows k s) (λ u. Installs upload u.events)
+  abbrev LeadsOn : Scene → Type 0
+  LeadsOn x = (k : ℕ) → 2 * length s.draft + 6 + drones_in s.nodes ≤ k → IfOk (flows k x) (λ u. Installs upload u.events)
 
-  abbrev From : StationStep → Type 0
-  From r = LeadsOn (scene_of o (with_answer sent t.me r.answer) (length sent) [] d r.station)
+  room : has_no_room d.core (stream_of me) ≡ false
+  room =
+      let core = g.cores dp (Drone d) d_there in
+      let few = few_streams s g dp (Drone d) d_there in
+      let less = room_for d.link.history d.core core.3 in
+      full (not (is_some (result_of d.core.results (stream_of me)))) (nat_lt (length d.core.results) most_results) (lt-ltb (length d.core.results) most_results (omega arith))
+    where
+      full : (a b : Bool) → b ≡ true → (a && not b) ≡ false
+      full true b e = ap not e
+      full false b e = refl
 
-  begun_on : From (begin_upload t (stream_of (drone_name d.sys)) (number_of kind) draft)
-  begun_on =
-      let op = operation_of Uploads (stream_of (drone_name d.sys)) (number_of kind) draft in
-      let ready : StationState = record t { outcome = None } in
-      by_test From (is_synced t.synced (stream_of (drone_name d.sys))) _ _
-      (λ _ k enough. count_stage o d.sys t.me kind draft [] apart valid k d d.upload ready 0 None sent (length sent) free (own_room d.results (stream_of t.me) own) refl (omega arith))
-      (λ _. subst From (sym (cond-true (nat_lt t.pings last_ping) (says (record ready { pings = t.pings + 1 }) (pinging op (Some (t.pings + 1))) _) _ (number_left t (third_none (busy_with t.operation) (empty_plan draft) (spent t) (unfit (number_of kind) draft) accepted))))
-      (λ k enough. ping_stage o d.sys t.me kind draft [] apart valid k d d.upload (record ready { pings = t.pings + 1 }) 0 (t.pings + 1) sent (length sent) free (own_room d.results (stream_of t.me) own) refl enough))
+  -- the first message
+  record Begins (r : StationStep) : Type 0 where
+    stage : Stage s.draft
+    answer : r.answer ≡ Some (message_of sys me kind s.draft valid stage)
+    up : is_up stage ≡ true
+    station_is : StationIs sys me kind s.draft valid stage r.station
+    drone_is : DroneIs sys me kind s.draft valid stage d.core
+    cost : costs sys me kind s.draft valid stage + all_extra (is_ping stage) (names_of s.nodes) + 1 ≤ 2 * length s.draft + 6 + drones_in s.nodes
+
+  begin_is : Begins (begin_upload t.core (stream_of (drone_name sys)) number s.draft)
+  begin_is =
+      let op = operation_of Uploads (stream_of (drone_name sys)) number s.draft in
+      let ready : StationState = record t.core { outcome = None } in
+      let none = no_extra (names_of s.nodes) 0 (length (names_of s.nodes)) in
+      let all = drones_extra s.nodes in
+      by_test Begins (is_synced t.core.synced (stream_of (drone_name sys))) _ _
+      (λ _. record {
+        stage = Counts;
+        answer = refl;
+        up = refl;
+        station_is = (None, record { base = ready; idle = 0; is = refl });
+        drone_is = record { base = d.core; upload = d.core.upload; is = refl; free = free; room = room };
+        cost = omega arith;
+      })
+      (λ _. subst Begins (sym (cond-true (nat_lt t.core.pings last_ping) (says (record ready { pings = t.core.pings + 1 }) (pinging op (Some (t.core.pings + 1))) _) _ (number_left t.core (third_none (busy_with t.core.operation) (empty_plan s.draft) (spent t.core) (unfit number s.draft) accepted))))
+      (record {
+        stage = Pings t.core.boot (t.core.pings + 1);
+        answer = refl;
+        up = refl;
+        station_is = (refl, record { base = record ready { pings = t.core.pings + 1 }; idle = 0; is = refl });
+        drone_is = record { base = d.core; upload = d.core.upload; is = refl; free = free; room = room };
+        cost = omega arith;
+      }))
+
+  abbrev x : Scene
+  x = station_line s
+
+  abbrev from : Scene
+  from = record x { draft = [] }
+
+  x_sound : Sound x
+  x_sound = sound_restated s (length s.sent) s.draft s.clock g (omega arith) g.draft (omega arith) g.clock
+
+  abbrev stamp : ℕ
+  stamp = next_in t.link.history s.clock
+
+  -- the step of the core, and the station after it
+  abbrev does_so : StationStep
+  does_so = begin_upload t.core (stream_of (drone_name sys)) number s.draft
+
+  abbrev call : Outcome (Side StationState)
+  call = station_begins s.clock (stream_of (drone_name sys)) number s.draft t
+
+  abbrev new : Side StationState
+  new = record { link = sent_at stamp t.link; core = untold does_so.station }
+
+  differ_places : dp ≢ sp
+  differ_places e = roles (same_place s.nodes dp sp (Drone d) (Station t) d_there t_there e)
+    where
+      roles : Drone d ≡ Station t → ⊥
+      roles e = absurd (cc)
+
+  module _ (b : Begins does_so) (packet : Packet) (made : packet ≡ signed_packet t.link.key t.link.extras t.link.me t.link.seq stamp (message_of_plan (message_of sys me kind s.draft valid b.stage))) where
+    abbrev after : Scene
+    after = moved from sp (Station new) (packet ∷ [])
+
+    waits : Sound after → Carries s.key packet stamp (message_of sys me kind s.draft valid b.stage) → Waits sys me kind s.draft valid dp sp after (length s.sent) b.stage
+    waits sound carries = record {
+      sound = sound;
+      drone = d;
+      drone_there = set_elsewhere s.nodes sp dp (Station new) differ_places ∙ d_there;
+      drone_named = d_named;
+      station = new;
+      station_there = set_there s.nodes sp (Station t) (Station new) t_there;
+      station_named = t_named;
+      drone_is = b.drone_is;
+      station_is = station_untold sys me kind s.draft valid b.stage does_so.station b.station_is;
+      flies = record {
+        frame = packet;
+        found = last_there s.sent packet;
+        from = ap (λ (p : Packet). p.from) made ∙ t_named ∙ ap (sender sys me kind s.draft valid dp sp) (sym b.up);
+        stamp = stamp;
+        carries = carries;
+        recent = next_recent t.link.history s.clock;
+        fresh = fresh (is_up b.stage) b.up;
+      };
+      asides = λ i q le e ne. elim (at_end s.sent packet q i e) [
+        | inl old ↦ let inside = within s.sent i q old in absurd (omega arith)
+        | inr last ↦ absurd (ne last.0)
+      ];
+    }
+      where
+        fresh : (up : Bool) → up ≡ true → (l : ℕ) → last_of (stream_of (sender sys me kind s.draft valid dp sp up)) (listener sys me kind s.draft valid dp sp up d.link new.link).history ≡ Some l → l < stamp
+        fresh true e l h =
+            let below = last_before s g dp sp (Drone d) (Station t) d_there t_there me t_named l h in
+            let above = next_later t.link.history s.clock in
+            omega arith
+        fresh false e l h = absurd (cc)
+
+    leads : (u : Step) → StepKeeps x u.scene → u.scene ≡ after → Carries u.scene.key packet stamp (message_of sys me kind s.draft valid b.stage) → LeadsOn u.scene
+    leads u keeps is carries k enough =
+        let key : u.scene.key ≡ s.key = ap (λ (y : Scene). y.key) is in
+        let w = waits (subst Sound is keeps.sound) (subst (λ z. Carries z packet stamp (message_of sys me kind s.draft valid b.stage)) key carries) in
+        let sent : length after.sent ≡ length s.sent + 1 = length-append s.sent (packet ∷ []) in
+        let names : names_of after.nodes ≡ names_of s.nodes = ap (λ (y : Scene). names_of y.nodes) (sym is) ∙ keeps.names in
+        let more : all_extra (is_ping b.stage) (names_of after.nodes) ≡ all_extra (is_ping b.stage) (names_of s.nodes) = ap (all_extra (is_ping b.stage)) names in
+        let cost = b.cost in
+        subst (λ y. IfOk (flows k y) (λ v. Installs upload v.events)) (sym is)
+        (subst (λ z. IfOk (flows k after) (λ v. goal_of upload z v.events)) (up_not_last b.stage b.up)
+        (lands sys me kind s.draft valid g.draft dp sp k after (length s.sent) b.stage w (omega arith) (omega arith)))
+
+  -- its order
+  order_leads : (b : Begins does_so) → Says s.clock t.link (station_does does_so) (message_of sys me kind s.draft valid b.stage) → IfOk (node_does from sp (node_of t.link.me) (as_station call)) (λ u. LeadsOn u.scene)
+  order_leads b (Spent e) = does_nothing (λ u. LeadsOn u.scene) from sp (node_of t.link.me) (as_station call) (ap as_station e)
+  order_leads b (Said packet made e) =
+      let m = message_of sys me kind s.draft valid b.stage in
+      let name = node_of t.link.me in
+      let last = told_events does_so.station.outcome in
+      let events = Sends packet (message_of_plan m) ∷ last in
+      let link = g.links sp (Station t) t_there in
+      let d_link = g.links dp (Drone d) d_there in
+      let sys_is : sys ≡ d.link.me.sys = (g.cores dp (Drone d) d_there).1 in
+      let me_is = d_link.me in
+      let known : NameInRange (drone_name sys) = record { sys = omega arith; comp = omega arith } in
+      let small = number_of-bound kind in
+      let keeps = (sound_does x x_sound).begins sp t (drone_name sys) number known (omega arith) accepted name t_there in
+      let whole : as_station call ≡ done (Station new) events = ap as_station e in
+      let reads = reads_at [] last packet (message_of_plan m) (subst OutcomeReads whole keeps.1) in
+      weaker (λ u. StepKeeps x u.scene × ((u.scene ≡ moved from sp (Station new) (packet ∷ [])) × (u.events ≡ told_by name (length s.sent) events))) (λ u. LeadsOn u.scene) (node_does from sp name (as_station call))
+      (λ u h. leads b packet made u h.0 h.1.0
+      (carries_last u.scene s.sent t.link.key t.link.me t.link.seq stamp (message_of_plan m) m packet h.0.sound (ap (λ (y : Scene). y.sent) h.1.0)
+      (made ∙ ap (λ z. signed_packet t.link.key z t.link.me t.link.seq stamp (message_of_plan m)) link.extras) reads (is_carried sys me kind s.draft valid g.draft b.stage)))
+      (does x from sp name (as_station call) (record { node = Station new; events = events }) (packet ∷ []) whole (ap (λ ps. packet ∷ ps) (no_frames_told does_so.station.outcome)) keeps.0)
+
+  -- where the station is found
+  place_is : position (is_station_named me) s.nodes ≡ Some sp
+  place_is =
+      let f = first_of_all (is_station_named me) s.nodes sp (Station t) t_there (ap (λ n. same_name n me) t_named ∙ name_same me) in
+      f.is ∙ ap Some (g.apart f.place sp f.element (Station t) f.there t_there (called f.element f.holds ∙ sym t_named))
+    where
+      called : (y : Node) → is_station_named me y ≡ true → node_name y ≡ me
+      called (Drone y) e = absurd (cc)
+      called (Station y) e = name_eq (node_of y.link.me) me e
 
   -- the begin line itself
-  pub begin_leads : (given : ℕ) → IfOk (after_line (scene_of o sent given draft d t) (Begin t.me (drone_name d.sys) kind)) (λ u. LeadsOn u.scene)
-  begin_leads given =
-      let s = station_line (scene_of o sent given draft d t) in
-      let begun = begin_upload t (stream_of (drone_name d.sys)) (number_of kind) draft in
+  pub begin_leads : IfOk (after_line s (Begin me (drone_name sys) kind)) (λ u. LeadsOn u.scene)
+  begin_leads =
       let P : Step → Type 0 = λ u. LeadsOn u.scene in
-      let name = drone_name d.sys in
-      let s2 = with_node (record s { draft = [] }) (place_of o) (StationNode begun.station) in
-      subst (λ p. IfOk (begins s p name (number_of kind)) P) (sym (found_at o d t))
-      (subst (λ n. IfOk (begins_at s (place_of o) n name (number_of kind)) P) (sym (station_at o d t))
-      (subst (λ why. IfOk (upload_begins s (place_of o) t name (number_of kind) why) P) (sym accepted)
-      (ok_sends P s2 t.me begun.answer
-      (subst (λ ns. LeadsOn (record { nodes = ns; sent = with_answer sent t.me begun.answer; given = length sent; draft = [] })) (sym (placed o d t begun.station)) begun_on))))
-
--- the two of a scene that has both
-pub record Pair (s : Scene) (d : DroneState) (t : StationState) : Type 0 where
-  pub order : Order
-  pub nodes : s.nodes ≡ pair_of order d t
-  pub apart : same_name (drone_name d.sys) t.me ≡ false
-  pub own : IsOwn d.results (stream_of t.me)
-
-drone_beside : (o : Order) (c d : DroneState) (t : StationState) (k : ℕ) → slice_get (pair_of o c t) k ≡ Some (DroneNode d) → c ≡ d
-drone_beside Drone_first c d t zero e = cc
-drone_beside Drone_first c d t (suc zero) e = absurd (cc)
-drone_beside Drone_first c d t (suc (suc k)) e = absurd (cc)
-drone_beside Station_first c d t zero e = absurd (cc)
-drone_beside Station_first c d t (suc zero) e = cc
-drone_beside Station_first c d t (suc (suc k)) e = absurd (cc)
-
-no_drone : (t : StationState) (d : DroneState) (k : ℕ) → slice_get (StationNode t ∷ []) k ≡ Some (DroneNode d) → ⊥
-no_drone t d zero e = absurd (cc)
-no_drone t d (suc k) e = absurd (cc)
-
-pub pair_found : (s : Scene) (d : DroneState) (t : StationState) (j k : ℕ) → slice_get s.nodes j ≡ Some (DroneNode d) → slice_get s.nodes k ≡ Some (StationNode t) → Reached s → Pair s d t
-pair_found s d t j k drone station (Nobody nodes none) = absurd (let z : None ≡ Some (DroneNode d) = ap (λ l. slice_get l j) (sym nodes) ∙ drone in cc)
-pair_found s d t j k drone station (A_drone c nodes results none) = absurd (no_station c t k (ap (λ l. slice_get l k) (sym nodes) ∙ station))
-pair_found s d t j k drone station (A_station v nodes frames) = absurd (no_drone v d j (ap (λ l. slice_get l j) (sym nodes) ∙ drone))
-pair_found s d t j k drone station (A_pair o c v nodes apart own frames) =
-    let is_t = (beside o c v t t k (ap (λ l. slice_get l k) (sym nodes) ∙ station)).0 in
-    let is_d = drone_beside o c d v j (ap (λ l. slice_get l j) (sym nodes) ∙ drone) in
-    record {
-      order = o;
-      nodes = nodes ∙ ap (λ x. pair_of o x v) is_d ∙ ap (pair_of o d) is_t;
-      apart = subst (λ (x : DroneState). same_name (drone_name x.sys) t.me ≡ false) is_d (subst (λ (x : StationState). same_name (drone_name c.sys) x.me ≡ false) is_t apart);
-      own = subst (λ (x : DroneState). IsOwn x.results (stream_of t.me)) is_d (subst (λ (x : StationState). IsOwn c.results (stream_of x.me)) is_t own);
-    }
+      let order = λ (k : ℕ) (node : Side StationState). upload_begins x k node (drone_name sys) number (upload_refusal node.core number x.draft) in
+      let b = begin_is in
+      subst (λ p. IfOk (orders_placed x p order) P) (sym place_is)
+      (subst (λ o. IfOk (orders_at x sp o order) P) (sym t_there)
+      (subst (λ why. IfOk (upload_begins x sp t (drone_name sys) number why) P) (sym accepted)
+      (order_leads b (orders_say s.clock t.link (station_does does_so) (message_of sys me kind s.draft valid b.stage) b.answer))))

@@ -1,5 +1,5 @@
 -- Every uncontended upload ends installed and acknowledged within its flow line.
-use Rattle.std.proofs.Common.{◌≡◌, ◌∙◌, ℕ, ◌+◌, ◌*◌, ◌≤◌, Bool, false, List, [], ◌∷◌, ◌++◌, length, None, refl, sym, ap, subst, arith, length-append, append_assoc}
+use Rattle.std.proofs.Common.{◌≡◌, ◌∙◌, ℕ, ◌+◌, ◌*◌, ◌≤◌, Bool, false, List, [], ◌∷◌, ◌++◌, length, Option, Some, None, sym, ap, subst, arith, length-append, append_assoc}
 use Rattle.std.specs.Prelude.{IfOk}
 use Rattle.mav_ports.specs.declared.names.Name.{Name}
 use Rattle.plan_items.specs.declared.items.Item.{Item}
@@ -7,19 +7,32 @@ use Rattle.plan_items.specs.Kinds.{number_of}
 use Rattle.plan_items.specs.Validation.{IsValid}
 use Rattle.plan_upload.specs.Drone.{is_other}
 use Rattle.plan_upload.specs.Refusals.{upload_refusal}
-use Rattle.fleet_world.specs.declared.lines.Line.TheVariants.{Begin, Flow}
-use Rattle.fleet_world.specs.Scene.{drone_name, stream_of}
-use Rattle.fleet_world.specs.Grammar.{line_of}
+use Rattle.scenario_lines.specs.declared.lines.Line.TheVariants.{Begin, Flow}
+use Rattle.scenario_lines.specs.Grammar.{line_of}
+use Rattle.scenario_lines.specs.Standing.{drone_name}
+use Rattle.fleet_world.specs.Scene.{Drone, Station, node_name, stream_of, drones_in}
 use Rattle.fleet_world.specs.Steps.{Step, flows, after_line}
-use Rattle.fleet_world.specs.Scenario.{Played, at_start, goes_on, line_played, last_played, rest_played, unless_stopped, lines_played, played, whole_lines, unfinished}
+use Rattle.fleet_world.specs.Scenario.{Stop, Played, at_start, goes_on, line_played, last_played, rest_played, unless_stopped, lines_played, played, whole_lines, unfinished}
+use Rattle.fleet_world.specs.Authentic.{UnlessStopped, AuthenticLines, Authentic}
+use Rattle.fleet_invariants.specs.Sound.{Sound}
+use Rattle.fleet_invariants.proofs.Tests.{name_is}
+use Rattle.fleet_invariants.proofs.Plays.{sound_start, sound_lines}
 use Rattle.fleet_liveness.specs.Uncontended.{Upload, NextLine, Whole, Last, text_of, Lines, HaveLines, before, begun, next_played, flowed, IsUncontended, Installs, IsInstalled}
-use Rattle.fleet_liveness.proofs.Reached.{Nobody, lines_keep}
-use Rattle.fleet_liveness.proofs.Begun.{Pair, pair_found, begin_leads}
+use Rattle.fleet_liveness.proofs.Begun.{begin_leads}
 use Rattle.fleet_liveness.proofs.Onward.{line_done, last_done, Done, goes_done, Grows, grows_same, grows_then, lines_grow, end_grows, unless_none, one_line, front_and}
 
--- from this step on, a flow that is long enough ends the upload
-abbrev LeadsOn : Upload → Step → Type 0
-LeadsOn u t = (k : ℕ) → 2 * length u.plan + 6 ≤ k → IfOk (flows k t.scene) (λ v. Installs u v.events)
+-- the front of authentic lines is authentic
+unless_so : (stop : Option Stop) (A B : Type 0) → (A → B) → UnlessStopped stop A → UnlessStopped stop B
+unless_so None A B f h = f h
+unless_so (Some stop) A B f h = tt
+
+front_authentic : (front more : List (List ℕ)) (p : Played) (number : ℕ) → AuthenticLines p number (front ++ more) → AuthenticLines p number front
+front_authentic [] more p number h = tt
+front_authentic (raw ∷ front) more p number h = unless_so p.stop _ _ (λ x. (x.0, front_authentic front more (line_played p number raw) (number + 1) x.1)) h
+
+front_is : (ended : Bool) (bytes : List ℕ) (front : List (List ℕ)) (begin : List ℕ) (flow : NextLine) → HaveLines ended bytes front begin flow → (more : List (List ℕ)) × (whole_lines bytes ≡ front ++ more)
+front_is ended bytes front begin (Whole raw more) h = (begin ∷ raw ∷ more, h)
+front_is ended bytes front begin (Last raw) h = (begin ∷ [], h.1.0)
 
 -- an upload by its parts
 upload_is : (u : Upload) (station drone : Name) (plan : List Item) → station ≡ u.station → drone ≡ u.drone → plan ≡ u.plan → record { station = station; drone = drone; kind = u.kind; plan = plan } ≡ u
@@ -35,31 +48,31 @@ flow_goes p number (Last []) frames says e = absurd (cc)
 flow_goes p number (Last (b ∷ bs)) frames says e = last_done p number b bs e ∙ ap (λ l. goes_on p (after_line p.scene l)) says
 
 -- what comes behind the flow line only adds events
-later : (ended : Bool) (bytes : List ℕ) (front : List (List ℕ)) (begin : List ℕ) (flow : NextLine) → HaveLines ended bytes front begin flow
-    → (let p = lines_played at_start 1 front in p.stop ≡ None → (let b = line_played p (length front + 1) begin in b.stop ≡ None → Grows (next_played b (length front + 2) flow) (played ended bytes)))
-later ended bytes front begin (Whole raw more) lines going_on begins =
-    let p = lines_played at_start 1 front in
+later : (key : List ℕ) (ended : Bool) (bytes : List ℕ) (front : List (List ℕ)) (begin : List ℕ) (flow : NextLine) → HaveLines ended bytes front begin flow
+    → (let p = lines_played (at_start key) 1 front in p.stop ≡ None → (let b = line_played p (length front + 1) begin in b.stop ≡ None → Grows (next_played b (length front + 2) flow) (played key ended bytes)))
+later key ended bytes front begin (Whole raw more) lines going_on begins =
+    let p = lines_played (at_start key) 1 front in
     let b = line_played p (length front + 1) begin in
     let f = line_played b (length front + 2) raw in
-    let all = lines_played at_start 1 (whole_lines bytes) in
+    let all = lines_played (at_start key) 1 (whole_lines bytes) in
     let is : all ≡ lines_played f (length front + 2 + 1) more =
-    ap (lines_played at_start 1) lines ∙ front_and front (begin ∷ (raw ∷ more)) at_start 1
+    ap (lines_played (at_start key) 1) lines ∙ front_and front (begin ∷ (raw ∷ more)) (at_start key) 1
     ∙ ap (λ n. lines_played p n (begin ∷ (raw ∷ more))) (let z : 1 + length front ≡ length front + 1 = omega arith in z)
     ∙ one_line p (length front + 1) begin (raw ∷ more) going_on
     ∙ ap (λ n. lines_played b n (raw ∷ more)) (let z : length front + 1 + 1 ≡ length front + 2 = omega arith in z)
     ∙ one_line b (length front + 2) raw more begins in
-    grows_then f all (played ended bytes) (subst (Grows f) (sym is) (lines_grow more f (length front + 2 + 1)))
+    grows_then f all (played key ended bytes) (subst (Grows f) (sym is) (lines_grow more f (length front + 2 + 1)))
     (end_grows ended all (length (whole_lines bytes) + 1) (unfinished bytes))
-later ended bytes front begin (Last raw) lines going_on begins =
-    let p = lines_played at_start 1 front in
+later key ended bytes front begin (Last raw) lines going_on begins =
+    let p = lines_played (at_start key) 1 front in
     let b = line_played p (length front + 1) begin in
-    let all = lines_played at_start 1 (whole_lines bytes) in
+    let all = lines_played (at_start key) 1 (whole_lines bytes) in
     let is : all ≡ b =
-    ap (lines_played at_start 1) lines.1.0 ∙ front_and front (begin ∷ []) at_start 1
+    ap (lines_played (at_start key) 1) lines.1.0 ∙ front_and front (begin ∷ []) (at_start key) 1
     ∙ ap (λ n. lines_played p n (begin ∷ [])) (let z : 1 + length front ≡ length front + 1 = omega arith in z)
     ∙ one_line p (length front + 1) begin [] going_on in
     let count : length (whole_lines bytes) + 1 ≡ length front + 2 = (let z : length (whole_lines bytes) ≡ length front + 1 = ap length lines.1.0 ∙ length-append front (begin ∷ []) in omega arith) in
-    let rest : played ended bytes ≡ last_played b (length front + 2) raw =
+    let rest : played key ended bytes ≡ last_played b (length front + 2) raw =
     ap (λ (q : Played). unless_stopped q.stop q (rest_played ended q (length (whole_lines bytes) + 1) (unfinished bytes))) is
     ∙ unless_none b.stop b (rest_played ended b (length (whole_lines bytes) + 1) (unfinished bytes)) begins
     ∙ ap (λ e. rest_played e b (length (whole_lines bytes) + 1) (unfinished bytes)) lines.0
@@ -67,48 +80,59 @@ later ended bytes front begin (Last raw) lines going_on begins =
     ∙ ap (last_played b (length front + 2)) lines.1.1 in
     subst (Grows (last_played b (length front + 2) raw)) (sym rest) (grows_same (last_played b (length front + 2) raw))
 
-module _ (ended : Bool) (bytes : List ℕ) (l : Lines) (u : Upload) (h : IsUncontended ended bytes l u) where
-  -- the scene before the begin line has the two
-  pair : Pair (before l).scene h.is_free.drone h.accepts.station
-  pair = pair_found (before l).scene h.is_free.drone h.accepts.station h.is_free.place h.accepts.place h.is_free.found h.accepts.found (lines_keep l.front at_start 1 (Nobody refl refl))
+-- from this step on, a flow that is long enough ends the upload
+abbrev LeadsOn : ℕ → Upload → Step → Type 0
+LeadsOn drones u t = (k : ℕ) → 2 * length u.plan + 6 + drones ≤ k → IfOk (flows k t.scene) (λ v. Installs u v.events)
+
+module _ (key : List ℕ) (ended : Bool) (bytes : List ℕ) (authentic : Authentic key ended bytes) (l : Lines) (u : Upload) (h : IsUncontended key ended bytes l u) where
+  -- the scene before the begin line
+  abbrev first : Played
+  first = before key l
+
+  sound : Sound first.scene
+  sound =
+      let f = front_is ended bytes l.front l.begin l.flow h.lines in
+      sound_lines (at_start key) (sound_start key) 1 l.front (front_authentic l.front f.0 (at_start key) 1 (subst (AuthenticLines (at_start key) 1) f.1 authentic.lines))
 
   -- the begin line was done
-  begin_goes : begun l ≡ goes_on (before l) (after_line (before l).scene (Begin u.station u.drone u.kind))
-  begin_goes = line_done (before l) (length l.front + 1) l.begin h.begin_done ∙ ap (λ x. goes_on (before l) (after_line (before l).scene x)) h.begins
+  begin_goes : begun key l ≡ goes_on first (after_line first.scene (Begin u.station u.drone u.kind))
+  begin_goes = line_done first (length l.front + 1) l.begin h.begin_done ∙ ap (λ x. goes_on first (after_line first.scene x)) h.begins
 
-  begin_on : IfOk (after_line (before l).scene (Begin u.station u.drone u.kind)) (LeadsOn u)
+  begin_on : IfOk (after_line first.scene (Begin u.station u.drone u.kind)) (LeadsOn (drones_in first.scene.nodes) u)
   begin_on =
-      let s = (before l).scene in
+      let s = first.scene in
       let t = h.accepts.station in
       let d = h.is_free.drone in
+      let drones = drones_in s.nodes in
+      let d_core = sound.cores h.is_free.place (Drone d) h.is_free.found in
+      let t_core = sound.cores h.accepts.place (Station t) h.accepts.found in
+      let station_is : t.core.me ≡ u.station = t_core.1 ∙ h.accepts.named in
+      let drone_is : drone_name d.core.sys ≡ u.drone = name_is (drone_name d.core.sys) (node_name (Drone d)) d_core.1 (sym d_core.2) ∙ h.is_free.named in
       let valid : IsValid (number_of u.kind) s.draft = subst (IsValid (number_of u.kind)) (sym h.plan_is) h.valid in
-      let accepted : upload_refusal t (number_of u.kind) s.draft ≡ None = subst (λ x. upload_refusal t (number_of u.kind) x ≡ None) (sym h.plan_is) h.accepts.accepted in
-      let free : is_other d.upload (stream_of t.me) ≡ false = subst (λ x. is_other d.upload (stream_of x) ≡ false) (sym h.accepts.named) h.is_free.free in
-      let v : Upload = record { station = t.me; drone = drone_name d.sys; kind = u.kind; plan = s.draft } in
-      subst (λ v. IfOk (after_line s (Begin v.station v.drone v.kind)) (LeadsOn v)) (upload_is u t.me (drone_name d.sys) s.draft h.accepts.named h.is_free.named h.plan_is)
-      (subst (λ ns. IfOk (after_line (record { nodes = ns; sent = s.sent; given = s.given; draft = s.draft }) (Begin v.station v.drone v.kind)) (LeadsOn v)) (sym pair.nodes)
-      (begin_leads pair.order d t s.sent s.draft u.kind pair.apart pair.own free valid accepted s.given))
+      let accepted : upload_refusal t.core (number_of u.kind) s.draft ≡ None = subst (λ x. upload_refusal t.core (number_of u.kind) x ≡ None) (sym h.plan_is) h.accepts.accepted in
+      let free : is_other d.core.upload (stream_of t.core.me) ≡ false = subst (λ x. is_other d.core.upload (stream_of x) ≡ false) (sym station_is) h.is_free.free in
+      subst (λ v. IfOk (after_line s (Begin v.station v.drone v.kind)) (LeadsOn drones v)) (upload_is u t.core.me (drone_name d.core.sys) s.draft station_is drone_is h.plan_is)
+      (begin_leads s sound h.is_free.place h.accepts.place d t h.is_free.found h.accepts.found u.kind valid accepted free)
 
-  begin_line : Done (LeadsOn u) (before l) (after_line (before l).scene (Begin u.station u.drone u.kind))
-  begin_line = goes_done (LeadsOn u) (before l) (after_line (before l).scene (Begin u.station u.drone u.kind)) (ap (λ (q : Played). q.stop) (sym begin_goes) ∙ h.begin_done) begin_on
+  begin_line : Done (LeadsOn (drones_in first.scene.nodes) u) first (after_line first.scene (Begin u.station u.drone u.kind))
+  begin_line = goes_done (LeadsOn (drones_in first.scene.nodes) u) first (after_line first.scene (Begin u.station u.drone u.kind)) (ap (λ (q : Played). q.stop) (sym begin_goes) ∙ h.begin_done) begin_on
 
   -- and the flow line
-  flow_line : Done (λ v. Installs u v.events) (begun l) (flows h.frames (begun l).scene)
+  flow_line : Done (λ v. Installs u v.events) (begun key l) (flows h.frames (begun key l).scene)
   flow_line =
-      let goes = flow_goes (begun l) (length l.front + 2) l.flow h.frames h.flows h.flow_done in
-      let enough = h.enough in
-      goes_done (λ v. Installs u v.events) (begun l) (flows h.frames (begun l).scene) (ap (λ (q : Played). q.stop) (sym goes) ∙ h.flow_done)
-      (subst (λ (q : Played). IfOk (flows h.frames q.scene) (λ v. Installs u v.events)) (sym (begin_goes ∙ begin_line.is)) (begin_line.holds h.frames (omega arith)))
+      let goes = flow_goes (begun key l) (length l.front + 2) l.flow h.frames h.flows h.flow_done in
+      goes_done (λ v. Installs u v.events) (begun key l) (flows h.frames (begun key l).scene) (ap (λ (q : Played). q.stop) (sym goes) ∙ h.flow_done)
+      (subst (λ (q : Played). IfOk (flows h.frames q.scene) (λ v. Installs u v.events)) (sym (begin_goes ∙ begin_line.is)) (begin_line.holds h.frames h.enough))
 
-  pub uploads : IsInstalled ended bytes l u
+  pub uploads : IsInstalled key ended bytes l u
   uploads =
-      let goes = flow_goes (begun l) (length l.front + 2) l.flow h.frames h.flows h.flow_done in
-      let within : (flowed l).events ≡ (begun l).events ++ flow_line.step.events = ap (λ (q : Played). q.events) (goes ∙ flow_line.is) in
-      let more = later ended bytes l.front l.begin l.flow h.lines h.front_done h.begin_done in
+      let goes = flow_goes (begun key l) (length l.front + 2) l.flow h.frames h.flows h.flow_done in
+      let within : (flowed key l).events ≡ (begun key l).events ++ flow_line.step.events = ap (λ (q : Played). q.events) (goes ∙ flow_line.is) in
+      let more = later key ended bytes l.front l.begin l.flow h.lines h.front_done h.begin_done in
       record {
         events = flow_line.step.events;
         within = within;
         installs = flow_line.holds;
         later = more.more;
-        whole = more.is ∙ ap (λ z. z ++ more.more) within ∙ append_assoc (begun l).events flow_line.step.events more.more;
+        whole = more.is ∙ ap (λ z. z ++ more.more) within ∙ append_assoc (begun key l).events flow_line.step.events more.more;
       }

@@ -1,12 +1,20 @@
-pub mod Steps
-pub mod Pairs
-pub mod Flows
-pub mod Messages
-pub mod Conversation
-pub mod Kept
-pub mod Fresh
-pub mod Reached
-pub mod Begun
-pub mod Onward
+mod Names
+mod Messages
+mod Stages
+mod Hearing
+mod Steps
+mod Scenes
+mod Sendings
+mod Waits
+mod Lists
+mod Given
+mod Others
+mod Telling
+mod Turns
+mod Rounds
+mod Landing
+mod Begun
+mod Onward
 pub mod Every
-pub mod Shown
+mod Shown
+mod Shorts

@@ -12,8 +12,10 @@ use Rattle.plan_items.specs.Validation.{item_fault, plan_fault}
 use Rattle.plan_upload.specs.Addresses.{same_stream, same_name, everyone, is_for_drone}
 use Rattle.plan_upload.specs.Drone.{DroneState, Installs, Upload, answers, ask, opened, installed, is_other, has_no_room, heard, count_comes, item_comes, item_fits, last_item, cancel_comes, drone_step}
 use Rattle.plan_upload.specs.Station.{StationState, Operation, Phase, Pinging, Cancelling, Sending, Uploads, Told_installed, addressee, item_asked, sends, ends, starts, synchronised, phase_step, station_step}
-use Rattle.plan_safety.proofs.Keys.{number_same, same, name_same}
-use Rattle.fleet_world.specs.Scene.{drone_name, stream_of}
+use Rattle.scenario_lines.specs.Standing.{drone_name}
+use Rattle.fleet_world.specs.Scene.{stream_of}
+use Rattle.fleet_invariants.proofs.Tests.{number_same, name_same}
+use Rattle.fleet_liveness.proofs.Names.{same}
 
 -- what holds of all elements holds of the one behind a front
 pub holds_at : {A : Type 0} (P : A → Type 0) (front : List A) (x : A) (rest : List A) → All P (front ++ x ∷ rest) → P x

@@ -1,55 +1,73 @@
 -- What holds of a scenario's step wherever it meets no limit.
-use Rattle.std.proofs.Common.{◌≡◌, ◌+◌, true, false, if◌then◌else◌, nat_lt, List, [], ◌∷◌, ◌++◌, length, Option, Some, None, Ok, Err, subst}
-use Rattle.std.specs.Prelude.{IfOk}
+use Rattle.std.proofs.Common.{◌≡◌, ℕ, ◌+◌, true, false, List, [], ◌++◌, length, slice_set, Some, None, Ok, Err, refl, ap, subst, sym}
+use Rattle.std.specs.Prelude.{IfOk, nat_le}
 use Rattle.std.specs.declared.result.Result.{Result}
 use Rattle.mav_ports.specs.declared.names.Name.{Name}
-use Rattle.plan_items.specs.declared.messages.PlanMsg.{PlanMsg}
+use Rattle.mav_frame.specs.Packet.{Packet}
+use Rattle.mav_frame.specs.Encoding.{encoding}
 use Rattle.plan_upload.specs.Addresses.{same_name}
-use Rattle.plan_safety.proofs.Keys.{by_test}
-use Rattle.fleet_world.specs.declared.faults.Bound.{Bound}
-use Rattle.fleet_world.specs.declared.nodes.Node.{Node}
-use Rattle.fleet_world.specs.declared.nodes.Frame.{Frame}
-use Rattle.fleet_world.specs.Scene.{Scene, node_name}
-use Rattle.fleet_world.specs.Events.{Event, Sent}
-use Rattle.fleet_world.specs.Steps.{Step, rests, behind, and_then, before, sends, most_frames, node_hears, given_to}
+use Rattle.mav_nodes.specs.Links.{Done, Outcome}
+use Rattle.fleet_report.specs.Events.{Event}
+use Rattle.fleet_world.specs.Scene.{Scene, Node, node_name}
+use Rattle.fleet_world.specs.Steps.{Step, Halt, behind, and_then, packets_in, told_by, node_receives, node_does, most_frames, given_to}
+use Rattle.fleet_invariants.specs.Kept.{StepKeeps, Keeps}
+use Rattle.fleet_invariants.proofs.Tests.{by_test}
 
 -- what holds of every step holds of one that met no limit
-pub always : (P : Step → Type 0) (r : Result Step Bound) → ((t : Step) → P t) → IfOk r P
+pub always : (P : Step → Type 0) (r : Result Step Halt) → ((t : Step) → P t) → IfOk r P
 always P (Ok t) f = f t
-always P (Err b) f = tt
+always P (Err halt) f = tt
+
+pub both : (s : Scene) (P : Step → Type 0) (r : Result Step Halt) → Keeps s r → IfOk r P → IfOk r (λ t. StepKeeps s t.scene × P t)
+both s P (Ok t) k h = (k, h)
+both s P (Err halt) k h = tt
+
+pub weaker : (P Q : Step → Type 0) (r : Result Step Halt) → ((t : Step) → P t → Q t) → IfOk r P → IfOk r Q
+weaker P Q (Ok t) f h = f t h
+weaker P Q (Err halt) f h = tt
 
 -- a step, with the events that came before it
 abbrev pub step_behind : List Event → Step → Step
 step_behind events t = record { scene = t.scene; events = events ++ t.events }
 
-pub ok_behind : (P : Step → Type 0) (events : List Event) (r : Result Step Bound) → IfOk r (λ t. P (step_behind events t)) → IfOk (behind events r) P
+pub ok_behind : (P : Step → Type 0) (events : List Event) (r : Result Step Halt) → IfOk r (λ t. P (step_behind events t)) → IfOk (behind events r) P
 ok_behind P events (Ok t) h = h
-ok_behind P events (Err b) h = tt
+ok_behind P events (Err halt) h = tt
 
-pub ok_then : (P : Step → Type 0) (r : Result Step Bound) (next : Scene → Result Step Bound) → IfOk r (λ t. IfOk (next t.scene) (λ u. P (step_behind t.events u))) → IfOk (and_then r next) P
+pub ok_then : (P : Step → Type 0) (r : Result Step Halt) (next : Scene → Result Step Halt) → IfOk r (λ t. IfOk (next t.scene) (λ u. P (step_behind t.events u))) → IfOk (and_then r next) P
 ok_then P (Ok t) next h = ok_behind P t.events (next t.scene) h
-ok_then P (Err b) next h = tt
-
-pub ok_before : (P : Step → Type 0) (r : Result Step Bound) (events : List Event) → IfOk r (λ t. P (record { scene = t.scene; events = t.events ++ events })) → IfOk (before r events) P
-ok_before P (Ok t) events h = h
-ok_before P (Err b) events h = tt
-
--- the frames with a node's answer behind them, and what is told of it
-abbrev pub with_answer : List Frame → Name → Option PlanMsg → List Frame
-with_answer sent from None = sent
-with_answer sent from (Some m) = sent ++ record { from = from; message = m } ∷ []
-
-abbrev pub answer_events : List Frame → Name → Option PlanMsg → List Event
-answer_events sent from None = []
-answer_events sent from (Some m) = Sent (length sent + 1) from m ∷ []
-
-pub ok_sends : (P : Step → Type 0) (s : Scene) (from : Name) (answer : Option PlanMsg) → P (record { scene = record s { sent = with_answer s.sent from answer }; events = answer_events s.sent from answer }) → IfOk (sends s from answer) P
-ok_sends P s from None h = h
-ok_sends P s from (Some m) h = by_test (λ r. IfOk r P) (nat_lt (length s.sent) most_frames) _ _ (λ _. h) (λ _. tt)
+ok_then P (Err halt) next h = tt
 
 -- a node that is given a frame: its sender, and another
-pub ok_own : (P : Step → Type 0) (s : Scene) (place : _) (f : Frame) (node : Node) → same_name (node_name node) f.from ≡ true → IfOk (rests s) P → IfOk (given_to s place f (Some node)) P
-ok_own P s place f node e h = subst (λ b. IfOk (if b then rests s else node_hears s place f node) P) (let z : true ≡ same_name (node_name node) f.from = cc in z) h
+pub ok_given : (P : Step → Type 0) (s : Scene) (k : ℕ) (p : Packet) (node : Node)
+    → (same_name (node_name node) p.from ≡ true → P (record { scene = s; events = [] }))
+    → (same_name (node_name node) p.from ≡ false → IfOk (node_does s k (node_name node) (node_receives s.clock (encoding p) node)) P)
+    → IfOk (given_to s k p (Some node)) P
+ok_given P s k p node own other = by_test (λ r. IfOk r P) (same_name (node_name node) p.from) _ _ own other
 
-pub ok_other : (P : Step → Type 0) (s : Scene) (place : _) (f : Frame) (node : Node) → same_name (node_name node) f.from ≡ false → IfOk (node_hears s place f node) P → IfOk (given_to s place f (Some node)) P
-ok_other P s place f node e h = subst (λ b. IfOk (if b then rests s else node_hears s place f node) P) (let z : false ≡ same_name (node_name node) f.from = cc in z) h
+-- the node at a place goes on as another, and these frames are sent
+abbrev pub moved : Scene → ℕ → Node → List Packet → Scene
+moved s k node packets = record s { nodes = slice_set s.nodes k node; sent = s.sent ++ packets }
+
+pub record Moves (s : Scene) (k : ℕ) (node : Node) (packets : List Packet) (events : List Event) (t : Step) : Type 0 where
+  pub is : t.scene ≡ moved s k node packets
+  pub events_are : t.events ≡ events
+  pub keeps : StepKeeps s t.scene
+
+pub does_nothing : (P : Step → Type 0) (s : Scene) (k : ℕ) (name : Name) (o : Outcome Node) → o ≡ None → IfOk (node_does s k name o) P
+does_nothing P s k name o e = subst (λ x. IfOk (node_does s k name x) P) (sym e) tt
+
+pub does : (s from : Scene) (k : ℕ) (name : Name) (o : Outcome Node) (d : Done Node) (packets : List Packet) → o ≡ Some d → packets_in d.events ≡ packets → Keeps s (node_does from k name o)
+    → IfOk (node_does from k name o) (λ t. StepKeeps s t.scene × ((t.scene ≡ moved from k d.node packets) × (t.events ≡ told_by name (length from.sent) d.events)))
+does s from k name o d packets is sends keeps =
+    both s (λ t. (t.scene ≡ moved from k d.node packets) × (t.events ≡ told_by name (length from.sent) d.events)) (node_does from k name o) keeps
+    (subst (λ x. IfOk (node_does from k name x) (λ t. (t.scene ≡ moved from k d.node packets) × (t.events ≡ told_by name (length from.sent) d.events))) (sym is)
+    (by_test (λ r. IfOk r (λ t. (t.scene ≡ moved from k d.node packets) × (t.events ≡ told_by name (length from.sent) d.events))) (nat_le (length from.sent + length (packets_in d.events)) most_frames) _ _
+    (λ _. (ap (moved from k d.node) sends, refl)) (λ _. tt)))
+
+pub does_moves : (s : Scene) (k : ℕ) (name : Name) (o : Outcome Node) (d : Done Node) (packets : List Packet) → o ≡ Some d → packets_in d.events ≡ packets → Keeps s (node_does s k name o)
+    → IfOk (node_does s k name o) (Moves s k d.node packets (told_by name (length s.sent) d.events))
+does_moves s k name o d packets is sends keeps =
+    weaker (λ t. StepKeeps s t.scene × ((t.scene ≡ moved s k d.node packets) × (t.events ≡ told_by name (length s.sent) d.events))) (Moves s k d.node packets (told_by name (length s.sent) d.events)) (node_does s k name o)
+    (λ t h. record { is = h.1.0; events_are = h.1.1; keeps = h.0 })
+    (does s s k name o d packets is sends keeps)

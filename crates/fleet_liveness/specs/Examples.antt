@@ -2,8 +2,8 @@
 use Rattle.std.specs.Prelude.{ℕ, ◌||◌, Bool, true, false, List, [], ◌∷◌, ◌++◌, codes, pos}
 use Rattle.plan_items.specs.declared.items.Item.{Item}
 use Rattle.plan_items.specs.declared.kinds.PlanKind.TheVariants.{Mission}
-use Rattle.fleet_world.specs.Events.{Event, Sent, Installed, Emptied, Refused, Ended}
 use Rattle.plan_upload.specs.Station.{Told, Told_installed, Told_not_installed, Told_unknown, Told_cleared, Told_got, Told_ended}
+use Rattle.fleet_report.specs.Events.{Event, Sent, Installed, Emptied, Dropped, Missing, Refused, Ended}
 use Rattle.fleet_liveness.specs.Uncontended.{Lines, NextLine, Upload}
 
 -- a drone, a station, and one item or two
@@ -36,6 +36,10 @@ waypoint = record { frame = 6; command = 16; current = 0; autocontinue = 1; p = 
 abbrev pub upload : Upload
 upload = record { station = record { sys = 255; comp = 190 }; drone = record { sys = 1; comp = 1 }; kind = Mission; plan = waypoint ∷ [] }
 
+-- a key
+abbrev pub some_key : List ℕ
+some_key = 1 ∷ 2 ∷ 3 ∷ 4 ∷ 5 ∷ 6 ∷ 7 ∷ 8 ∷ 9 ∷ 10 ∷ 11 ∷ 12 ∷ 13 ∷ 14 ∷ 15 ∷ 16 ∷ 17 ∷ 18 ∷ 19 ∷ 20 ∷ 21 ∷ 22 ∷ 23 ∷ 24 ∷ 25 ∷ 26 ∷ 27 ∷ 28 ∷ 29 ∷ 30 ∷ 31 ∷ 32 ∷ []
+
 -- an outcome Installed is among the events
 abbrev pub is_installed : Told → Bool
 is_installed Told_installed = true
@@ -47,8 +51,10 @@ is_installed (Told_ended code) = false
 
 abbrev pub acknowledges : List Event → Bool
 acknowledges [] = false
-acknowledges (Sent number from message ∷ es) = acknowledges es
+acknowledges (Sent number packet message ∷ es) = acknowledges es
 acknowledges (Installed drone kind items by ∷ es) = acknowledges es
 acknowledges (Emptied drone kind ∷ es) = acknowledges es
+acknowledges (Dropped node answer ∷ es) = acknowledges es
+acknowledges (Missing number ∷ es) = acknowledges es
 acknowledges (Refused station why ∷ es) = acknowledges es
 acknowledges (Ended station told ∷ es) = is_installed told || acknowledges es

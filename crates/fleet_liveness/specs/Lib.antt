@@ -1,2 +1,3 @@
 pub mod Uncontended
+pub mod Room
 pub mod Examples

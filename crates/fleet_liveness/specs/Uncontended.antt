@@ -9,12 +9,11 @@ use Rattle.plan_items.specs.Validation.{IsValid}
 use Rattle.plan_upload.specs.Drone.{DroneState, is_other}
 use Rattle.plan_upload.specs.Station.{StationState, Told_installed}
 use Rattle.plan_upload.specs.Refusals.{upload_refusal}
-use Rattle.fleet_world.specs.declared.lines.Line.TheVariants.{Begin, Flow}
-use Rattle.fleet_world.specs.declared.nodes.Node.{Node}
-use Rattle.fleet_world.specs.declared.nodes.Node.TheVariants.{Drone as DroneNode, Station as StationNode}
-use Rattle.fleet_world.specs.Scene.{Scene, drone_name, stream_of}
-use Rattle.fleet_world.specs.Grammar.{line_of}
-use Rattle.fleet_world.specs.Events.{Event, Installed, Ended}
+use Rattle.mav_nodes.specs.Steps.{Side}
+use Rattle.scenario_lines.specs.declared.lines.Line.TheVariants.{Begin, Flow}
+use Rattle.scenario_lines.specs.Grammar.{line_of}
+use Rattle.fleet_report.specs.Events.{Event, Installed, Ended}
+use Rattle.fleet_world.specs.Scene.{Scene, Drone, Station, node_name, stream_of, drones_in}
 use Rattle.fleet_world.specs.Scenario.{Played, at_start, line_played, last_played, lines_played, played, whole_lines, unfinished, without_cr}
 
 -- which station uploads what to which drone
@@ -45,56 +44,51 @@ HaveLines ended bytes front begin (Whole raw more) = whole_lines bytes ≡ front
 HaveLines ended bytes front begin (Last raw) = (ended ≡ true) × ((whole_lines bytes ≡ front ++ begin ∷ []) × (unfinished bytes ≡ raw))
 
 -- what the lines before the begin line lead to, and those up to it
-abbrev pub before : Lines → Played
-before l = lines_played at_start 1 l.front
+abbrev pub before : List ℕ → Lines → Played
+before key l = lines_played (at_start key) 1 l.front
 
-abbrev pub begun : Lines → Played
-begun l = line_played (before l) (length l.front + 1) l.begin
+abbrev pub begun : List ℕ → Lines → Played
+begun key l = line_played (before key l) (length l.front + 1) l.begin
 
 -- and those up to the flow line
 abbrev pub next_played : Played → ℕ → NextLine → Played
 next_played p number (Whole raw more) = line_played p number raw
 next_played p number (Last raw) = last_played p number raw
 
-abbrev pub flowed : Lines → Played
-flowed l = next_played (begun l) (length l.front + 2) l.flow
+abbrev pub flowed : List ℕ → Lines → Played
+flowed key l = next_played (begun key l) (length l.front + 2) l.flow
 
 -- the station accepts the upload: it has no operation, a PING number is left, and the plan fits
 pub record Accepts (s : Scene) (u : Upload) : Type 0 where
   pub place : ℕ
-  pub station : StationState
-  pub found : slice_get s.nodes place ≡ Some (StationNode station)
-  pub named : station.me ≡ u.station
-  pub accepted : upload_refusal station (number_of u.kind) u.plan ≡ None
+  pub station : Side StationState
+  pub found : slice_get s.nodes place ≡ Some (Station station)
+  pub named : node_name (Station station) ≡ u.station
+  pub accepted : upload_refusal station.core (number_of u.kind) u.plan ≡ None
 
 -- at the drone no upload of another stream is open
 pub record IsFree (s : Scene) (u : Upload) : Type 0 where
   pub place : ℕ
-  pub drone : DroneState
-  pub found : slice_get s.nodes place ≡ Some (DroneNode drone)
-  pub named : drone_name drone.sys ≡ u.drone
-  pub free : is_other drone.upload (stream_of u.station) ≡ false
-
-abbrev pub drones_in : List Node → ℕ
-drones_in [] = 0
-drones_in (DroneNode d ∷ ns) = 1 + drones_in ns
-drones_in (StationNode s ∷ ns) = drones_in ns
+  pub drone : Side DroneState
+  pub found : slice_get s.nodes place ≡ Some (Drone drone)
+  pub named : node_name (Drone drone) ≡ u.drone
+  pub free : is_other drone.core.upload (stream_of u.station) ≡ false
 
 -- an accepted upload of a valid plan to a free drone, whose flow line is long enough. Up to that line the scenario
 -- wasn't stopped, neither by a line nor by a limit
-pub record IsUncontended (ended : Bool) (bytes : List ℕ) (l : Lines) (u : Upload) : Type 0 where
+pub record IsUncontended (key : List ℕ) (ended : Bool) (bytes : List ℕ) (l : Lines) (u : Upload) : Type 0 where
   pub lines : HaveLines ended bytes l.front l.begin l.flow
-  pub front_done : (before l).stop ≡ None
-  pub begin_done : (begun l).stop ≡ None
-  pub flow_done : (flowed l).stop ≡ None
+  pub front_done : (before key l).stop ≡ None
+  pub begin_done : (begun key l).stop ≡ None
+  pub flow_done : (flowed key l).stop ≡ None
   pub begins : line_of (without_cr l.begin) ≡ Begin u.station u.drone u.kind
-  pub plan_is : (before l).scene.draft ≡ u.plan
+  pub plan_is : (before key l).scene.draft ≡ u.plan
   pub valid : IsValid (number_of u.kind) u.plan
-  pub accepts : Accepts (before l).scene u
-  pub is_free : IsFree (before l).scene u
+  pub accepts : Accepts (before key l).scene u
+  pub is_free : IsFree (before key l).scene u
   pub frames : ℕ
   pub flows : line_of (text_of l.flow) ≡ Flow frames
-  pub enough : 2 * length u.plan + 6 + drones_in (before l).scene.nodes ≤ frames
+  pub enough : 2 * length u.plan + 6 + drones_in (before key l).scene.nodes ≤ frames
 
 -- among these events the drone installs the plan, and behind that its station tells that it is installed
 pub record Installs (u : Upload) (events : List Event) : Type 0 where
@@ -104,9 +98,9 @@ pub record Installs (u : Upload) (events : List Event) : Type 0 where
   pub is : events ≡ earlier ++ Installed u.drone (number_of u.kind) u.plan u.station ∷ (between ++ Ended u.station Told_installed ∷ later)
 
 -- so it is within the flow line, whose events stand so among those of the whole scenario
-pub record IsInstalled (ended : Bool) (bytes : List ℕ) (l : Lines) (u : Upload) : Type 0 where
+pub record IsInstalled (key : List ℕ) (ended : Bool) (bytes : List ℕ) (l : Lines) (u : Upload) : Type 0 where
   pub events : List Event
-  pub within : (flowed l).events ≡ (begun l).events ++ events
+  pub within : (flowed key l).events ≡ (begun key l).events ++ events
   pub installs : Installs u events
   pub later : List Event
-  pub whole : (played ended bytes).events ≡ (begun l).events ++ (events ++ later)
+  pub whole : (played key ended bytes).events ≡ (begun key l).events ++ (events ++ later)

@@ -6,7 +6,9 @@
 #![tactic(auto)]
 
 mod examples;
+mod flows;
 mod uploads;
 
 pub use examples::small_uploads;
+pub use flows::every_flow_with_room;
 pub use uploads::every_uncontended_upload;

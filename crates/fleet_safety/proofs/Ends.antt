@@ -6,7 +6,7 @@ use Rattle.plan_items.specs.declared.messages.PlanMsg.{PlanMsg}
 use Rattle.plan_items.specs.declared.messages.PlanMsg.TheVariants.{Count, Request, Item as Give, Ack, List as Listing, Clear, Ping}
 use Rattle.plan_items.specs.Kinds.{limit_of}
 use Rattle.plan_upload.specs.Addresses.{same_stream, same_name}
-use Rattle.plan_upload.specs.Station.{StationState, StationStep, Operation, Phase, Pinging, Cancelling, Sending, Clearing, Listing_items, Getting, addressee, last_ping, is_synced, is_number, synchronises, resynchronises, upload_acked, item_asked, item_got, counted, phase_step, operation_step, station_step, begins}
+use Rattle.plan_upload.specs.Station.{StationState, StationStep, Operation, Phase, Pinging, Cancelling, Sending, Clearing, Listing_items, Getting, addressee, last_ping, is_synced, is_number, synchronises, resynchronises, upload_acked, item_asked, item_got, counted, phase_step, operation_step, station_step, is_patient, pinged, phase_tick, operation_tick, station_tick, phase_cancel, operation_cancel, station_cancel, begins}
 use Rattle.plan_safety.proofs.Keys.{by_test}
 
 -- the outcome that stands is the one that was told
@@ -14,7 +14,7 @@ abbrev pub Tells : StationStep → Type 0
 Tells a = a.station.outcome ≡ a.told
 
 module _ (s : StationState) (none : s.outcome ≡ None) where
-  attempt : (o : Operation) → Tells (resynchronises s o)
+  pub attempt : (o : Operation) → Tells (resynchronises s o)
   attempt o = by_test Tells (nat_lt s.pings last_ping) _ _ (λ _. none) (λ _. none)
 
   synchronised_tells : (o : Operation) (code : ℕ) → Tells (synchronises s o code)
@@ -88,12 +88,48 @@ module _ (s : StationState) (none : s.outcome ≡ None) where
   pub step_tells : (from : Stream) (m : PlanMsg) → Tells (station_step s from m)
   step_tells from m = operation_tells s.operation from m
 
--- an operation that begins has no outcome, and its station the name that it had
-abbrev Begun : StationState → StationStep → Type 0
-Begun s a = (a.station.outcome ≡ None) × (a.told ≡ None) × (a.station.me ≡ s.me)
+-- at a tick and at a cancel no outcome is reached
+module _ (s : StationState) (none : s.outcome ≡ None) where
+  waits_tells : (o : Operation) (phase : Phase) → Tells (phase_tick s o phase)
+  waits_tells o Pinging = pinged_tells o.number
+    where
+      pinged_tells : (number : Option ℕ) → Tells (pinged s number)
+      pinged_tells None = none
+      pinged_tells (Some number) = none
+  waits_tells o Cancelling = attempt s none o
+  waits_tells o Sending = by_test Tells (is_patient o) _ _ (λ _. none) (λ _. attempt s none (record o { terminating = true }))
+  waits_tells o Clearing = by_test Tells (is_patient o) _ _ (λ _. none) (λ _. attempt s none o)
+  waits_tells o Listing_items = by_test Tells (is_patient o) _ _ (λ _. none) (λ _. attempt s none o)
+  waits_tells o Getting = by_test Tells (is_patient o) _ _ (λ _. none) (λ _. attempt s none o)
 
-pub begun_tells : (s : StationState) (o : Operation) → Begun s (begins s o)
+  pub tick_tells : Tells (station_tick s)
+  tick_tells = of_operation s.operation
+    where
+      of_operation : (o : Option Operation) → Tells (operation_tick s o)
+      of_operation None = none
+      of_operation (Some o) = waits_tells o o.phase
+
+  gives_up_tells : (o : Operation) (phase : Phase) → Tells (phase_cancel s o phase)
+  gives_up_tells o Pinging = none
+  gives_up_tells o Cancelling = none
+  gives_up_tells o Sending = attempt s none (record o { terminating = true })
+  gives_up_tells o Clearing = attempt s none (record o { terminating = true })
+  gives_up_tells o Listing_items = attempt s none (record o { terminating = true })
+  gives_up_tells o Getting = attempt s none (record o { terminating = true })
+
+  pub cancel_tells : Tells (station_cancel s)
+  cancel_tells = of_operation s.operation
+    where
+      of_operation : (o : Option Operation) → Tells (operation_cancel s o)
+      of_operation None = none
+      of_operation (Some o) = by_test Tells o.terminating _ _ (λ _. none) (λ _. gives_up_tells o o.phase)
+
+-- an operation that begins tells nothing yet
+abbrev Begun : StationStep → Type 0
+Begun a = (a.station.outcome ≡ None) × (a.told ≡ None)
+
+pub begun_tells : (s : StationState) (o : Operation) → Begun (begins s o)
 begun_tells s o =
     let ready : StationState = record s { outcome = None } in
-    by_test (Begun s) (is_synced s.synced o.drone) _ _ (λ _. (refl, refl, refl))
-    (λ _. by_test (Begun s) (nat_lt s.pings last_ping) _ _ (λ _. (refl, refl, refl)) (λ _. (refl, refl, refl)))
+    by_test Begun (is_synced s.synced o.drone) _ _ (λ _. (refl, refl))
+    (λ _. by_test Begun (nat_lt s.pings last_ping) _ _ (λ _. (refl, refl)) (λ _. (refl, refl)))

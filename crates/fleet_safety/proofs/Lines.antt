@@ -1,102 +1,120 @@
--- Each scenario line does in the world what it does in the scene.
-use Rattle.std.proofs.Common.{◌≡◌, ◌<◌, inl, inr, true, false, List, [], ◌∷◌, ◌++◌, length, position, refl, subst, arith}
-use Rattle.plan_items.specs.declared.items.Item.{Item}
+-- Each scenario line does in the world of messages what it does in the scene.
+use Rattle.std.proofs.Common.{◌≡◌, ℕ, ◌+◌, ◌-◌, ◌<◌, inl, inr, Bool, true, false, nat_lt, [], ◌∷◌, ◌++◌, length, slice_get, None, refl, sym, ap, subst, arith}
+use Rattle.std.specs.declared.result.Result.{Result}
 use Rattle.plan_items.specs.Kinds.{number_of}
-use Rattle.plan_upload.specs.Plans.{no_plans}
-use Rattle.plan_upload.specs.Drone.{fresh_drone}
-use Rattle.plan_upload.specs.Station.{fresh_station}
-use Rattle.plan_safety.specs.World.{Nodes, Distinct, World}
-use Rattle.fleet_world.specs.declared.lines.Line.{Line}
-use Rattle.fleet_world.specs.declared.lines.Line.TheVariants as line
-use Rattle.fleet_world.specs.declared.nodes.Node.{Node}
-use Rattle.fleet_world.specs.declared.nodes.Node.TheVariants.{Drone, Station}
-use Rattle.fleet_world.specs.Scene.{Scene, drone_name, node_name, stream_of, is_called, has_name, has_drone}
-use Rattle.fleet_world.specs.Steps.{rests, after_line, begins, flows, station_line, items_from}
+use Rattle.plan_upload.specs.Kinds.{clear_number}
+use Rattle.plan_safety.specs.World.{Nodes, Distinct, World, DroneNode, StationNode}
+use Rattle.plan_safety.proofs.Keys.{by_test}
+use Rattle.plan_ranges.specs.Ranges.{Is8}
+use Rattle.plan_ranges.proofs.DroneRanges as drone_ranges
+use Rattle.plan_ranges.proofs.StationRanges as station_ranges
+use Rattle.mav_nodes.specs.Nodes.{new_drone, new_station}
+use Rattle.scenario_lines.specs.declared.faults.Reason.{Reason}
+use Rattle.scenario_lines.specs.declared.faults.Reason.TheVariants.{Twice}
+use Rattle.scenario_lines.specs.declared.lines.Line.{Line}
+use Rattle.scenario_lines.specs.declared.lines.Line.TheVariants as line
+use Rattle.scenario_lines.specs.Standing.{has_name}
+use Rattle.scenario_lines.specs.Grammar.{against}
+use Rattle.scenario_lines.specs.Permits.{IsPermitted}
+use Rattle.fleet_world.specs.Scene.{Scene, Node, Drone, Station, node_name, stream_of, names_of, standing_of, drones_in, stations_in}
+use Rattle.fleet_world.specs.Steps.{Step, Halt, node_ticks, node_beats, node_receives, rests, joins, station_line, begins, cancels, clears, gets, calls, delivers, flows, after_line, items_from, most_drones, most_stations}
+use Rattle.fleet_world.specs.Authentic.{AuthenticLine}
+use Rattle.fleet_invariants.proofs.Restated.{sound_restated}
+use Rattle.fleet_invariants.specs.Sound.{Sound}
+use Rattle.fleet_invariants.specs.Kept.{LineFits}
+use Rattle.fleet_invariants.specs.Laws.{EveryCallKeeps, SentKnown, AuthenticKnown}
 use Rattle.fleet_safety.proofs.Lists.{at_end, more_there}
-use Rattle.fleet_safety.proofs.Numbers.{each_none, same_length}
-use Rattle.fleet_safety.proofs.Names.{Named, Covers, Kept, kept, SomeComponent, more_kept, more_named, unnamed, HoldsDrone, a_drone}
-use Rattle.fleet_safety.proofs.Clocks.{Fresh}
-use Rattle.fleet_safety.proofs.Fits.{Stands, Fits, Leads, leads_maps, leads_rests}
-use Rattle.fleet_safety.proofs.Gives.{Goes}
-use Rattle.fleet_safety.proofs.Flows.{flows_lead}
-use Rattle.fleet_safety.proofs.Begins.{begins_lead}
-
--- a line names what is not named yet, or was named before
-abbrev pub IsNamed : Scene → Line → Type 0
-IsNamed s line.Blank = Unit {0}
-IsNamed s (line.Drone sys x y) = has_name s.nodes (drone_name sys) ≡ false
-IsNamed s (line.Station sys comp) = (0 < comp) × (has_name s.nodes (record { sys = sys; comp = comp }) ≡ false)
-IsNamed s (line.Item item) = Unit {0}
-IsNamed s (line.Items count first) = Unit {0}
-IsNamed s (line.Begin station drone kind) = has_drone s.nodes drone ≡ true
-IsNamed s (line.Flow k) = Unit {0}
+use Rattle.fleet_safety.proofs.Names.{Named, Covers, Kept, kept, Proper, more_kept, more_named, unnamed}
+use Rattle.fleet_safety.proofs.Times.{KeepsTime, first_keeps}
+use Rattle.fleet_safety.proofs.Fits.{Stands, Fits, clock_fits}
+use Rattle.fleet_safety.proofs.Scenes.{SceneLeads, scene_maps, scene_rests, Goes, bytes_lead, calls_lead, delivers_lead, flows_lead}
+use Rattle.fleet_safety.proofs.Orders.{ticks_lead, beats_lead, begins_lead, cancels_lead, clears_lead, gets_lead}
 
 -- after a line: its nodes are those before and perhaps one more, and where the fleet has them, the scene fits the world
 pub record Done (n : Nodes) (s t : Scene) (v : World) : Type 0 where
   pub kept : Kept s.nodes t.nodes
   pub named : Named t.nodes
-  pub fits : Covers n t.nodes → Fits n t v
+  pub fits : Covers n t.nodes → Fits n t.clock t.nodes t.sent v
 
-module _ (n : Nodes) (sound : Distinct n) (s : Scene) (w : World) (fits : Fits n s w) where
+-- no reason is given where its test fails
+no_reason : (b : Bool) (r : Reason) → against b r ≡ None → b ≡ false
+no_reason true r e = absurd (cc)
+no_reason false r e = refl
+
+module _ (n : Nodes) (distinct : Distinct n) (every_call : EveryCallKeeps) (sent_known : SentKnown) (authentic_known : AuthenticKnown) (s : Scene) (w : World) (sound : Sound s) (fits : Fits n s.clock s.nodes s.sent w) where
   gone : (t : Scene) (v : World) → Goes n s t v → Done n s t v
-  gone t v h = record { kept = h.1; named = h.0.named; fits = λ _. h.0 }
+  gone t v h = record { kept = h.kept; named = h.fits.named; fits = λ _. h.fits }
 
-  redrafted : (draft : List Item) → Leads n w (Done n s) (rests (record s { draft = draft }))
-  redrafted draft = leads_rests n w (Done n s) (record s { draft = draft }) (record {
-    kept = kept s.nodes;
-    named = fits.named;
-    fits = λ _. record { named = fits.named; covers = fits.covers; stands = fits.stands; unnamed = fits.unnamed; sent = fits.sent; timely = fits.timely; reached = fits.reached };
-  })
+  -- another draft, or another place of flows
+  unmoved : (t : Scene) → t.nodes ≡ s.nodes → Fits n t.clock t.nodes t.sent w → SceneLeads n w (Done n s) (rests t)
+  unmoved t same h = scene_rests n w (Done n s) t (record { kept = subst (Kept s.nodes) (sym same) (kept s.nodes); named = h.named; fits = λ _. h })
 
   -- a node joins
-  joins : (new : Node) → has_name s.nodes (node_name new) ≡ false → SomeComponent new → Stands w new → Leads n w (Done n s) (rests (record s { nodes = s.nodes ++ new ∷ [] }))
-  joins new none comp stands = leads_rests n w (Done n s) (record s { nodes = s.nodes ++ new ∷ [] }) (record { kept = more_kept s.nodes new; named = named; fits = fitting })
+  joins_lead : (new : Node) → has_name (names_of s.nodes) (node_name new) ≡ false → Proper new → Stands s.clock w new → SceneLeads n w (Done n s) (joins s new)
+  joins_lead new none proper stands = scene_rests n w (Done n s) (record s { nodes = s.nodes ++ new ∷ [] }) (record { kept = more_kept s.nodes new; named = named; fits = fitting })
     where
       named : Named (s.nodes ++ new ∷ [])
-      named = more_named s.nodes new fits.named (unnamed s.nodes (node_name new) none) comp
+      named = more_named s.nodes new fits.named (unnamed s.nodes (node_name new) none) proper
 
-      fitting : Covers n (s.nodes ++ new ∷ []) → Fits n (record s { nodes = s.nodes ++ new ∷ [] }) w
+      fitting : Covers n (s.nodes ++ new ∷ []) → Fits n s.clock (s.nodes ++ new ∷ []) s.sent w
       fitting covers = record {
         named = named;
         covers = covers;
-        stands = λ i a e. elim (at_end s.nodes new a i e) [ inl h ↦ fits.stands i a h | inr h ↦ subst (Stands w) h.1 stands ];
+        stands = λ i a e. elim (at_end s.nodes new a i e) [ inl h ↦ fits.stands i a h | inr h ↦ subst (Stands s.clock w) h.1 stands ];
         unnamed = λ name h. fits.unnamed name (λ i a e. h i a (more_there s.nodes new a i e));
-        sent = fits.sent;
-        timely = fits.timely;
+        frames = fits.frames;
         reached = fits.reached;
       }
 
+  drone_joins : (sys : ℕ) → Is8 sys → has_name (names_of s.nodes) (record { sys = sys; comp = 1 }) ≡ false → SceneLeads n w (Done n s) (joins s (Drone (new_drone s.key sys)))
+  drone_joins sys small none =
+      let fresh = (fits.unnamed (record { sys = sys; comp = 1 }) (unnamed s.nodes (record { sys = sys; comp = 1 }) none)).0 in
+      joins_lead (Drone (new_drone s.key sys)) none (refl, refl, record { sys = small; comp = omega arith })
+      (ap (λ (y : DroneNode). y.state) fresh, subst (λ (y : DroneNode). KeepsTime s.clock [] y.last y.next) (sym fresh) (first_keeps s.clock), drone_ranges.fresh sys small)
+
+  station_joins : (sys comp : ℕ) → Is8 sys → Is8 comp → 0 < comp → has_name (names_of s.nodes) (record { sys = sys; comp = comp }) ≡ false → SceneLeads n w (Done n s) (joins s (Station (new_station s.key (stream_of (record { sys = sys; comp = comp })) 0)))
+  station_joins sys comp small small_comp some none =
+      let fresh = (fits.unnamed (record { sys = sys; comp = comp }) (unnamed s.nodes (record { sys = sys; comp = comp }) none)).1 in
+      joins_lead (Station (new_station s.key (stream_of (record { sys = sys; comp = comp })) 0)) none (refl, some, record { sys = small; comp = small_comp })
+      (ap (λ (y : StationNode). y.state) fresh, subst (λ (y : StationNode). KeepsTime s.clock [] y.last y.next) (sym fresh) (first_keeps s.clock), refl, station_ranges.fresh sys comp 0 0 small small_comp (omega arith) (omega arith))
+
   -- a station line: nothing that was sent is given by the flows that follow
-  from_here : Fits n (station_line s) w
-  from_here = record {
-    named = fits.named;
-    covers = fits.covers;
-    stands = fits.stands;
-    unnamed = fits.unnamed;
-    sent = fits.sent;
-    timely = record {
-      drone_last = fits.timely.drone_last;
-      station_last = fits.timely.station_last;
-      past = fits.timely.past;
-      rises = fits.timely.rises;
-      fresh = each_none (Fresh n w) (length s.sent) w.sent (let z = same_length s.sent w.sent fits.sent in omega arith);
-    };
-    reached = fits.reached;
-  }
+  abbrev from : Scene
+  from = station_line s
 
-  pub line_leads : (l : Line) → IsNamed s l → Leads n w (Done n s) (after_line s l)
-  line_leads line.Blank h = redrafted s.draft
-  line_leads (line.Drone sys x y) h = joins (Drone (fresh_drone sys no_plans)) h tt (fits.unnamed (drone_name sys) (unnamed s.nodes (drone_name sys) h)).0
-  line_leads (line.Station sys comp) h = joins (Station (fresh_station sys comp 0 0)) h.1 h.0 ((fits.unnamed (record { sys = sys; comp = comp }) (unnamed s.nodes (record { sys = sys; comp = comp }) h.1)).1, refl)
-  line_leads (line.Item item) h = redrafted (s.draft ++ item ∷ [])
-  line_leads (line.Items count first) h = redrafted (s.draft ++ items_from count first 0)
-  line_leads (line.Begin station drone kind) h =
-      leads_maps n w (Goes n (station_line s)) (Done n s) (begins (station_line s) (position (is_called station) s.nodes) drone (number_of kind))
-      (begins_lead n sound (station_line s) w from_here drone kind known (position (is_called station) s.nodes)) gone
-    where
-      held : HoldsDrone s.nodes drone
-      held = a_drone s.nodes drone h
+  from_sound : Sound from
+  from_sound = sound_restated s (length s.sent) s.draft s.clock sound (omega arith) sound.draft (omega arith) sound.clock
 
-      known : n.is_drone (stream_of drone) ≡ true
-      known = subst (λ name. n.is_drone (stream_of name) ≡ true) held.name_is (fits.covers held.place (Drone held.drone) held.there)
-  line_leads (line.Flow k) h = leads_maps n w (Goes n s) (Done n s) (flows k s) (flows_lead n sound k s w fits) gone
+  ordered : (r : Result Step Halt) → SceneLeads n w (Goes n from) r → SceneLeads n w (Done n s) r
+  ordered r h = scene_maps n w (Goes n from) (Done n s) r h (λ t v g. record { kept = g.kept; named = g.fits.named; fits = λ _. g.fits })
+
+  went : (r : Result Step Halt) → SceneLeads n w (Goes n s) r → SceneLeads n w (Done n s) r
+  went r h = scene_maps n w (Goes n s) (Done n s) r h gone
+
+  pub line_leads : (l : Line) → IsPermitted (standing_of s) l → LineFits l → AuthenticLine s l → SceneLeads n w (Done n s) (after_line s l)
+  line_leads line.Blank p f a = unmoved s refl fits
+  line_leads (line.Drone sys x y) p f a =
+      by_test (SceneLeads n w (Done n s)) (nat_lt (drones_in s.nodes) most_drones) _ _ (λ _. drone_joins sys f (no_reason _ Twice p.1)) (λ _. tt)
+  line_leads (line.Station sys comp) p f a =
+      by_test (SceneLeads n w (Done n s)) (nat_lt (stations_in s.nodes) most_stations) _ _ (λ _. station_joins sys comp f.0 f.1 (let z = p.0.1 in omega arith) (no_reason _ Twice p.1)) (λ _. tt)
+  line_leads (line.Item item) p f a = unmoved (record s { draft = s.draft ++ item ∷ [] }) refl fits
+  line_leads (line.Items count first) p f a = unmoved (record s { draft = s.draft ++ items_from count first 0 }) refl fits
+  line_leads line.Empty p f a = unmoved (record s { draft = [] }) refl fits
+  line_leads (line.Begin station drone kind) p f a =
+      ordered (begins from station drone (number_of kind)) (begins_lead n distinct every_call from w from_sound fits drone p.0.1 station kind)
+  line_leads (line.Cancel station) p f a = ordered (cancels from station) (cancels_lead n distinct every_call from w from_sound fits station)
+  line_leads (line.Clear station drone kind) p f a =
+      ordered (clears from station drone (clear_number kind)) (clears_lead n distinct every_call from w from_sound fits drone p.0.1 station kind)
+  line_leads (line.Get station drone kind) p f a =
+      ordered (gets from station drone (number_of kind)) (gets_lead n distinct every_call from w from_sound fits drone p.0.1 station kind)
+  line_leads (line.Heartbeat node) p f a =
+      went (calls s node (node_beats s.clock)) (calls_lead n distinct every_call sent_known s w sound fits node (node_beats s.clock) (beats_lead n distinct every_call s w sound fits))
+  line_leads (line.Deliver number node) p f a =
+      went (delivers s number node (slice_get s.sent (number - 1))) (delivers_lead n distinct every_call sent_known s w sound fits number node (number - 1) (slice_get s.sent (number - 1)) refl)
+  line_leads (line.Flow k) p f a = went (flows k s) (flows_lead n distinct every_call sent_known k s w sound fits)
+  line_leads (line.Noise node bytes) p f a =
+      went (calls s node (node_receives s.clock bytes))
+      (calls_lead n distinct every_call sent_known s w sound fits node (node_receives s.clock bytes) (bytes_lead n distinct every_call sent_known s w sound fits bytes (authentic_known s sound bytes f a)))
+  line_leads (line.Tick node) p f a =
+      went (calls s node (node_ticks s.clock)) (calls_lead n distinct every_call sent_known s w sound fits node (node_ticks s.clock) (ticks_lead n distinct every_call s w sound fits))
+  line_leads (line.Clock more) p f a = unmoved (record s { clock = s.clock + more }) refl (clock_fits n s.clock more s.nodes s.sent w fits)

@@ -1,5 +1,5 @@
 -- Lists: an element replaced, and one more at the end.
-use Rattle.std.proofs.Common.{◌≡◌, ◌≢◌, ℕ, zero, suc, ◌⊎◌, inl, inr, List, [], ◌∷◌, ◌++◌, length, slice_get, slice_set, Some, refl, ap}
+use Rattle.std.proofs.Common.{◌≡◌, ◌≢◌, ℕ, zero, suc, ◌⊎◌, inl, inr, List, [], ◌∷◌, ◌++◌, length, slice_get, slice_set, Some, refl, sym, ap}
 
 pub some_is : {A : Type 0} {x y : A} → Some x ≡ Some y → x ≡ y
 some_is e = cc
@@ -41,3 +41,33 @@ more_there [] y x i e = absurd (nowhere i e)
     nowhere (suc i) e = absurd (cc)
 more_there (z ∷ zs) y x zero e = e
 more_there (z ∷ zs) y x (suc i) e = more_there zs y x i e
+
+-- the same element replaced twice
+pub set_twice : {A : Type 0} (xs : List A) (k : ℕ) (x y : A) → slice_set (slice_set xs k x) k y ≡ slice_set xs k y
+set_twice [] k x y = nothing k
+  where
+    nothing : (k : ℕ) → slice_set (slice_set [] k x) k y ≡ slice_set [] k y
+    nothing zero = refl
+    nothing (suc k) = refl
+set_twice (z ∷ zs) zero x y = refl
+set_twice (z ∷ zs) (suc k) x y = ap (λ ws. z ∷ ws) (set_twice zs k x y)
+
+-- an element replaced by itself
+pub set_same : {A : Type 0} (xs : List A) (k : ℕ) (x : A) → slice_get xs k ≡ Some x → slice_set xs k x ≡ xs
+set_same [] k x e = absurd (nowhere k e)
+  where
+    nowhere : (k : ℕ) → slice_get [] k ≡ Some x → ⊥
+    nowhere zero e = absurd (cc)
+    nowhere (suc k) e = absurd (cc)
+set_same (z ∷ zs) zero x e = ap (λ y. y ∷ zs) (sym (some_is e))
+set_same (z ∷ zs) (suc k) x e = ap (λ ys. z ∷ ys) (set_same zs k x e)
+
+-- an element of a list is one of the list with more behind it
+pub still_there : {A : Type 0} (xs ys : List A) (x : A) (i : ℕ) → slice_get xs i ≡ Some x → slice_get (xs ++ ys) i ≡ Some x
+still_there [] ys x i e = absurd (nowhere i e)
+  where
+    nowhere : (i : ℕ) → slice_get [] i ≡ Some x → ⊥
+    nowhere zero e = absurd (cc)
+    nowhere (suc i) e = absurd (cc)
+still_there (z ∷ zs) ys x zero e = e
+still_there (z ∷ zs) ys x (suc i) e = still_there zs ys x i e

@@ -3,6 +3,7 @@ use Rattle.std.proofs.Common.{◌≡◌, ℕ, suc, ◌+◌, ◌<◌, ◌≤◌, 
 use Rattle.std.proofs.lemmas.List.{append_assoc}
 use Rattle.mav_ports.specs.declared.names.Stream.{Stream}
 use Rattle.plan_items.specs.declared.items.Item.{Item}
+use Rattle.plan_items.specs.Kinds.{number_of}
 use Rattle.plan_upload.specs.Addresses.{node_of}
 use Rattle.plan_upload.specs.Plans.{Plans, plan_at, every_kind}
 use Rattle.plan_upload.specs.Changes.{change_by}
@@ -16,9 +17,12 @@ use Rattle.plan_safety.specs.History.{final}
 use Rattle.plan_safety.proofs.Keys.{by_test, number_same}
 use Rattle.plan_safety.proofs.DroneShape.{Shape, EventOf, plans_after}
 use Rattle.plan_safety.proofs.FleetMoves.{plus}
-use Rattle.fleet_world.specs.Events.{Event, Installed}
-use Rattle.fleet_world.specs.Steps.{plan_events, end_events}
-use Rattle.fleet_safety.specs.Telling.{changes_told, ends_told, frames_told, frame_told, told, told_in}
+use Rattle.mav_ports.specs.declared.names.Name.{Name}
+use Rattle.mav_nodes.specs.News.{NodeEvent, Sends, Installs as NodeInstalls, Empties as NodeEmpties, Drops, Ends}
+use Rattle.mav_nodes.specs.Nodes.{change_events, told_events}
+use Rattle.fleet_report.specs.Events as report
+use Rattle.fleet_world.specs.Steps.{packets_in, told_by}
+use Rattle.fleet_safety.specs.Telling.{ProtocolEvent, Installed, event_seen, seen, changes_told, ends_told, frames_told, frame_told, told, told_in, step_told, refused_told}
 
 -- one list of events and then another
 pub final_on : (n : Nodes) (w : World) (es fs : List world.Event) → final n w (es ++ fs) ≡ final n (final n w es) fs
@@ -39,7 +43,7 @@ frames_before before (f ∷ fs) l = let z : nat_lt before (length (f ∷ fs)) �
     old : (a b : ℕ) → suc b ≤ a → nat_lt a (suc b) ≡ false
     old a b l = grind arith
 
-abbrev pub new_told : ℕ → Option Frame → List Event
+abbrev pub new_told : ℕ → Option Frame → List ProtocolEvent
 new_told number None = []
 new_told number (Some f) = frame_told number f.from f.message
 
@@ -56,6 +60,68 @@ frames_new fs (Some f) =
     one : (a : ℕ) → suc a ≡ a + 1
     one a = omega arith
 
+-- ---- what is seen of events
+
+pub seen_on : (es fs : List report.Event) → seen (es ++ fs) ≡ seen es ++ seen fs
+seen_on [] fs = refl
+seen_on (e ∷ es) fs = ap (λ r. event_seen e ++ r) (seen_on es fs) ∙ sym (append_assoc (event_seen e) (seen es) (seen fs))
+
+-- of what happened in a node, where so many frames were sent before
+abbrev pub seen_by : Name → ℕ → List NodeEvent → List ProtocolEvent
+seen_by name before es = seen (told_by name before es)
+
+pub packets_on : (es fs : List NodeEvent) → packets_in (es ++ fs) ≡ packets_in es ++ packets_in fs
+packets_on [] fs = refl
+packets_on (Sends packet message ∷ es) fs = ap (λ r. packet ∷ r) (packets_on es fs)
+packets_on (NodeInstalls kind items by ∷ es) fs = packets_on es fs
+packets_on (NodeEmpties kind ∷ es) fs = packets_on es fs
+packets_on (Drops answer ∷ es) fs = packets_on es fs
+packets_on (Ends told ∷ es) fs = packets_on es fs
+
+told_by_on : (name : Name) (before : ℕ) (es fs : List NodeEvent) → told_by name before (es ++ fs) ≡ told_by name before es ++ told_by name (before + length (packets_in es)) fs
+told_by_on name before [] fs = ap (λ k. told_by name k fs) (none before)
+  where
+    none : (k : ℕ) → k ≡ k + 0
+    none k = omega arith
+told_by_on name before (Sends packet message ∷ es) fs =
+    ap (λ r. report.Sent (before + 1) packet message ∷ r) (told_by_on name (before + 1) es fs ∙ ap (λ k. told_by name (before + 1) es ++ told_by name k fs) (one before (length (packets_in es))))
+  where
+    one : (k l : ℕ) → k + 1 + l ≡ k + suc l
+    one k l = omega arith
+told_by_on name before (NodeInstalls kind items by ∷ es) fs = ap (λ r. report.Installed name (number_of kind) items (node_of by) ∷ r) (told_by_on name before es fs)
+told_by_on name before (NodeEmpties kind ∷ es) fs = ap (λ r. report.Emptied name (number_of kind) ∷ r) (told_by_on name before es fs)
+told_by_on name before (Drops answer ∷ es) fs = ap (λ r. report.Dropped name answer ∷ r) (told_by_on name before es fs)
+told_by_on name before (Ends told ∷ es) fs = ap (λ r. report.Ended name told ∷ r) (told_by_on name before es fs)
+
+pub seen_by_on : (name : Name) (before : ℕ) (es fs : List NodeEvent) → seen_by name before (es ++ fs) ≡ seen_by name before es ++ seen_by name (before + length (packets_in es)) fs
+seen_by_on name before es fs = ap seen (told_by_on name before es fs) ∙ seen_on (told_by name before es) (told_by name (before + length (packets_in es)) fs)
+
+-- ---- a chain of events
+
+-- these events lead from one world to another, and tell this
+pub record Chain (n : Nodes) (w v : World) (ts : List ProtocolEvent) : Type 0 where
+  pub events : List world.Event
+  pub ends : final n w events ≡ v
+  pub tells : told n w events ≡ ts
+
+pub chain_end : (n : Nodes) (w : World) → Chain n w w []
+chain_end n w = record { events = []; ends = refl; tells = refl }
+
+-- one event in front, which tells nothing of a refusal
+pub chain_on : (n : Nodes) (w u v : World) (e : world.Event) (ts : List ProtocolEvent) → happens n w e ≡ u → refused_told n w e ≡ [] → Chain n u v ts → Chain n w v (step_told w u ++ ts)
+chain_on n w u v e ts is none c = record {
+  events = e ∷ c.events;
+  ends = ap (λ x. final n x c.events) is ∙ c.ends;
+  tells = ap (λ r. (r ++ step_told w (happens n w e)) ++ told n (happens n w e) c.events) none ∙ ap (λ x. step_told w x ++ told n x c.events) is ∙ ap (λ r. step_told w u ++ r) c.tells;
+}
+
+-- an event that tells nothing and sends nothing
+pub silent_step : (w u : World) → u.news ≡ [] → u.sent ≡ w.sent → step_told w u ≡ []
+silent_step w u news sent =
+    ap (λ es. changes_told es ++ frames_told (length w.sent) u.sent ++ ends_told es) news
+    ∙ ap (λ fs. frames_told (length w.sent) fs ++ []) sent
+    ∙ ap (λ r. r ++ []) (frames_before (length w.sent) w.sent (omega arith))
+
 -- the three kinds
 kinds : (n : ℕ) → n < 3 → (n ≡ 0) ⊎ ((n ≡ 1) ⊎ (n ≡ 2))
 kinds n h = grind arith
@@ -63,32 +129,32 @@ kinds n h = grind arith
 module _ (n : Nodes) (d : DroneState) (x t : Stream) where
   -- an event of a drone tells what its step changes
   abbrev IsTold : PlanEvent → Plans → Type 0
-  IsTold e plans = changes_told (drone_news x e) ≡ plan_events (node_of x) (node_of t) plans (change_by e)
+  IsTold e plans = (before : ℕ) → seen_by (node_of x) before (change_events t plans (change_by e)) ≡ changes_told (drone_news x e)
 
   installed : (k : ℕ) (items : List Item) (plans : Plans) → k < 3 → plan_at plans k ≡ items → IsTold (Installs t k items) plans
   installed k items plans l h = elim (kinds k l) [
-    | inl z ↦ subst (λ j. plan_at plans j ≡ items → IsTold (Installs t j items) plans) (sym z) (λ h. ap (λ p. Installed (node_of x) 0 p (node_of t) ∷ []) (sym h)) h
+    | inl z ↦ subst (λ j. plan_at plans j ≡ items → IsTold (Installs t j items) plans) (sym z) (λ h before. ap (λ p. Installed (node_of x) 0 p (node_of t) ∷ []) h) h
     | inr y ↦ elim y [
-      | inl z ↦ subst (λ j. plan_at plans j ≡ items → IsTold (Installs t j items) plans) (sym z) (λ h. ap (λ p. Installed (node_of x) 1 p (node_of t) ∷ []) (sym h)) h
-      | inr z ↦ subst (λ j. plan_at plans j ≡ items → IsTold (Installs t j items) plans) (sym z) (λ h. ap (λ p. Installed (node_of x) 2 p (node_of t) ∷ []) (sym h)) h
+      | inl z ↦ subst (λ j. plan_at plans j ≡ items → IsTold (Installs t j items) plans) (sym z) (λ h before. ap (λ p. Installed (node_of x) 1 p (node_of t) ∷ []) h) h
+      | inr z ↦ subst (λ j. plan_at plans j ≡ items → IsTold (Installs t j items) plans) (sym z) (λ h before. ap (λ p. Installed (node_of x) 2 p (node_of t) ∷ []) h) h
     ]
   ]
 
   emptied : (k : ℕ) (plans : Plans) → (k < 3) ⊎ (k ≡ every_kind) → IsTold (Empties t k) plans
-  emptied k plans (inr z) = subst (λ j. IsTold (Empties t j) plans) (sym z) refl
+  emptied k plans (inr z) = subst (λ j. IsTold (Empties t j) plans) (sym z) (λ before. refl)
   emptied k plans (inl l) = elim (kinds k l) [
-    | inl z ↦ subst (λ j. IsTold (Empties t j) plans) (sym z) refl
-    | inr y ↦ elim y [ inl z ↦ subst (λ j. IsTold (Empties t j) plans) (sym z) refl | inr z ↦ subst (λ j. IsTold (Empties t j) plans) (sym z) refl ]
+    | inl z ↦ subst (λ j. IsTold (Empties t j) plans) (sym z) (λ before. refl)
+    | inr y ↦ elim y [ inl z ↦ subst (λ j. IsTold (Empties t j) plans) (sym z) (λ before. refl) | inr z ↦ subst (λ j. IsTold (Empties t j) plans) (sym z) (λ before. refl) ]
   ]
 
   by_event : (e : PlanEvent) (plans : Plans) → EventOf n d t e → ((k : ℕ) → k < 3 → plan_at plans k ≡ plans_after (plan_at d.plans) e k) → IsTold e plans
-  by_event Quiet plans h p = refl
+  by_event Quiet plans h p = λ before. refl
   by_event (Installs by k items) plans h p = subst (λ z. IsTold (Installs z k items) plans) (sym h.0) (installed k items plans h.2 (p k h.2 ∙ own k))
     where
       own : (k : ℕ) → with_plan (plan_at d.plans) k items k ≡ items
       own k = let z : (k == k) ≡ true = number_same k in rw z refl
   by_event (Empties by k) plans h p = subst (λ z. IsTold (Empties z k) plans) (sym h.0) (emptied k plans h.2)
-  by_event (Shows to k items) plans h p = refl
+  by_event (Shows to k items) plans h p = λ before. refl
 
   pub changes_are : (r : DroneStep) → Shape n d t r → IsTold r.event r.drone.plans
   changes_are r h = by_event r.event r.drone.plans h.event h.plans
@@ -101,9 +167,9 @@ no_ends x (Empties by k) = by_test (λ (es : List StoreEvent). ends_told es ≡ 
 no_ends x (Shows to k items) = refl
 
 -- a station's outcome is told, and changes no plan
-pub ends_are : (s : Stream) (told : Option Told) → ends_told (told_news s told) ≡ end_events (node_of s) told
-ends_are s None = refl
-ends_are s (Some told) = refl
+pub ends_are : (s : Stream) (told : Option Told) (before : ℕ) → seen_by (node_of s) before (told_events told) ≡ ends_told (told_news s told)
+ends_are s None before = refl
+ends_are s (Some told) before = refl
 
 pub no_changes : (s : Stream) (told : Option Told) → changes_told (told_news s told) ≡ []
 no_changes s None = refl

@@ -15,12 +15,11 @@ use Rattle.plan_safety.specs.History.{Step, step, steps_of, history}
 use Rattle.plan_safety.specs.World as world
 use Rattle.plan_safety.specs.World.{Nodes, World, DroneNode, StationNode, happens, quiet, where_drone, where_station, unless_refused, drone_sends, station_sends, drone_does, station_does, station_calls, station_steps, drone_admits, station_admits, to_drone, to_station, drone_news, told_news, drone_takes, station_takes, tick_answer, clear_number, cancel_news}
 use Rattle.plan_safety.proofs.Keys.{by_test}
-use Rattle.fleet_world.specs.Events as report
-use Rattle.fleet_world.specs.Events.{Event}
-use Rattle.fleet_safety.specs.Telling.{change_told, changes_told, end_told, ends_told, frame_told, frames_told, refusal_told, call_refused, refused_told, step_told, told_in, told, plan_lines, steps_told}
+use Rattle.fleet_safety.specs.Telling as report
+use Rattle.fleet_safety.specs.Telling.{ProtocolEvent, change_told, changes_told, end_told, ends_told, frame_told, frames_told, refusal_told, call_refused, refused_told, step_told, told_in, told, plan_lines, steps_told}
 
 -- one list and then another
-lines_on : (xs ys : List Event) → plan_lines (xs ++ ys) ≡ plan_lines xs ++ plan_lines ys
+pub lines_on : (xs ys : List ProtocolEvent) → plan_lines (xs ++ ys) ≡ plan_lines xs ++ plan_lines ys
 lines_on [] ys = refl
 lines_on (report.Sent number from m ∷ es) ys = lines_on es ys
 lines_on (report.Installed drone kind items by ∷ es) ys = ap (λ z. report.Installed drone kind items by ∷ z) (lines_on es ys)
@@ -95,8 +94,8 @@ no_refusals n w (world.Restarts d low) = refl
 event_lines : (n : Nodes) (w : World) (e : world.Event) → plan_lines (told_in n w e) ≡ changes_told (happens n w e).news ++ ends_told (happens n w e).news
 event_lines n w e =
     let v : World = happens n w e in
-    let changes : List Event = changes_told v.news in
-    let frames : List Event = frames_told (length w.sent) v.sent in
+    let changes : List ProtocolEvent = changes_told v.news in
+    let frames : List ProtocolEvent = frames_told (length w.sent) v.sent in
     lines_on (refused_told n w e) (step_told w v)
     ∙ ap (λ z. z ++ plan_lines (step_told w v)) (no_refusals n w e)
     ∙ lines_on (changes ++ frames) (ends_told v.news)
@@ -104,7 +103,7 @@ event_lines n w e =
     ∙ ap (λ z. changes ++ z) (all_ends v.news)
 
 -- what a list of the store's events tells, one by one
-abbrev both_told : List StoreEvent → List Event
+abbrev both_told : List StoreEvent → List ProtocolEvent
 both_told [] = []
 both_told (e ∷ es) = (change_told e ++ end_told e) ++ both_told es
 
@@ -219,7 +218,7 @@ pub history_lines : (n : Nodes) (es : List world.Event) (w : World) (h : List St
 history_lines n [] w h = sym (append-nil (steps_told h))
 history_lines n (e ∷ es) w h =
     let v : World = happens n w e in
-    let rest : List Event = told n v es in
+    let rest : List ProtocolEvent = told n v es in
     history_lines n es v (steps_of v.sent v.news h)
     ∙ ap (λ z. z ++ plan_lines rest) (steps_on v.sent v.news h ∙ ap (λ z. steps_told h ++ z) (ordered n w e ∙ sym (event_lines n w e)))
     ∙ append_assoc (steps_told h) (plan_lines (told_in n w e)) (plan_lines rest)

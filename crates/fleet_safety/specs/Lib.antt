@@ -1,3 +1,3 @@
 pub mod Telling
 pub mod Safe
-pub mod Examples
+pub mod Meaning

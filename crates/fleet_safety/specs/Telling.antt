@@ -1,74 +1,105 @@
 -- What a report tells of an execution of the world in which messages alone are exchanged: changes of plans, the
--- frames that were sent, the ends of operations, and calls that were refused.
--- Nothing here speaks of scenario lines.
+-- messages of the mission protocol that were sent, the ends of operations, and calls that were refused.
+-- Nothing here speaks of scenario lines or of datagrams.
 use Rattle.std.specs.Prelude.{ℕ, ◌&&◌, nat_lt, if◌then◌else◌, List, [], ◌∷◌, ◌++◌, length, Option, Some, None}
+use Rattle.mav_ports.specs.declared.names.Name.{Name}
 use Rattle.mav_ports.specs.declared.names.Stream.{Stream}
+use Rattle.plan_items.specs.declared.items.Item.{Item}
 use Rattle.plan_items.specs.declared.messages.PlanMsg.{PlanMsg}
 use Rattle.plan_items.specs.Kinds.{number_of}
 use Rattle.plan_upload.specs.declared.faults.OpFault.{OpFault}
 use Rattle.plan_upload.specs.Addresses.{node_of}
+use Rattle.plan_upload.specs.Station.{Told}
 use Rattle.plan_upload.specs.Refusals.{upload_refusal, refusal}
 use Rattle.plan_safety.specs.Frames.{Frame}
-use Rattle.plan_safety.specs.Store.{StoreEvent, Upload_begun, Installed, Clear_begun, Cleared, Get_begun, Shown, Cancelled, Ended, Restarted}
+use Rattle.plan_safety.specs.Store.{StoreEvent, Upload_begun, Installed as Installs, Clear_begun, Cleared, Get_begun, Shown, Cancelled, Ended as Ends, Restarted}
 use Rattle.plan_safety.specs.History.{Step}
 use Rattle.plan_safety.specs.World as world
 use Rattle.plan_safety.specs.World.{Nodes, World, happens}
-use Rattle.fleet_world.specs.Events as report
-use Rattle.fleet_world.specs.Events.{Event}
+use Rattle.mav_messages.specs.Plans.{plan_of}
+use Rattle.fleet_report.specs.Events as report
+use Rattle.fleet_report.specs.Events.{Dropped, Missing}
+
+-- what a report tells of the mission protocol
+pub data ProtocolEvent : Type 0 where
+  Sent : (number : ℕ) (from : Name) (message : PlanMsg) → ProtocolEvent  -- in the number-th frame
+  Installed : (drone : Name) (kind : ℕ) (items : List Item) (by : Name) → ProtocolEvent
+  Emptied : (drone : Name) (kind : ℕ) → ProtocolEvent
+  Refused : (station : Name) (why : OpFault) → ProtocolEvent
+  Ended : (station : Name) (told : Told) → ProtocolEvent
+
+-- a frame that was sent, where its message is one of the protocol
+abbrev pub sent_seen : ℕ → Name → Option PlanMsg → List ProtocolEvent
+sent_seen number from None = []
+sent_seen number from (Some m) = Sent number from m ∷ []
+
+-- what is seen of an event. Frames that were dropped or are missing, and those with another message, aren't of the protocol
+abbrev pub event_seen : report.Event → List ProtocolEvent
+event_seen (report.Sent number packet message) = sent_seen number packet.from (plan_of message)
+event_seen (report.Installed drone kind items by) = Installed drone kind items by ∷ []
+event_seen (report.Emptied drone kind) = Emptied drone kind ∷ []
+event_seen (Dropped node answer) = []
+event_seen (Missing number) = []
+event_seen (report.Refused station why) = Refused station why ∷ []
+event_seen (report.Ended station told) = Ended station told ∷ []
+
+abbrev pub seen : List report.Event → List ProtocolEvent
+seen [] = []
+seen (e ∷ es) = event_seen e ++ seen es
 
 -- a change of a drone's plan
-abbrev pub change_told : StoreEvent → List Event
+abbrev pub change_told : StoreEvent → List ProtocolEvent
 change_told (Upload_begun station drone kind plan since drone_since) = []
-change_told (Installed drone kind plan station) = report.Installed (node_of drone) kind plan (node_of station) ∷ []
+change_told (Installs drone kind plan station) = Installed (node_of drone) kind plan (node_of station) ∷ []
 change_told (Clear_begun station drone kind drone_since) = []
-change_told (Cleared drone kind station) = report.Emptied (node_of drone) kind ∷ []
+change_told (Cleared drone kind station) = Emptied (node_of drone) kind ∷ []
 change_told (Get_begun station drone kind drone_since) = []
 change_told (Shown drone kind plan station) = []
 change_told (Cancelled station) = []
-change_told (Ended station told) = []
+change_told (Ends station told) = []
 change_told (Restarted drone) = []
 
-abbrev pub changes_told : List StoreEvent → List Event
+abbrev pub changes_told : List StoreEvent → List ProtocolEvent
 changes_told [] = []
 changes_told (e ∷ es) = change_told e ++ changes_told es
 
 -- the end of a station's operation
-abbrev pub end_told : StoreEvent → List Event
+abbrev pub end_told : StoreEvent → List ProtocolEvent
 end_told (Upload_begun station drone kind plan since drone_since) = []
-end_told (Installed drone kind plan station) = []
+end_told (Installs drone kind plan station) = []
 end_told (Clear_begun station drone kind drone_since) = []
 end_told (Cleared drone kind station) = []
 end_told (Get_begun station drone kind drone_since) = []
 end_told (Shown drone kind plan station) = []
 end_told (Cancelled station) = []
-end_told (Ended station told) = report.Ended (node_of station) told ∷ []
+end_told (Ends station told) = Ended (node_of station) told ∷ []
 end_told (Restarted drone) = []
 
-abbrev pub ends_told : List StoreEvent → List Event
+abbrev pub ends_told : List StoreEvent → List ProtocolEvent
 ends_told [] = []
 ends_told (e ∷ es) = end_told e ++ ends_told es
 
 -- the frame with this number, where it has a message of the mission protocol
-abbrev pub frame_told : ℕ → Stream → Option PlanMsg → List Event
+abbrev pub frame_told : ℕ → Stream → Option PlanMsg → List ProtocolEvent
 frame_told number from None = []
-frame_told number from (Some m) = report.Sent number (node_of from) m ∷ []
+frame_told number from (Some m) = Sent number (node_of from) m ∷ []
 
 -- the frames behind the first `before`; the newest comes first in the list, and they are numbered from 1
-abbrev pub frames_told : ℕ → List Frame → List Event
+abbrev pub frames_told : ℕ → List Frame → List ProtocolEvent
 frames_told before [] = []
 frames_told before (f ∷ fs) =
     if nat_lt before (length (f ∷ fs)) then frames_told before fs ++ frame_told (length (f ∷ fs)) f.from f.message else []
 
 -- why a call of a station was refused
-abbrev pub refusal_told : Stream → Option OpFault → List Event
+abbrev pub refusal_told : Stream → Option OpFault → List ProtocolEvent
 refusal_told station None = []
-refusal_told station (Some why) = report.Refused (node_of station) why ∷ []
+refusal_told station (Some why) = Refused (node_of station) why ∷ []
 
 -- a call that a station of the fleet refuses, for a drone of the fleet
-abbrev pub call_refused : Nodes → Stream → Stream → Option OpFault → List Event
+abbrev pub call_refused : Nodes → Stream → Stream → Option OpFault → List ProtocolEvent
 call_refused n station drone why = if n.is_station station && n.is_drone drone then refusal_told station why else []
 
-abbrev pub refused_told : Nodes → World → world.Event → List Event
+abbrev pub refused_told : Nodes → World → world.Event → List ProtocolEvent
 refused_told n w (world.Begins s d kind plan) = call_refused n s d (upload_refusal (w.station s).state (number_of kind) plan)
 refused_told n w (world.Clears s d kind) = call_refused n s d (refusal (w.station s).state)
 refused_told n w (world.Gets s d kind) = call_refused n s d (refusal (w.station s).state)
@@ -84,27 +115,27 @@ refused_told n w (world.Station_waits s t) = []
 refused_told n w (world.Restarts d low) = []
 
 -- what the step from the world `w` to `v` prints: a change of plans, the frames sent, the end of an operation
-abbrev pub step_told : World → World → List Event
+abbrev pub step_told : World → World → List ProtocolEvent
 step_told w v = changes_told v.news ++ frames_told (length w.sent) v.sent ++ ends_told v.news
 
 -- one event, and a list of them
-abbrev pub told_in : Nodes → World → world.Event → List Event
+abbrev pub told_in : Nodes → World → world.Event → List ProtocolEvent
 told_in n w e = refused_told n w e ++ step_told w (happens n w e)
 
-abbrev pub told : Nodes → World → List world.Event → List Event
+abbrev pub told : Nodes → World → List world.Event → List ProtocolEvent
 told n w [] = []
 told n w (e ∷ es) = told_in n w e ++ told n (happens n w e) es
 
 -- what a report tells of plans: the installations, the clears and the ends of operations, without the frames
-abbrev pub plan_lines : List Event → List Event
+abbrev pub plan_lines : List ProtocolEvent → List ProtocolEvent
 plan_lines [] = []
-plan_lines (report.Sent number from m ∷ es) = plan_lines es
-plan_lines (report.Installed drone kind items by ∷ es) = report.Installed drone kind items by ∷ plan_lines es
-plan_lines (report.Emptied drone kind ∷ es) = report.Emptied drone kind ∷ plan_lines es
-plan_lines (report.Refused station why ∷ es) = plan_lines es
-plan_lines (report.Ended station told ∷ es) = report.Ended station told ∷ plan_lines es
+plan_lines (Sent number from m ∷ es) = plan_lines es
+plan_lines (Installed drone kind items by ∷ es) = Installed drone kind items by ∷ plan_lines es
+plan_lines (Emptied drone kind ∷ es) = Emptied drone kind ∷ plan_lines es
+plan_lines (Refused station why ∷ es) = plan_lines es
+plan_lines (Ended station told ∷ es) = Ended station told ∷ plan_lines es
 
 -- what it tells of the steps of the abstract mission store, which stand here with the newest first
-abbrev pub steps_told : List Step → List Event
+abbrev pub steps_told : List Step → List ProtocolEvent
 steps_told [] = []
 steps_told (x ∷ h) = steps_told h ++ (change_told x.event ++ end_told x.event)

@@ -1,12 +1,12 @@
-use Rattle.std.proofs.Common.{true, false}
 use Rattle.fleet_liveness.proofs.Shown as shown
 use Rattle.fleet_liveness.proofs.examples.small_uploads.Goals as goal
 
 pub returns : goal.returns
 returns c = record {
-  whole_line = shown.whole_line true;
-  still_open = shown.whole_line false;
+  whole_line = shown.whole_line;
+  whole_authentic = shown.whole_authentic;
   last_line = shown.last_line;
+  last_authentic = shown.last_authentic;
   eight_do = shown.eight_do;
   seven_do_not = shown.seven_do_not;
   ten_do_for_two = shown.ten_do;

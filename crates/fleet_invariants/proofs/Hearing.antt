@@ -1,0 +1,205 @@
+-- What a node does at frames that it hears, at ticks and at orders.
+use Rattle.std.proofs.Common.{◌≡◌, ℕ, suc, List, [], ◌∷◌, ◌++◌, slice_get, Option, Some, None, true, IfSome, refl, sym, ap, subst, arith, ◌∙◌}
+use Rattle.std.specs.Prelude.{is_some}
+use Rattle.mav_ports.specs.declared.names.Stream.{Stream}
+use Rattle.plan_items.specs.declared.messages.PlanMsg.{PlanMsg}
+use Rattle.plan_upload.specs.declared.changes.Change.{Change}
+use Rattle.plan_upload.specs.declared.changes.Change.TheVariants.{Same, Install, Empty}
+use Rattle.plan_upload.specs.Changes.{change_by}
+use Rattle.plan_upload.specs.Plans.{Plans}
+use Rattle.plan_upload.specs.Drone.{DroneState, drone_step}
+use Rattle.plan_upload.specs.Station.{StationState, StationStep, Told, station_step}
+use Rattle.mav_frame.specs.Packet.{Packet, SignatureBlock}
+use Rattle.mav_messages.specs.Plans.{plan_of}
+use Rattle.mav_sign.specs.declared.admission.Admit.{Admit}
+use Rattle.mav_sign.specs.declared.admission.Admit.TheVariants.{Admitted, Unsigned, BadSignature, NotLater, TooOld, TooManyStreams}
+use Rattle.mav_sign.specs.History.{tried, last_of, answer_to, stream_of}
+use Rattle.mav_sign.specs.Signing.{Verifies}
+use Rattle.mav_nodes.specs.News.{Drops}
+use Rattle.mav_nodes.specs.Links.{Done, Outcome, behind, and_then, tries}
+use Rattle.mav_nodes.specs.Steps.{Side, steps, takes, admits, hears, hears_all}
+use Rattle.mav_nodes.specs.Payloads.{plan_in}
+use Rattle.mav_nodes.specs.Nodes.{change_events, drone_core, told_events, station_does, station_core}
+use Rattle.mav_nodes.proofs.Bounds.{payload_small}
+use Rattle.mav_nodes.proofs.Sendings.{plan_reads_back}
+use Rattle.plan_ranges.specs.Ranges.{InRange, NameInRange, StreamInRange, StationStepInRange}
+use Rattle.plan_ranges.proofs.DroneRanges as drones
+use Rattle.plan_ranges.proofs.StationRanges as stations
+use Rattle.fleet_world.specs.Scene.{Scene, Node, Drone, Station, node_name}
+use Rattle.fleet_world.specs.Steps.{packets_in}
+use Rattle.fleet_invariants.specs.Sound.{link_of, has_heard, IsSent}
+use Rattle.fleet_invariants.specs.Kept.{IsAmong}
+use Rattle.fleet_invariants.proofs.Lists.{nowhere, more_there}
+use Rattle.fleet_invariants.proofs.Roles.{drone_stays, station_stays}
+use Rattle.fleet_invariants.proofs.Messages.{carried_in_range}
+use Rattle.fleet_invariants.proofs.Moves.{Steady}
+use Rattle.fleet_invariants.proofs.Rooms.{roomy_step, heard_it}
+use Rattle.fleet_invariants.proofs.Links.{admitted_verifies}
+use Rattle.fleet_invariants.proofs.Nodes.{Silent, advanced, NodeGoes, NodeDoes, node_goes, goes_on, as_node, drone_steps, drone_tries, station_steps, station_tries}
+
+-- ---- what comes in
+
+-- the stream of a sent frame, and its plan message, are in range
+pub from_in_range : (s : Scene) → Steady s → (p : Packet) (q : IsSent s p) → NameInRange p.from
+from_in_range s g p q =
+    let l = g.links q.from.place q.from.node q.from.found in
+    subst NameInRange (own_name q.from.node ∙ q.from.name_is) (record { sys = l.me.1; comp = l.me.3 })
+  where
+    own_name : (n : Node) → (record { sys = (link_of n).me.sys; comp = (link_of n).me.comp }) ≡ node_name n
+    own_name (Drone n) = refl
+    own_name (Station n) = refl
+
+pub carries : (s : Scene) (p : Packet) (q : IsSent s p) → plan_in p.id p.payload ≡ plan_of q.message
+carries s p q =
+    ap (λ (x : Packet). plan_in x.id x.payload) q.is ∙ plan_reads_back q.message q.fits q.item_fits (payload_small q.message)
+
+message_in_range : (s : Scene) (p : Packet) (q : IsSent s p) → IfSome (plan_in p.id p.payload) InRange
+message_in_range s p q =
+    subst (λ (o : Option PlanMsg). IfSome o InRange) (sym (carries s p q)) (carried_in_range q.message q.fits q.item_fits)
+
+-- ---- events that send nothing
+
+changes_silent : (by : Stream) (plans : Plans) (change : Change) → Silent (change_events by plans change)
+changes_silent by plans Same = tt
+changes_silent by plans (Install kind) = tt
+changes_silent by plans (Empty None) = tt
+changes_silent by plans (Empty (Some kind)) = tt
+
+told_silent : (o : Option Told) → Silent (told_events o)
+told_silent None = tt
+told_silent (Some t) = tt
+
+-- ---- a station's core
+
+module _ (s : Scene) (k : ℕ) (n : Side StationState) (g : Steady s) (found : slice_get s.nodes k ≡ Some (Station n)) where
+  pub station_goes : (step : StationStep) → StationStepInRange step → step.station.me ≡ n.core.me → NodeDoes s k (as_node Station (steps s.clock n.link (station_does step)))
+  station_goes step range same =
+      station_steps s k n g found (station_does step) tt (told_silent step.station.outcome) (stations.untells step.station range.station) same refl range.answer
+
+-- ---- one frame
+
+module _ (s : Scene) (k : ℕ) (packet : Packet) (g : Steady s) (known : Verifies s.key packet packet.block → IsAmong s.sent packet) where
+  after_first : (n1 : Node) (o : Outcome Node) → NodeGoes s k (record { node = n1; events = [] }) → NodeDoes (advanced s k n1 []) k o → NodeDoes s k o
+  after_first n1 None first then_ = tt
+  after_first n1 (Some d) first then_ = goes_on s k (record { node = n1; events = [] }) d first then_
+
+  dropped : (n1 : Node) (answer : Admit) → NodeGoes s k (record { node = n1; events = [] }) → NodeGoes s k (record { node = n1; events = Drops answer ∷ [] })
+  dropped n1 answer first = record { steady = first.steady; kept = first.kept; names = first.names; there = first.there; reads = (tt, tt) }
+
+  module _ (n : Side DroneState) (found : slice_get s.nodes k ≡ Some (Drone n)) where
+    abbrev drone_tried : Side DroneState
+    drone_tried = record n { link = tries packet n.link }
+
+    drone_takes : (q : IsSent s packet) (from : Stream) → StreamInRange from → has_heard drone_tried.link from ≡ true → (m : Option PlanMsg) → IfSome m InRange → NodeDoes s k (as_node Drone (takes drone_core s.clock drone_tried from m))
+    drone_takes q from fits heard None range = drone_tries s k n g found packet known
+    drone_takes q from fits heard (Some m) range =
+        let first = drone_tries s k n g found packet known in
+        let step = drone_step true n.core from m in
+        let r = drones.steps true from fits n.core m (g.cores k (Drone n) found).0 range in
+        after_first (Drone drone_tried) _ first
+        (drone_steps (advanced s k (Drone drone_tried) []) k drone_tried first.steady first.there (drone_core n.core from m) (changes_silent from step.drone.plans (change_by step.event)) tt r.drone (drone_stays true from n.core m) (roomy_step (has_heard drone_tried.link) from heard n.core (first.steady.cores k (Drone drone_tried) first.there).3 m) r.answer)
+
+    drone_admits : (answer : Admit) (block : Option SignatureBlock) → (answer ≡ Admitted → IsAmong s.sent packet) → (answer ≡ Admitted → (b : SignatureBlock) → block ≡ Some b → has_heard drone_tried.link (stream_of packet b) ≡ true) → NodeDoes s k (as_node Drone (admits drone_core s.clock drone_tried packet answer block))
+    drone_admits Admitted None sent heard = dropped (Drone drone_tried) Admitted (drone_tries s k n g found packet known)
+    drone_admits Admitted (Some block) sent heard =
+        let at = sent refl in
+        let q = g.sent at.place packet at.found in
+        let from = from_in_range s g packet q in
+        drone_takes q (stream_of packet block) from (heard refl block refl) (plan_in packet.id packet.payload) (message_in_range s packet q)
+    drone_admits Unsigned block sent heard = dropped (Drone drone_tried) Unsigned (drone_tries s k n g found packet known)
+    drone_admits BadSignature block sent heard = dropped (Drone drone_tried) BadSignature (drone_tries s k n g found packet known)
+    drone_admits (NotLater last) block sent heard = dropped (Drone drone_tried) (NotLater last) (drone_tries s k n g found packet known)
+    drone_admits (TooOld local) block sent heard = dropped (Drone drone_tried) (TooOld local) (drone_tries s k n g found packet known)
+    drone_admits TooManyStreams block sent heard = dropped (Drone drone_tried) TooManyStreams (drone_tries s k n g found packet known)
+
+    pub drone_hears : NodeDoes s k (as_node Drone (hears drone_core s.clock packet n))
+    drone_hears =
+        let l = g.links k (Drone n) found in
+        drone_admits (answer_to n.link.key n.link.history packet) packet.block
+        (λ is. known (subst (λ key. Verifies key packet packet.block) l.key (admitted_verifies n.link.key n.link.history packet is)))
+        (λ is b signed. subst (λ (answer : Admit). is_some (last_of (stream_of packet b) (n.link.history ++ tried packet answer ∷ [])) ≡ true) (sym is) (heard_it n.link.history packet b signed))
+
+  module _ (n : Side StationState) (found : slice_get s.nodes k ≡ Some (Station n)) where
+    abbrev station_tried : Side StationState
+    station_tried = record n { link = tries packet n.link }
+
+    station_takes : (q : IsSent s packet) (from : Stream) → (m : Option PlanMsg) → IfSome m InRange → NodeDoes s k (as_node Station (takes station_core s.clock station_tried from m))
+    station_takes q from None range = station_tries s k n g found packet known
+    station_takes q from (Some m) range =
+        let first = station_tries s k n g found packet known in
+        let step = station_step n.core from m in
+        let r = stations.steps n.core from m (g.cores k (Station n) found).0 range in
+        after_first (Station station_tried) _ first
+        (station_goes (advanced s k (Station station_tried) []) k station_tried first.steady first.there step r (station_stays n.core from m))
+
+    station_admits : (answer : Admit) (block : Option SignatureBlock) → (answer ≡ Admitted → IsAmong s.sent packet) → NodeDoes s k (as_node Station (admits station_core s.clock station_tried packet answer block))
+    station_admits Admitted None sent = dropped (Station station_tried) Admitted (station_tries s k n g found packet known)
+    station_admits Admitted (Some block) sent =
+        let at = sent refl in
+        let q = g.sent at.place packet at.found in
+        station_takes q (stream_of packet block) (plan_in packet.id packet.payload) (message_in_range s packet q)
+    station_admits Unsigned block sent = dropped (Station station_tried) Unsigned (station_tries s k n g found packet known)
+    station_admits BadSignature block sent = dropped (Station station_tried) BadSignature (station_tries s k n g found packet known)
+    station_admits (NotLater last) block sent = dropped (Station station_tried) (NotLater last) (station_tries s k n g found packet known)
+    station_admits (TooOld local) block sent = dropped (Station station_tried) (TooOld local) (station_tries s k n g found packet known)
+    station_admits TooManyStreams block sent = dropped (Station station_tried) TooManyStreams (station_tries s k n g found packet known)
+
+    pub station_hears : NodeDoes s k (as_node Station (hears station_core s.clock packet n))
+    station_hears =
+        let l = g.links k (Station n) found in
+        station_admits (answer_to n.link.key n.link.history packet) packet.block (λ is. known (subst (λ key. Verifies key packet packet.block) l.key (admitted_verifies n.link.key n.link.history packet is)))
+
+-- ---- frames
+
+-- each that verifies was sent
+abbrev pub KnownFrames : Scene → List Packet → Type 0
+KnownFrames s packets = (place : ℕ) (p : Packet) → slice_get packets place ≡ Some p → Verifies s.key p p.block → IsAmong s.sent p
+
+still_known : (s : Scene) (sent more : List Packet) (p : Packet) (packets : List Packet) → sent ≡ s.sent → KnownFrames s (p ∷ packets) → (place : ℕ) (q : Packet) → slice_get packets place ≡ Some q → Verifies s.key q q.block → IsAmong (s.sent ++ more) q
+still_known s sent more p packets same known place q e v =
+    let at = known (suc place) q e v in
+    record { place = at.place; found = more_there s.sent more q at.place at.found }
+
+-- one thing and then another
+then_behind : {Core : Type 0} (wrap : Side Core → Node) (s : Scene) (k : ℕ) (d : Done (Side Core)) (o : Outcome (Side Core)) → NodeGoes s k (record { node = wrap d.node; events = d.events }) → NodeDoes (advanced s k (wrap d.node) d.events) k (as_node wrap o) → NodeDoes s k (as_node wrap (behind d.events o))
+then_behind wrap s k d None first next = tt
+then_behind wrap s k d (Some e) first next =
+    goes_on s k (record { node = wrap d.node; events = d.events }) (record { node = wrap e.node; events = e.events }) first next
+
+then_next : {Core : Type 0} (wrap : Side Core → Node) (s : Scene) (k : ℕ) (o : Outcome (Side Core)) (next : Side Core → Outcome (Side Core)) → NodeDoes s k (as_node wrap o)
+    → ((d : Done (Side Core)) → NodeGoes s k (record { node = wrap d.node; events = d.events }) → NodeDoes (advanced s k (wrap d.node) d.events) k (as_node wrap (next d.node)))
+    → NodeDoes s k (as_node wrap (and_then o next))
+then_next wrap s k None next first each = tt
+then_next wrap s k (Some d) next first each = then_behind wrap s k d (next d.node) first (each d first)
+
+rests : (s : Scene) (k : ℕ) (a : Node) → Steady s → slice_get s.nodes k ≡ Some a → NodeGoes s k (record { node = a; events = [] })
+rests s k a g found =
+    let l = g.links k a found in
+    node_goes s k a a [] g found
+    (record {
+      named_is = refl;
+      link = record {
+        me = refl;
+        key = l.key;
+        extras = l.extras;
+        seq = l.seq;
+        local = (let h = l.local in omega arith);
+        rises = omega arith;
+        lasts = l.lasts;
+        heard = λ q h. h;
+        sends = λ p e. absurd (nowhere e.place p e.found);
+      };
+      core = g.cores k a found;
+    }) tt
+
+pub drone_hears_all : (packets : List Packet) (s : Scene) (k : ℕ) (n : Side DroneState) → Steady s → slice_get s.nodes k ≡ Some (Drone n) → KnownFrames s packets → NodeDoes s k (as_node Drone (hears_all drone_core s.clock packets n))
+drone_hears_all [] s k n g found known = rests s k (Drone n) g found
+drone_hears_all (p ∷ packets) s k n g found known =
+    then_next Drone s k (hears drone_core s.clock p n) (hears_all drone_core s.clock packets) (drone_hears s k p g (known 0 p refl) n found) (λ d first.
+    drone_hears_all packets (advanced s k (Drone d.node) d.events) k d.node first.steady first.there (λ place q e v. still_known s s.sent (packets_in d.events) p packets refl known place q e v))
+
+pub station_hears_all : (packets : List Packet) (s : Scene) (k : ℕ) (n : Side StationState) → Steady s → slice_get s.nodes k ≡ Some (Station n) → KnownFrames s packets → NodeDoes s k (as_node Station (hears_all station_core s.clock packets n))
+station_hears_all [] s k n g found known = rests s k (Station n) g found
+station_hears_all (p ∷ packets) s k n g found known =
+    then_next Station s k (hears station_core s.clock p n) (hears_all station_core s.clock packets) (station_hears s k p g (known 0 p refl) n found) (λ d first.
+    station_hears_all packets (advanced s k (Station d.node) d.events) k d.node first.steady first.there (λ place q e v. still_known s s.sent (packets_in d.events) p packets refl known place q e v))

@@ -1,0 +1,215 @@
+-- Lines leave a sound scene.
+use Rattle.std.proofs.Common.{◌≡◌, ℕ, suc, ◌+◌, ◌-◌, ◌<◌, Bool, true, false, inl, inr, nat_lt, IsTrue, List, [], ◌∷◌, ◌++◌, length, slice_get, Option, Some, None, Ok, Err, refl, sym, ap, subst, arith, ◌∙◌}
+use Rattle.std.specs.Prelude.{All, position}
+use Rattle.std.specs.declared.result.Result.{Result}
+use Rattle.std.proofs.lemmas.List.{append-nil}
+use Rattle.std.proofs.lemmas.List.Elements.{All-nil, All-append, All-push}
+use Rattle.mav_ports.specs.declared.names.Name.{Name}
+use Rattle.mav_frame.specs.Packet.{Packet}
+use Rattle.plan_items.specs.Kinds.{number_of}
+use Rattle.plan_items.specs.declared.kinds.PlanKind.{PlanKind}
+use Rattle.plan_items.specs.declared.kinds.PlanKind.TheVariants.{Mission, Fence, Rally}
+use Rattle.plan_upload.specs.declared.faults.OpFault.{OpFault}
+use Rattle.plan_upload.specs.Kinds.{clear_number}
+use Rattle.plan_upload.specs.Refusals.{upload_refusal, refusal}
+use Rattle.plan_upload.specs.Station.{StationState}
+use Rattle.mav_nodes.specs.Links.{Outcome}
+use Rattle.mav_nodes.specs.Steps.{Side}
+use Rattle.mav_nodes.specs.Nodes.{new_drone, new_station, station_cancels, station_clears, station_gets}
+use Rattle.plan_ranges.specs.Ranges.{Is8, NameInRange, ItemInRange}
+use Rattle.scenario_lines.specs.declared.faults.Reason.{Reason}
+use Rattle.scenario_lines.specs.declared.lines.Line.{Line}
+use Rattle.scenario_lines.specs.declared.lines.Line.TheVariants.{Blank, Drone as DroneLine, Station as StationLine, Item as OneItem, Items, Empty, Begin, Cancel, Clear, Get, Heartbeat, Deliver, Flow, Noise, Tick, Clock}
+use Rattle.scenario_lines.specs.Standing.{is_in_role, has_name, has_drone}
+use Rattle.scenario_lines.specs.Standing as standing
+use Rattle.scenario_lines.specs.Grammar.{against, first_reason}
+use Rattle.fleet_world.specs.Scene.{Scene, Node, Drone, Station, node_name, names_of, stream_of, is_station_named, drones_in, stations_in}
+use Rattle.fleet_world.specs.Steps.{Step, Halt, rests, most_drones, most_stations, node_receives, node_beats, node_ticks, node_does, as_station, station_line, orders, upload_begins, orders_at, orders_placed, orders_to, begins, cancels, clears, gets, delivers, items_from, after_line}
+use Rattle.fleet_invariants.specs.Sound.{link_of, Sound}
+use Rattle.fleet_invariants.specs.Kept.{StepKeeps, Keeps, names_joined, KeepsLine}
+use Rattle.fleet_invariants.specs.Laws.{EveryLineKeeps}
+use Rattle.fleet_invariants.proofs.Tests.{by_test, less, not_less, both_true, either_true, eq_true, name_is}
+use Rattle.fleet_invariants.proofs.Restated.{restated, kept_restated, sound_restated, restated_keeps}
+use Rattle.fleet_invariants.proofs.Joins.{kept_joined, names_joined_are, drone_joins, station_joins}
+use Rattle.fleet_invariants.proofs.ItemRows.{rows_in_range}
+use Rattle.fleet_invariants.proofs.Calls.{sound_does}
+use Rattle.fleet_invariants.proofs.Heard.{authentic_known}
+use Rattle.fleet_invariants.proofs.Gives.{rests_so, sound_calls, sound_flows, sound_gives}
+
+-- ---- a step that names no node
+
+line_of_step : (s : Scene) (line : Line) (r : Result Step Halt) → names_joined line ≡ [] → Keeps s r → KeepsLine s line r
+line_of_step s line (Ok t) none h = record {
+  sound = h.sound;
+  kept = h.kept;
+  names = h.names ∙ sym (ap (λ more. names_of s.nodes ++ more) none ∙ append-nil (names_of s.nodes));
+}
+line_of_step s line (Err halt) none h = tt
+
+-- ---- no reason against it
+
+not_against : (bad : Bool) (reason : Reason) → against bad reason ≡ None → bad ≡ false
+not_against true reason e = absurd (let wrong : ◌≡◌ {A = Option Reason} (Some reason) None = e in cc)
+not_against false reason e = refl
+
+no_first : (a b : Option Reason) → first_reason a b ≡ None → (a ≡ None) × (b ≡ None)
+no_first None b e = (refl, e)
+no_first (Some reason) b e = absurd (let wrong : ◌≡◌ {A = Option Reason} (Some reason) None = e in cc)
+
+-- ---- a node that was named
+
+pub record NamedDrone (nodes : List Node) (name : Name) : Type 0 where
+  pub place : ℕ
+  pub node : Node
+  pub found : slice_get nodes place ≡ Some node
+  pub name_is : node_name node ≡ name
+
+name_same : (a b : Name) → standing.same_name a b ≡ true → a ≡ b
+name_same a b e =
+    let x = both_true _ _ e in
+    name_is a b (eq_true _ _ x.0) (eq_true _ _ x.1)
+
+a_drone : (nodes : List Node) (name : Name) → has_drone (names_of nodes) name ≡ true → NamedDrone nodes name
+a_drone [] name h = absurd (cc)
+a_drone (Drone d ∷ ns) name h = elim (either_true (standing.same_name (node_name (Drone d)) name) (has_drone (names_of ns) name) h) [
+  | inl x ↦ record { place = 0; node = Drone d; found = refl; name_is = name_same (node_name (Drone d)) name x }
+  | inr y ↦ (let z = a_drone ns name y in record { place = suc z.place; node = z.node; found = z.found; name_is = z.name_is })
+]
+a_drone (Station t ∷ ns) name h = let z = a_drone ns name h in record { place = suc z.place; node = z.node; found = z.found; name_is = z.name_is }
+
+node_range : (s : Scene) → Sound s → (i : ℕ) (n : Node) → slice_get s.nodes i ≡ Some n → NameInRange (node_name n)
+node_range s g i n e = let l = g.links i n e in named_range n l.me.1 l.me.3
+  where
+    named_range : (n : Node) → (link_of n).me.sys < 256 → (link_of n).me.comp < 256 → NameInRange (node_name n)
+    named_range (Drone d) a b = record { sys = a; comp = b }
+    named_range (Station t) a b = record { sys = a; comp = b }
+
+drone_range : (s : Scene) → Sound s → (name : Name) → IsTrue (has_drone (names_of s.nodes) name) → NameInRange name
+drone_range s g name h =
+    let d = a_drone s.nodes name h in
+    subst NameInRange d.name_is (node_range s g d.place d.node d.found)
+
+-- ---- kinds
+
+kind_small : (kind : PlanKind) → Is8 (number_of kind)
+kind_small Mission = omega arith
+kind_small Fence = omega arith
+kind_small Rally = omega arith
+
+clear_small : (kind : Option PlanKind) → Is8 (clear_number kind)
+clear_small None = omega arith
+clear_small (Some kind) = kind_small kind
+
+-- ---- orders
+
+at_node : (s : Scene) → Sound s → (order : ℕ → Side StationState → Result Step Halt) → ((k : ℕ) (node : Side StationState) → slice_get s.nodes k ≡ Some (Station node) → Keeps s (order k node)) → (k : ℕ) (o : Option Node) → slice_get s.nodes k ≡ o → Keeps s (orders_at s k o order)
+at_node s g order each k None found = rests_so s g
+at_node s g order each k (Some (Drone n)) found = rests_so s g
+at_node s g order each k (Some (Station n)) found = each k n found
+
+order_placed : (s : Scene) → Sound s → (order : ℕ → Side StationState → Result Step Halt) → ((k : ℕ) (node : Side StationState) → slice_get s.nodes k ≡ Some (Station node) → Keeps s (order k node)) → (k : Option ℕ) → Keeps s (orders_placed s k order)
+order_placed s g order each None = rests_so s g
+order_placed s g order each (Some k) = at_node s g order each k (slice_get s.nodes k) refl
+
+pub sound_orders : (s : Scene) → Sound s → (order : ℕ → Side StationState → Result Step Halt) → ((k : ℕ) (node : Side StationState) → slice_get s.nodes k ≡ Some (Station node) → Keeps s (order k node)) → (name : Name) → Keeps s (orders_to s name order)
+sound_orders s g order each name = order_placed s g order each (position (is_station_named name) s.nodes)
+
+refused_or : (s : Scene) → Sound s → (k : ℕ) (node : Side StationState) (why : Option OpFault) (outcome : Outcome (Side StationState)) → (why ≡ None → Keeps s (node_does s k (node_name (Station node)) (as_station outcome))) → Keeps s (orders s k node why outcome)
+refused_or s g k node (Some why) outcome h = rests_so s g
+refused_or s g k node None outcome h = h refl
+
+begin_or : (s : Scene) → Sound s → (k : ℕ) (node : Side StationState) → slice_get s.nodes k ≡ Some (Station node) → (drone : Name) → NameInRange drone → (kind : ℕ) → Is8 kind → (why : Option OpFault) → upload_refusal node.core kind s.draft ≡ why → Keeps s (upload_begins s k node drone kind why)
+begin_or s g k node found drone range kind small (Some why) e = rests_so s g
+begin_or s g k node found drone range kind small None e = ((sound_does s g).begins k node drone kind range small e (node_name (Station node)) found).0
+
+-- a station line sets the place of flows
+at_line : (s : Scene) → Sound s → Sound (station_line s)
+at_line s g = sound_restated s (length s.sent) s.draft s.clock g (omega arith) g.draft (omega arith) g.clock
+
+from_line : (s : Scene) (r : Result Step Halt) → Keeps (station_line s) r → Keeps s r
+from_line s r h = restated_keeps s (length s.sent) s.draft r h
+
+pub sound_begins : (s : Scene) → Sound s → (station drone : Name) (kind : ℕ) → NameInRange drone → Is8 kind → Keeps s (begins s station drone kind)
+sound_begins s g station drone kind range small =
+    sound_orders s g (λ k node. upload_begins s k node drone kind (upload_refusal node.core kind s.draft)) (λ k node found. begin_or s g k node found drone range kind small (upload_refusal node.core kind s.draft) refl) station
+
+pub sound_cancels : (s : Scene) → Sound s → (station : Name) → Keeps s (cancels s station)
+sound_cancels s g station =
+    sound_orders s g (λ k node. orders s k node None (station_cancels s.clock node)) (λ k node found. ((sound_does s g).cancels k node (node_name (Station node)) found).0) station
+
+pub sound_clears : (s : Scene) → Sound s → (station drone : Name) (kind : ℕ) → NameInRange drone → Is8 kind → Keeps s (clears s station drone kind)
+sound_clears s g station drone kind range small =
+    sound_orders s g (λ k node. orders s k node (refusal node.core) (station_clears s.clock (stream_of drone) kind node))
+    (λ k node found. refused_or s g k node (refusal node.core) (station_clears s.clock (stream_of drone) kind node) (λ free. ((sound_does s g).clears k node drone kind range small free (node_name (Station node)) found).0)) station
+
+pub sound_gets : (s : Scene) → Sound s → (station drone : Name) (kind : ℕ) → NameInRange drone → Is8 kind → Keeps s (gets s station drone kind)
+sound_gets s g station drone kind range small =
+    sound_orders s g (λ k node. orders s k node (refusal node.core) (station_gets s.clock (stream_of drone) kind node))
+    (λ k node found. refused_or s g k node (refusal node.core) (station_gets s.clock (stream_of drone) kind node) (λ free. ((sound_does s g).gets k node drone kind range small free (node_name (Station node)) found).0)) station
+
+-- ---- lines
+
+drafts : (s : Scene) → Sound s → (draft : _) → All ItemInRange draft → StepKeeps s (restated s s.given draft s.clock)
+drafts s g draft items = record {
+  sound = sound_restated s s.given draft s.clock g g.given items (omega arith) g.clock;
+  kept = kept_restated s s.given draft s.clock (omega arith);
+  names = refl;
+  clock = refl;
+}
+
+delivered : (s : Scene) → Sound s → (number : ℕ) (name : Name) (o : Option Packet) → slice_get s.sent (number - 1) ≡ o → Keeps s (delivers s number name o)
+delivered s g number name None e = rests_so s g
+delivered s g number name (Some p) e = (sound_gives s g).again (number - 1) p e name
+
+pub sound_line : EveryLineKeeps
+sound_line s g Blank permitted fits authentic = line_of_step s Blank (rests s) refl (rests_so s g)
+sound_line s g (DroneLine sys x y) permitted fits authentic =
+    let free = not_against _ _ permitted.1 in
+    by_test (KeepsLine s (DroneLine sys x y)) (nat_lt (drones_in s.nodes) most_drones) _ _
+    (λ few. record {
+      sound = drone_joins s sys g permitted.0 fits free (less _ _ few);
+      kept = kept_joined s (Drone (new_drone s.key sys));
+      names = names_joined_are s (Drone (new_drone s.key sys));
+    })
+    (λ _. tt)
+sound_line s g (StationLine sys comp) permitted fits authentic =
+    let free = not_against _ _ permitted.1 in
+    let name : Name = record { sys = sys; comp = comp } in
+    by_test (KeepsLine s (StationLine sys comp)) (nat_lt (stations_in s.nodes) most_stations) _ _
+    (λ few. record {
+      sound = station_joins s name g permitted.0.0 fits.0 permitted.0.1 fits.1 free (less _ _ few);
+      kept = kept_joined s (Station (new_station s.key (stream_of name) 0));
+      names = names_joined_are s (Station (new_station s.key (stream_of name) 0));
+    })
+    (λ _. tt)
+sound_line s g (OneItem item) permitted fits authentic =
+    line_of_step s (OneItem item) (after_line s (OneItem item)) refl (drafts s g (s.draft ++ item ∷ []) (All-push ItemInRange s.draft item g.draft fits))
+sound_line s g (Items n first) permitted fits authentic =
+    let reasons = no_first _ _ permitted.1 in
+    let inside = not_against _ _ reasons.0 in
+    line_of_step s (Items n first) (after_line s (Items n first)) refl (drafts s g (s.draft ++ items_from n first 0) (All-append ItemInRange s.draft (items_from n first 0) g.draft (rows_in_range n first fits permitted.0.0 inside)))
+sound_line s g Empty permitted fits authentic = line_of_step s Empty (after_line s Empty) refl (drafts s g [] (All-nil ItemInRange))
+sound_line s g (Begin station drone kind) permitted fits authentic =
+    line_of_step s (Begin station drone kind) (after_line s (Begin station drone kind)) refl (from_line s _ (sound_begins (station_line s) (at_line s g) station drone (number_of kind) (drone_range s g drone permitted.0.1) (kind_small kind)))
+sound_line s g (Cancel station) permitted fits authentic =
+    line_of_step s (Cancel station) (after_line s (Cancel station)) refl (from_line s _ (sound_cancels (station_line s) (at_line s g) station))
+sound_line s g (Clear station drone kind) permitted fits authentic =
+    line_of_step s (Clear station drone kind) (after_line s (Clear station drone kind)) refl (from_line s _ (sound_clears (station_line s) (at_line s g) station drone (clear_number kind) (drone_range s g drone permitted.0.1) (clear_small kind)))
+sound_line s g (Get station drone kind) permitted fits authentic =
+    line_of_step s (Get station drone kind) (after_line s (Get station drone kind)) refl (from_line s _ (sound_gets (station_line s) (at_line s g) station drone (number_of kind) (drone_range s g drone permitted.0.1) (kind_small kind)))
+sound_line s g (Heartbeat node) permitted fits authentic =
+    line_of_step s (Heartbeat node) (after_line s (Heartbeat node)) refl (sound_calls s g (node_beats s.clock) (sound_does s g).beats node)
+sound_line s g (Deliver number node) permitted fits authentic =
+    line_of_step s (Deliver number node) (after_line s (Deliver number node)) refl (delivered s g number node (slice_get s.sent (number - 1)) refl)
+sound_line s g (Flow k) permitted fits authentic = line_of_step s (Flow k) (after_line s (Flow k)) refl (sound_flows k s g)
+sound_line s g (Noise node bytes) permitted fits authentic =
+    line_of_step s (Noise node bytes) (after_line s (Noise node bytes)) refl (sound_calls s g (node_receives s.clock bytes) ((sound_does s g).receives bytes (authentic_known s g bytes fits authentic)) node)
+sound_line s g (Tick node) permitted fits authentic =
+    line_of_step s (Tick node) (after_line s (Tick node)) refl (sound_calls s g (node_ticks s.clock) (sound_does s g).ticks node)
+sound_line s g (Clock n) permitted fits authentic =
+    let soon = not_less _ _ (not_against _ _ permitted.1) in
+    record {
+      sound = sound_restated s s.given s.draft (s.clock + n) g g.given g.draft (omega arith) soon;
+      kept = kept_restated s s.given s.draft (s.clock + n) (omega arith);
+      names = sym (append-nil (names_of s.nodes));
+    }

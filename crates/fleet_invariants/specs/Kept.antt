@@ -1,0 +1,132 @@
+-- What each step keeps of a sound scene, and how sent frames are heard.
+use Rattle.std.specs.Prelude.{ℕ, ◌≡◌, ◌≤◌, List, [], ◌∷◌, ◌++◌, length, slice_get, All, Some, None, Ok, Err}
+use Rattle.std.specs.declared.result.Result.{Result}
+use Rattle.dialect.specs.Messages.{extras_of}
+use Rattle.dialect.specs.Profile.{profile_definitions}
+use Rattle.mav_frame.specs.Packet.{Packet}
+use Rattle.mav_frame.specs.Encoding.{encoding}
+use Rattle.mav_frame.specs.FinalParse.{final_parse}
+use Rattle.mav_messages.specs.Plans.{plan_of}
+use Rattle.mav_sign.specs.Signing.{Verifies, signature_of}
+use Rattle.mav_sign.specs.History.{previous_in}
+use Rattle.mav_sign.specs.Endpoints.{frames_of}
+use Rattle.mav_nodes.specs.News.{NodeEvent, Sends, Installs, Empties, Drops, Ends}
+use Rattle.mav_nodes.specs.Links.{Outcome}
+use Rattle.mav_nodes.specs.Payloads.{plan_in}
+use Rattle.scenario_lines.specs.declared.lines.Line.{Line}
+use Rattle.scenario_lines.specs.declared.lines.Line.TheVariants.{Blank, Drone as DroneLine, Station as StationLine, Item as OneItem, Items, Empty, Begin, Cancel, Clear, Get, Heartbeat, Deliver, Flow, Noise, Tick, Clock}
+use Rattle.scenario_lines.specs.declared.roster.Named.{Named}
+use Rattle.scenario_lines.specs.declared.roster.Role.TheVariants.{Drone as DroneRole, Station as StationRole}
+use Rattle.plan_ranges.specs.Ranges.{Is8, ItemInRange}
+use Rattle.fleet_world.specs.Scene.{Scene, Node, named, names_of}
+use Rattle.fleet_world.specs.Steps.{Step, Halt}
+use Rattle.fleet_invariants.specs.Sound.{link_of, IsSent, Sound}
+
+-- a frame is one of those that were sent
+pub record IsAmong (sent : List Packet) (p : Packet) : Type 0 where
+  pub place : ℕ
+  pub found : slice_get sent place ≡ Some p
+
+-- each frame of some bytes that verifies is one of those that were sent
+abbrev pub Known : Scene → List ℕ → Type 0
+Known s bytes =
+    (place : ℕ) (p : Packet) → slice_get (frames_of (final_parse (extras_of profile_definitions) bytes)) place ≡ Some p
+    → Verifies s.key p p.block → IsAmong s.sent p
+
+-- a sent frame is heard as it was sent: alone in its bytes, on link 0, at its timestamp, signed, with its message
+pub record Heard (s : Scene) (p : Packet) (sent : IsSent s p) : Type 0 where
+  pub frames : frames_of (final_parse (extras_of profile_definitions) (encoding p)) ≡ p ∷ []
+  pub block : p.block ≡ Some (record { link = 0; stamp = sent.stamp; sig = signature_of s.key p 0 sent.stamp })
+  pub verifies : Verifies s.key p p.block
+  pub plan : plan_in p.id p.payload ≡ plan_of sent.message
+
+-- a frame that is told to be sent carries the plan message of its message
+abbrev pub Reads : NodeEvent → Type 0
+Reads (Sends packet message) = plan_in packet.id packet.payload ≡ plan_of message
+Reads (Installs kind items by) = Unit {0}
+Reads (Empties kind) = Unit {0}
+Reads (Drops answer) = Unit {0}
+Reads (Ends told) = Unit {0}
+
+abbrev pub AllRead : List NodeEvent → Type 0
+AllRead [] = Unit {0}
+AllRead (e ∷ es) = Reads e × AllRead es
+
+abbrev pub OutcomeReads : Outcome Node → Type 0
+OutcomeReads None = Unit {0}
+OutcomeReads (Some d) = AllRead d.events
+
+-- a node goes on in its place: its role, its name and its stream are the same, and timestamps only rise
+pub record Follows (nodes : List Node) (place : ℕ) (a : Node) : Type 0 where
+  pub node : Node
+  pub found : slice_get nodes place ≡ Some node
+  pub named_is : named node ≡ named a
+  pub me : (link_of node).me ≡ (link_of a).me
+  pub previous : previous_in (link_of a).history ≤ previous_in (link_of node).history
+
+-- what was named and sent stays
+pub record Kept (s t : Scene) : Type 0 where
+  pub key : t.key ≡ s.key
+  pub nodes : (i : ℕ) (a : Node) → slice_get s.nodes i ≡ Some a → Follows t.nodes i a
+  pub many : length s.nodes ≤ length t.nodes
+  pub sent : (i : ℕ) (p : Packet) → slice_get s.sent i ≡ Some p → slice_get t.sent i ≡ Some p
+  pub frames : length s.sent ≤ length t.sent
+  pub clock : s.clock ≤ t.clock
+
+-- a step that names no node and moves no clock
+pub record StepKeeps (s t : Scene) : Type 0 where
+  pub sound : Sound t
+  pub kept : Kept s t
+  pub names : names_of t.nodes ≡ names_of s.nodes
+  pub clock : t.clock ≡ s.clock
+
+abbrev pub Keeps : Scene → Result Step Halt → Type 0
+Keeps s (Ok t) = StepKeeps s t.scene
+Keeps s (Err halt) = Unit {0}
+
+-- a line: the nodes that it names are the last ones
+abbrev pub names_joined : Line → List Named
+names_joined (DroneLine sys x y) = record { role = DroneRole; name = record { sys = sys; comp = 1 } } ∷ []
+names_joined (StationLine sys comp) = record { role = StationRole; name = record { sys = sys; comp = comp } } ∷ []
+names_joined Blank = []
+names_joined (OneItem item) = []
+names_joined (Items n first) = []
+names_joined Empty = []
+names_joined (Begin station drone kind) = []
+names_joined (Cancel station) = []
+names_joined (Clear station drone kind) = []
+names_joined (Get station drone kind) = []
+names_joined (Heartbeat node) = []
+names_joined (Deliver number node) = []
+names_joined (Flow k) = []
+names_joined (Noise node bytes) = []
+names_joined (Tick node) = []
+names_joined (Clock n) = []
+
+pub record LineKeeps (s : Scene) (line : Line) (t : Scene) : Type 0 where
+  pub sound : Sound t
+  pub kept : Kept s t
+  pub names : names_of t.nodes ≡ names_of s.nodes ++ names_joined line
+
+abbrev pub KeepsLine : Scene → Line → Result Step Halt → Type 0
+KeepsLine s line (Ok t) = LineKeeps s line t.scene
+KeepsLine s line (Err halt) = Unit {0}
+
+-- the numbers of a line are in the ranges of their types
+abbrev pub LineFits : Line → Type 0
+LineFits (DroneLine sys x y) = Is8 sys
+LineFits (StationLine sys comp) = Is8 sys × Is8 comp
+LineFits (OneItem item) = ItemInRange item
+LineFits (Items n first) = ItemInRange first
+LineFits (Noise node bytes) = All Is8 bytes
+LineFits Blank = Unit {0}
+LineFits Empty = Unit {0}
+LineFits (Begin station drone kind) = Unit {0}
+LineFits (Cancel station) = Unit {0}
+LineFits (Clear station drone kind) = Unit {0}
+LineFits (Get station drone kind) = Unit {0}
+LineFits (Heartbeat node) = Unit {0}
+LineFits (Deliver number node) = Unit {0}
+LineFits (Flow k) = Unit {0}
+LineFits (Tick node) = Unit {0}
+LineFits (Clock n) = Unit {0}

@@ -1,0 +1,122 @@
+-- The laws of sound scenes.
+use Rattle.std.specs.Prelude.{ℕ, ◌≡◌, Bool, false, List, [], slice_get, codes, All, Some, None}
+use Rattle.std.specs.Str.{bytes_eq}
+use Rattle.mav_ports.specs.declared.names.Name.{Name}
+use Rattle.dialect.specs.Messages.{extras_of}
+use Rattle.dialect.specs.Profile.{profile_definitions}
+use Rattle.mav_frame.specs.Packet.{Packet, FitsFrame}
+use Rattle.mav_frame.specs.Encoding.{encoding, IsSealed}
+use Rattle.mav_sign.specs.Signing.{Verifies}
+use Rattle.plan_upload.specs.Refusals.{upload_refusal, refusal}
+use Rattle.plan_upload.specs.Station.{StationState}
+use Rattle.plan_ranges.specs.Ranges.{Is8, NameInRange}
+use Rattle.mav_nodes.specs.Links.{Outcome}
+use Rattle.mav_nodes.specs.Steps.{Side}
+use Rattle.mav_nodes.specs.Nodes.{station_begins, station_cancels, station_clears, station_gets}
+use Rattle.scenario_lines.specs.declared.lines.Line.{Line}
+use Rattle.scenario_lines.specs.Words.{words_of, word_at}
+use Rattle.scenario_lines.specs.Standing.{Standing}
+use Rattle.scenario_lines.specs.Grammar.{line_of}
+use Rattle.scenario_lines.specs.Reasons.{reason_against}
+use Rattle.scenario_lines.specs.Permits.{IsPermitted}
+use Rattle.fleet_world.specs.Scene.{Scene, Node, Station, stream_of, standing_of}
+use Rattle.fleet_world.specs.Steps.{node_receives, node_beats, node_ticks, node_does, as_station, given_to, given_from, given_to_all, flows, calls, after_line}
+use Rattle.fleet_world.specs.Scenario.{Played, played, lines_played, whole_lines, unfinished, without_cr}
+use Rattle.fleet_world.specs.Authentic.{AuthenticBytes, AuthenticLine, AuthenticLines, Authentic}
+use Rattle.fleet_invariants.specs.Sound.{IsSent, Sound}
+use Rattle.fleet_invariants.specs.Kept.{Known, Heard, OutcomeReads, Keeps, KeepsLine, LineFits}
+
+-- ---- what is heard
+
+-- each sent frame is heard as it was sent
+abbrev pub EachHeard : Type 0
+EachHeard = (s : Scene) → Sound s → (p : Packet) (sent : IsSent s p) → Heard s p sent
+
+-- the bytes of a sent frame, and authentic bytes, bring nothing that wasn't sent
+abbrev pub SentKnown : Type 0
+SentKnown = (s : Scene) → Sound s → (i : ℕ) (p : Packet) → slice_get s.sent i ≡ Some p → Known s (encoding p)
+
+abbrev pub AuthenticKnown : Type 0
+AuthenticKnown = (s : Scene) → Sound s → (bytes : List ℕ) → All Is8 bytes → AuthenticBytes s bytes → Known s bytes
+
+-- noise that repeats a sent frame is authentic
+abbrev pub SentAuthentic : Type 0
+SentAuthentic = (s : Scene) → Sound s → (i : ℕ) (p : Packet) → slice_get s.sent i ≡ Some p → AuthenticBytes s (encoding p)
+
+-- and a frame that verifies under the key and wasn't sent is not
+abbrev pub UnsentForeign : Type 0
+UnsentForeign =
+    (s : Scene) → Sound s → (p : Packet) → FitsFrame p → IsSealed (extras_of profile_definitions) p → Verifies s.key p p.block
+    → ((i : ℕ) → slice_get s.sent i ≡ Some p → ⊥) → AuthenticBytes s (encoding p) → ⊥
+
+-- ---- what one node does
+
+abbrev pub CallKeeps : Scene → (Node → Outcome Node) → Type 0
+CallKeeps s call =
+    (k : ℕ) (node : Node) (name : Name) → slice_get s.nodes k ≡ Some node
+    → Keeps s (node_does s k name (call node)) × OutcomeReads (call node)
+
+abbrev pub OrderKeeps : Scene → Scene → ℕ → Side StationState → Outcome (Side StationState) → Type 0
+OrderKeeps s from k node outcome =
+    (name : Name) → slice_get s.nodes k ≡ Some (Station node)
+    → Keeps s (node_does from k name (as_station outcome)) × OutcomeReads (as_station outcome)
+
+pub record EachCallKeeps (s : Scene) : Type 0 where
+  pub receives : (bytes : List ℕ) → Known s bytes → CallKeeps s (node_receives s.clock bytes)
+  pub beats : CallKeeps s (node_beats s.clock)
+  pub ticks : CallKeeps s (node_ticks s.clock)
+  pub begins : (k : ℕ) (node : Side StationState) (drone : Name) (kind : ℕ) → NameInRange drone → Is8 kind → upload_refusal node.core kind s.draft ≡ None
+      → OrderKeeps s (record s { draft = [] }) k node (station_begins s.clock (stream_of drone) kind s.draft node)
+  pub cancels : (k : ℕ) (node : Side StationState) → OrderKeeps s s k node (station_cancels s.clock node)
+  pub clears : (k : ℕ) (node : Side StationState) (drone : Name) (kind : ℕ) → NameInRange drone → Is8 kind → refusal node.core ≡ None
+      → OrderKeeps s s k node (station_clears s.clock (stream_of drone) kind node)
+  pub gets : (k : ℕ) (node : Side StationState) (drone : Name) (kind : ℕ) → NameInRange drone → Is8 kind → refusal node.core ≡ None
+      → OrderKeeps s s k node (station_gets s.clock (stream_of drone) kind node)
+
+abbrev pub EveryCallKeeps : Type 0
+EveryCallKeeps = (s : Scene) → Sound s → EachCallKeeps s
+
+-- ---- what frames that are given do
+
+pub record EachGivingKeeps (s : Scene) : Type 0 where
+  pub one : (i : ℕ) (p : Packet) → slice_get s.sent i ≡ Some p → (k : ℕ) → Keeps s (given_to s k p (slice_get s.nodes k))
+  pub some : (i : ℕ) (p : Packet) → slice_get s.sent i ≡ Some p → (k n : ℕ) → Keeps s (given_from s k n p)
+  pub all : (i : ℕ) (p : Packet) → slice_get s.sent i ≡ Some p → Keeps s (given_to_all s p)
+  pub flow : (k : ℕ) → Keeps s (flows k s)
+  pub again : (i : ℕ) (p : Packet) → slice_get s.sent i ≡ Some p → (name : Name) → Keeps s (calls s name (node_receives s.clock (encoding p)))
+
+abbrev pub EveryGivingKeeps : Type 0
+EveryGivingKeeps = (s : Scene) → Sound s → EachGivingKeeps s
+
+-- ---- lines
+
+abbrev pub EveryLineKeeps : Type 0
+EveryLineKeeps =
+    (s : Scene) → Sound s → (line : Line) → IsPermitted (standing_of s) line → LineFits line → AuthenticLine s line
+    → KeepsLine s line (after_line s line)
+
+-- a line that has no reason against it may be asked for, and its numbers are in range
+abbrev pub EveryReadLineFits : Type 0
+EveryReadLineFits =
+    (standing : Standing) (text : List ℕ) → reason_against standing text ≡ None → IsPermitted standing (line_of text) × LineFits (line_of text)
+
+-- ---- scenarios
+
+abbrev pub EveryLinesSound : Type 0
+EveryLinesSound =
+    (p : Played) → Sound p.scene → (number : ℕ) (lines : List (List ℕ)) → AuthenticLines p number lines → Sound (lines_played p number lines).scene
+
+abbrev pub EverySceneSound : Type 0
+EverySceneSound = (key : List ℕ) (ended : Bool) (bytes : List ℕ) → Authentic key ended bytes → Sound (played key ended bytes).scene
+
+-- the first word of a line is `noise`
+abbrev pub is_noise : List ℕ → Bool
+is_noise text = bytes_eq (word_at (words_of text) 0) (codes "noise")
+
+-- that of no line is
+pub record IsQuiet (bytes : List ℕ) : Type 0 where
+  pub lines : (i : ℕ) (raw : List ℕ) → slice_get (whole_lines bytes) i ≡ Some raw → is_noise (without_cr raw) ≡ false
+  pub last : is_noise (unfinished bytes) ≡ false
+
+abbrev pub EveryQuietAuthentic : Type 0
+EveryQuietAuthentic = (key : List ℕ) (ended : Bool) (bytes : List ℕ) → IsQuiet bytes → Authentic key ended bytes

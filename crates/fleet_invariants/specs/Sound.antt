@@ -1,0 +1,96 @@
+-- What holds of the scene of every authentic scenario, after each step: names tell nodes apart, numbers are in their
+-- ranges, what was sent is signed and reads back, and every timestamp that was admitted had been sent.
+use Rattle.std.specs.Prelude.{ℕ, ◌≡◌, ◌≤◌, ◌<◌, ◌+◌, ◌^◌, Bool, true, List, length, map, slice_get, All, Some, None, IfSome, is_some}
+use Rattle.std.specs.List.{list_any, IsDistinct}
+use Rattle.mav_ports.specs.declared.names.Name.{Name}
+use Rattle.mav_ports.specs.declared.names.Stream.{Stream}
+use Rattle.dialect.specs.Messages.{extras_of}
+use Rattle.dialect.specs.Profile.{profile_definitions}
+use Rattle.field_layout.specs.Payload.{FitsLayout}
+use Rattle.mav_frame.specs.Packet.{Packet}
+use Rattle.mav_messages.specs.declared.messages.Message.{Message}
+use Rattle.mav_messages.specs.Messages.{definition_of, values_of}
+use Rattle.mav_messages.specs.Plans.{plan_of}
+use Rattle.mav_sign.specs.History.{same_stream, last_of, local_of, previous_in, streams_of}
+use Rattle.plan_upload.specs.Addresses.{node_of}
+use Rattle.plan_upload.specs.Drone.{UploadResult, DroneState}
+use Rattle.plan_ranges.specs.Ranges.{ItemInRange, DroneInRange, StationInRange}
+use Rattle.mav_nodes.specs.Links.{Link}
+use Rattle.mav_nodes.specs.Payloads.{ItemFits}
+use Rattle.mav_nodes.specs.Signed.{signed_packet}
+use Rattle.fleet_world.specs.Scene.{Scene, Node, Drone, Station, node_name, stream_of, drones_in, stations_in}
+use Rattle.fleet_world.specs.Steps.{most_frames, most_drones, most_stations}
+
+abbrev pub link_of : Node → Link
+link_of (Drone n) = n.link
+link_of (Station n) = n.link
+
+-- the node of this name
+pub record Holds (nodes : List Node) (name : Name) : Type 0 where
+  pub place : ℕ
+  pub node : Node
+  pub found : slice_get nodes place ≡ Some node
+  pub name_is : node_name node ≡ name
+
+-- what a node of the fleet has sent: a message whose values fit, signed at a timestamp that is not above its latest
+pub record IsSent (s : Scene) (p : Packet) : Type 0 where
+  pub from : Holds s.nodes p.from
+  pub seq : ℕ
+  pub stamp : ℕ
+  pub message : Message
+  pub is : p ≡ signed_packet s.key (extras_of profile_definitions) (stream_of p.from) seq stamp message
+  pub seq_fits : seq < 256
+  pub some : 1 ≤ stamp
+  pub by_latest : stamp ≤ previous_in (link_of from.node).history
+  pub stamp_fits : stamp < 2 ^ 48
+  pub fits : FitsLayout (definition_of message) (values_of message)
+  pub item_fits : ItemFits (plan_of message)
+
+-- a frame of this stream was sent at this timestamp
+pub record WasStamped (s : Scene) (stream : Stream) (stamp : ℕ) : Type 0 where
+  pub place : ℕ
+  pub packet : Packet
+  pub found : slice_get s.sent place ≡ Some packet
+  pub sent : IsSent s packet
+  pub stream_is : stream_of packet.from ≡ stream
+  pub stamp_is : sent.stamp ≡ stamp
+
+-- a node's end of the links
+pub record SoundLink (s : Scene) (link : Link) : Type 0 where
+  pub key : link.key ≡ s.key
+  pub extras : link.extras ≡ extras_of profile_definitions
+  pub me : (1 ≤ link.me.sys) × (link.me.sys < 256) × (1 ≤ link.me.comp) × (link.me.comp < 256) × (link.me.link ≡ 0)
+  pub seq : link.seq < 256
+  -- no timestamp is ahead of the clock by more than the frames that were sent
+  pub local : local_of link.history ≤ s.clock + length s.sent
+  pub previous : previous_in link.history ≤ local_of link.history
+  -- the last one that was admitted of a stream was sent by it
+  pub lasts : (stream : Stream) (stamp : ℕ) → last_of stream link.history ≡ Some stamp → WasStamped s stream stamp
+  -- so no more streams are kept than there are nodes
+  pub streams : length (streams_of link.history) ≤ length s.nodes
+
+-- a drone keeps results, and an open upload, of streams that it has heard alone, and one result of each
+pub record Roomy (known : Stream → Bool) (d : DroneState) : Type 0 where
+  pub apart : IsDistinct same_stream (map (λ (r : UploadResult). r.stream) d.results)
+  pub results : (stream : Stream) → list_any (same_stream stream) (map (λ (r : UploadResult). r.stream) d.results) ≡ true → known stream ≡ true
+  pub upload : IfSome d.upload (λ u. known u.stream ≡ true)
+
+abbrev pub has_heard : Link → Stream → Bool
+has_heard link stream = is_some (last_of stream link.history)
+
+-- its core
+abbrev pub SoundCore : Node → Type 0
+SoundCore (Drone n) = DroneInRange n.core × (n.core.sys ≡ n.link.me.sys) × (n.link.me.comp ≡ 1) × Roomy (has_heard n.link) n.core
+SoundCore (Station n) = StationInRange n.core × (n.core.me ≡ node_of n.link.me) × (n.core.outcome ≡ None)
+
+pub record Sound (s : Scene) : Type 0 where
+  pub apart : (i j : ℕ) (a b : Node) → slice_get s.nodes i ≡ Some a → slice_get s.nodes j ≡ Some b → node_name a ≡ node_name b → i ≡ j
+  pub links : (i : ℕ) (a : Node) → slice_get s.nodes i ≡ Some a → SoundLink s (link_of a)
+  pub cores : (i : ℕ) (a : Node) → slice_get s.nodes i ≡ Some a → SoundCore a
+  pub sent : (i : ℕ) (p : Packet) → slice_get s.sent i ≡ Some p → IsSent s p
+  pub frames : length s.sent ≤ most_frames
+  pub given : s.given ≤ length s.sent
+  pub drones : drones_in s.nodes ≤ most_drones
+  pub stations : stations_in s.nodes ≤ most_stations
+  pub draft : All ItemInRange s.draft
+  pub clock : s.clock ≤ 140737488355328

@@ -1,0 +1,398 @@
+-- A station's steps, in both worlds.
+use Rattle.std.proofs.Common.{◌≡◌, ℕ, ◌+◌, ◌<◌, ◌≤◌, true, false, max, nat_lt, List, [], ◌∷◌, ◌++◌, length, slice_get, slice_set, Option, Some, None, refl, sym, ap, subst, arith, ◌∙◌}
+use Rattle.std.specs.Prelude.{option_map, IfSome, All}
+use Rattle.std.proofs.lemmas.List.{append-nil}
+use Rattle.mav_ports.specs.declared.names.Stream.{Stream}
+use Rattle.plan_items.specs.declared.items.Item.{Item}
+use Rattle.plan_items.specs.declared.kinds.PlanKind.{PlanKind}
+use Rattle.plan_items.specs.declared.kinds.PlanKind.TheVariants.{Mission, Fence, Rally}
+use Rattle.plan_items.specs.declared.messages.PlanMsg.{PlanMsg}
+use Rattle.plan_items.specs.Kinds.{number_of}
+use Rattle.plan_upload.specs.Addresses.{node_of}
+use Rattle.plan_upload.specs.Kinds.{clear_number}
+use Rattle.plan_upload.specs.Refusals.{upload_refusal, refusal}
+use Rattle.plan_upload.specs.Station.{StationState, StationStep, Operation, Told, Uploads, Clears as Clears_work, Gets as Gets_work, operation_of, station_step, station_tick, station_cancel, begin_upload, begin_clear, begin_get, untold}
+use Rattle.plan_safety.specs.Frames.{Frame}
+use Rattle.plan_safety.specs.Store.{StoreEvent, Upload_begun, Clear_begun, Get_begun, at}
+use Rattle.plan_safety.specs.World as world
+use Rattle.plan_safety.specs.World.{Nodes, Distinct, World, StationNode, Station_waits, Station_ticks, To_station, Hands_out, Speaks, Begins, Clears, Gets, Cancels, happens, quiet, frame_of, told_news, cancel_news}
+use Rattle.plan_safety.proofs.Keys.{by_test, not_true, at_same, at_apart}
+use Rattle.plan_safety.proofs.Fleet.{not_both}
+use Rattle.plan_safety.proofs.FleetMoves.{plus}
+use Rattle.plan_safety.proofs.FleetDrone.{says_frame}
+use Rattle.plan_safety.proofs.FleetStation.{says_node, sends_is}
+use Rattle.plan_ranges.specs.Ranges.{StreamInRange, InRange, ItemInRange, Is8, StationInRange, StationStepInRange}
+use Rattle.plan_ranges.proofs.MessageRanges.{carried}
+use Rattle.plan_ranges.proofs.StationRanges as ranges
+use Rattle.mav_frame.specs.Packet.{Packet, SignatureBlock}
+use Rattle.mav_messages.specs.declared.messages.Message.{Message}
+use Rattle.mav_messages.specs.Plans.{message_of_plan, plan_of}
+use Rattle.mav_sign.specs.declared.admission.Admit.{Admit}
+use Rattle.mav_sign.specs.declared.admission.Admit.TheVariants.{Admitted, Unsigned, BadSignature, NotLater, TooOld, TooManyStreams}
+use Rattle.mav_sign.specs.Signing.{Verifies}
+use Rattle.mav_sign.specs.History.{Entry, Stamped, tried, stamped, next_in, answer_to, block_answer, stamp_answer, greatest_stamp}
+use Rattle.mav_sign.specs.History as signed
+use Rattle.mav_nodes.specs.News.{NodeEvent, Sends, Drops}
+use Rattle.mav_nodes.specs.Links.{Link, Done, Outcome, done, behind, sends}
+use Rattle.mav_nodes.specs.Links as links
+use Rattle.mav_nodes.specs.Payloads.{plan_in}
+use Rattle.mav_nodes.specs.Steps.{Side, answers, with_core, steps, takes, admits, hears}
+use Rattle.mav_nodes.specs.Nodes.{told_events, station_does, station_core, station_ticks, station_heartbeat, station_beats, station_begins, station_cancels, station_clears, station_gets}
+use Rattle.fleet_world.specs.Scene.{Node, Station}
+use Rattle.fleet_world.specs.Steps.{packets_in}
+use Rattle.fleet_invariants.specs.Kept.{IsAmong}
+use Rattle.fleet_safety.specs.Telling.{changes_told, ends_told, step_told, refused_told}
+use Rattle.fleet_safety.proofs.Times.{KeepsTime, IsDue, Later, due_keeps, waits_due, dropped_keeps, admits_due, admits_keeps, sends_keeps, admitted_later}
+use Rattle.fleet_safety.proofs.Frames.{Found, SameFrame, SameNew, found, same_more, same_length}
+use Rattle.fleet_safety.proofs.Ends.{step_tells, tick_tells, cancel_tells, begun_tells}
+use Rattle.fleet_safety.proofs.Reports.{Chain, chain_end, chain_on, silent_step, seen_by, ends_are, no_changes}
+use Rattle.fleet_safety.proofs.Sendings.{packet_of, sent_frame, step_is, quiet_seen, sends_seen}
+use Rattle.fleet_safety.proofs.Fits.{Stands, Reached, Fits, reached_all, MovesTo, fits_on, Alike, Led, Leads}
+use Rattle.fleet_safety.proofs.Drones.{stream_at, frame_is}
+
+-- the world after a step of a station
+abbrev pub station_after : World → Stream → StationNode → Option Frame → List StoreEvent → World
+station_after u y z f news = record { drone = u.drone; station = at u.station y z; sent = plus f u.sent; news = news }
+
+abbrev pub station_node : StationState → (Stream → ℕ) → ℕ → StationNode
+station_node state last next = record { state = state; last = last; next = next }
+
+-- once it has handed out its outcome
+abbrev pub after_hands : World → Stream → StationNode → World
+after_hands v y z = station_after v y (station_node (untold z.state) z.last z.next) None []
+
+less : (a b : ℕ) → a < b → nat_lt a b ≡ true
+less a b l = grind arith
+
+-- a call's step, with its events in front of an outcome
+abbrev called : World → Stream → StationNode → (Stream → ℕ) → ℕ → StationStep → List StoreEvent → World
+called u y z last next a news = station_after u y (says_node (station_node a.station last next) a.answer) (says_frame y next a.answer) (news ++ told_news y a.told)
+
+-- the events of the world
+module _ (n : Nodes) (u : World) (y : Stream) (z : StationNode) (here : n.is_station y ≡ true) (own : u.station y ≡ z) where
+  hears_on : (place : ℕ) (from : Stream) (stamp : ℕ) (m : PlanMsg) → slice_get u.sent place ≡ Some (frame_of from stamp (Some m)) → z.last from < stamp
+      → happens n u (To_station place y) ≡ called u y z (at z.last from stamp) (max z.next stamp) (station_step z.state from m) []
+  hears_on place from stamp m there late =
+      rw (here, there, own, less _ _ late)
+      (let a : StationStep = station_step z.state from m in
+      sends_is (record u { news = told_news y a.told }) y (station_node a.station (at z.last from stamp) (max z.next stamp)) a.answer)
+
+  ticks_on : happens n u (Station_ticks y) ≡ called u y z z.last z.next (station_tick z.state) []
+  ticks_on =
+      rw (here, own)
+      (let a : StationStep = station_tick z.state in
+      sends_is (record u { news = told_news y a.told }) y (station_node a.station z.last z.next) a.answer)
+
+  cancels_on : happens n u (Cancels y) ≡ called u y z z.last z.next (station_cancel z.state) (cancel_news y z.state.operation)
+  cancels_on =
+      rw (here, own)
+      (let a : StationStep = station_cancel z.state in
+      sends_is (record u { news = cancel_news y z.state.operation ++ told_news y a.told }) y (station_node a.station z.last z.next) a.answer)
+
+  hands_on : happens n u (Hands_out y) ≡ after_hands u y z
+  hands_on = rw (here, own) refl
+
+  speaks_on : n.is_drone y ≡ false → happens n u (Speaks y) ≡ station_after u y (station_node z.state z.last (z.next + 1)) (Some (frame_of y z.next None)) []
+  speaks_on station = rw (station, here, own) refl
+
+  module _ (d : Stream) (there : n.is_drone d ≡ true) where
+    begins_on : (kind : PlanKind) (plan : List Item) → upload_refusal z.state (number_of kind) plan ≡ None
+        → happens n u (Begins y d kind plan) ≡ called u y z z.last z.next (begin_upload z.state d (number_of kind) plan) (Upload_begun y d (number_of kind) plan z.next (u.drone d).next ∷ [])
+    begins_on kind plan free =
+        rw (here, there, own, free)
+        (let a : StationStep = begin_upload z.state d (number_of kind) plan in
+        sends_is (record u { news = Upload_begun y d (number_of kind) plan z.next (u.drone d).next ∷ told_news y a.told }) y (station_node a.station z.last z.next) a.answer)
+
+    clears_on : (kind : Option PlanKind) → refusal z.state ≡ None
+        → happens n u (Clears y d kind) ≡ called u y z z.last z.next (begin_clear z.state d (world.clear_number kind)) (Clear_begun y d (world.clear_number kind) (u.drone d).next ∷ [])
+    clears_on kind free =
+        rw (here, there, own, free)
+        (let a : StationStep = begin_clear z.state d (world.clear_number kind) in
+        sends_is (record u { news = Clear_begun y d (world.clear_number kind) (u.drone d).next ∷ told_news y a.told }) y (station_node a.station z.last z.next) a.answer)
+
+    gets_on : (kind : PlanKind) → refusal z.state ≡ None
+        → happens n u (Gets y d kind) ≡ called u y z z.last z.next (begin_get z.state d (number_of kind)) (Get_begun y d (number_of kind) (u.drone d).next ∷ [])
+    gets_on kind free =
+        rw (here, there, own, free)
+        (let a : StationStep = begin_get z.state d (number_of kind) in
+        sends_is (record u { news = Get_begun y d (number_of kind) (u.drone d).next ∷ told_news y a.told }) y (station_node a.station z.last z.next) a.answer)
+
+no_packets : (told : Option Told) → packets_in (told_events told) ≡ []
+no_packets None = refl
+no_packets (Some told) = refl
+
+module _ (n : Nodes) (sound : Distinct n) (clock : ℕ) (nodes : List Node) (sent : List Packet) (w : World) (fits : Fits n clock nodes sent w) (k : ℕ) (a : Side StationState) (there : slice_get nodes k ≡ Some (Station a)) where
+  abbrev y : Stream
+  y = a.link.me
+
+  pub here : n.is_station y ≡ true
+  here = fits.covers k (Station a) there
+
+  stands : Stands clock w (Station a)
+  stands = fits.stands k (Station a) there
+
+  zero_link : y.link ≡ 0
+  zero_link = (fits.named.proper k (Station a) there).0
+
+  stream : StreamInRange y
+  stream = (fits.named.proper k (Station a) there).2
+
+  many : length sent ≡ length w.sent
+  many = same_length sent w.sent fits.frames
+
+  -- the station waits until it may send
+  abbrev now : ℕ
+  now = next_in a.link.history clock
+
+  abbrev waited : StationNode
+  waited = station_node a.core (w.station y).last (max (w.station y).next now)
+
+  abbrev u : World
+  u = record (quiet w) { station = at w.station y (record (w.station y) { next = max (w.station y).next now }) }
+
+  is_u : happens n w (Station_waits y now) ≡ u
+  is_u = rw here refl
+
+  own : u.station y ≡ waited
+  own = at_same w.station y (record (w.station y) { next = max (w.station y).next now }) ∙ ap (λ z. station_node z waited.last waited.next) stands.0
+
+  due : IsDue clock a.link.history waited.last waited.next
+  due = waits_due clock a.link.history (w.station y).last (w.station y).next stands.1
+
+  -- nothing happens in the world
+  still_led : (b : Side StationState) (es : List NodeEvent) → Alike (Station a) (Station b) → a.core ≡ b.core → KeepsTime clock b.link.history (w.station y).last (w.station y).next → packets_in es ≡ [] → seen_by (node_of y) (length sent) es ≡ [] → Led n clock nodes sent w k (Station a) (record { node = Station b; events = es })
+  still_led b es alike core time none tells = record {
+    events = [];
+    report = tells;
+    alike = alike;
+    fits = fits_on n clock nodes sent w w k (Station a) (Station b) fits there alike.role moves (packets_in es) (same_more sent (packets_in es) w.sent None fits.frames none) fits.reached;
+  }
+    where
+      moves : MovesTo clock w w y (Station b)
+      moves = record {
+        own = subst (λ me. ((w.station me).state ≡ b.core) × KeepsTime clock b.link.history (w.station me).last (w.station me).next × (b.core.outcome ≡ None) × StationInRange b.core) alike.role
+            (stands.0 ∙ core, time, subst (λ (c : StationState). c.outcome ≡ None) core stands.2, subst StationInRange core stands.3);
+        drones = λ z far. refl;
+        stations = λ z far. refl;
+      }
+
+  -- the station waits, then an event, and then its outcome is handed out
+  led : (b : Side StationState) (es : List NodeEvent) (e : world.Event) (z : StationNode) (f : Option Frame) (news : List StoreEvent) → happens n u e ≡ station_after u y z f news → refused_told n u e ≡ [] → Alike (Station a) (Station b) → untold z.state ≡ b.core → StationInRange b.core → KeepsTime clock b.link.history z.last z.next → SameNew (packets_in es) f → seen_by (node_of y) (length sent) es ≡ step_told u (station_after u y z f news) → Led n clock nodes sent w k (Station a) (record { node = Station b; events = es })
+  led b es e z f news is none alike state range time new tells =
+      let v : World = station_after u y z f news in
+      let last : World = after_hands v y z in
+      let hands : happens n v (Hands_out y) ≡ last = hands_on n v y z here (at_same u.station y z) in
+      let chain : Chain n w last (step_told w u ++ (step_told u v ++ (step_told v last ++ []))) = chain_on n w u last (Station_waits y now) (step_told u v ++ (step_told v last ++ [])) is_u refl (chain_on n u v last e (step_told v last ++ []) is none (chain_on n v last last (Hands_out y) [] hands refl (chain_end n last))) in
+      record {
+        events = chain.events;
+        report =
+            tells ∙ sym (append-nil (step_told u v))
+            ∙ ap (λ r. step_told u v ++ (r ++ [])) (sym (silent_step v last refl refl))
+            ∙ ap (λ r. r ++ (step_told u v ++ (step_told v last ++ []))) (sym (silent_step w u refl refl))
+            ∙ sym chain.tells;
+        alike = alike;
+        fits = subst (Fits n clock (slice_set nodes k (Station b)) (sent ++ packets_in es)) (sym chain.ends)
+            (fits_on n clock nodes sent w last k (Station a) (Station b) fits there alike.role moves (packets_in es) (same_more sent (packets_in es) w.sent f fits.frames new) (subst (Reached n) chain.ends (reached_all n sound w chain.events fits.reached)));
+      }
+    where
+      moves : MovesTo clock w (after_hands (station_after u y z f news) y z) y (Station b)
+      moves = record {
+        own = subst (λ me. ((at (at u.station y z) y (station_node (untold z.state) z.last z.next) me).state ≡ b.core) × KeepsTime clock b.link.history (at (at u.station y z) y (station_node (untold z.state) z.last z.next) me).last (at (at u.station y z) y (station_node (untold z.state) z.last z.next) me).next × (b.core.outcome ≡ None) × StationInRange b.core) alike.role
+            (subst (λ (x : StationNode). (x.state ≡ b.core) × KeepsTime clock b.link.history x.last x.next × (b.core.outcome ≡ None) × StationInRange b.core) (sym (at_same (at u.station y z) y (station_node (untold z.state) z.last z.next)))
+            (state, time, sym (ap (λ (c : StationState). c.outcome) state), range));
+        drones = λ x far. refl;
+        stations = λ x far. at_apart (at u.station y z) y x _ far ∙ at_apart u.station y x z far ∙ at_apart w.station y x _ far;
+      }
+
+  -- a step of the core: nothing is sent, or a message in one frame, and then an outcome may be told
+  module _ (link : Link) (before core : StationState) (last : Stream → ℕ) (next : ℕ) (news : List StoreEvent) (ending : List NodeEvent) (handed : untold before ≡ core) (ready : IsDue clock link.history last next) (range : StationInRange core) (me : y ≡ link.me) (key : a.link.key ≡ link.key) (none : packets_in ending ≡ []) (changeless : changes_told news ≡ []) (ends : (k : ℕ) → seen_by (node_of y) k ending ≡ ends_told news) where
+    says_nothing : (e : world.Event) → happens n u e ≡ station_after u y (station_node before last next) None news → refused_told n u e ≡ [] → Led n clock nodes sent w k (Station a) (record { node = Station (record { link = link; core = core }); events = ending })
+    says_nothing e is silent =
+        led (record { link = link; core = core }) ending e (station_node before last next) None news is silent (record { role = me; key = key }) handed range (due_keeps clock link.history last next ready)
+        none
+        (quiet_seen y (length sent) (length w.sent) [] ending news refl (λ k. sym changeless) ends many ∙ sym (step_is u (station_after u y (station_node before last next) None news) None refl))
+
+    says : (e : world.Event) (message : Message) (said : Option PlanMsg) → IfSome said InRange → plan_of message ≡ said → happens n u e ≡ station_after u y (station_node before last (next + 1)) (Some (frame_of y next said)) news → refused_told n u e ≡ [] → Leads n clock nodes sent w k (Station a) Station (with_core core ending (sends clock message link))
+    says e message said within carries is silent =
+        by_test (λ o. Leads n clock nodes sent w k (Station a) Station (with_core core ending o)) (nat_lt greatest_stamp (next_in link.history clock)) _ _ (λ _. tt)
+        (λ _ reads.
+        let q : Packet = packet_of link clock message in
+        let f : Frame = frame_of y next said in
+        let same : SameFrame q f = subst (λ s. SameFrame q (frame_of s next said)) (sym me) (sent_frame link clock next message said (subst (λ (s : Stream). s.link ≡ 0) me zero_link) (subst StreamInRange me stream) within ready.next ready.some carries reads.0) in
+        led (record { link = links.sent_at (next_in link.history clock) link; core = core }) (Sends q message ∷ ending) e (station_node before last (next + 1)) (Some f) news is silent (record { role = me; key = key }) handed range (sends_keeps clock link.history last next ready)
+        (q, ap (λ ps. q ∷ ps) none, same)
+        (sends_seen y (length sent) (length w.sent) [] ending news refl (λ k. sym changeless) ends many q message said next (sym (ap node_of me)) carries ∙ sym (step_is u (station_after u y (station_node before last (next + 1)) (Some f) news) (Some f) refl)))
+
+    in_front : (o : Outcome (Side StationState)) → Leads n clock nodes sent w k (Station a) Station o → Leads n clock nodes sent w k (Station a) Station (behind [] o)
+    in_front None h = tt
+    in_front (Some d) h = h
+
+    -- by the answer
+    answers_lead : (o : Option PlanMsg) → IfSome o InRange → (e : world.Event) → happens n u e ≡ station_after u y (says_node (station_node before last next) o) (says_frame y next o) news → refused_told n u e ≡ [] → Leads n clock nodes sent w k (Station a) Station (behind [] (with_core core ending (answers clock o link)))
+    answers_lead None within e is silent = λ _. says_nothing e is silent
+    answers_lead (Some m) within e is silent = in_front (with_core core ending (sends clock (message_of_plan m) link)) (says e (message_of_plan m) (Some m) within (carried m within) is silent)
+
+  -- a step of the core that tells what stands then as its outcome
+  step_leads : (link : Link) (act : StationStep) (last : Stream → ℕ) (next : ℕ) (news : List StoreEvent) (e : world.Event) → IsDue clock link.history last next → y ≡ link.me → a.link.key ≡ link.key → act.station.outcome ≡ act.told → StationStepInRange act → changes_told (news ++ told_news y act.told) ≡ [] → ends_told (news ++ told_news y act.told) ≡ ends_told (told_news y act.told) → happens n u e ≡ called u y waited last next act news → refused_told n u e ≡ [] → Leads n clock nodes sent w k (Station a) Station (steps clock link (station_does act))
+  step_leads link act last next news e ready me key tells range changeless endings is silent =
+      answers_lead link act.station (untold act.station) last next (news ++ told_news y act.told) (told_events act.station.outcome) refl ready (ranges.untells act.station range.station) me key (no_packets act.station.outcome) changeless
+      (λ k. subst (λ o. seen_by (node_of y) k (told_events o) ≡ ends_told (news ++ told_news y act.told)) (sym tells) (ends_are y act.told k ∙ sym endings))
+      act.answer range.answer e is silent
+
+  -- ---- a frame comes
+
+  -- with the frame tried, and that answer
+  abbrev tried_with : Packet → Admit → Side StationState
+  tried_with p answer = record a { link = record a.link { history = a.link.history ++ tried p answer ∷ [] } }
+
+  unchanged : (p : Packet) (answer : Admit) → Alike (Station a) (Station (tried_with p answer))
+  unchanged p answer = record { role = refl; key = refl }
+
+  -- a frame that isn't admitted
+  dropped : (p : Packet) (answer : Admit) → signed.admitted_by (tried p answer) ≡ None → Leads n clock nodes sent w k (Station a) Station (done (tried_with p answer) (Drops answer ∷ []))
+  dropped p answer none _ =
+      still_led (tried_with p answer) (Drops answer ∷ []) (unchanged p answer) refl
+      (dropped_keeps clock a.link.history (w.station y).last (w.station y).next (tried p answer) none refl stands.1) refl refl
+
+  -- one that is admitted was sent
+  module _ (p : Packet) (block : SignatureBlock) (signs : p.block ≡ Some block) (later : Later a.link.key a.link.history p block) (place : ℕ) (is_sent : slice_get sent place ≡ Some p) where
+    abbrev from : Stream
+    from = signed.stream_of p block
+
+    abbrev b : Side StationState
+    b = tried_with p Admitted
+
+    entered : signed.admitted_by (tried p Admitted) ≡ Some (stamped p block)
+    entered = ap (option_map (stamped p)) signs
+
+    its : Found p w.sent
+    its = found sent w.sent place p fits.frames is_sent
+
+    stream_from : its.frame.from ≡ from
+    stream_from = its.same.from ∙ sym (ap (λ link. stream_at p.from.sys p.from.comp link) (its.same.block block signs).0)
+
+    stamp_is : its.frame.timestamp ≡ block.stamp
+    stamp_is = sym (its.same.block block signs).1
+
+    -- with another message
+    other : Leads n clock nodes sent w k (Station a) Station (done b [])
+    other _ =
+        still_led b [] (unchanged p Admitted) refl
+        (admits_keeps clock a.link.history (tried p Admitted) (stamped p block) entered refl (w.station y).last (w.station y).next stands.1) refl refl
+
+    -- with a message of the protocol
+    module _ (m : PlanMsg) (carries : plan_in p.id p.payload ≡ Some m) where
+      abbrev act : StationStep
+      act = station_step a.core from m
+
+      abbrev last : Stream → ℕ
+      last = at waited.last from block.stamp
+
+      abbrev next : ℕ
+      next = max waited.next block.stamp
+
+      lies : slice_get w.sent its.place ≡ Some (frame_of from block.stamp (Some m))
+      lies = its.there ∙ ap Some (frame_is its.frame from block.stamp (Some m) stream_from stamp_is (its.same.message ∙ carries))
+
+      late : waited.last from < block.stamp
+      late = later.above (waited.last from) (stands.1.last from) (subst (λ t. 1 ≤ t) stamp_is its.same.some)
+
+      ranged : StationStepInRange act
+      ranged = ranges.steps a.core from m stands.3 (subst (λ o. IfSome o InRange) (its.same.message ∙ carries) its.same.range)
+
+      plan : Leads n clock nodes sent w k (Station a) Station (steps clock b.link (station_core b.core from m))
+      plan =
+          step_leads b.link act last next [] (To_station its.place y)
+          (admits_due clock a.link.history (tried p Admitted) (stamped p block) entered refl waited.last waited.next due) refl refl
+          (step_tells a.core stands.2 from m) ranged (no_changes y act.told) refl
+          (hears_on n u y waited here own its.place from block.stamp m lies late) refl
+
+    takes_lead : (o : Option PlanMsg) → plan_in p.id p.payload ≡ o → Leads n clock nodes sent w k (Station a) Station (takes station_core clock b from o)
+    takes_lead None e = other
+    takes_lead (Some m) e = plan m e
+
+  -- by the answer
+  module _ (p : Packet) (known : Verifies a.link.key p p.block → IsAmong sent p) where
+    by_answer : (answer : Admit) (block : Option SignatureBlock) → answer_to a.link.key a.link.history p ≡ answer → p.block ≡ block → Leads n clock nodes sent w k (Station a) Station (admits station_core clock (tried_with p answer) p answer block)
+    by_answer Admitted None e signs = dropped p Admitted (ap (option_map (stamped p)) signs)
+    by_answer Admitted (Some block) e signs =
+        let later : Later a.link.key a.link.history p block =
+        admitted_later a.link.key a.link.history p block (subst (λ o. block_answer a.link.key (λ stream stamp. stamp_answer stream stamp a.link.history) p o ≡ Admitted) signs e) in
+        let sent_as : IsAmong sent p = known (subst (Verifies a.link.key p) (sym signs) later.verifies) in
+        takes_lead p block signs later sent_as.place sent_as.found (plan_in p.id p.payload) refl
+    by_answer Unsigned block e signs = dropped p Unsigned refl
+    by_answer BadSignature block e signs = dropped p BadSignature refl
+    by_answer (NotLater last) block e signs = dropped p (NotLater last) refl
+    by_answer (TooOld local) block e signs = dropped p (TooOld local) refl
+    by_answer TooManyStreams block e signs = dropped p TooManyStreams refl
+
+    pub frame_leads : Leads n clock nodes sent w k (Station a) Station (hears station_core clock p a)
+    frame_leads = by_answer (answer_to a.link.key a.link.history p) p.block refl refl
+
+  -- ---- a tick, a HEARTBEAT, and orders
+  pub ticks_lead : Leads n clock nodes sent w k (Station a) Station (station_ticks clock a)
+  ticks_lead =
+      step_leads a.link (station_tick a.core) waited.last waited.next [] (Station_ticks y) due refl refl (tick_tells a.core stands.2) (ranges.ticks a.core stands.3)
+      (no_changes y (station_tick a.core).told) refl (ticks_on n u y waited here own) refl
+
+  pub beats_lead : Leads n clock nodes sent w k (Station a) Station (station_beats clock a)
+  beats_lead =
+      says a.link a.core a.core waited.last waited.next [] [] kept due stands.3 refl refl refl refl (λ k. refl) (Speaks y) station_heartbeat None tt refl
+      (speaks_on n u y waited here own (not_true (n.is_drone y) (λ d. not_both n sound y y d here refl))) refl
+    where
+      kept : untold a.core ≡ a.core
+      kept = ap (λ o. record a.core { outcome = o }) (sym stands.2)
+
+  cancels_quietly : (o : Option Operation) (told : Option Told) → (changes_told (cancel_news y o ++ told_news y told) ≡ []) × (ends_told (cancel_news y o ++ told_news y told) ≡ ends_told (told_news y told))
+  cancels_quietly None told = (no_changes y told, refl)
+  cancels_quietly (Some o) told = (no_changes y told, refl)
+
+  pub cancels_lead : Leads n clock nodes sent w k (Station a) Station (station_cancels clock a)
+  cancels_lead =
+      let act : StationStep = station_cancel a.core in
+      let quietly = cancels_quietly a.core.operation act.told in
+      step_leads a.link act waited.last waited.next (cancel_news y a.core.operation) (Cancels y) due refl refl (cancel_tells a.core stands.2) (ranges.cancels a.core stands.3)
+      quietly.0 quietly.1 (cancels_on n u y waited here own) refl
+
+  -- orders that aren't refused
+  module _ (d : Stream) (is_drone : n.is_drone d ≡ true) (stream_d : StreamInRange d) where
+    small : (kind : PlanKind) → Is8 (number_of kind)
+    small Mission = omega arith
+    small Fence = omega arith
+    small Rally = omega arith
+
+    pub begins_lead : (kind : PlanKind) (plan : List Item) → All ItemInRange plan → upload_refusal a.core (number_of kind) plan ≡ None → Leads n clock nodes sent w k (Station a) Station (station_begins clock d (number_of kind) plan a)
+    begins_lead kind plan items free =
+        let act : StationStep = begin_upload a.core d (number_of kind) plan in
+        let tells = begun_tells a.core (operation_of Uploads d (number_of kind) plan) in
+        step_leads a.link act waited.last waited.next (Upload_begun y d (number_of kind) plan waited.next (u.drone d).next ∷ []) (Begins y d kind plan) due refl refl (tells.0 ∙ sym tells.1)
+        (ranges.uploads a.core d (number_of kind) plan stands.3 stream_d (small kind) items free) (no_changes y act.told) refl
+        (begins_on n u y waited here own d is_drone kind plan free)
+        (rw (here, is_drone, own, free) refl)
+
+    clear_is : (kind : Option PlanKind) → world.clear_number kind ≡ clear_number kind
+    clear_is None = refl
+    clear_is (Some kind) = refl
+
+    small_clear : (kind : Option PlanKind) → Is8 (world.clear_number kind)
+    small_clear None = omega arith
+    small_clear (Some kind) = small kind
+
+    pub clears_lead : (kind : Option PlanKind) → refusal a.core ≡ None → Leads n clock nodes sent w k (Station a) Station (station_clears clock d (clear_number kind) a)
+    clears_lead kind free =
+        let act : StationStep = begin_clear a.core d (world.clear_number kind) in
+        let tells = begun_tells a.core (operation_of Clears_work d (world.clear_number kind) []) in
+        subst (λ c. Leads n clock nodes sent w k (Station a) Station (station_clears clock d c a)) (clear_is kind)
+        (step_leads a.link act waited.last waited.next (Clear_begun y d (world.clear_number kind) (u.drone d).next ∷ []) (Clears y d kind) due refl refl (tells.0 ∙ sym tells.1)
+        (ranges.clears a.core d (world.clear_number kind) stands.3 stream_d (small_clear kind)) (no_changes y act.told) refl
+        (clears_on n u y waited here own d is_drone kind free)
+        (rw (here, is_drone, own, free) refl))
+
+    pub gets_lead : (kind : PlanKind) → refusal a.core ≡ None → Leads n clock nodes sent w k (Station a) Station (station_gets clock d (number_of kind) a)
+    gets_lead kind free =
+        let act : StationStep = begin_get a.core d (number_of kind) in
+        let tells = begun_tells a.core (operation_of Gets_work d (number_of kind) []) in
+        step_leads a.link act waited.last waited.next (Get_begun y d (number_of kind) (u.drone d).next ∷ []) (Gets y d kind) due refl refl (tells.0 ∙ sym tells.1)
+        (ranges.gets a.core d (number_of kind) stands.3 stream_d (small kind)) (no_changes y act.told) refl
+        (gets_on n u y waited here own d is_drone kind free)
+        (rw (here, is_drone, own, free) refl)
