@@ -8,7 +8,7 @@ use Rattle.command_ends.specs.declared.stops.Place.{Place}
 use Rattle.command_ends.specs.declared.stops.InputReason.{InputReason}
 use Rattle.command_ends.specs.declared.stops.Limit.{Limit}
 use Rattle.command_ends.specs.declared.stops.Stop.{Stop}
-use Rattle.command_ends.specs.declared.stops.Stop.TheVariants.{Bad, AtLimit}
+use Rattle.command_ends.specs.declared.stops.Stop.TheVariants.{Bad, AtLimit, StampsSpent}
 use Rattle.command_ends.specs.declared.halts.Halt.{Halt}
 use Rattle.command_ends.specs.declared.halts.Halt.TheVariants.{Usage, Stopped, ReadFault, WriteFault, NoMemory, TurnsSpent}
 use Rattle.command_ends.specs.Endings.{code_of, stop_code, stop_text}
@@ -27,6 +27,7 @@ done_at s o lb la sb sa None e ran =
 done_at s o lb la sb sa (Some Usage) e ran = absurd (omega arith)
 done_at s o lb la sb sa (Some (Stopped (Bad place reason))) e ran = absurd (omega arith)
 done_at s o lb la sb sa (Some (Stopped (AtLimit limit))) e ran = absurd (omega arith)
+done_at s o lb la sb sa (Some (Stopped StampsSpent)) e ran = absurd (omega arith)
 done_at s o lb la sb sa (Some ReadFault) e ran = absurd (omega arith)
 done_at s o lb la sb sa (Some WriteFault) e ran = absurd (omega arith)
 done_at s o lb la sb sa (Some NoMemory) e ran = absurd (omega arith)
@@ -38,6 +39,7 @@ usage_at s o lb la sb sa None e ran = absurd (omega arith)
 usage_at s o lb la sb sa (Some Usage) e ran = ran.cause
 usage_at s o lb la sb sa (Some (Stopped (Bad place reason))) e ran = absurd (omega arith)
 usage_at s o lb la sb sa (Some (Stopped (AtLimit limit))) e ran = absurd (omega arith)
+usage_at s o lb la sb sa (Some (Stopped StampsSpent)) e ran = absurd (omega arith)
 usage_at s o lb la sb sa (Some ReadFault) e ran = absurd (omega arith)
 usage_at s o lb la sb sa (Some WriteFault) e ran = absurd (omega arith)
 usage_at s o lb la sb sa (Some NoMemory) e ran = absurd (omega arith)
@@ -49,6 +51,7 @@ bad_at s o lb la sb sa None e ran = absurd (omega arith)
 bad_at s o lb la sb sa (Some Usage) e ran = absurd (omega arith)
 bad_at s o lb la sb sa (Some (Stopped (Bad place reason))) e ran = (place, reason, (ran.ended, ran.taken, (ran.took, ran.at_end), ran.cause, ran.wrote))
 bad_at s o lb la sb sa (Some (Stopped (AtLimit limit))) e ran = absurd (omega arith)
+bad_at s o lb la sb sa (Some (Stopped StampsSpent)) e ran = absurd (omega arith)
 bad_at s o lb la sb sa (Some ReadFault) e ran = absurd (omega arith)
 bad_at s o lb la sb sa (Some WriteFault) e ran = absurd (omega arith)
 bad_at s o lb la sb sa (Some NoMemory) e ran = absurd (omega arith)
@@ -60,10 +63,23 @@ limit_at s o lb la sb sa None e ran = absurd (omega arith)
 limit_at s o lb la sb sa (Some Usage) e ran = absurd (omega arith)
 limit_at s o lb la sb sa (Some (Stopped (Bad place reason))) e ran = absurd (omega arith)
 limit_at s o lb la sb sa (Some (Stopped (AtLimit limit))) e ran = (limit, (ran.ended, ran.taken, (ran.took, ran.at_end), ran.cause, ran.wrote))
+limit_at s o lb la sb sa (Some (Stopped StampsSpent)) e ran = absurd (omega arith)
 limit_at s o lb la sb sa (Some ReadFault) e ran = absurd (omega arith)
 limit_at s o lb la sb sa (Some WriteFault) e ran = absurd (omega arith)
 limit_at s o lb la sb sa (Some NoMemory) e ran = absurd (omega arith)
 limit_at s o lb la sb sa (Some TurnsSpent) e ran = absurd (omega arith)
+
+-- no timestamp is left
+stamps_spent_at : (s : Script) (o : Outside) (lb la sb sa : Option (List ℕ)) (end : Option Halt) → code_of end ≡ 13 → Ran s o lb la sb sa end → ToldStop s StampsSpent o.spent lb la sb sa
+stamps_spent_at s o lb la sb sa None e ran = absurd (omega arith)
+stamps_spent_at s o lb la sb sa (Some Usage) e ran = absurd (omega arith)
+stamps_spent_at s o lb la sb sa (Some (Stopped (Bad place reason))) e ran = absurd (omega arith)
+stamps_spent_at s o lb la sb sa (Some (Stopped (AtLimit limit))) e ran = absurd (omega arith)
+stamps_spent_at s o lb la sb sa (Some (Stopped StampsSpent)) e ran = (ran.ended, ran.taken, (ran.took, ran.at_end), ran.cause, ran.wrote)
+stamps_spent_at s o lb la sb sa (Some ReadFault) e ran = absurd (omega arith)
+stamps_spent_at s o lb la sb sa (Some WriteFault) e ran = absurd (omega arith)
+stamps_spent_at s o lb la sb sa (Some NoMemory) e ran = absurd (omega arith)
+stamps_spent_at s o lb la sb sa (Some TurnsSpent) e ran = absurd (omega arith)
 
 -- a run that nothing had stopped where the reading was cut off
 cut_at : (s : Script) (text taken : List ℕ) (lb la sb sa : Option (List ℕ)) (ended : Bool) → ended ≡ false → lb ≡ prepend_known taken la → s.stop ended taken ≡ None → sa ≡ append_known sb (s.report ended taken ++ text) → ToldCut s text lb la sb sa
@@ -76,6 +92,7 @@ read_fault_at s o lb la sb sa None e ran = absurd (omega arith)
 read_fault_at s o lb la sb sa (Some Usage) e ran = absurd (omega arith)
 read_fault_at s o lb la sb sa (Some (Stopped (Bad place reason))) e ran = absurd (omega arith)
 read_fault_at s o lb la sb sa (Some (Stopped (AtLimit limit))) e ran = absurd (omega arith)
+read_fault_at s o lb la sb sa (Some (Stopped StampsSpent)) e ran = absurd (omega arith)
 read_fault_at s o lb la sb sa (Some ReadFault) e ran = (ran.cause.0, cut_at s (codes "read fault\n") ran.taken lb la sb sa ran.ended ran.cause.1 ran.took ran.cause.2 ran.wrote)
 read_fault_at s o lb la sb sa (Some WriteFault) e ran = absurd (omega arith)
 read_fault_at s o lb la sb sa (Some NoMemory) e ran = absurd (omega arith)
@@ -87,6 +104,7 @@ turns_spent_at s o lb la sb sa None e ran = absurd (omega arith)
 turns_spent_at s o lb la sb sa (Some Usage) e ran = absurd (omega arith)
 turns_spent_at s o lb la sb sa (Some (Stopped (Bad place reason))) e ran = absurd (omega arith)
 turns_spent_at s o lb la sb sa (Some (Stopped (AtLimit limit))) e ran = absurd (omega arith)
+turns_spent_at s o lb la sb sa (Some (Stopped StampsSpent)) e ran = absurd (omega arith)
 turns_spent_at s o lb la sb sa (Some ReadFault) e ran = absurd (omega arith)
 turns_spent_at s o lb la sb sa (Some WriteFault) e ran = absurd (omega arith)
 turns_spent_at s o lb la sb sa (Some NoMemory) e ran = absurd (omega arith)
@@ -98,6 +116,7 @@ write_fault_at s o lb la sb sa None e ran = absurd (omega arith)
 write_fault_at s o lb la sb sa (Some Usage) e ran = absurd (omega arith)
 write_fault_at s o lb la sb sa (Some (Stopped (Bad place reason))) e ran = absurd (omega arith)
 write_fault_at s o lb la sb sa (Some (Stopped (AtLimit limit))) e ran = absurd (omega arith)
+write_fault_at s o lb la sb sa (Some (Stopped StampsSpent)) e ran = absurd (omega arith)
 write_fault_at s o lb la sb sa (Some ReadFault) e ran = absurd (omega arith)
 write_fault_at s o lb la sb sa (Some WriteFault) e ran = (ran.cause, ran.ended, ran.taken, (ran.took, ran.at_end), ran.wrote)
 write_fault_at s o lb la sb sa (Some NoMemory) e ran = absurd (omega arith)
@@ -109,6 +128,7 @@ no_memory_at s o lb la sb sa None e ran = absurd (omega arith)
 no_memory_at s o lb la sb sa (Some Usage) e ran = absurd (omega arith)
 no_memory_at s o lb la sb sa (Some (Stopped (Bad place reason))) e ran = absurd (omega arith)
 no_memory_at s o lb la sb sa (Some (Stopped (AtLimit limit))) e ran = absurd (omega arith)
+no_memory_at s o lb la sb sa (Some (Stopped StampsSpent)) e ran = absurd (omega arith)
 no_memory_at s o lb la sb sa (Some ReadFault) e ran = absurd (omega arith)
 no_memory_at s o lb la sb sa (Some WriteFault) e ran = absurd (omega arith)
 no_memory_at s o lb la sb sa (Some NoMemory) e ran = (ran.ended, ran.taken, (ran.took, ran.at_end), ran.wrote)
@@ -214,6 +234,7 @@ promised s steady o lb la sb sa end nothing ran = record {
   not_usage = λ e. usage_at s o lb la sb sa end e ran;
   bad = λ e. bad_at s o lb la sb sa end e ran;
   limit = λ e. limit_at s o lb la sb sa end e ran;
+  stamps_spent = λ e. stamps_spent_at s o lb la sb sa end e ran;
   stops = λ stop taken rest told left stops. stops_at s steady o lb la sb sa end stop taken rest told left stops ran;
   read_fault = λ e. read_fault_at s o lb la sb sa end e ran;
   turns_spent = λ e. turns_spent_at s o lb la sb sa end e ran;

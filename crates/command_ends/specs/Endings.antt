@@ -8,7 +8,7 @@ use Rattle.command_ends.specs.declared.stops.InputReason.TheVariants.{Long, Word
 use Rattle.command_ends.specs.declared.stops.Limit.{Limit}
 use Rattle.command_ends.specs.declared.stops.Limit.TheVariants.{Lines, Frames, Drones, Stations, DefinitionBytes, InputBytes}
 use Rattle.command_ends.specs.declared.stops.Stop.{Stop}
-use Rattle.command_ends.specs.declared.stops.Stop.TheVariants.{Bad, AtLimit}
+use Rattle.command_ends.specs.declared.stops.Stop.TheVariants.{Bad, AtLimit, StampsSpent}
 use Rattle.command_ends.specs.declared.halts.Halt.{Halt}
 use Rattle.command_ends.specs.declared.halts.Halt.TheVariants.{Usage, Stopped, ReadFault, WriteFault, NoMemory, TurnsSpent}
 
@@ -54,10 +54,12 @@ place_text Operation = codes "operation"
 abbrev pub stop_text : Stop → List ℕ
 stop_text (Bad place reason) = codes "bad " ++ (place_text place ++ (codes ": " ++ (reason_word reason ++ codes "\n")))
 stop_text (AtLimit limit) = codes "limit " ++ (limit_words limit ++ codes "\n")
+stop_text StampsSpent = codes "stamps spent\n"
 
 abbrev pub stop_code : Stop → ℕ
 stop_code (Bad place reason) = 3
 stop_code (AtLimit limit) = 6
+stop_code StampsSpent = 13
 
 -- the status of a run that was done, or that halted
 abbrev pub code_of : Option Halt → ℕ

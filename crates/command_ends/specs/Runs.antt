@@ -7,7 +7,7 @@ use Rattle.command_ends.specs.declared.stops.Place.{Place}
 use Rattle.command_ends.specs.declared.stops.InputReason.{InputReason}
 use Rattle.command_ends.specs.declared.stops.Limit.{Limit}
 use Rattle.command_ends.specs.declared.stops.Stop.{Stop}
-use Rattle.command_ends.specs.declared.stops.Stop.TheVariants.{Bad, AtLimit}
+use Rattle.command_ends.specs.declared.stops.Stop.TheVariants.{Bad, AtLimit, StampsSpent}
 use Rattle.command_ends.specs.declared.halts.Halt.{Halt}
 use Rattle.command_ends.specs.declared.halts.Halt.TheVariants.{Usage, Stopped, ReadFault, WriteFault, NoMemory, TurnsSpent}
 use Rattle.command_ends.specs.Endings.{code_of, text_of, stop_code, stop_text}
@@ -145,6 +145,8 @@ pub record Promises (s : Script) (o : Outside) (left_before left_after sent_befo
   pub bad : code ≡ 3 → (place : Place) × (reason : InputReason) × ToldStop s (Bad place reason) o.spent left_before left_after sent_before sent_after
   -- 6: they pass this limit
   pub limit : code ≡ 6 → (limit : Limit) × ToldStop s (AtLimit limit) o.spent left_before left_after sent_before sent_after
+  -- 13: at them a node has no timestamp left
+  pub stamps_spent : code ≡ 13 → ToldStop s StampsSpent o.spent left_before left_after sent_before sent_after
   -- where the bytes taken stop a run, the status is that of the stop, unless a write failed or memory ran out
   pub stops : (stop : Stop) (taken rest : List ℕ) → left_before ≡ Some (taken ++ rest) → left_after ≡ Some rest → s.stop false taken ≡ Some stop
       → OrFails (stop_code stop) (s.report false taken ++ stop_text stop) code sent_before sent_after

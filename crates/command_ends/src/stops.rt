@@ -60,6 +60,8 @@ pub enum Limit {
 pub enum Stop {
     Bad(Place, InputReason),
     AtLimit(Limit),
+    /// A node has no timestamp left for a frame: the next one would pass 2^48 - 1.
+    StampsSpent,
 }
 
 impl InputReason {
@@ -129,6 +131,7 @@ impl Stop {
         match self {
             Stop::Bad(..) => 3,
             Stop::AtLimit(_) => 6,
+            Stop::StampsSpent => 13,
         }
     }
 
@@ -141,6 +144,7 @@ impl Stop {
                 format!(in alloc; "bad {}: {}\n", place.as_str(), reason.word())
             }
             Stop::AtLimit(limit) => format!(in alloc; "limit {}\n", limit.words()),
+            Stop::StampsSpent => String::from_str(alloc, "stamps spent\n"),
         }
     }
 }

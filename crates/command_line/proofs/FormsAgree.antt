@@ -7,12 +7,12 @@ use Rattle.command_line.specs.declared.lines.Setting.{Setting}
 use Rattle.command_line.specs.declared.commands.Command.{Command}
 use Rattle.command_line.specs.declared.commands.Command.TheVariants.{Fleet, Dialect, Decode, Route, Drone, Station, Make}
 use Rattle.command_line.specs.declared.commands.OptionName.{OptionName}
-use Rattle.command_line.specs.declared.commands.OptionName.TheVariants.{Key, Defs}
+use Rattle.command_line.specs.declared.commands.OptionName.TheVariants.{Frames, Key, Defs, One, Turns, Ticks, File}
 use Rattle.command_line.specs.Commands.{has_option, needs_key}
 use Rattle.command_line.specs.Built.{is_built, is_option_built, built}
 use Rattle.command_line.specs.Forms.{Given, is_named, IsValue, AreTaken, all_differ, has_given, stdin_files, IsFile, ArePlain, Fits}
 use Rattle.command_line.specs.Names.{value_given}
-use Rattle.command_line.specs.Lines.{given_of, is_some_text, taken_now, is_one_file, is_no_word, plain_now, fits_now}
+use Rattle.command_line.specs.Lines.{given_of, is_some_text, is_value_now, taken_now, is_one_file, is_no_word, plain_now, fits_now}
 
 -- the value of a setting
 abbrev pub held_value : Setting → List ℕ
@@ -26,31 +26,62 @@ text_some : (v : List ℕ) → v ≢ [] → is_some_text v ≡ true
 text_some [] some = absurd (some refl)
 text_some (b ∷ bs) some = refl
 
--- each option built names a file
-value_of : (c : Command) (o : OptionName) (v : List ℕ) → is_option_built c o ≡ true → v ≢ [] → IsValue o v
-value_of Dialect Defs v e some = some
-value_of Decode Defs v e some = some
-value_of c o v e some = absurd (cc e)
+no_text : (v : List ℕ) → not (is_some_text v) ≡ true → v ≡ []
+no_text [] e = refl
+no_text (b ∷ bs) never = absurd (cc never)
 
-some_value : (c : Command) (o : OptionName) (v : List ℕ) → is_option_built c o ≡ true → IsValue o v → v ≢ []
-some_value Dialect Defs v e is = is
-some_value Decode Defs v e is = is
-some_value c o v e is = absurd (cc e)
+-- no option is built whose value is a number
+no_turns : (c : Command) → is_option_built c Turns ≡ true → ⊥
+no_turns Fleet e = cc e
+no_turns Dialect e = cc e
+no_turns Decode e = cc e
+no_turns Route e = cc e
+no_turns Drone e = cc e
+no_turns Station e = cc e
+no_turns Make e = cc e
+
+no_ticks : (c : Command) → is_option_built c Ticks ≡ true → ⊥
+no_ticks Fleet e = cc e
+no_ticks Dialect e = cc e
+no_ticks Decode e = cc e
+no_ticks Route e = cc e
+no_ticks Drone e = cc e
+no_ticks Station e = cc e
+no_ticks Make e = cc e
+
+-- each option built names a file, or has no value
+value_of : (c : Command) (o : OptionName) (v : List ℕ) → is_option_built c o ≡ true → is_value_now o v ≡ true → IsValue o v
+value_of c Frames v b e = no_text v e
+value_of c Key v b e = some_text v e
+value_of c Defs v b e = some_text v e
+value_of c One v b e = no_text v e
+value_of c Turns v b e = absurd (no_turns c b)
+value_of c Ticks v b e = absurd (no_ticks c b)
+value_of c File v b e = some_text v e
+
+is_value : (c : Command) (o : OptionName) (v : List ℕ) → is_option_built c o ≡ true → IsValue o v → is_value_now o v ≡ true
+is_value c Frames v b e = ap (λ w. not (is_some_text w)) e
+is_value c Key v b some = text_some v some
+is_value c Defs v b some = text_some v some
+is_value c One v b e = ap (λ w. not (is_some_text w)) e
+is_value c Turns v b e = absurd (no_turns c b)
+is_value c Ticks v b e = absurd (no_ticks c b)
+is_value c File v b some = text_some v some
 
 taken : (c : Command) (gs : List Given) → list_all (taken_now c) gs ≡ true → AreTaken built c gs
 taken c [] e = tt
 taken c (g ∷ gs) e =
     let (one, rest) = and_parts (taken_now c g) (list_all (taken_now c) gs) e in
-    let (offered, some) = and_parts (has_option c g.name && is_option_built c g.name) (is_some_text g.value) one in
+    let (offered, valued) = and_parts (has_option c g.name && is_option_built c g.name) (is_value_now g.name g.value) one in
     let (has, is) = and_parts (has_option c g.name) (is_option_built c g.name) offered in
-    ((offered, value_of c g.name g.value is (some_text g.value some)), taken c gs rest)
+    ((offered, value_of c g.name g.value is valued), taken c gs rest)
 
 takes : (c : Command) (gs : List Given) → AreTaken built c gs → list_all (taken_now c) gs ≡ true
 takes c [] are = refl
 takes c (g ∷ gs) are =
     let (has, is) = and_parts (has_option c g.name) (is_option_built c g.name) are.0.0 in
     and_from (taken_now c g) (list_all (taken_now c) gs)
-    (and_from (has_option c g.name && is_option_built c g.name) (is_some_text g.value) are.0.0 (text_some g.value (some_value c g.name g.value is are.0.1)))
+    (and_from (has_option c g.name && is_option_built c g.name) (is_value_now g.name g.value) are.0.0 (is_value c g.name g.value is are.0.1))
     (takes c gs are.1)
 
 one_file : (plain : List (List ℕ)) → is_one_file plain ≡ true → IsFile plain

@@ -3,7 +3,7 @@ use Rattle.std.specs.Prelude.{Bool, true, false}
 use Rattle.command_line.specs.declared.commands.Command.{Command}
 use Rattle.command_line.specs.declared.commands.Command.TheVariants.{Fleet, Dialect, Decode}
 use Rattle.command_line.specs.declared.commands.OptionName.{OptionName}
-use Rattle.command_line.specs.declared.commands.OptionName.TheVariants.{Defs}
+use Rattle.command_line.specs.declared.commands.OptionName.TheVariants.{Frames, Defs, Key}
 use Rattle.command_line.specs.Forms.{Built}
 
 abbrev pub is_built : Command → Bool
@@ -13,8 +13,11 @@ is_built Decode = true
 is_built _ = false
 
 abbrev pub is_option_built : Command → OptionName → Bool
+is_option_built Fleet Frames = true
+is_option_built Fleet Key = true
 is_option_built Dialect Defs = true
 is_option_built Decode Defs = true
+is_option_built Decode Key = true
 is_option_built _ _ = false
 
 abbrev pub built : Built

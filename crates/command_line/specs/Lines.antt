@@ -1,13 +1,14 @@
 -- A command line as the program holds it.
-use Rattle.std.specs.Prelude.{◌&&◌, nat_le, ℕ, Bool, true, false, List, [], ◌∷◌, map, Option, String, string_bytes}
+use Rattle.std.specs.Prelude.{◌&&◌, not, if◌then◌else◌, nat_le, ℕ, Bool, true, false, List, [], ◌∷◌, map, Option, String, string_bytes}
 use Rattle.std.specs.List.{list_all}
 use Rattle.std.specs.declared.alloc.Global.{Global}
 use Rattle.command_line.specs.declared.commands.Command.{Command}
 use Rattle.command_line.specs.declared.commands.Command.TheVariants.{Fleet, Dialect, Decode}
+use Rattle.command_line.specs.declared.commands.OptionName.{OptionName}
 use Rattle.command_line.specs.declared.pieces.Place.{Place}
 use Rattle.command_line.specs.declared.lines.Setting.{Setting}
 use Rattle.command_line.specs.declared.lines.Line.{Line}
-use Rattle.command_line.specs.Commands.{has_option}
+use Rattle.command_line.specs.Commands.{has_value, has_option}
 use Rattle.command_line.specs.Built.{is_built, is_option_built}
 use Rattle.command_line.specs.Forms.{Given, all_differ, stdin_files}
 use Rattle.command_line.specs.Pieces.{Parts, joined, parts_at}
@@ -26,13 +27,17 @@ parts_of settings words = record { settings = map given_of settings; plain = map
 abbrev pub with_rest : Place → List Setting → List (String Global) → List (List ℕ) → Option Parts
 with_rest place settings words rest = joined (map given_of settings) (map string_bytes words) (parts_at place rest)
 
--- the tests of a line, for what is built: each option built names a file
+-- the tests of a line, for what is built
 abbrev pub is_some_text : List ℕ → Bool
 is_some_text [] = false
 is_some_text (b ∷ bs) = true
 
+-- the value of each option built names a file, or there is none
+abbrev pub is_value_now : OptionName → List ℕ → Bool
+is_value_now name value = if has_value name then is_some_text value else not (is_some_text value)
+
 abbrev pub taken_now : Command → Given → Bool
-taken_now command g = (has_option command g.name && is_option_built command g.name) && is_some_text g.value
+taken_now command g = (has_option command g.name && is_option_built command g.name) && is_value_now g.name g.value
 
 abbrev pub is_one_file : List (List ℕ) → Bool
 is_one_file [] = false

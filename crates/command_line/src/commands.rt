@@ -96,7 +96,9 @@ impl Command {
         ensures { result ≡ is_option_built self name }
     {
         match self {
-            Command::Dialect | Command::Decode => matches!(name, OptionName::Defs),
+            Command::Fleet => matches!(name, OptionName::Frames | OptionName::Key),
+            Command::Dialect => matches!(name, OptionName::Defs),
+            Command::Decode => matches!(name, OptionName::Defs | OptionName::Key),
             _ => false,
         }
     }

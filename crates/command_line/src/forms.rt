@@ -4,7 +4,7 @@ ghost use Rattle.std.specs.List.{list_all, list_any};
 ghost use Rattle.command_line.specs.Forms.{all_differ, is_named, is_stdin, is_stdin_given, names_file};
 ghost use Rattle.command_line.specs.Forms.{reads_file, stdin_files};
 ghost use Rattle.command_line.specs.Lines.{given_of, is_one_file, is_some_text, is_no_word};
-ghost use Rattle.command_line.specs.Lines.{taken_now, plain_now, fits_now};
+ghost use Rattle.command_line.specs.Lines.{is_value_now, taken_now, plain_now, fits_now};
 
 use crate::commands::{Command, OptionName};
 use crate::lines::{Line, Setting};
@@ -15,13 +15,24 @@ fn is_some_text(text: &str) -> bool
     !text.is_empty()
 }
 
-// The command takes the option, and its value names a file, as that of each option built does.
+// A value names a file, as that of each option built does; the others have none.
+fn is_value(name: OptionName, value: &str) -> bool
+    ensures { result ≡ is_value_now name value.now }
+{
+    if name.has_value() {
+        is_some_text(value)
+    } else {
+        !is_some_text(value)
+    }
+}
+
+// The command takes the option with this value.
 fn is_taken(command: Command, setting: &Setting) -> bool
     ensures { result ≡ taken_now command (given_of setting.now) }
 {
     command.has_option(setting.name)
         && command.is_option_built(setting.name)
-        && is_some_text(setting.value.as_str())
+        && is_value(setting.name, setting.value.as_str())
 }
 
 fn are_taken(command: Command, settings: &[Setting]) -> bool

@@ -4,8 +4,8 @@ use Rattle.std.proofs.lemmas.Bool.{cases_Bool, cond-true, cond-false, ltb-true, 
 use Rattle.std.proofs.lemmas.List.Elements.{All-nil, All-push}
 use Rattle.std.proofs.lemmas.List.Splits.{slice_split_none, slice_split_at}
 use Rattle.std.specs.List.{slice_split, onto_first}
-use Rattle.fleet_world.specs.declared.faults.Reason.TheVariants.{Long}
-use Rattle.fleet_world.specs.Grammar.{most_line_bytes}
+use Rattle.scenario_lines.specs.declared.faults.Reason.TheVariants.{Long}
+use Rattle.scenario_lines.specs.Grammar.{most_line_bytes}
 use Rattle.fleet_world.specs.Scenario.{Played, Stop, Bad, Too_many_lines, is_newline, but_last, last_part, whole_lines, unfinished, most_lines, stopped, lines_played, line_played, last_played, part_played, rest_played, unless_stopped, at_start, played}
 use Rattle.fleet_command.specs.Plays.{plays}
 
@@ -172,5 +172,5 @@ from_line_plays ended p number part (b ∷ bs) going plain short =
           ∙ sym (cond-false (eqb b 10) at_end longer isnt)
     ]
 
-pub played_plays : (ended : Bool) (bytes : List ℕ) → played ended bytes ≡ plays ended at_start 1 [] bytes
-played_plays ended bytes = from_line_plays ended at_start 1 [] bytes refl (All-nil NoEnd) (omega arith)
+pub played_plays : (key : List ℕ) (ended : Bool) (bytes : List ℕ) → played key ended bytes ≡ plays ended (at_start key) 1 [] bytes
+played_plays key ended bytes = from_line_plays ended (at_start key) 1 [] bytes refl (All-nil NoEnd) (omega arith)

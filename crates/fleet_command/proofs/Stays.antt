@@ -6,13 +6,13 @@ use Rattle.command_ends.specs.Runs.{Steady}
 use Rattle.fleet_command.specs.Script.{told_stop, fleet_script}
 use Rattle.fleet_command.proofs.Grows.{stopped_for_good}
 
-stays_at : (ended : Bool) (taken more : List ℕ) (stop : Stop) (found : Option ScenarioStop) → (played false taken).stop ≡ found → option_map told_stop found ≡ Some stop → played ended (taken ++ more) ≡ played false taken
-stays_at ended taken more stop None is never = absurd (cc never)
-stays_at ended taken more stop (Some s) is e = stopped_for_good ended taken more s is
+stays_at : (key : List ℕ) (ended : Bool) (taken more : List ℕ) (stop : Stop) (found : Option ScenarioStop) → (played key false taken).stop ≡ found → option_map told_stop found ≡ Some stop → played key ended (taken ++ more) ≡ played key false taken
+stays_at key ended taken more stop None is never = absurd (cc never)
+stays_at key ended taken more stop (Some s) is e = stopped_for_good key ended taken more s is
 
-pub fleet_steady : Steady fleet_script
-fleet_steady = record {
+pub fleet_steady : (key : List ℕ) (frames : Bool) → Steady (fleet_script key frames)
+fleet_steady key frames = record {
   stays = λ ended taken more stop e.
-      let same = stays_at ended taken more stop (played false taken).stop refl e in
-      (ap (λ (p : Played). option_map told_stop p.stop) same ∙ e, ap report_of same);
+      let same = stays_at key ended taken more stop (played key false taken).stop refl e in
+      (ap (λ (p : Played). option_map told_stop p.stop) same ∙ e, ap (report_of frames) same);
 }

@@ -1,26 +1,30 @@
 -- The main theorem holds of every run of `fleet`.
-use Rattle.std.proofs.Common.{◌≡◌, ◌∙◌, ℕ, Bool, true, List, [], ◌++◌, refl, sym, subst, arith, ap, Option, Some, None, append-nil}
+use Rattle.std.proofs.Common.{◌≡◌, ◌∙◌, ℕ, Bool, true, List, ◌++◌, sym, subst, arith, ap, Option, Some, None, append-nil}
 use Rattle.std.specs.Io.KnownBytes.{prepend_known}
 use Rattle.mav_ports.specs.Gets.{IsSpent}
 use Rattle.command_ends.specs.declared.halts.Halt.{Halt}
 use Rattle.command_ends.specs.declared.halts.Halt.TheVariants.{Usage, Stopped, ReadFault, WriteFault, NoMemory, TurnsSpent}
-use Rattle.command_ends.specs.declared.stops.Stop.TheVariants.{Bad, AtLimit}
+use Rattle.command_ends.specs.declared.stops.Stop.TheVariants.{Bad, AtLimit, StampsSpent}
 use Rattle.command_ends.specs.Endings.{code_of}
 use Rattle.command_ends.specs.Runs.{Outside, Ran}
+use Rattle.fleet_world.specs.Authentic.{Authentic}
 use Rattle.fleet_safety.proofs.Plays.{every_scenario}
+use Rattle.fleet_safety.proofs.ToldLines as lines
 use Rattle.fleet_liveness.proofs.Every as every
 use Rattle.fleet_command.specs.Script.{fleet_script}
 use Rattle.fleet_command.specs.Theorem.{MainTheorem, Carries}
 
-pub main_theorem : (ended : Bool) (bytes : List ℕ) → MainTheorem ended bytes
-main_theorem ended bytes = record { safe = every_scenario ended bytes; uploads = every.uploads ended bytes }
+pub main_theorem : (key : List ℕ) (ended : Bool) (bytes : List ℕ) → Authentic key ended bytes → MainTheorem key ended bytes
+main_theorem key ended bytes authentic =
+    let safe = every_scenario key ended bytes authentic in
+    record { safe = safe; lines = record { outcomes = lines.outcome_is_true _ safe; installs = lines.install_is_true _ safe; once = lines.no_upload_twice _ safe }; uploads = every.uploads key ended bytes authentic }
 
-pub carried : (o : Outside) (left_before left_after sent_before sent_after : Option (List ℕ)) (code : ℕ) → ((end : Option Halt) × (code ≡ code_of end) × Ran fleet_script o left_before left_after sent_before sent_after end) → Carries o left_before left_after sent_before sent_after code
-carried o left_before left_after sent_before sent_after code run = record {
+pub carried : (key : List ℕ) (frames : Bool) (o : Outside) (left_before left_after sent_before sent_after : Option (List ℕ)) (code : ℕ) → ((end : Option Halt) × (code ≡ code_of end) × Ran (fleet_script key frames) o left_before left_after sent_before sent_after end) → Carries key frames o left_before left_after sent_before sent_after code
+carried key frames o left_before left_after sent_before sent_after code run = record {
   end = run.0;
   status = run.1;
   ran = run.2;
-  theorem = main_theorem run.2.ended run.2.taken;
+  theorem = main_theorem key run.2.ended run.2.taken;
 }
 
 -- all bytes that an input had were taken, where nothing is left of it
@@ -31,21 +35,23 @@ taken_whole bytes taken (Some rest) took spent =
     let whole : bytes ≡ taken ++ rest = cc in
     sym (whole ∙ ap (λ (xs : List ℕ). taken ++ xs) spent ∙ append-nil taken)
 
--- a run of known bytes that is done carries the theorem of all of them
-done_carries : (o : Outside) (bytes : List ℕ) (left_before left_after sent_before sent_after : Option (List ℕ)) (end : Option Halt) → code_of end ≡ 0 → left_before ≡ Some bytes → (o.spent → IsSpent left_after)
-    → (ran : Ran fleet_script o left_before left_after sent_before sent_after end) → MainTheorem ran.ended ran.taken → MainTheorem true bytes
-done_carries o bytes left_before left_after sent_before sent_after None zero told spent ran theorem =
-    let ended = ran.cause.0 in
-    subst (λ taken. MainTheorem true taken) (taken_whole bytes ran.taken left_after (sym told ∙ ran.took) (spent (ran.at_end ended)))
-    (subst (λ is_ended. MainTheorem is_ended ran.taken) ended theorem)
-done_carries o bytes left_before left_after sent_before sent_after (Some Usage) zero told spent ran theorem = absurd (omega arith)
-done_carries o bytes left_before left_after sent_before sent_after (Some (Stopped (Bad place reason))) zero told spent ran theorem = absurd (omega arith)
-done_carries o bytes left_before left_after sent_before sent_after (Some (Stopped (AtLimit limit))) zero told spent ran theorem = absurd (omega arith)
-done_carries o bytes left_before left_after sent_before sent_after (Some ReadFault) zero told spent ran theorem = absurd (omega arith)
-done_carries o bytes left_before left_after sent_before sent_after (Some WriteFault) zero told spent ran theorem = absurd (omega arith)
-done_carries o bytes left_before left_after sent_before sent_after (Some NoMemory) zero told spent ran theorem = absurd (omega arith)
-done_carries o bytes left_before left_after sent_before sent_after (Some TurnsSpent) zero told spent ran theorem = absurd (omega arith)
+module _ (key : List ℕ) (frames : Bool) where
+  -- a run of known bytes that is done carries the theorem of all of them
+  done_carries : (o : Outside) (bytes : List ℕ) (left_before left_after sent_before sent_after : Option (List ℕ)) (end : Option Halt) → code_of end ≡ 0 → left_before ≡ Some bytes → (o.spent → IsSpent left_after)
+      → (ran : Ran (fleet_script key frames) o left_before left_after sent_before sent_after end) → (Authentic key ran.ended ran.taken → MainTheorem key ran.ended ran.taken) → (Authentic key true bytes → MainTheorem key true bytes)
+  done_carries o bytes left_before left_after sent_before sent_after None zero told spent ran theorem =
+      let ended = ran.cause.0 in
+      subst (λ taken. Authentic key true taken → MainTheorem key true taken) (taken_whole bytes ran.taken left_after (sym told ∙ ran.took) (spent (ran.at_end ended)))
+      (subst (λ is_ended. Authentic key is_ended ran.taken → MainTheorem key is_ended ran.taken) ended theorem)
+  done_carries o bytes left_before left_after sent_before sent_after (Some Usage) zero told spent ran theorem = absurd (omega arith)
+  done_carries o bytes left_before left_after sent_before sent_after (Some (Stopped (Bad place reason))) zero told spent ran theorem = absurd (omega arith)
+  done_carries o bytes left_before left_after sent_before sent_after (Some (Stopped (AtLimit limit))) zero told spent ran theorem = absurd (omega arith)
+  done_carries o bytes left_before left_after sent_before sent_after (Some (Stopped StampsSpent)) zero told spent ran theorem = absurd (omega arith)
+  done_carries o bytes left_before left_after sent_before sent_after (Some ReadFault) zero told spent ran theorem = absurd (omega arith)
+  done_carries o bytes left_before left_after sent_before sent_after (Some WriteFault) zero told spent ran theorem = absurd (omega arith)
+  done_carries o bytes left_before left_after sent_before sent_after (Some NoMemory) zero told spent ran theorem = absurd (omega arith)
+  done_carries o bytes left_before left_after sent_before sent_after (Some TurnsSpent) zero told spent ran theorem = absurd (omega arith)
 
-pub theorem_of : (o : Outside) (bytes : List ℕ) (left_before left_after sent_before sent_after : Option (List ℕ)) (code : ℕ) → Carries o left_before left_after sent_before sent_after code → code ≡ 0 → left_before ≡ Some bytes → (o.spent → IsSpent left_after) → MainTheorem true bytes
-theorem_of o bytes left_before left_after sent_before sent_after code carries zero told spent =
-    done_carries o bytes left_before left_after sent_before sent_after carries.end (sym carries.status ∙ zero) told spent carries.ran carries.theorem
+  pub theorem_of : (o : Outside) (bytes : List ℕ) (left_before left_after sent_before sent_after : Option (List ℕ)) (code : ℕ) → Carries key frames o left_before left_after sent_before sent_after code → code ≡ 0 → left_before ≡ Some bytes → (o.spent → IsSpent left_after) → (Authentic key true bytes → MainTheorem key true bytes)
+  theorem_of o bytes left_before left_after sent_before sent_after code carries zero told spent =
+      done_carries o bytes left_before left_after sent_before sent_after carries.end (sym carries.status ∙ zero) told spent carries.ran carries.theorem

@@ -1,23 +1,43 @@
--- The upload of one item, computed from the definitions alone.
-use Rattle.std.proofs.Common.{◌≡◌, ℕ, List, [], true, Option, Some, refl, ap, ◌∙◌}
+-- The upload of one item, computed from the definitions alone: checksums, signatures and all.
+use Rattle.std.proofs.Common.{◌≡◌, ℕ, List, [], true, false, Option, Some, refl, ap, ◌∙◌}
 use Rattle.std.specs.Io.KnownBytes.{append_known}
 use Rattle.std.specs.Fmt.{digits}
 use Rattle.hex.specs.Hex.{encode_with, decode_pairs}
+use Rattle.sha2.specs.Sha256.{first_words, schedule, rounds, compress, hash_after, digest_bytes, sha256}
+use Rattle.x25_check.specs.Check as check
 use Rattle.plan_items.specs.Validation.{item_fault, whole_fault, plan_fault}
 use Rattle.command_ends.specs.Endings.{code_of}
-use Rattle.command_ends.specs.Runs.{output_of, end_of}
+use Rattle.command_ends.specs.Runs.{Script, output_of, end_of}
+use Rattle.fleet_world.specs.Authentic.{Authentic}
 use Rattle.fleet_command.specs.Script.{fleet_script}
-use Rattle.fleet_safety.specs.Examples.{one_item}
-use Rattle.fleet_command.specs.Examples.{one_item_installed}
+use Rattle.fleet_command.specs.Theorem.{MainTheorem}
+use Rattle.fleet_command.specs.Examples.{one_item, one_item_installed, the_key, the_drone, the_station, the_plan, IsInstalledOnce}
 
-pub one_item_output : output_of fleet_script (end_of (fleet_script.stop true one_item)) true one_item ≡ one_item_installed
-unfolding digits item_fault whole_fault plan_fault encode_with decode_pairs
+abbrev pub script : Script
+script = fleet_script the_key false
+
+pub one_item_output : output_of script (end_of (script.stop true one_item)) true one_item ≡ one_item_installed
+unfolding digits item_fault whole_fault plan_fault encode_with decode_pairs first_words schedule rounds compress hash_after digest_bytes sha256 check.after_byte
 one_item_output = refl
 
 -- so that is what an empty output holds then
-pub one_item_sent : (before after : Option (List ℕ)) → before ≡ Some [] → after ≡ append_known before (output_of fleet_script (end_of (fleet_script.stop true one_item)) true one_item) → after ≡ Some one_item_installed
-one_item_sent before after empty sent = sent ∙ ap (λ (b : Option (List ℕ)). append_known b (output_of fleet_script (end_of (fleet_script.stop true one_item)) true one_item)) empty ∙ ap Some one_item_output
+pub one_item_sent : (before after : Option (List ℕ)) → before ≡ Some [] → after ≡ append_known before (output_of script (end_of (script.stop true one_item)) true one_item) → after ≡ Some one_item_installed
+one_item_sent before after empty sent = sent ∙ ap (λ (b : Option (List ℕ)). append_known b (output_of script (end_of (script.stop true one_item)) true one_item)) empty ∙ ap Some one_item_output
 
-pub one_item_code : code_of (end_of (fleet_script.stop true one_item)) ≡ 0
-unfolding digits item_fault whole_fault plan_fault encode_with decode_pairs
+pub one_item_code : code_of (end_of (script.stop true one_item)) ≡ 0
+unfolding digits item_fault whole_fault plan_fault encode_with decode_pairs first_words schedule rounds compress hash_after digest_bytes sha256 check.after_byte
 one_item_code = refl
+
+-- no line is noise
+pub one_item_authentic : Authentic the_key true one_item
+unfolding item_fault whole_fault plan_fault decode_pairs
+one_item_authentic = record { lines = (tt, (tt, (tt, (tt, (tt, tt))))); last = tt }
+
+-- what the theorem says of it: the eighth event of the report is the installation, the tenth its outcome
+pub installed_once : MainTheorem the_key true one_item → IsInstalledOnce
+unfolding item_fault whole_fault plan_fault decode_pairs first_words schedule rounds compress hash_after digest_bytes sha256 check.after_byte
+installed_once theorem = record {
+  safe = theorem.safe;
+  installed = theorem.lines.installs 7 the_drone 0 the_plan the_station refl;
+  told = theorem.lines.outcomes 9 the_station _ refl;
+}

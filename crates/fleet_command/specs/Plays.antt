@@ -3,14 +3,18 @@ use Rattle.std.specs.Prelude.{◌≡◌, ℕ, ◌+◌, ◌-◌, ◌*◌, ◌==�
 use Rattle.std.specs.declared.result.Result.{Result}
 use Rattle.std.specs.Io.KnownBytes.{append_known}
 use Rattle.mav_ports.specs.Puts.{SentFront}
-use Rattle.fleet_world.specs.Scene.{Scene}
-use Rattle.fleet_world.specs.Grammar.{most_line_bytes}
-use Rattle.fleet_world.specs.declared.faults.Reason.TheVariants.{Long}
+use Rattle.fleet_world.specs.Seen.{World, IsScene}
+use Rattle.scenario_lines.specs.Grammar.{most_line_bytes}
+use Rattle.scenario_lines.specs.declared.faults.Reason.TheVariants.{Long}
 use Rattle.fleet_world.specs.Scenario.{most_lines, whole_report, Played, Bad, Too_many_lines, played, report_of, line_played, part_played, rest_played, unless_stopped}
 use Rattle.command_ends.specs.declared.halts.Halt.{Halt}
 use Rattle.command_ends.specs.declared.halts.Halt.TheVariants.{Usage, Stopped, ReadFault, WriteFault, NoMemory, TurnsSpent}
 use Rattle.command_ends.specs.declared.stops.Stop.{Stop}
-use Rattle.fleet_command.specs.Script.{told_stop}
+use Rattle.mav_nodes.specs.declared.faults.NodeFault.TheVariants.{StampsSpent as NoTimestamp, NoMemory as NoNodeMemory}
+use Rattle.fleet_world.specs.declared.faults.WorldFault.{WorldFault}
+use Rattle.fleet_world.specs.declared.faults.WorldFault.TheVariants.{Limit, Node, NoMemory as NoWorldMemory}
+use Rattle.fleet_world.specs.Steps.{At_limit, Stamps_spent}
+use Rattle.fleet_command.specs.Script.{told_halt, told_stop}
 
 -- line `number` is held as far as it came, and these bytes follow; `ended` says whether the input ended behind them
 abbrev pub plays : Bool → Played → ℕ → List ℕ → List ℕ → Played
@@ -20,35 +24,36 @@ plays ended p number part (b ∷ bs) =
     else if nat_lt most_line_bytes (length part + 1) then part_played p number (part ++ b ∷ [])
     else plays ended p number (part ++ b ∷ []) bs
 
--- a scenario goes on in this scene, and its report was written behind what was sent before
-pub record Holds (p : Played) (scene : Scene) (before now : Option (List ℕ)) : Type 0 where
+-- a scenario goes on in this world, and its report was written behind what was sent before; `frames` says whether it
+-- prints frames whole
+pub record Holds (frames : Bool) (p : Played) (world : World) (before now : Option (List ℕ)) : Type 0 where
   pub going : p.stop ≡ None
-  pub here : p.scene ≡ scene
-  pub sent : now ≡ append_known before (report_of p)
+  pub here : IsScene p.scene frames world
+  pub sent : now ≡ append_known before (report_of frames p)
 
--- these bytes were taken and played up to the line that is held
-pub record Reading (taken : List ℕ) (scene : Scene) (number : ℕ) (part : List ℕ) (before now : Option (List ℕ)) : Type 0 where
+-- these bytes were taken and played under a key, up to the line that is held
+pub record Reading (key : List ℕ) (frames : Bool) (taken : List ℕ) (world : World) (number : ℕ) (part : List ℕ) (before now : Option (List ℕ)) : Type 0 where
   pub soFar : Played
-  pub holds : Holds soFar scene before now
-  pub onwards : (ended : Bool) (rest : List ℕ) → played ended (taken ++ rest) ≡ plays ended soFar number part rest
+  pub holds : Holds frames soFar world before now
+  pub onwards : (ended : Bool) (rest : List ℕ) → played key ended (taken ++ rest) ≡ plays ended soFar number part rest
 
 -- a scenario stopped, and its report was written
-abbrev pub StoppedBy : Stop → Played → Option (List ℕ) → Option (List ℕ) → Type 0
-StoppedBy stop q before now = (option_map told_stop q.stop ≡ Some stop) × (now ≡ append_known before (report_of q))
+abbrev pub StoppedBy : Bool → Stop → Played → Option (List ℕ) → Option (List ℕ) → Type 0
+StoppedBy frames stop q before now = (option_map told_stop q.stop ≡ Some stop) × (now ≡ append_known before (report_of frames q))
 
 -- what a halt leaves of a scenario that leads to `q`: it stopped there, or a front of this text was written
-abbrev pub Halted : Halt → Played → List ℕ → Option (List ℕ) → Option (List ℕ) → Type 0
-Halted Usage q text before now = ⊥
-Halted (Stopped stop) q text before now = StoppedBy stop q before now
-Halted ReadFault q text before now = ⊥
-Halted WriteFault q text before now = SentFront before now text
-Halted NoMemory q text before now = SentFront before now text
-Halted TurnsSpent q text before now = ⊥
+abbrev pub HaltedAt : Bool → Halt → Played → List ℕ → Option (List ℕ) → Option (List ℕ) → Type 0
+HaltedAt frames Usage q text before now = ⊥
+HaltedAt frames (Stopped stop) q text before now = StoppedBy frames stop q before now
+HaltedAt frames ReadFault q text before now = ⊥
+HaltedAt frames WriteFault q text before now = SentFront before now text
+HaltedAt frames NoMemory q text before now = SentFront before now text
+HaltedAt frames TurnsSpent q text before now = ⊥
 
 -- a step led to `q`, or halted on the way there
-abbrev pub Leads : {T : Type 0} → Result T Halt → Played → Scene → Option (List ℕ) → Option (List ℕ) → Type 0
-Leads (Ok done) q scene before now = Holds q scene before now
-Leads (Err halt) q scene before now = Halted halt q (report_of q) before now
+abbrev pub Leads : {T : Type 0} → Bool → Result T Halt → Played → World → Option (List ℕ) → Option (List ℕ) → Type 0
+Leads frames (Ok done) q world before now = Holds frames q world before now
+Leads frames (Err halt) q world before now = HaltedAt frames halt q (report_of frames q) before now
 
 -- the most bytes that may still be taken before the scenario stops
 abbrev pub budget : ℕ → List ℕ → ℕ
@@ -59,5 +64,12 @@ abbrev pub long_halt : ℕ → Halt
 long_halt number = Stopped (told_stop (if nat_lt most_lines number then Too_many_lines else Bad number Long))
 
 -- the scenario went to its end, and the closing plans were written
-abbrev pub Finished : Played → Option (List ℕ) → Option (List ℕ) → Type 0
-Finished q before now = (q.stop ≡ None) × (now ≡ append_known before (whole_report q))
+abbrev pub Finished : Bool → Played → Option (List ℕ) → Option (List ℕ) → Type 0
+Finished frames q before now = (q.stop ≡ None) × (now ≡ append_known before (whole_report frames q))
+
+-- how a line that the world doesn't do halts a scenario
+abbrev pub FailsAs : WorldFault → Halt → Type 0
+FailsAs (Limit limit) halt = halt ≡ Stopped (told_halt (At_limit limit))
+FailsAs (Node NoTimestamp) halt = halt ≡ Stopped (told_halt Stamps_spent)
+FailsAs (Node NoNodeMemory) halt = halt ≡ NoMemory
+FailsAs NoWorldMemory halt = halt ≡ NoMemory

@@ -4,16 +4,20 @@ ghost use Rattle.std.specs.Prelude.{[], List, ℕ, Bool, true, None, length, vec
 ghost use Rattle.std.specs.declared.option.Option.{Option};
 ghost use Rattle.std.specs.Io.KnownBytes.{append_known};
 ghost use Rattle.mav_ports.specs.Counts.{Rose};
-ghost use Rattle.fleet_world.specs.Scene.{empty_scene};
-ghost use Rattle.fleet_world.specs.Reasons.{reason_against};
+ghost use Rattle.fleet_world.specs.Scene.{empty_scene, standing_of};
+ghost use Rattle.fleet_world.specs.Seen.{IsScene};
+ghost use Rattle.scenario_lines.specs.Reasons.{reason_against};
 ghost use Rattle.fleet_world.specs.Scenario.{Played, judged, line_played, last_played, played};
-ghost use Rattle.fleet_world.specs.Scenario.{Bad, At_limit, report_of, whole_report, without_cr};
+ghost use Rattle.fleet_world.specs.Scenario.{Bad, report_of, whole_report, without_cr};
 ghost use Rattle.fleet_command.specs.Script.{told_reason, told_limit, told_stop};
-ghost use Rattle.fleet_command.specs.Plays.{Holds, Reading, Halted, Finished, Leads, budget, long_halt};
+ghost use Rattle.fleet_command.specs.Plays.{Holds, Reading, HaltedAt, Finished, Leads, FailsAs, budget, long_halt};
 
 use command_ends::{Halt, InputReason, Limit, Place, Stop};
-use fleet_world::{Bound, LineFault, Reason, World, WorldFault};
+use fleet_world::{Bound, World, WorldFault};
+use mav_nodes::NodeFault;
 use mav_ports::{NoMemory, Sink, write_all};
+use mav_sign::Key;
+use scenario_lines::{LineFault, Reason};
 use std::alloc::Global;
 
 const MOST_LINES: usize = 100_000;
@@ -34,12 +38,13 @@ pub struct Player {
 }
 
 impl Player {
-    pub fn new(alloc: Global) -> Result<Player, NoMemory>
-        ensures world { IfOk result (λ p. p.world ≡ empty_scene) }
+    /// All nodes have the key; `frames` says whether the report prints frames whole.
+    pub fn new(alloc: Global, key: Key, frames: bool) -> Result<Player, NoMemory>
+        ensures world { IfOk result (λ p. IsScene (empty_scene key) frames p.world) }
         ensures first { IfOk result (λ p. (p.number ≡ 1) × (p.line.items ≡ [])) }
     {
         Ok(Player {
-            world: World::new(alloc)?,
+            world: World::new(alloc, key, frames)?,
             line: Vec::with_capacity(alloc, MOST_LINE_BYTES)?,
             number: 1,
         })
@@ -47,14 +52,14 @@ impl Player {
 
     /// Takes bytes that come next. After an error the player is given up.
     pub fn feed<K: Sink>(&mut self, piece: &[u8], out: &mut K) -> Result<(), Halt>
-        ensures taken { (taken : List ℕ) (before : Option (List ℕ))
-            → Reading taken self.old.world self.old.number self.old.line.items before (K.sent out.old)
-            → OnOk result (Reading (taken ++ piece.now)
+        ensures taken { (key : List ℕ) (frames : Bool) (taken : List ℕ) (before : Option (List ℕ))
+            → Reading key frames taken self.old.world self.old.number self.old.line.items before (K.sent out.old)
+            → OnOk result (Reading key frames (taken ++ piece.now)
             self.new.world self.new.number self.new.line.items before (K.sent out.new)) }
-        ensures halted { (taken : List ℕ) (before : Option (List ℕ))
-            → Reading taken self.old.world self.old.number self.old.line.items before (K.sent out.old)
-            → (ended : Bool) → let end = played ended (taken ++ piece.now) in
-            IfErr result (λ halt. Halted halt end (report_of end) before (K.sent out.new)) }
+        ensures halted { (key : List ℕ) (frames : Bool) (taken : List ℕ) (before : Option (List ℕ))
+            → Reading key frames taken self.old.world self.old.number self.old.line.items before (K.sent out.old)
+            → (ended : Bool) → let end = played key ended (taken ++ piece.now) in
+            IfErr result (λ halt. HaltedAt frames halt end (report_of frames end) before (K.sent out.new)) }
         ensures spends { OnOk result (budget self.new.number self.new.line.items + length piece.now
             ≤ budget self.old.number self.old.line.items) }
         ensures rose { IsErrOf result Halt.WriteFault
@@ -70,13 +75,13 @@ impl Player {
 
     /// The input ended: does the last line, and writes the closing plans.
     pub fn finish<K: Sink>(&mut self, out: &mut K) -> Result<(), Halt>
-        ensures done { (taken : List ℕ) (before : Option (List ℕ))
-            → Reading taken self.old.world self.old.number self.old.line.items before (K.sent out.old)
-            → OnOk result (Finished (played true taken) before (K.sent out.new)) }
-        ensures halted { (taken : List ℕ) (before : Option (List ℕ))
-            → Reading taken self.old.world self.old.number self.old.line.items before (K.sent out.old)
-            → let end = played true taken in
-            IfErr result (λ halt. Halted halt end (whole_report end) before (K.sent out.new)) }
+        ensures done { (key : List ℕ) (frames : Bool) (taken : List ℕ) (before : Option (List ℕ))
+            → Reading key frames taken self.old.world self.old.number self.old.line.items before (K.sent out.old)
+            → OnOk result (Finished frames (played key true taken) before (K.sent out.new)) }
+        ensures halted { (key : List ℕ) (frames : Bool) (taken : List ℕ) (before : Option (List ℕ))
+            → Reading key frames taken self.old.world self.old.number self.old.line.items before (K.sent out.old)
+            → let end = played key true taken in
+            IfErr result (λ halt. HaltedAt frames halt end (whole_report frames end) before (K.sent out.new)) }
         ensures rose { IsErrOf result Halt.WriteFault
             → Rose (K.faults out.old) (K.faults out.new) }
         ensures sound { ¬ IsErrOf result Halt.WriteFault
@@ -89,14 +94,14 @@ impl Player {
 
     // Takes the next byte.
     fn take<K: Sink>(&mut self, byte: u8, out: &mut K) -> Result<(), Halt>
-        ensures taken { (taken : List ℕ) (before : Option (List ℕ))
-            → Reading taken self.old.world self.old.number self.old.line.items before (K.sent out.old)
-            → OnOk result (Reading (taken ++ byte ∷ [])
+        ensures taken { (key : List ℕ) (frames : Bool) (taken : List ℕ) (before : Option (List ℕ))
+            → Reading key frames taken self.old.world self.old.number self.old.line.items before (K.sent out.old)
+            → OnOk result (Reading key frames (taken ++ byte ∷ [])
             self.new.world self.new.number self.new.line.items before (K.sent out.new)) }
-        ensures halted { (taken : List ℕ) (before : Option (List ℕ))
-            → Reading taken self.old.world self.old.number self.old.line.items before (K.sent out.old)
-            → (ended : Bool) (rest : List ℕ) → let end = played ended (taken ++ byte ∷ rest) in
-            IfErr result (λ halt. Halted halt end (report_of end) before (K.sent out.new)) }
+        ensures halted { (key : List ℕ) (frames : Bool) (taken : List ℕ) (before : Option (List ℕ))
+            → Reading key frames taken self.old.world self.old.number self.old.line.items before (K.sent out.old)
+            → (ended : Bool) (rest : List ℕ) → let end = played key ended (taken ++ byte ∷ rest) in
+            IfErr result (λ halt. HaltedAt frames halt end (report_of frames end) before (K.sent out.new)) }
         ensures spends { OnOk result (budget self.new.number self.new.line.items + 1
             ≤ budget self.old.number self.old.line.items) }
         ensures rose { IsErrOf result Halt.WriteFault
@@ -116,9 +121,9 @@ impl Player {
 
     // The line is whole: it is done, and the next one begins.
     fn end_line<K: Sink>(&mut self, out: &mut K) -> Result<(), Halt>
-        ensures played { (p : Played) (before : Option (List ℕ))
-            → Holds p self.old.world before (K.sent out.old)
-            → Leads result (line_played p self.old.number self.old.line.items)
+        ensures played { (frames : Bool) (p : Played) (before : Option (List ℕ))
+            → Holds frames p self.old.world before (K.sent out.old)
+            → Leads frames result (line_played p self.old.number self.old.line.items)
             self.new.world before (K.sent out.new) }
         ensures next { OnOk result ((self.new.number ≡ self.old.number + 1)
             × (self.new.line.items ≡ []) × (self.old.number ≤ 100000)) }
@@ -138,9 +143,9 @@ impl Player {
 
     // The input ended: what is held is a last line, unless it is empty.
     fn last_line<K: Sink>(&mut self, out: &mut K) -> Result<(), Halt>
-        ensures played { (p : Played) (before : Option (List ℕ))
-            → Holds p self.old.world before (K.sent out.old)
-            → Leads result (last_played p self.old.number self.old.line.items)
+        ensures played { (frames : Bool) (p : Played) (before : Option (List ℕ))
+            → Holds frames p self.old.world before (K.sent out.old)
+            → Leads frames result (last_played p self.old.number self.old.line.items)
             self.new.world before (K.sent out.new) }
         ensures rose { IsErrOf result Halt.WriteFault
             → Rose (K.faults out.old) (K.faults out.new) }
@@ -175,8 +180,8 @@ fn play_line<K: Sink>(
     text: &[u8],
     out: &mut K,
 ) -> Result<(), Halt>
-    ensures played { (p : Played) (before : Option (List ℕ)) → Holds p world.old before (K.sent out.old)
-        → Leads result (judged p number text.now (reason_against p.scene text.now))
+    ensures played { (frames : Bool) (p : Played) (before : Option (List ℕ)) → Holds frames p world.old before (K.sent out.old)
+        → Leads frames result (judged p number text.now (reason_against (standing_of p.scene) text.now))
         world.new before (K.sent out.new) }
     ensures rose { IsErrOf result Halt.WriteFault → Rose (K.faults out.old) (K.faults out.new) }
     ensures sound { ¬ IsErrOf result Halt.WriteFault → K.faults out.new ≡ K.faults out.old }
@@ -188,8 +193,7 @@ fn play_line<K: Sink>(
     };
     match world.line(line) {
         Ok(report) => Ok(write_all(out, report.bytes())?),
-        Err(WorldFault::Limit(limit)) => Err(at_limit(limit)),
-        Err(WorldFault::NoMemory) => Err(Halt::NoMemory),
+        Err(fault) => Err(fails(fault)),
     }
 }
 
@@ -239,8 +243,13 @@ fn bad_line(line: usize, reason: Reason) -> Halt
     Halt::Stopped(Stop::Bad(Place::Line(line), told_reason(reason)))
 }
 
-fn at_limit(limit: Bound) -> Halt
-    ensures { result ≡ Halt.Stopped (told_stop (At_limit limit)) }
+// The line isn't done.
+fn fails(fault: WorldFault) -> Halt
+    ensures { FailsAs fault result }
 {
-    Halt::Stopped(Stop::AtLimit(told_limit(limit)))
+    match fault {
+        WorldFault::Limit(limit) => Halt::Stopped(Stop::AtLimit(told_limit(limit))),
+        WorldFault::Node(NodeFault::StampsSpent) => Halt::Stopped(Stop::StampsSpent),
+        WorldFault::Node(NodeFault::NoMemory) | WorldFault::NoMemory => Halt::NoMemory,
+    }
 }

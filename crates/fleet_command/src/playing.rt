@@ -1,5 +1,5 @@
 // The command `fleet`: one scenario.
-ghost use Rattle.std.specs.Prelude.{◌≡◌, ◌<◌, [], length, IsErrOf};
+ghost use Rattle.std.specs.Prelude.{◌≡◌, ◌<◌, ℕ, Bool, List, [], length, IsErrOf};
 ghost use Rattle.std.specs.Result.{result_err};
 ghost use Rattle.mav_ports.specs.Gets.{IsSpent};
 ghost use Rattle.command_ends.specs.Runs.{Untold, outside};
@@ -9,22 +9,30 @@ ghost use Rattle.fleet_command.specs.Script.{fleet_script};
 use crate::player::Player;
 use command_ends::{Halt, read_on};
 use mav_ports::{Got, Sink, Source};
+use mav_sign::Key;
 use std::alloc::Global;
 
 // How much is read at once.
 const PIECE_BYTES: usize = 65_536;
 
-/// Plays the scenario of the input. The report of each line is written before more is read. Why
-/// the run halted, if it did, isn't written.
-pub fn fleet<S: Source, K: Sink>(alloc: Global, main: &mut S, out: &mut K) -> Result<(), Halt>
-    ensures untold { Untold fleet_script (outside
+/// Plays the scenario of the input, under a key that all nodes have; `frames` says whether the
+/// report prints frames whole. The report of each line is written before more is read. Why the run
+/// halted, if it did, isn't written.
+pub fn fleet<S: Source, K: Sink>(
+    alloc: Global,
+    key: Key,
+    frames: bool,
+    main: &mut S,
+    out: &mut K,
+) -> Result<(), Halt>
+    ensures untold { Untold (fleet_script key frames) (outside
         (S.has_ended main.new × IsSpent (S.left main.new)) (S.faults main.old) (S.faults main.new)
         (S.idles main.old) (S.idles main.new) (K.faults out.old) (K.faults out.new))
         (S.left main.old) (S.left main.new) (K.sent out.old) (K.sent out.new)
         (result_err result) }
     ensures sound { ¬ IsErrOf result Halt.WriteFault → K.faults out.new ≡ K.faults out.old }
 {
-    let mut player = Player::new(alloc)?;
+    let mut player = Player::new(alloc, key, frames)?;
     let mut buf = vec![in alloc; 0u8; PIECE_BYTES]?;
     play(&mut player, main, &mut buf, out)
 }
@@ -37,9 +45,9 @@ fn play<S: Source, K: Sink>(
     out: &mut K,
 ) -> Result<(), Halt>
     requires { 0 < length buf.old }
-    ensures untold { Reading [] player.old.world player.old.number player.old.line.items
+    ensures untold { (key : List ℕ) (frames : Bool) → Reading key frames [] player.old.world player.old.number player.old.line.items
         (K.sent out.old) (K.sent out.old)
-        → Untold fleet_script (outside
+        → Untold (fleet_script key frames) (outside
         (S.has_ended main.new × IsSpent (S.left main.new)) (S.faults main.old) (S.faults main.new)
         (S.idles main.old) (S.idles main.new) (K.faults out.old) (K.faults out.new))
         (S.left main.old) (S.left main.new) (K.sent out.old) (K.sent out.new)

@@ -1,2 +1,4 @@
 pub mod Usages
 pub mod Same
+pub mod Decoded
+pub mod Scenarios

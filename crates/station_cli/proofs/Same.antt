@@ -15,3 +15,7 @@ same_command words asked other c one two is = ap (λ (a : Asked). a.command) (sa
 
 pub same_given : (words : List (List ℕ)) (asked other : Asked) (name : OptionName) (has : Bool) → Asks built words asked → Asks built words other → has_given name other.settings ≡ has → has_given name asked.settings ≡ has
 same_given words asked other name has one two is = ap (λ (a : Asked). has_given name a.settings) (same_asked words asked other one two) ∙ is
+
+-- the same options are given
+pub same_options : (words : List (List ℕ)) (asked other : Asked) (name : OptionName) → Asks built words asked → Asks built words other → has_given name other.settings ≡ has_given name asked.settings
+same_options words asked other name one two = ap (λ (a : Asked). has_given name a.settings) (same_asked words other asked two one)

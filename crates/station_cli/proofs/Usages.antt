@@ -2,10 +2,9 @@
 use Rattle.std.proofs.Common.{◌≡◌, ◌≢◌, ◌∙◌, ◌⊎◌, inl, inr, ℕ, List, [], ◌∷◌, ◌++◌, refl, sym, subst, ap, arith, Option, Some, Result, Ok, Err, IsErr, IsErrOf, codes}
 use Rattle.std.specs.Result.{result_err}
 use Rattle.std.specs.Io.KnownBytes.{append_known}
-use Rattle.mav_ports.specs.Counts.{Rose}
 use Rattle.mav_ports.specs.Puts.{SentFront}
-use Rattle.mav_ports.proofs.Known.{append_known_nil, sent_start}
-use Rattle.command_ends.specs.declared.stops.Stop.TheVariants.{Bad, AtLimit}
+use Rattle.mav_ports.proofs.Known.{append_known_nil}
+use Rattle.command_ends.specs.declared.stops.Stop.TheVariants.{Bad, AtLimit, StampsSpent}
 use Rattle.command_ends.specs.declared.halts.Halt.{Halt}
 use Rattle.command_ends.specs.declared.halts.Halt.TheVariants.{Usage, Stopped, ReadFault, WriteFault, NoMemory, TurnsSpent}
 use Rattle.command_ends.specs.Endings.{code_of}
@@ -17,6 +16,7 @@ usage_code : (halt : Halt) → code_of (Some halt) ≡ 2 → halt ≡ Usage
 usage_code Usage e = refl
 usage_code (Stopped (Bad place reason)) e = absurd (omega arith)
 usage_code (Stopped (AtLimit limit)) e = absurd (omega arith)
+usage_code (Stopped StampsSpent) e = absurd (omega arith)
 usage_code ReadFault e = absurd (omega arith)
 usage_code WriteFault e = absurd (omega arith)
 usage_code NoMemory e = absurd (omega arith)
@@ -65,6 +65,7 @@ code_some : (halt : Halt) → code_of (Some halt) ≢ 0
 code_some Usage e = omega (arith, e)
 code_some (Stopped (Bad place reason)) e = omega (arith, e)
 code_some (Stopped (AtLimit limit)) e = omega (arith, e)
+code_some (Stopped StampsSpent) e = omega (arith, e)
 code_some ReadFault e = omega (arith, e)
 code_some WriteFault e = omega (arith, e)
 code_some NoMemory e = omega (arith, e)

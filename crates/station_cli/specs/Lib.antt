@@ -1,3 +1,5 @@
 pub mod Wants
 pub mod Usage
-pub mod OneUpload
+pub mod Seen
+pub mod Decoding
+pub mod Fleets

@@ -7,6 +7,8 @@
 #![tactic(auto)]
 
 mod decoding;
+mod fleets;
+mod keys;
 mod runs;
 #[cfg(test)]
 mod tests;

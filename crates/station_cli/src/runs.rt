@@ -1,5 +1,5 @@
 // The top call.
-ghost use Rattle.std.specs.Prelude.{◌≡◌, ◌≢◌, ◌⊎◌, ⊤, true, false, List, [], Some, IsTrue, IsErr};
+ghost use Rattle.std.specs.Prelude.{◌≡◌, ◌≢◌, ◌⊎◌, ⊤, true, false, [], Some, IsTrue, IsErr};
 ghost use Rattle.std.specs.Prelude.{IsErrOf, map, string_bytes};
 ghost use Rattle.std.specs.Result.{result_err};
 ghost use Rattle.mav_ports.specs.Gets.{IsSpent};
@@ -8,21 +8,18 @@ ghost use Rattle.command_line.specs.Built.{is_built, built};
 ghost use Rattle.command_line.specs.Forms.{has_given};
 ghost use Rattle.command_line.specs.Grammar.{Asked, Asks, AskNothing};
 ghost use Rattle.command_line.specs.Lines.{given_of};
-ghost use Rattle.field_layout.specs.Definition.{Definition};
-ghost use Rattle.dialect.specs.Profile.{profile_definitions};
-ghost use Rattle.dialect_command.specs.Reads.{Holds};
 ghost use Rattle.dialect_command.specs.Script.{dialect_script, profile_script};
-ghost use Rattle.decode_command.specs.Script.{decode_script};
-ghost use Rattle.fleet_command.specs.Script.{fleet_script};
-ghost use Rattle.fleet_command.specs.Theorem.{Carries};
+ghost use Rattle.station_cli.specs.Decoding.{Decodes};
+ghost use Rattle.station_cli.specs.Fleets.{Fleets, FleetsCarry};
+ghost use Rattle.station_cli.specs.Seen.{input_of, output_of, untold_over, promised_over};
 ghost use Rattle.station_cli.specs.Usage.{UsageTold};
 
 use crate::decoding::run_decode;
+use crate::fleets::run_fleet;
 use crate::wants::Inputs;
 use command_ends::{Halt, code_of, tell};
 use command_line::{Command, Line, OptionName, WantedFault, read};
 use dialect_command::{dialect, profile};
-use fleet_command::fleet;
 use mav_ports::{Clock, Sink, Source};
 use std::alloc::Global;
 
@@ -59,12 +56,12 @@ fn run_line<S: Source, K: Sink>(
     out: &mut K,
 ) -> Result<(), Halt>
     requires { IsTrue (is_built line.now.command) }
-    ensures fleet { line.now.command ≡ Command.Fleet → Untold fleet_script (outside
-        (S.has_ended inputs.new.main × IsSpent (S.left inputs.new.main))
-        (S.faults inputs.old.main) (S.faults inputs.new.main)
-        (S.idles inputs.old.main) (S.idles inputs.new.main) (K.faults out.old) (K.faults out.new))
-        (S.left inputs.old.main) (S.left inputs.new.main)
-        (K.sent out.old) (K.sent out.new) (result_err result) }
+    ensures fleet { line.now.command ≡ Command.Fleet → Fleets
+        (has_given OptionName.Key (map given_of line.now.settings.items))
+        (has_given OptionName.Frames (map given_of line.now.settings.items))
+        (untold_over (output_of K.faults K.sent out.old out.new) (result_err result)) (IsErr result)
+        (input_of S.has_ended S.faults S.idles S.left inputs.old.key inputs.new.key)
+        (input_of S.has_ended S.faults S.idles S.left inputs.old.main inputs.new.main) }
     ensures dialect { line.now.command ≡ Command.Dialect
         → has_given OptionName.Defs (map given_of line.now.settings.items) ≡ true
         → Untold dialect_script (outside
@@ -77,45 +74,27 @@ fn run_line<S: Source, K: Sink>(
         → has_given OptionName.Defs (map given_of line.now.settings.items) ≡ false
         → Untold profile_script (outside ⊤ 0 0 0 0 (K.faults out.old) (K.faults out.new))
         (Some []) (Some []) (K.sent out.old) (K.sent out.new) (result_err result) }
-    ensures decode { line.now.command ≡ Command.Decode
-        → has_given OptionName.Defs (map given_of line.now.settings.items) ≡ true
-        → (Untold dialect_script (outside
-        (S.has_ended inputs.new.defs × IsSpent (S.left inputs.new.defs))
-        (S.faults inputs.old.defs) (S.faults inputs.new.defs)
-        (S.idles inputs.old.defs) (S.idles inputs.new.defs) (K.faults out.old) (K.faults out.new))
-        (S.left inputs.old.defs) (S.left inputs.new.defs)
-        (K.sent out.old) (K.sent out.new) (result_err result)
-        × IsErr result × (inputs.new.main ≡ inputs.old.main))
-        ⊎ ((defs : List Definition) × Holds
-        (S.has_ended inputs.new.defs × IsSpent (S.left inputs.new.defs))
-        (S.left inputs.old.defs) (S.left inputs.new.defs) defs
-        × Untold (decode_script defs) (outside
-        (S.has_ended inputs.new.main × IsSpent (S.left inputs.new.main))
-        (S.faults inputs.old.main) (S.faults inputs.new.main)
-        (S.idles inputs.old.main) (S.idles inputs.new.main) (K.faults out.old) (K.faults out.new))
-        (S.left inputs.old.main) (S.left inputs.new.main)
-        (K.sent out.old) (K.sent out.new) (result_err result)) }
-    ensures decode_profile { line.now.command ≡ Command.Decode
-        → has_given OptionName.Defs (map given_of line.now.settings.items) ≡ false
-        → Untold (decode_script profile_definitions) (outside
-        (S.has_ended inputs.new.main × IsSpent (S.left inputs.new.main))
-        (S.faults inputs.old.main) (S.faults inputs.new.main)
-        (S.idles inputs.old.main) (S.idles inputs.new.main) (K.faults out.old) (K.faults out.new))
-        (S.left inputs.old.main) (S.left inputs.new.main)
-        (K.sent out.old) (K.sent out.new) (result_err result) }
+    ensures decode { line.now.command ≡ Command.Decode → Decodes
+        (has_given OptionName.Key (map given_of line.now.settings.items))
+        (has_given OptionName.Defs (map given_of line.now.settings.items))
+        (untold_over (output_of K.faults K.sent out.old out.new) (result_err result)) (IsErr result)
+        (input_of S.has_ended S.faults S.idles S.left inputs.old.key inputs.new.key)
+        (input_of S.has_ended S.faults S.idles S.left inputs.old.defs inputs.new.defs)
+        (input_of S.has_ended S.faults S.idles S.left inputs.old.main inputs.new.main) }
     ensures unread_main { line.now.command ≡ Command.Dialect → inputs.new.main ≡ inputs.old.main }
     ensures unread_defs { has_given OptionName.Defs (map given_of line.now.settings.items) ≡ false
         → inputs.new.defs ≡ inputs.old.defs }
-    ensures unread_key { inputs.new.key ≡ inputs.old.key }
+    ensures unread_key { has_given OptionName.Key (map given_of line.now.settings.items) ≡ false
+        → inputs.new.key ≡ inputs.old.key }
     ensures sound { ¬ IsErrOf result Halt.WriteFault → K.faults out.new ≡ K.faults out.old }
     ensures not_usage { ¬ IsErrOf result Halt.Usage }
 {
     match line.command {
-        Command::Fleet => fleet(alloc, &mut inputs.main, out),
+        Command::Fleet => run_fleet(alloc, line, inputs, out),
         Command::Dialect => {
             run_dialect(alloc, line.has(OptionName::Defs), &mut inputs.defs, out)
         }
-        Command::Decode => run_decode(alloc, line.has(OptionName::Defs), inputs, out),
+        Command::Decode => run_decode(alloc, line, inputs, out),
         _ => unreachable!("it isn't built"),
     }
 }
@@ -128,12 +107,11 @@ fn run_words<S: Source, K: Sink>(
     out: &mut K,
 ) -> Result<(), Halt>
     ensures fleet { (asked : Asked) → Asks built (map string_bytes words.now) asked
-        → asked.command ≡ Command.Fleet → Untold fleet_script (outside
-        (S.has_ended inputs.new.main × IsSpent (S.left inputs.new.main))
-        (S.faults inputs.old.main) (S.faults inputs.new.main)
-        (S.idles inputs.old.main) (S.idles inputs.new.main) (K.faults out.old) (K.faults out.new))
-        (S.left inputs.old.main) (S.left inputs.new.main)
-        (K.sent out.old) (K.sent out.new) (result_err result) }
+        → asked.command ≡ Command.Fleet → Fleets
+        (has_given OptionName.Key asked.settings) (has_given OptionName.Frames asked.settings)
+        (untold_over (output_of K.faults K.sent out.old out.new) (result_err result)) (IsErr result)
+        (input_of S.has_ended S.faults S.idles S.left inputs.old.key inputs.new.key)
+        (input_of S.has_ended S.faults S.idles S.left inputs.old.main inputs.new.main) }
     ensures dialect { (asked : Asked) → Asks built (map string_bytes words.now) asked
         → asked.command ≡ Command.Dialect → has_given OptionName.Defs asked.settings ≡ true
         → Untold dialect_script (outside
@@ -147,43 +125,25 @@ fn run_words<S: Source, K: Sink>(
         → Untold profile_script (outside ⊤ 0 0 0 0 (K.faults out.old) (K.faults out.new))
         (Some []) (Some []) (K.sent out.old) (K.sent out.new) (result_err result) }
     ensures decode { (asked : Asked) → Asks built (map string_bytes words.now) asked
-        → asked.command ≡ Command.Decode → has_given OptionName.Defs asked.settings ≡ true
-        → (Untold dialect_script (outside
-        (S.has_ended inputs.new.defs × IsSpent (S.left inputs.new.defs))
-        (S.faults inputs.old.defs) (S.faults inputs.new.defs)
-        (S.idles inputs.old.defs) (S.idles inputs.new.defs) (K.faults out.old) (K.faults out.new))
-        (S.left inputs.old.defs) (S.left inputs.new.defs)
-        (K.sent out.old) (K.sent out.new) (result_err result)
-        × IsErr result × (inputs.new.main ≡ inputs.old.main))
-        ⊎ ((defs : List Definition) × Holds
-        (S.has_ended inputs.new.defs × IsSpent (S.left inputs.new.defs))
-        (S.left inputs.old.defs) (S.left inputs.new.defs) defs
-        × Untold (decode_script defs) (outside
-        (S.has_ended inputs.new.main × IsSpent (S.left inputs.new.main))
-        (S.faults inputs.old.main) (S.faults inputs.new.main)
-        (S.idles inputs.old.main) (S.idles inputs.new.main) (K.faults out.old) (K.faults out.new))
-        (S.left inputs.old.main) (S.left inputs.new.main)
-        (K.sent out.old) (K.sent out.new) (result_err result)) }
-    ensures decode_profile { (asked : Asked) → Asks built (map string_bytes words.now) asked
-        → asked.command ≡ Command.Decode → has_given OptionName.Defs asked.settings ≡ false
-        → Untold (decode_script profile_definitions) (outside
-        (S.has_ended inputs.new.main × IsSpent (S.left inputs.new.main))
-        (S.faults inputs.old.main) (S.faults inputs.new.main)
-        (S.idles inputs.old.main) (S.idles inputs.new.main) (K.faults out.old) (K.faults out.new))
-        (S.left inputs.old.main) (S.left inputs.new.main)
-        (K.sent out.old) (K.sent out.new) (result_err result) }
+        → asked.command ≡ Command.Decode → Decodes
+        (has_given OptionName.Key asked.settings) (has_given OptionName.Defs asked.settings)
+        (untold_over (output_of K.faults K.sent out.old out.new) (result_err result)) (IsErr result)
+        (input_of S.has_ended S.faults S.idles S.left inputs.old.key inputs.new.key)
+        (input_of S.has_ended S.faults S.idles S.left inputs.old.defs inputs.new.defs)
+        (input_of S.has_ended S.faults S.idles S.left inputs.old.main inputs.new.main) }
     ensures usage { IsErrOf result Halt.Usage → AskNothing built (map string_bytes words.now) }
     ensures usage_only { AskNothing built (map string_bytes words.now)
         → IsErrOf result Halt.Usage ⊎ IsErrOf result Halt.NoMemory }
     ensures untouched { AskNothing built (map string_bytes words.now)
         → (inputs.new.main ≡ inputs.old.main) × (inputs.new.defs ≡ inputs.old.defs)
-        × (K.sent out.new ≡ K.sent out.old) }
+        × (inputs.new.key ≡ inputs.old.key) × (K.sent out.new ≡ K.sent out.old) }
     ensures sound { ¬ IsErrOf result Halt.WriteFault → K.faults out.new ≡ K.faults out.old }
     ensures unread_main { (asked : Asked) → Asks built (map string_bytes words.now) asked
         → asked.command ≡ Command.Dialect → inputs.new.main ≡ inputs.old.main }
     ensures unread_defs { (asked : Asked) → Asks built (map string_bytes words.now) asked
         → has_given OptionName.Defs asked.settings ≡ false → inputs.new.defs ≡ inputs.old.defs }
-    ensures unread_key { inputs.new.key ≡ inputs.old.key }
+    ensures unread_key { (asked : Asked) → Asks built (map string_bytes words.now) asked
+        → has_given OptionName.Key asked.settings ≡ false → inputs.new.key ≡ inputs.old.key }
 {
     let line = match read(alloc, words) {
         Ok(line) => line,
@@ -197,7 +157,8 @@ fn run_words<S: Source, K: Sink>(
 /// the program's name.
 ///
 /// 0 done, 2 `usage`, 3 `bad PLACE: REASON`, 4 `read fault`, 5 a write failed, 6 `limit WHAT N`,
-/// 7 out of memory, 11 `turns spent 1000000`. The text of a status is the last line of the output.
+/// 7 out of memory, 11 `turns spent 1000000`, 13 `stamps spent`. The text of a status is the last
+/// line of the output.
 ///
 /// The clause of a command has all that it promises of the run: `Promises` has a field for each
 /// status, and fields that say why no other comes; the command's script says which bytes of its
@@ -209,25 +170,25 @@ pub fn run<S: Source, K: Sink, C: Clock>(
     out: &mut K,
     clock: &mut C,
 ) -> u8
-    // `fleet FILE`, over the main input
+    // `fleet [--frames] [--key F] FILE`: the run halts at the key, and the main input isn't read; or
+    // the key is read, where the words name one, and the main input is played under it
     ensures fleet { (asked : Asked) → Asks built (map string_bytes words.now) asked
-        → asked.command ≡ Command.Fleet → Promises fleet_script (outside
-        (S.has_ended inputs.new.main × IsSpent (S.left inputs.new.main))
-        (S.faults inputs.old.main) (S.faults inputs.new.main)
-        (S.idles inputs.old.main) (S.idles inputs.new.main) (K.faults out.old) (K.faults out.new))
-        (S.left inputs.old.main) (S.left inputs.new.main)
-        (K.sent out.old) (K.sent out.new) result }
+        → asked.command ≡ Command.Fleet → Fleets
+        (has_given OptionName.Key asked.settings) (has_given OptionName.Frames asked.settings)
+        (promised_over (output_of K.faults K.sent out.old out.new) result) (result ≢ 0)
+        (input_of S.has_ended S.faults S.idles S.left inputs.old.key inputs.new.key)
+        (input_of S.has_ended S.faults S.idles S.left inputs.old.main inputs.new.main) }
     // The main theorem, of that same run: the bytes that it took, why it ended and what it wrote of
-    // them; that this is the report of an execution of the abstract mission store, with the same
-    // plans after each event and at the end; and that each uncontended upload was installed and
-    // acknowledged.
+    // them; and, where the foreign bytes among them bring no frame that verifies and wasn't sent,
+    // that this is the report of an execution of the abstract mission store, with the same plans
+    // after each event and at the end; that what it tells is true; and that each uncontended upload
+    // was installed and acknowledged.
     ensures main_theorem { (asked : Asked) → Asks built (map string_bytes words.now) asked
-        → asked.command ≡ Command.Fleet → Carries (outside
-        (S.has_ended inputs.new.main × IsSpent (S.left inputs.new.main))
-        (S.faults inputs.old.main) (S.faults inputs.new.main)
-        (S.idles inputs.old.main) (S.idles inputs.new.main) (K.faults out.old) (K.faults out.new))
-        (S.left inputs.old.main) (S.left inputs.new.main)
-        (K.sent out.old) (K.sent out.new) result }
+        → asked.command ≡ Command.Fleet → FleetsCarry
+        (has_given OptionName.Key asked.settings) (has_given OptionName.Frames asked.settings)
+        (output_of K.faults K.sent out.old out.new) result
+        (input_of S.has_ended S.faults S.idles S.left inputs.old.key inputs.new.key)
+        (input_of S.has_ended S.faults S.idles S.left inputs.old.main inputs.new.main) }
     // `dialect --defs F`, over the definitions
     ensures dialect { (asked : Asked) → Asks built (map string_bytes words.now) asked
         → asked.command ≡ Command.Dialect → has_given OptionName.Defs asked.settings ≡ true
@@ -242,35 +203,16 @@ pub fn run<S: Source, K: Sink, C: Clock>(
         → asked.command ≡ Command.Dialect → has_given OptionName.Defs asked.settings ≡ false
         → Promises profile_script (outside ⊤ 0 0 0 0 (K.faults out.old) (K.faults out.new))
         (Some []) (Some []) (K.sent out.old) (K.sent out.new) result }
-    // `decode --defs F FILE`: the run stops at the definitions, as `dialect` would, and the main
-    // input isn't read; or they are read, and the main input is decoded by them
+    // `decode [--defs F] [--key F] FILE`: the run halts at the key, and no other input is read; or at
+    // the definitions, as `dialect` would, and the main input isn't read; or they are read, where the
+    // words name them, and the main input is decoded by them
     ensures decode { (asked : Asked) → Asks built (map string_bytes words.now) asked
-        → asked.command ≡ Command.Decode → has_given OptionName.Defs asked.settings ≡ true
-        → (Promises dialect_script (outside
-        (S.has_ended inputs.new.defs × IsSpent (S.left inputs.new.defs))
-        (S.faults inputs.old.defs) (S.faults inputs.new.defs)
-        (S.idles inputs.old.defs) (S.idles inputs.new.defs) (K.faults out.old) (K.faults out.new))
-        (S.left inputs.old.defs) (S.left inputs.new.defs)
-        (K.sent out.old) (K.sent out.new) result
-        × (result ≢ 0) × (inputs.new.main ≡ inputs.old.main))
-        ⊎ ((defs : List Definition) × Holds
-        (S.has_ended inputs.new.defs × IsSpent (S.left inputs.new.defs))
-        (S.left inputs.old.defs) (S.left inputs.new.defs) defs
-        × Promises (decode_script defs) (outside
-        (S.has_ended inputs.new.main × IsSpent (S.left inputs.new.main))
-        (S.faults inputs.old.main) (S.faults inputs.new.main)
-        (S.idles inputs.old.main) (S.idles inputs.new.main) (K.faults out.old) (K.faults out.new))
-        (S.left inputs.old.main) (S.left inputs.new.main)
-        (K.sent out.old) (K.sent out.new) result) }
-    // `decode FILE`, by the profile
-    ensures decode_profile { (asked : Asked) → Asks built (map string_bytes words.now) asked
-        → asked.command ≡ Command.Decode → has_given OptionName.Defs asked.settings ≡ false
-        → Promises (decode_script profile_definitions) (outside
-        (S.has_ended inputs.new.main × IsSpent (S.left inputs.new.main))
-        (S.faults inputs.old.main) (S.faults inputs.new.main)
-        (S.idles inputs.old.main) (S.idles inputs.new.main) (K.faults out.old) (K.faults out.new))
-        (S.left inputs.old.main) (S.left inputs.new.main)
-        (K.sent out.old) (K.sent out.new) result }
+        → asked.command ≡ Command.Decode → Decodes
+        (has_given OptionName.Key asked.settings) (has_given OptionName.Defs asked.settings)
+        (promised_over (output_of K.faults K.sent out.old out.new) result) (result ≢ 0)
+        (input_of S.has_ended S.faults S.idles S.left inputs.old.key inputs.new.key)
+        (input_of S.has_ended S.faults S.idles S.left inputs.old.defs inputs.new.defs)
+        (input_of S.has_ended S.faults S.idles S.left inputs.old.main inputs.new.main) }
     // The words are of no command exactly where the status is 2, unless the output refused that
     // text or there was no memory.
     ensures usage { result ≡ 2 → AskNothing built (map string_bytes words.now) }
@@ -278,12 +220,14 @@ pub fn run<S: Source, K: Sink, C: Clock>(
         → UsageTold result (K.faults out.old) (K.faults out.new) (K.sent out.old) (K.sent out.new) }
     // An input that the words don't name isn't read.
     ensures unread { AskNothing built (map string_bytes words.now)
-        → (inputs.new.main ≡ inputs.old.main) × (inputs.new.defs ≡ inputs.old.defs) }
+        → (inputs.new.main ≡ inputs.old.main) × (inputs.new.defs ≡ inputs.old.defs)
+        × (inputs.new.key ≡ inputs.old.key) }
     ensures unread_main { (asked : Asked) → Asks built (map string_bytes words.now) asked
         → asked.command ≡ Command.Dialect → inputs.new.main ≡ inputs.old.main }
     ensures unread_defs { (asked : Asked) → Asks built (map string_bytes words.now) asked
         → has_given OptionName.Defs asked.settings ≡ false → inputs.new.defs ≡ inputs.old.defs }
-    ensures unread_key { inputs.new.key ≡ inputs.old.key }
+    ensures unread_key { (asked : Asked) → Asks built (map string_bytes words.now) asked
+        → has_given OptionName.Key asked.settings ≡ false → inputs.new.key ≡ inputs.old.key }
     // The output refused a write only at status 5.
     ensures sound { result ≢ 5 → K.faults out.new ≡ K.faults out.old }
     ensures unasked { clock.new ≡ clock.old }

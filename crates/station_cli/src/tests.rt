@@ -5,9 +5,12 @@ use std::alloc::{AllocError, Global};
 use std::process::Abort;
 use std::test::Fail;
 
+mod captures;
 mod decodes;
 mod dialects;
+mod keys;
 mod limits;
+mod signed;
 mod worked;
 
 const ONE_ITEM: &[u8] =
@@ -39,16 +42,26 @@ fn words_of(alloc: Global, texts: &[&str]) -> Result<Vec<String>, AllocError> {
     Ok(words)
 }
 
+// The status of these words over these inputs.
+fn status_over(
+    alloc: Global,
+    words: &[&str],
+    mut inputs: Inputs<MemSource>,
+    out: &mut MemSink,
+) -> Result<u8, AllocError> {
+    let words = words_of(alloc, words)?;
+    let mut clock = MemClock::new(0);
+    Ok(run(alloc, &words, &mut inputs, out, &mut clock))
+}
+
 // The status of `fleet FILE` over this input.
 fn status_of(alloc: Global, main: MemSource, out: &mut MemSink) -> Result<u8, AllocError> {
-    let words = words_of(alloc, &["fleet", "file"])?;
-    let mut inputs = Inputs {
+    let inputs = Inputs {
         main,
         defs: source(alloc, b"", 1, &[])?,
         key: source(alloc, b"", 1, &[])?,
     };
-    let mut clock = MemClock::new(0);
-    Ok(run(alloc, &words, &mut inputs, out, &mut clock))
+    status_over(alloc, &["fleet", "file"], inputs, out)
 }
 
 // The output of a scenario that is read in small pieces.
@@ -133,15 +146,13 @@ fn a_write_that_fails_leaves_a_front_of_the_report(rt: HostRuntime) -> Result<()
 #[test]
 fn words_of_no_command_are_told(rt: HostRuntime) -> Result<(), Fail> {
     let alloc = rt.alloc();
-    let words = words_of(alloc, &["fleet"])?;
-    let mut inputs = Inputs {
+    let inputs = Inputs {
         main: source(alloc, ONE_ITEM, 1, &[])?,
         defs: source(alloc, b"", 1, &[])?,
         key: source(alloc, b"", 1, &[])?,
     };
     let mut out = MemSink::new(alloc, 100, 100, Vec::new(alloc))?;
-    let mut clock = MemClock::new(0);
-    assert_eq!(rt; run(alloc, &words, &mut inputs, &mut out, &mut clock), 2);
+    assert_eq!(rt; status_over(alloc, &["fleet"], inputs, &mut out)?, 2);
     assert_eq!(rt; out.sent(), b"usage\n".as_slice());
     Ok(())
 }

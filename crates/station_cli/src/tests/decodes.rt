@@ -1,7 +1,7 @@
 // The command `decode`: the inputs that its words name, and what is told of them.
-use super::{source, words_of};
-use crate::{Inputs, run};
-use mav_ports::{MemClock, MemSink};
+use super::{source, status_over};
+use crate::Inputs;
+use mav_ports::MemSink;
 use std::alloc::Global;
 use std::process::Abort;
 use std::test::Fail;
@@ -13,7 +13,7 @@ const CAPTURE: &[u8] =
 const CAPTURE_TEXT: &[u8] =
     b"0 skip 00 not-stx\n1 HEARTBEAT 1.1 #0 type=2 autopilot=3 base_mode=81 custom_mode=0 system_status=4 mavlink_version=3\n22 MISSION_CURRENT 1.1 #1 seq=0\nframes 2 skipped 1\n";
 
-// The output of these words over the capture and these definitions.
+// The output of these words over the capture and these definitions, with a key that fails at once.
 fn output_of(
     rt: &impl Abort,
     alloc: Global,
@@ -22,18 +22,13 @@ fn output_of(
     status: u8,
     output: &[u8],
 ) -> Result<(), Fail> {
-    let words = words_of(alloc, words)?;
-    let mut inputs = Inputs {
+    let inputs = Inputs {
         main: source(alloc, CAPTURE, 3, &[])?,
         defs: source(alloc, defs, 7, &[])?,
         key: source(alloc, b"", 1, &[0])?,
     };
     let mut out = MemSink::new(alloc, 8192, 5, Vec::new(alloc))?;
-    let mut clock = MemClock::new(0);
-    assert_eq!(rt;
-        run(alloc, &words, &mut inputs, &mut out, &mut clock),
-        status
-    );
+    assert_eq!(rt; status_over(alloc, words, inputs, &mut out)?, status);
     assert!(rt; out.sent().ends_with(output));
     Ok(())
 }
@@ -71,13 +66,7 @@ fn refused_definitions_come_before_the_capture(rt: HostRuntime) -> Result<(), Fa
 }
 
 #[test]
-fn a_key_is_none_of_its_options_yet(rt: HostRuntime) -> Result<(), Fail> {
-    output_of(
-        &rt,
-        rt.alloc(),
-        &["decode", "--key=k", "f"],
-        b"",
-        2,
-        b"usage\n",
-    )
+fn a_key_is_read_before_the_definitions(rt: HostRuntime) -> Result<(), Fail> {
+    let words = ["decode", "--defs=d", "--key=k", "f"];
+    output_of(&rt, rt.alloc(), &words, b"{}", 4, b"read fault\n")
 }

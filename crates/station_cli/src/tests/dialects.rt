@@ -1,7 +1,7 @@
 // The command `dialect`: which input its words name, and what is told of it.
-use super::{source, words_of};
-use crate::{Inputs, run};
-use mav_ports::{MemClock, MemSink};
+use super::{source, status_over};
+use crate::Inputs;
+use mav_ports::MemSink;
 use std::alloc::Global;
 use std::process::Abort;
 use std::test::Fail;
@@ -21,18 +21,13 @@ fn output_of(
     status: u8,
     output: &[u8],
 ) -> Result<(), Fail> {
-    let words = words_of(alloc, words)?;
-    let mut inputs = Inputs {
+    let inputs = Inputs {
         main: source(alloc, b"", 1, &[0])?,
         defs: source(alloc, defs, 7, &[])?,
         key: source(alloc, b"", 1, &[0])?,
     };
     let mut out = MemSink::new(alloc, 8192, 5, Vec::new(alloc))?;
-    let mut clock = MemClock::new(0);
-    assert_eq!(rt;
-        run(alloc, &words, &mut inputs, &mut out, &mut clock),
-        status
-    );
+    assert_eq!(rt; status_over(alloc, words, inputs, &mut out)?, status);
     assert!(rt; out.sent().ends_with(output));
     Ok(())
 }

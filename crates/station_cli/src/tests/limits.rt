@@ -106,28 +106,6 @@ fn an_input_that_gives_nothing_is_given_up(rt: HostRuntime) -> Result<(), Fail> 
     Ok(())
 }
 
-const UPLOAD: &[u8] = b"items 1000 6 16 0 0\nbegin 255.190 1.1 mission\nflow 2007\n";
-
-fn uploads(alloc: Global, count: u32) -> Result<Vec<u8>, AllocError> {
-    let mut scenario = b"drone 1\nstation 255 190\n".to_vec(alloc)?;
-    for _upload in 0..count {
-        scenario.extend_from_slice(UPLOAD)?;
-    }
-    Ok(scenario)
-}
-
-#[test]
-fn a_scenario_has_at_most_100000_frames(rt: HostRuntime) -> Result<(), Fail> {
-    let alloc = rt.alloc();
-    let mut out = MemSink::new(alloc, 8_000_000, 65_536, Vec::new(alloc))?;
-    let main = source(alloc, &uploads(alloc, 50)?, 65_536, &[])?;
-    assert_eq!(rt; status_of(alloc, main, &mut out)?, 6);
-    assert!(rt;
-        out.sent().ends_with(b"98103 255.190 COUNT mission 1000 to 1.1\nlimit frames 100000\n")
-    );
-    Ok(())
-}
-
 #[test]
 fn an_output_that_takes_nothing_ends_the_run(rt: HostRuntime) -> Result<(), Fail> {
     let alloc = rt.alloc();

@@ -1,9 +1,7 @@
 // What the contract of `run` says of one scenario, at the ports in memory.
 ghost use Rattle.std.specs.Prelude.{◌≡◌, ◌⊎◌, [], Some, map, string_bytes};
 ghost use Rattle.command_line.specs.declared.commands.Command.{Command};
-ghost use Rattle.fleet_safety.specs.Examples.{one_item};
-ghost use Rattle.fleet_command.specs.Examples.{one_item_installed};
-ghost use Rattle.station_cli.specs.OneUpload.{IsInstalledOnce};
+ghost use Rattle.fleet_command.specs.Examples.{one_item, one_item_installed, IsInstalledOnce};
 ghost use Rattle.station_cli.specs.Wants.{AsksFor};
 
 use super::{INSTALLED, ONE_ITEM, words_of};
@@ -12,8 +10,9 @@ use mav_ports::{MemClock, Sink, Source, SureSink, SureSource};
 use std::alloc::Global;
 use std::test::Fail;
 
-// The report follows from the contract alone: by computation it is this text. And the abstract
-// mission store of that run went through one installation of that plan, and the outcome Installed.
+// The report follows from the contract alone: by computation, checksums and signatures under the
+// bytes 0 to 31, it is this text. And in the history of the abstract mission store of that run the
+// plan was installed, once, and what its outcome tells is true.
 fn upload_one_item(
     alloc: Global,
     words: &[String],

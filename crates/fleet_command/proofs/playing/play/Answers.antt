@@ -8,7 +8,7 @@ use Rattle.fleet_command.proofs.playing.play.Goals as goal
 
 pub loop-count-init : goal.loop-count-init
 loop-count-init g c = record {
-  reading = λ start. ([], sym (prepend_known_nil (g.S.Source.left c.args.main.now)), start);
+  reading = λ key frames start. ([], sym (prepend_known_nil (g.S.Source.left c.args.main.now)), start);
   faults = refl;
   idles = omega arith;
   refusals = refl;
@@ -16,12 +16,12 @@ loop-count-init g c = record {
 
 pub loop-count-preserved : goal.loop-count-preserved
 loop-count-preserved g c = record {
-  reading = λ start.
-      let (taken, took, r) = c.loop-count.invariant.reading start in
+  reading = λ key frames start.
+      let (taken, took, r) = c.loop-count.invariant.reading key frames start in
       let bytes = take c.in-Bytes.count c.read_on.new.buf in (
         taken ++ bytes,
         took_more taken bytes (g.S.Source.left c.args.main.now) (g.S.Source.left c.loop-count.main) (g.S.Source.left c.read_on.new.source) took c.in-Bytes.ensures.bytes,
-        c.in_ok-feed-in-Bytes.ensures.taken taken (g.K.Sink.sent c.args.out.now) r,
+        c.in_ok-feed-in-Bytes.ensures.taken key frames taken (g.K.Sink.sent c.args.out.now) r,
       );
   faults = c.in-Bytes.ensures.sound (λ e. cc) ∙ c.loop-count.invariant.faults;
   idles = omega (arith, c.in-Bytes.ensures.idles, c.loop-count.invariant.idles);
@@ -33,12 +33,12 @@ returns-in_err-feed-in-Bytes-clause-untold g c =
     let inv = c.loop-count.invariant in
     let bytes = take c.in-Bytes.count c.read_on.new.buf in
     let e = err_from_is_err_and c.from_residual.result c.from_residual.ensures.1 in
-    rw (e.1, e.2) (λ start.
-    untold_halt _ (g.S.Source.left c.args.main.now) (g.S.Source.left c.read_on.new.source) (g.K.Sink.sent c.args.out.now) (g.K.Sink.sent c.feed.new.out) false ((inv.reading start).0 ++ bytes) c.in_err-feed-in-Bytes.field-0.0
-    (took_more (inv.reading start).0 bytes (g.S.Source.left c.args.main.now) (g.S.Source.left c.loop-count.main) (g.S.Source.left c.read_on.new.source) (inv.reading start).1 c.in-Bytes.ensures.bytes)
+    rw (e.1, e.2) (λ key frames start.
+    untold_halt key frames _ (g.S.Source.left c.args.main.now) (g.S.Source.left c.read_on.new.source) (g.K.Sink.sent c.args.out.now) (g.K.Sink.sent c.feed.new.out) false ((inv.reading key frames start).0 ++ bytes) c.in_err-feed-in-Bytes.field-0.0
+    (took_more (inv.reading key frames start).0 bytes (g.S.Source.left c.args.main.now) (g.S.Source.left c.loop-count.main) (g.S.Source.left c.read_on.new.source) (inv.reading key frames start).1 c.in-Bytes.ensures.bytes)
     (λ never. absurd (cc never))
     (λ f. subst (λ n. Rose n (g.K.Sink.faults c.feed.new.out)) inv.refusals (c.in_err-feed-in-Bytes.ensures.rose (ap Err f)))
-    (c.in_err-feed-in-Bytes.ensures.halted (inv.reading start).0 (g.K.Sink.sent c.args.out.now) (inv.reading start).2 false))
+    (c.in_err-feed-in-Bytes.ensures.halted key frames (inv.reading key frames start).0 (g.K.Sink.sent c.args.out.now) (inv.reading key frames start).2 false))
 
 pub returns-in_err-feed-in-Bytes-clause-sound : goal.returns-in_err-feed-in-Bytes-clause-sound
 returns-in_err-feed-in-Bytes-clause-sound g c =
@@ -51,21 +51,21 @@ returns-in-Idle-clause-untold g c =
     let read = c.in-Idle.ensures in
     let player = c.loop-count.player in
     let short : length player.line.items ≤ 4096 = omega (arith, player.short) in
-    λ start.
-    untold_idle _ (g.S.Source.left c.args.main.now) (g.S.Source.left c.read_on.new.source) (g.K.Sink.sent c.args.out.now) (g.K.Sink.sent c.loop-count.out) (inv.reading start).0 player.world player.number player.line.items
-    (took_none (inv.reading start).0 (g.S.Source.left c.args.main.now) (g.S.Source.left c.loop-count.main) (g.S.Source.left c.read_on.new.source) (inv.reading start).1 read.bytes) (inv.reading start).2 short
+    λ key frames start.
+    untold_idle key frames _ (g.S.Source.left c.args.main.now) (g.S.Source.left c.read_on.new.source) (g.K.Sink.sent c.args.out.now) (g.K.Sink.sent c.loop-count.out) (inv.reading key frames start).0 player.world player.number player.line.items
+    (took_none (inv.reading key frames start).0 (g.S.Source.left c.args.main.now) (g.S.Source.left c.loop-count.main) (g.S.Source.left c.read_on.new.source) (inv.reading key frames start).1 read.bytes) (inv.reading key frames start).2 short
     (λ below. omega (arith, read.idled refl below, inv.idles))
 
 pub returns-in-End-clause-untold : goal.returns-in-End-clause-untold
 returns-in-End-clause-untold g c =
     let inv = c.loop-count.invariant in
     let read = c.in-End.ensures in
-    λ start.
-    untold_end _ (g.S.Source.left c.args.main.now) (g.S.Source.left c.read_on.new.source) (g.K.Sink.sent c.args.out.now) (g.K.Sink.sent c.finish.new.out) (inv.reading start).0 c.finish.result
-    (took_none (inv.reading start).0 (g.S.Source.left c.args.main.now) (g.S.Source.left c.loop-count.main) (g.S.Source.left c.read_on.new.source) (inv.reading start).1 read.bytes) (read.ended refl)
+    λ key frames start.
+    untold_end key frames _ (g.S.Source.left c.args.main.now) (g.S.Source.left c.read_on.new.source) (g.K.Sink.sent c.args.out.now) (g.K.Sink.sent c.finish.new.out) (inv.reading key frames start).0 c.finish.result
+    (took_none (inv.reading key frames start).0 (g.S.Source.left c.args.main.now) (g.S.Source.left c.loop-count.main) (g.S.Source.left c.read_on.new.source) (inv.reading key frames start).1 read.bytes) (read.ended refl)
     (λ e. subst (λ n. Rose n (g.K.Sink.faults c.finish.new.out)) inv.refusals (c.finish.ensures.rose e))
-    (c.finish.ensures.done (inv.reading start).0 (g.K.Sink.sent c.args.out.now) (inv.reading start).2)
-    (c.finish.ensures.halted (inv.reading start).0 (g.K.Sink.sent c.args.out.now) (inv.reading start).2)
+    (c.finish.ensures.done key frames (inv.reading key frames start).0 (g.K.Sink.sent c.args.out.now) (inv.reading key frames start).2)
+    (c.finish.ensures.halted key frames (inv.reading key frames start).0 (g.K.Sink.sent c.args.out.now) (inv.reading key frames start).2)
 
 pub returns-in-Failed-clause-untold : goal.returns-in-Failed-clause-untold
 returns-in-Failed-clause-untold g c =
@@ -73,7 +73,7 @@ returns-in-Failed-clause-untold g c =
     let read = c.in-Failed.ensures in
     let player = c.loop-count.player in
     let short : length player.line.items ≤ 4096 = omega (arith, player.short) in
-    λ start.
-    untold_fault _ (g.S.Source.left c.args.main.now) (g.S.Source.left c.read_on.new.source) (g.K.Sink.sent c.args.out.now) (g.K.Sink.sent c.loop-count.out) (inv.reading start).0 player.world player.number player.line.items
-    (took_none (inv.reading start).0 (g.S.Source.left c.args.main.now) (g.S.Source.left c.loop-count.main) (g.S.Source.left c.read_on.new.source) (inv.reading start).1 read.bytes) (inv.reading start).2 short
+    λ key frames start.
+    untold_fault key frames _ (g.S.Source.left c.args.main.now) (g.S.Source.left c.read_on.new.source) (g.K.Sink.sent c.args.out.now) (g.K.Sink.sent c.loop-count.out) (inv.reading key frames start).0 player.world player.number player.line.items
+    (took_none (inv.reading key frames start).0 (g.S.Source.left c.args.main.now) (g.S.Source.left c.loop-count.main) (g.S.Source.left c.read_on.new.source) (inv.reading key frames start).1 read.bytes) (inv.reading key frames start).2 short
     (subst (λ n. Rose n (g.S.Source.faults c.read_on.new.source)) inv.faults (read.failed refl))

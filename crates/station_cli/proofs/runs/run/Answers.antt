@@ -1,29 +1,28 @@
-use Rattle.std.proofs.Common.{refl, inl, inr}
+use Rattle.std.proofs.Common.{refl}
 use Rattle.std.specs.Result.{result_err}
 use Rattle.command_ends.proofs.Untolds.{ran_told}
 use Rattle.command_ends.proofs.Ends.{promised}
 use Rattle.dialect.specs.Profile.{profile_definitions}
 use Rattle.dialect_command.specs.Script.{dialect_script, profile_script}
 use Rattle.dialect_command.proofs.Stays.{dialect_steady, telling_steady}
-use Rattle.fleet_command.specs.Script.{fleet_script}
-use Rattle.fleet_command.proofs.Stays.{fleet_steady}
-use Rattle.fleet_command.proofs.Theorem.{carried}
-use Rattle.decode_command.specs.Script.{decode_script}
-use Rattle.decode_command.proofs.Stays.{decode_steady}
 use Rattle.station_cli.proofs.Usages.{words_told, halted_code}
+use Rattle.station_cli.proofs.Decoded.{told_over, decodes_told}
+use Rattle.station_cli.proofs.Scenarios.{fleets_told, fleets_carry}
 use Rattle.station_cli.proofs.runs.run.Goals as goal
 
 pub returns-clause-fleet : goal.returns-clause-fleet
 returns-clause-fleet g c = λ asked asks is.
     let ended = c.run_words-ended in
-    rw c.code_of.ensures (promised fleet_script fleet_steady _ _ _ _ _ (result_err c.tell.result) (λ spent. spent.1)
-    (ran_told fleet_script _ _ _ _ _ _ _ _ _ _ _ _ _ ended.result c.tell.result (ended.ensures.fleet asked asks is) ended.ensures.sound c.tell.ensures.tells))
+    rw c.code_of.ensures (fleets_told _ _ _ _ (told_over _ _ _ _ _ _ ended.result c.tell.result ended.ensures.sound c.tell.ensures.tells)
+    (λ halted. halted_code _ _ _ _ ended.result c.tell.result halted c.tell.ensures.tells)
+    _ _ _ _ (λ spent. spent.1) (λ spent. spent.1) (ended.ensures.fleet asked asks is))
 
 pub returns-clause-main_theorem : goal.returns-clause-main_theorem
 returns-clause-main_theorem g c = λ asked asks is.
     let ended = c.run_words-ended in
-    rw c.code_of.ensures (carried _ _ _ _ _ _ (promised fleet_script fleet_steady _ _ _ _ _ (result_err c.tell.result) (λ spent. spent.1)
-    (ran_told fleet_script _ _ _ _ _ _ _ _ _ _ _ _ _ ended.result c.tell.result (ended.ensures.fleet asked asks is) ended.ensures.sound c.tell.ensures.tells)).ran)
+    rw c.code_of.ensures (fleets_carry _ _ _ _ _ _ (fleets_told _ _ _ _ (told_over _ _ _ _ _ _ ended.result c.tell.result ended.ensures.sound c.tell.ensures.tells)
+    (λ halted. halted_code _ _ _ _ ended.result c.tell.result halted c.tell.ensures.tells)
+    _ _ _ _ (λ spent. spent.1) (λ spent. spent.1) (ended.ensures.fleet asked asks is)))
 
 pub returns-clause-dialect : goal.returns-clause-dialect
 returns-clause-dialect g c = λ asked asks is named.
@@ -40,28 +39,11 @@ returns-clause-profile g c = λ asked asks is unnamed.
 pub returns-clause-usage_only : goal.returns-clause-usage_only
 returns-clause-usage_only g c = λ nothing.
     let ended = c.run_words-ended in
-    rw c.code_of.ensures (words_told _ _ _ _ _ _ ended.result c.tell.result (ended.ensures.usage_only nothing) ended.ensures.sound (ended.ensures.untouched nothing).2 c.tell.ensures.tells)
+    rw c.code_of.ensures (words_told _ _ _ _ _ _ ended.result c.tell.result (ended.ensures.usage_only nothing) ended.ensures.sound (ended.ensures.untouched nothing).3 c.tell.ensures.tells)
 
 pub returns-clause-decode : goal.returns-clause-decode
-returns-clause-decode g c = λ asked asks is named.
+returns-clause-decode g c = λ asked asks is.
     let ended = c.run_words-ended in
-    rw c.code_of.ensures (elim (ended.ensures.decode asked asks is named) [
-      | inl (untold, halted, unread) ↦ inl (
-        promised dialect_script dialect_steady _ _ _ _ _ (result_err c.tell.result) (λ spent. spent.1)
-            (ran_told dialect_script _ _ _ _ _ _ _ _ _ _ _ _ _ ended.result c.tell.result untold ended.ensures.sound c.tell.ensures.tells),
-        halted_code _ _ _ _ ended.result c.tell.result halted c.tell.ensures.tells,
-        unread,
-      )
-      | inr (defs, holds, untold) ↦ inr (
-        defs,
-        holds,
-        promised (decode_script defs) (decode_steady defs) _ _ _ _ _ (result_err c.tell.result) (λ spent. spent.1)
-            (ran_told (decode_script defs) _ _ _ _ _ _ _ _ _ _ _ _ _ ended.result c.tell.result untold ended.ensures.sound c.tell.ensures.tells),
-      )
-    ])
-
-pub returns-clause-decode_profile : goal.returns-clause-decode_profile
-returns-clause-decode_profile g c = λ asked asks is unnamed.
-    let ended = c.run_words-ended in
-    rw c.code_of.ensures (promised (decode_script profile_definitions) (decode_steady profile_definitions) _ _ _ _ _ (result_err c.tell.result) (λ spent. spent.1)
-    (ran_told (decode_script profile_definitions) _ _ _ _ _ _ _ _ _ _ _ _ _ ended.result c.tell.result (ended.ensures.decode_profile asked asks is unnamed) ended.ensures.sound c.tell.ensures.tells))
+    rw c.code_of.ensures (decodes_told _ _ _ _ (told_over _ _ _ _ _ _ ended.result c.tell.result ended.ensures.sound c.tell.ensures.tells)
+    (λ halted. halted_code _ _ _ _ ended.result c.tell.result halted c.tell.ensures.tells)
+    _ _ _ _ _ (λ spent. spent.1) (λ spent. spent.1) (λ spent. spent.1) (ended.ensures.decode asked asks is))

@@ -1,16 +1,17 @@
-use Rattle.std.proofs.Common.{true, false, inl, refl}
-use Rattle.dialect.specs.Profile.{profile_definitions}
-use Rattle.decode_command.specs.Script.{decode_script}
+use Rattle.std.proofs.Common.{true, false, refl}
 use Rattle.command_line.specs.declared.commands.Command.TheVariants.{Fleet, Dialect, Decode}
-use Rattle.command_line.specs.declared.commands.OptionName.TheVariants.{Defs}
+use Rattle.command_line.specs.declared.commands.OptionName.TheVariants.{Frames, Defs, Key}
 use Rattle.command_ends.proofs.Untolds.{untold_nothing}
 use Rattle.dialect_command.specs.Script.{dialect_script, profile_script}
-use Rattle.fleet_command.specs.Script.{fleet_script}
-use Rattle.station_cli.proofs.Same.{same_command, same_given}
+use Rattle.station_cli.proofs.Same.{same_command, same_given, same_options}
+use Rattle.station_cli.proofs.Decoded.{decodes_as, decodes_unread}
+use Rattle.station_cli.proofs.Scenarios.{fleets_as, fleets_unread}
 use Rattle.station_cli.proofs.runs.run_words.Goals as goal
 
 pub returns-in-Err-NoMemory-clause-fleet : goal.returns-in-Err-NoMemory-clause-fleet
-returns-in-Err-NoMemory-clause-fleet g c = λ asked asks is. untold_nothing fleet_script _ _ _
+returns-in-Err-NoMemory-clause-fleet g c = λ asked asks is.
+    let inputs = c.args.inputs.now in
+    fleets_unread g.S.Source.has_ended g.S.Source.faults g.S.Source.idles g.S.Source.left inputs.key inputs.main (g.K.Sink.faults c.args.out.now) (g.K.Sink.sent c.args.out.now) _ refl _ _
 
 pub returns-in-Err-NoMemory-clause-dialect : goal.returns-in-Err-NoMemory-clause-dialect
 returns-in-Err-NoMemory-clause-dialect g c = λ asked asks is named. untold_nothing dialect_script _ _ _
@@ -19,7 +20,9 @@ pub returns-in-Err-NoMemory-clause-profile : goal.returns-in-Err-NoMemory-clause
 returns-in-Err-NoMemory-clause-profile g c = λ asked asks is unnamed. untold_nothing profile_script _ _ _
 
 pub returns-clause-fleet : goal.returns-clause-fleet
-returns-clause-fleet g c = λ asked asks is. c.run_line.ensures.fleet (same_command _ _ asked Fleet c.in-Ok.ensures.asks asks is)
+returns-clause-fleet g c = λ asked asks is.
+    fleets_as _ _ _ _ _ _ _ _ (same_options _ asked _ Key asks c.in-Ok.ensures.asks) (same_options _ asked _ Frames asks c.in-Ok.ensures.asks)
+    (c.run_line.ensures.fleet (same_command _ _ asked Fleet c.in-Ok.ensures.asks asks is))
 
 pub returns-clause-dialect : goal.returns-clause-dialect
 returns-clause-dialect g c = λ asked asks is named. c.run_line.ensures.dialect (same_command _ _ asked Dialect c.in-Ok.ensures.asks asks is) (same_given _ _ asked Defs true c.in-Ok.ensures.asks asks named)
@@ -42,14 +45,15 @@ returns-clause-unread_main g c = λ asked asks is. c.run_line.ensures.unread_mai
 pub returns-clause-unread_defs : goal.returns-clause-unread_defs
 returns-clause-unread_defs g c = λ asked asks unnamed. c.run_line.ensures.unread_defs (same_given _ _ asked Defs false c.in-Ok.ensures.asks asks unnamed)
 
-pub returns-clause-decode : goal.returns-clause-decode
-returns-clause-decode g c = λ asked asks is named. c.run_line.ensures.decode (same_command _ _ asked Decode c.in-Ok.ensures.asks asks is) (same_given _ _ asked Defs true c.in-Ok.ensures.asks asks named)
+pub returns-clause-unread_key : goal.returns-clause-unread_key
+returns-clause-unread_key g c = λ asked asks unnamed. c.run_line.ensures.unread_key (same_given _ _ asked Key false c.in-Ok.ensures.asks asks unnamed)
 
-pub returns-clause-decode_profile : goal.returns-clause-decode_profile
-returns-clause-decode_profile g c = λ asked asks is unnamed. c.run_line.ensures.decode_profile (same_command _ _ asked Decode c.in-Ok.ensures.asks asks is) (same_given _ _ asked Defs false c.in-Ok.ensures.asks asks unnamed)
+pub returns-clause-decode : goal.returns-clause-decode
+returns-clause-decode g c = λ asked asks is.
+    decodes_as _ _ _ _ _ _ _ _ _ (same_options _ asked _ Key asks c.in-Ok.ensures.asks) (same_options _ asked _ Defs asks c.in-Ok.ensures.asks)
+    (c.run_line.ensures.decode (same_command _ _ asked Decode c.in-Ok.ensures.asks asks is))
 
 pub returns-in-Err-NoMemory-clause-decode : goal.returns-in-Err-NoMemory-clause-decode
-returns-in-Err-NoMemory-clause-decode g c = λ asked asks is named. inl (untold_nothing dialect_script _ _ _, refl, refl)
-
-pub returns-in-Err-NoMemory-clause-decode_profile : goal.returns-in-Err-NoMemory-clause-decode_profile
-returns-in-Err-NoMemory-clause-decode_profile g c = λ asked asks is unnamed. untold_nothing (decode_script profile_definitions) _ _ _
+returns-in-Err-NoMemory-clause-decode g c = λ asked asks is.
+    let inputs = c.args.inputs.now in
+    decodes_unread g.S.Source.has_ended g.S.Source.faults g.S.Source.idles g.S.Source.left inputs.key inputs.defs inputs.main (g.K.Sink.faults c.args.out.now) (g.K.Sink.sent c.args.out.now) _ refl _ _

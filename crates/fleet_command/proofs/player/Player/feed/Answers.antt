@@ -10,6 +10,6 @@ returns-in_err-take-clause-halted g c =
     let piece = c.args.piece.now in
     let halt = c.in_err-take.field-0.0 in
     let now = g.K.Sink.sent c.take.new.out in
-    rw (e.1, e.2) (λ taken before r ended.
-    subst (λ bytes. HaltedBy halt ended bytes before now) (piece_from taken piece i c.loop-byte-test.true)
-    (c.in_err-take.ensures.halted (taken ++ take i piece) before (c.loop-byte.invariant.reading taken before r) ended (drop (suc i) piece)))
+    rw (e.1, e.2) (λ key frames taken before r ended.
+    subst (λ bytes. HaltedBy key frames halt ended bytes before now) (piece_from key frames taken piece i c.loop-byte-test.true)
+    (c.in_err-take.ensures.halted key frames (taken ++ take i piece) before (c.loop-byte.invariant.reading key frames taken before r) ended (drop (suc i) piece)))

@@ -1,7 +1,7 @@
 use Rattle.std.proofs.Common.{inl, inr, refl}
 use Rattle.std.proofs.lemmas.Result.{err_from_is_err_and}
 use Rattle.dialect_command.proofs.Endings.{untold_unread}
-use Rattle.station_cli.proofs.decoding.decode_with.Goals as goal
+use Rattle.station_cli.proofs.decoding.decode_named.Goals as goal
 
 pub returns-in_err-dialect-clause-decoded : goal.returns-in_err-dialect-clause-decoded
 returns-in_err-dialect-clause-decoded g c =

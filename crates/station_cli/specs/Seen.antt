@@ -1,0 +1,57 @@
+-- What stands of an input and of the output, before and after a run.
+use Rattle.std.specs.Prelude.{◌≡◌, ℕ, List}
+use Rattle.std.specs.declared.option.Option.{Option}
+use Rattle.mav_ports.specs.Gets.{IsSpent}
+use Rattle.command_ends.specs.declared.halts.Halt.{Halt}
+use Rattle.command_ends.specs.Runs.{Script, Outside, outside, Untold, Promises}
+
+pub record Input : Type 1 where
+  -- it answered End, and nothing is left of it
+  pub spent : Type 0
+  -- it is as it was
+  pub unread : Type 0
+  pub faults_before : ℕ
+  pub faults_after : ℕ
+  pub idles_before : ℕ
+  pub idles_after : ℕ
+  pub left_before : Option (List ℕ)
+  pub left_after : Option (List ℕ)
+
+pub record Output : Type 0 where
+  pub refusals_before : ℕ
+  pub refusals_after : ℕ
+  pub sent_before : Option (List ℕ)
+  pub sent_after : Option (List ℕ)
+
+-- by what a source tells of itself
+abbrev pub input_of : {A : Type 0} → (A → Type 0) → (A → ℕ) → (A → ℕ) → (A → Option (List ℕ)) → A → A → Input
+input_of has_ended faults idles left old new = record {
+  spent = has_ended new × IsSpent (left new);
+  unread = new ≡ old;
+  faults_before = faults old;
+  faults_after = faults new;
+  idles_before = idles old;
+  idles_after = idles new;
+  left_before = left old;
+  left_after = left new;
+}
+
+-- by what a sink tells of itself
+abbrev pub output_of : {A : Type 0} → (A → ℕ) → (A → Option (List ℕ)) → A → A → Output
+output_of faults sent old new = record {
+  refusals_before = faults old;
+  refusals_after = faults new;
+  sent_before = sent old;
+  sent_after = sent new;
+}
+
+abbrev pub around : Input → Output → Outside
+around input out = outside input.spent input.faults_before input.faults_after input.idles_before input.idles_after out.refusals_before out.refusals_after
+
+-- a command's run over an input, before the text of its halt
+abbrev pub untold_over : Output → Option Halt → Script → Input → Type 0
+untold_over out end s input = Untold s (around input out) input.left_before input.left_after out.sent_before out.sent_after end
+
+-- what is promised of a command's run over an input
+abbrev pub promised_over : Output → ℕ → Script → Input → Type 0
+promised_over out code s input = Promises s (around input out) input.left_before input.left_after out.sent_before out.sent_after code
