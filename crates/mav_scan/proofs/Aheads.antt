@@ -1,0 +1,154 @@
+-- What stands in front goes on with the parse.
+use Rattle.std.proofs.Common.{◌≡◌, ℕ, ◌-◌, ◌<◌, ◌≤◌, ◌==◌, ◌&&◌, Bool, true, false, not, nat_lt, slice_index, List, [], ◌∷◌, ◌++◌, length, take, drop, Option, Some, None, if◌then◌else◌, refl, sym, ap, ◌∙◌, subst, arith, length-take, append-nil}
+use Rattle.std.proofs.lemmas.Bool.Decides.{nat_tests}
+use Rattle.mav_frame.specs.Packet.{Packet}
+use Rattle.mav_frame.specs.Encoding.{encoding}
+use Rattle.mav_frame.specs.Looks.{frame_size_at, packet_at, id_at, look_id, look_of}
+use Rattle.x25_check.specs.Extras.{extra_of}
+use Rattle.mav_frame.specs.declared.looks.Look.{Look}
+use Rattle.mav_frame.specs.declared.looks.Look.TheVariants.{Frame as Found, NotHere, More}
+use Rattle.mav_frame.specs.declared.looks.Why.{Why}
+use Rattle.mav_frame.specs.declared.looks.Why.TheVariants.{NotStx, UnknownFlag, UnknownId, BadCheck, Short}
+use Rattle.mav_frame.specs.declared.events.Event.{Event}
+use Rattle.mav_frame.specs.declared.events.Event.TheVariants.{Frame as FrameEvent}
+use Rattle.mav_frame.proofs.FoundEncoded.{IsBytes, once}
+use Rattle.mav_frame.proofs.Reasons.{incomplete}
+use Rattle.mav_stream.specs.Held.{Held}
+use Rattle.mav_stream.specs.Progress.{Progress, IsWhole}
+use Rattle.mav_stream.specs.declared.Next.TheVariants.{Frame as NextFrame, Skipped as NextSkipped}
+use Rattle.mav_stream.proofs.Steps.{next_on, whole_at}
+use Rattle.mav_scan.specs.Ahead.{ahead_by, events_ahead, held_behind, size_ahead, run_length, IfEvent, IfFrame, IfNeed}
+use Rattle.mav_scan.specs.declared.ahead.Ahead.TheVariants.{Run, Need}
+use Rattle.mav_scan.proofs.Gives.{gives_frame, gives_short, needs, has_room}
+use Rattle.mav_scan.proofs.SkippedRuns.{each_looked, run_within, run_some, runs_on}
+
+-- ---- which frame a look finds
+
+module _ (p : Packet) (n : ℕ) where
+  not_found : (w : Why) → NotHere w ≡ Found p n → ⊥
+  not_found w e = cc
+
+  more_found : (k : ℕ) → More k ≡ Found p n → ⊥
+  more_found k e = cc
+
+  -- another answer in front is passed
+  past : (t : Bool) (x y : Look) → (x ≡ Found p n → ⊥) → (if t then x else y) ≡ Found p n → y ≡ Found p n
+  past true x y never e = absurd (never e)
+  past false x y never e = e
+
+  checked : (t : Bool) (q : Packet) (m : ℕ) → (if t then Found q m else NotHere BadCheck) ≡ Found p n → (q ≡ p) × (m ≡ n)
+  checked true q m e = let t : Found q m ≡ Found p n = e in let same : q ≡ p = cc in let size : m ≡ n = cc in (same, size)
+  checked false q m e = absurd (not_found BadCheck e)
+
+  found_id : (o : Option ℕ) (b : List ℕ) → look_id o b ≡ Found p n → (packet_at b ≡ p) × (frame_size_at b ≡ n)
+  found_id None b e = absurd (not_found UnknownId e)
+  found_id (Some extra) b e = checked _ (packet_at b) (frame_size_at b) (past _ (More _) _ (more_found _) e)
+
+  -- it is the one that the bytes spell
+  found_is : (extras : List (ℕ × ℕ)) (b : List ℕ) → look_of extras b ≡ Found p n → (packet_at b ≡ p) × (frame_size_at b ≡ n)
+  found_is extras b e =
+      let behind_stx = past (nat_lt 0 (length b) && not (slice_index b 0 == 0xFD)) (NotHere NotStx) _ (not_found NotStx) e in
+      let behind_three = past (nat_lt (length b) 3) (More (3 - length b)) _ (more_found (3 - length b)) behind_stx in
+      let behind_flag = past (nat_lt 1 (slice_index b 2)) (NotHere UnknownFlag) _ (not_found UnknownFlag) behind_three in
+      found_id (extra_of (id_at b) extras) b (past (nat_lt (length b) 10) (More (10 - length b)) _ (more_found (10 - length b)) behind_flag)
+
+-- ---- the end of the input
+
+ended_some : (t : Bool) (n : ℕ) → (t && nat_lt 0 n) ≡ true → (t ≡ true) × (0 < n)
+ended_some true n e = (refl, grind (arith, nat_tests))
+ended_some false n e = absurd (let bad : false ≡ true = e in cc)
+
+ended_none : (t : Bool) (b : List ℕ) → (t && nat_lt 0 (length b)) ≡ false → t ≡ true → b ≡ []
+ended_none t [] e over = refl
+ended_none true (x ∷ xs) e over = absurd (let some : nat_lt 0 (length (x ∷ xs)) ≡ true = grind (arith, nat_tests) in let bad : true ≡ false = sym some ∙ e in cc)
+ended_none false (x ∷ xs) e over = absurd (let bad : false ≡ true = over in cc)
+
+module _ (held : Held) (bytes : IsBytes held.bytes) where
+  abbrev is_short : Bool
+  is_short = held.ended && nat_lt 0 (length held.bytes)
+
+  -- ---- what is in front is held
+
+  short_within : (t : Bool) → is_short ≡ t → size_ahead (if t then Run Short 1 else Need) ≤ length held.bytes
+  short_within true e = let some = (ended_some held.ended (length held.bytes) e).1 in omega arith
+  short_within false e = omega arith
+
+  pub within : (look : Look) → look_of held.extras held.bytes ≡ look → size_ahead (ahead_by look held) ≤ length held.bytes
+  within (Found p n) e = (once held.extras held.bytes p n bytes e).0
+  within (NotHere why) e = run_within held.extras held.bytes why e
+  within (More k) e = short_within is_short refl
+
+  short_some : (t : Bool) → IfEvent (if t then Run Short 1 else Need) (0 < size_ahead (if t then Run Short 1 else Need))
+  short_some true = omega arith
+  short_some false = tt
+
+  frame_some : (p : Packet) (n : ℕ) → n ≡ length (encoding p) → 0 < n
+  frame_some p n e = omega (arith, e)
+
+  -- ---- a frame in front
+
+  abbrev IsFrameSize : ℕ → Type 0
+  IsFrameSize size = (size ≡ length (encoding (packet_at held.bytes))) × (size ≡ frame_size_at held.bytes)
+
+  short_no_frame : (t : Bool) → IfFrame (if t then Run Short 1 else Need) IsFrameSize
+  short_no_frame true = tt
+  short_no_frame false = tt
+
+  pub frame_size : (look : Look) → look_of held.extras held.bytes ≡ look → IfFrame (ahead_by look held) IsFrameSize
+  frame_size (Found p n) e =
+      let is = found_is p n held.extras held.bytes e in let found = once held.extras held.bytes p n bytes e in
+      let fits : n ≤ length held.bytes = found.0 in
+      let long : n ≡ length (take n held.bytes) = omega (arith, length-take n held.bytes) in
+      (long ∙ (ap length found.1.bytes ∙ ap (λ (q : Packet). length (encoding q)) (sym is.0)), sym is.1)
+  frame_size (NotHere why) e = tt
+  frame_size (More k) e = short_no_frame is_short
+
+  pub some : (look : Look) → look_of held.extras held.bytes ≡ look → IfEvent (ahead_by look held) (0 < size_ahead (ahead_by look held))
+  some (Found p n) e = frame_some (packet_at held.bytes) n (frame_size (Found p n) e).0
+  some (NotHere why) e = run_some held.extras held.bytes why e
+  some (More k) e = short_some is_short
+
+  -- ---- the room at Need
+
+  room_at : (t : Bool) → length held.bytes < 280 → IfNeed (if t then Run Short 1 else Need) (length held.bytes < 280)
+  room_at true h = tt
+  room_at false h = h
+
+  pub room : (look : Look) → look_of held.extras held.bytes ≡ look → IfNeed (ahead_by look held) (length held.bytes < 280)
+  room (Found p n) e = tt
+  room (NotHere why) e = tt
+  room (More k) e = room_at is_short (has_room held.extras held.bytes bytes (incomplete held.extras held.bytes k e))
+
+  -- ---- the parse
+
+  module _ (extras : List (ℕ × ℕ)) (taken : List ℕ) (given : List Event) (h : Progress extras taken given held) where
+    first_short : (k : ℕ) (b : List ℕ) → held.bytes ≡ b → look_of held.extras b ≡ More k → held.ended ≡ true → 0 < length b → Progress extras taken (given ++ events_ahead b (Run Short 1)) (record held { bytes = drop 1 b })
+    first_short k [] is e over some = absurd (omega arith)
+    first_short k (x ∷ xs) is e over some =
+        let now : Held = record held { bytes = x ∷ xs } in
+        let at : Progress extras taken given now = subst (λ (b : List ℕ). Progress extras taken given (record held { bytes = b })) is h in
+        next_on extras taken given now at (NextSkipped x Short) (record held { bytes = xs }) (gives_short now k some over e)
+
+    short_on : (k : ℕ) → look_of held.extras held.bytes ≡ More k → (t : Bool) → is_short ≡ t → Progress extras taken (given ++ events_ahead held.bytes (if t then Run Short 1 else Need)) (held_behind held (if t then Run Short 1 else Need))
+    short_on k e true is = let over = ended_some held.ended (length held.bytes) is in first_short k held.bytes refl e over.0 over.1
+    short_on k e false is = subst (λ (z : List Event). Progress extras taken z held) (sym (append-nil given)) h
+
+    -- the events in front go on with it
+    pub progress : (look : Look) → look_of held.extras held.bytes ≡ look → Progress extras taken (given ++ events_ahead held.bytes (ahead_by look held)) (held_behind held (ahead_by look held))
+    progress (Found p n) e =
+        let now : Held = record held { bytes = drop n held.bytes } in
+        let on = next_on extras taken given held h (NextFrame p) now (gives_frame held p n e (once held.extras held.bytes p n bytes e)) in
+        subst (λ (q : Packet). Progress extras taken (given ++ FrameEvent q ∷ []) now) (sym (found_is p n held.extras held.bytes e).0) on
+    progress (NotHere why) e =
+        runs_on extras taken held why (run_length why held.bytes) held.bytes given (run_within held.extras held.bytes why e) (each_looked held.extras held.bytes why e) h
+    progress (More k) e = short_on k e is_short refl
+
+    need_whole : (k : ℕ) → look_of held.extras held.bytes ≡ More k → (t : Bool) → is_short ≡ t → IfNeed (if t then Run Short 1 else Need) (IsWhole extras taken given held)
+    need_whole k e true is = tt
+    need_whole k e false is = whole_at extras taken given held h held (needs held k e (ended_none held.ended held.bytes is))
+
+    -- and at Need it is whole
+    pub whole : (look : Look) → look_of held.extras held.bytes ≡ look → IfNeed (ahead_by look held) (IsWhole extras taken given held)
+    whole (Found p n) e = tt
+    whole (NotHere why) e = tt
+    whole (More k) e = need_whole k e is_short refl

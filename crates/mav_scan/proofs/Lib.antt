@@ -1,0 +1,6 @@
+mod Windows
+mod GarbageRuns
+mod FlaggedRuns
+mod Gives
+mod SkippedRuns
+mod Aheads

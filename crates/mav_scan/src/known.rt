@@ -1,0 +1,89 @@
+// The CRC_EXTRA byte of each message id, found at once for the ids that messages mostly have.
+ghost use Rattle.std.specs.Prelude.{◌≡◌, ℕ, ◌<◌, length, slice_index, IfOk};
+ghost use Rattle.x25_check.specs.Extras.{extra_of};
+ghost use Rattle.mav_scan.specs.Entries.{byte_of};
+
+use crate::NoMemory;
+use std::alloc::Global;
+use std::marker::Model;
+use x25_check::Extras;
+
+// How many ids have an entry of their own.
+const LOW_IDS: usize = 65_536;
+
+// The entry of an id that has no CRC_EXTRA.
+const UNKNOWN: u16 = 256;
+
+/// What contracts see as the pairs of ids and bytes that it was made of.
+#[derive(Drop)]
+pub(crate) struct Known {
+    extras: Extras,
+    low: Vec<u16>,
+}
+
+impl Model for Known {
+    ghost use Rattle.std.specs.Prelude.{◌≡◌, ◌<◌, List, ℕ, length, slice_index};
+    ghost use Rattle.x25_check.specs.Extras.{extra_of};
+    ghost use Rattle.mav_scan.specs.Entries.{byte_of};
+
+    ghost Value = { List (ℕ × ℕ) };
+
+    ghost view = { λ k. k.extras };
+
+    ghost invariant = { λ k. (length k.low.items ≡ 65536) × ((id : ℕ) → id < 65536 → byte_of (slice_index k.low.items id) ≡ extra_of id k.extras) };
+}
+
+// The entry of an id, by its CRC_EXTRA.
+fn entry_for(extra: Option<u8>) -> u16
+    ensures { byte_of result ≡ extra }
+{
+    match extra {
+        Some(byte) => u16::from(byte),
+        None => UNKNOWN,
+    }
+}
+
+// What an entry says.
+#[inline(always)]
+fn extra_in(entry: u16) -> Option<u8>
+    ensures { result ≡ byte_of entry }
+{
+    if entry < UNKNOWN {
+        Some(entry as u8)
+    } else {
+        None
+    }
+}
+
+// Writes the entry of each id.
+fn fill(low: &mut [u16], extras: &Extras)
+    requires { length low.old ≡ 65536 }
+    ensures { (id : ℕ) → id < 65536 → byte_of (slice_index low.new id) ≡ extra_of id extras.now }
+{
+    for id in 0..LOW_IDS {
+        low[id] = entry_for(extras.get(id as u32));
+    }
+}
+
+impl Known {
+    pub(crate) fn new(alloc: Global, extras: Extras) -> Result<Known, NoMemory>
+        ensures { IfOk result (λ known. known ≡ extras) }
+    {
+        let mut low = vec![in alloc; UNKNOWN; LOW_IDS]?;
+        fill(&mut low, &extras);
+        Ok(Known { extras, low })
+    }
+
+    /// The CRC_EXTRA of a message id.
+    #[inline]
+    pub(crate) fn get(&self, id: u32) -> Option<u8>
+        ensures { result ≡ extra_of id self.now }
+    {
+        let place = id as usize;
+        if place < LOW_IDS {
+            extra_in(self.low[place])
+        } else {
+            self.extras.get(id)
+        }
+    }
+}

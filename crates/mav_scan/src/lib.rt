@@ -1,0 +1,17 @@
+//! A reader of a stream in large pieces: the same parse as the reader that holds one frame, over frames that stay
+//! where they stand.
+#![tactic(auto)]
+
+mod ahead;
+mod known;
+mod looking;
+mod numbers;
+mod runs;
+mod scanner;
+#[cfg(test)]
+mod tests;
+mod window;
+
+pub use ahead::Ahead;
+use mav_ports::NoMemory;
+pub use scanner::Scanner;

@@ -1,0 +1,54 @@
+// How many bytes in front begin no frame for one reason.
+ghost use Rattle.std.specs.Prelude.{◌≡◌, ◌+◌, ◌<◌, ◌≤◌, ◌≢◌, ℕ, length, slice_index, true, false};
+ghost use Rattle.mav_stream.specs.Flagged.{is_flagged as is_flagged_at};
+ghost use Rattle.mav_scan.specs.Ahead.{run_length};
+
+use crate::looking::STX;
+use mav_frame::Why;
+use memchr::memchr;
+
+// Where the first STX stands, or how many bytes there are.
+fn stx_place(bytes: &[u8]) -> usize
+    ensures within { result ≤ length bytes.now }
+    ensures before { (k : ℕ) → k < result → slice_index bytes.now k ≢ 0xFD }
+    ensures found { result < length bytes.now → slice_index bytes.now result ≡ 0xFD }
+{
+    match memchr(STX, bytes) {
+        Some(place) => place,
+        None => bytes.len(),
+    }
+}
+
+#[inline(always)]
+fn is_flagged(bytes: &[u8], place: usize) -> bool
+    requires { place + 2 < length bytes.now }
+    ensures { result ≡ is_flagged_at bytes.now place }
+{
+    bytes[place] == STX && bytes[place + 2] > 1
+}
+
+// How many STX with unknown flags stand in front.
+fn flagged_length(bytes: &[u8]) -> usize
+    ensures within { result ≤ length bytes.now }
+    ensures before { (k : ℕ) → k < result → is_flagged_at bytes.now k ≡ true }
+    ensures other { is_flagged_at bytes.now result ≡ false }
+{
+    let most = bytes.len().saturating_sub(2);
+    for place in 0..most {
+        if !is_flagged(bytes, place) {
+            return place;
+        }
+    }
+    most
+}
+
+/// How many bytes in front are skipped for the reason of the first.
+pub(crate) fn run_for(why: Why, bytes: &[u8]) -> usize
+    ensures { result ≡ run_length why bytes.now }
+{
+    match why {
+        Why::NotStx => stx_place(bytes),
+        Why::UnknownFlag => flagged_length(bytes),
+        Why::UnknownId | Why::BadCheck | Why::Short => 1,
+    }
+}
