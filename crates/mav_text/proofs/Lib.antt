@@ -3,8 +3,12 @@ mod ChunkSteps
 mod SkipSteps
 mod SmallNumbers
 mod Tables
-mod DigitSteps
+mod DecimalSteps
 mod NumberLengths
 mod WordSteps
+mod ValueSteps
+mod PaddedWords
 mod FieldSteps
 mod ShownValues
+mod RecipeSteps
+mod RecipePlaces

@@ -1,7 +1,6 @@
 -- Lines of skipped bytes, one after another.
-use Rattle.std.proofs.Common.{◌≡◌, ℕ, suc, ◌+◌, ◌-◌, ◌/◌, ◌%◌, ◌^◌, ◌<◌, ◌≤◌, List, [], ◌∷◌, ◌++◌, codes, length, take, drop, get_or, refl, sym, ap, ◌∙◌, arith, append_assoc, drop-cons, take-take, take-append-drop, length-take}
-use Rattle.std.proofs.Math.Seq.{take-append_seam}
-use Rattle.std.proofs.lemmas.List.{drop-take, take_all, drop-append-le, length-drop}
+use Rattle.std.proofs.Common.{◌≡◌, ℕ, suc, ◌+◌, ◌-◌, ◌/◌, ◌%◌, ◌^◌, ◌<◌, ◌≤◌, List, [], ◌∷◌, ◌++◌, codes, length, take, drop, get_or, sym, ap, ◌∙◌, arith, append_assoc, drop-cons, take-take, take-append-drop, length-take}
+use Rattle.std.proofs.lemmas.List.{take_all, length-drop}
 use Rattle.std.specs.Fmt.{decimal}
 use Rattle.std.specs.List.{slice_range}
 use Rattle.std.proofs.lemmas.List.Folds.{drop_split}
@@ -28,21 +27,21 @@ skips_append place (x ∷ xs) ys why =
     ∙ sym (append_assoc (skip_line place x why) (skip_lines (place + 1) xs why) (skip_lines (place + suc (length xs)) ys why))
 
 -- a line, by the hundreds of its offset and the last two digits
-pub line_by_pair : (first step : ℕ) (byte : ℕ) (why : Why) (hundreds ending : List ℕ) → 100 ≤ first → first + step < 2 ^ 64 → first % 100 + step < 100 → hundreds ≡ decimal (first / 100) → ending ≡ 32 ∷ why_text why ++ 10 ∷ [] → hundreds ++ pair_text (first % 100 + step) ++ codes " skip " ++ byte_hex byte ++ ending ≡ skip_line (first + step) byte why
-line_by_pair first step byte why hundreds ending high fits same front back =
+pub line_by_pair : (first step : ℕ) (byte : ℕ) (why : Why) (hundreds template : List ℕ) → 100 ≤ first → first + step < 2 ^ 64 → first % 100 + step < 100 → hundreds ≡ decimal (first / 100) → template ≡ codes " skip 00 " ++ why_text why ++ 10 ∷ [] → hundreds ++ pair_text (first % 100 + step) ++ take 6 template ++ byte_hex byte ++ drop 8 template ≡ skip_line (first + step) byte why
+line_by_pair first step byte why hundreds template high fits same front back =
     let quotient : (first + step) / 100 ≡ first / 100 = omega arith in
     let remainder : (first + step) % 100 ≡ first % 100 + step = omega arith in
     let whole : decimal (first + step) ≡ decimal (first / 100) ++ pair_text (first % 100 + step) =
     decimal_pair (first + step) (omega arith) fits ∙ (λ i. decimal (quotient i) ++ pair_text (remainder i)) in
     let number : hundreds ++ pair_text (first % 100 + step) ≡ decimal (first + step) = (λ i. front i ++ pair_text (first % 100 + step)) ∙ sym whole in
-    (λ i. number i ++ codes " skip " ++ byte_hex byte ++ back i)
+    (λ i. number i ++ take 6 (back i) ++ byte_hex byte ++ drop 8 (back i))
     ∙ sym (append_assoc (decimal (first + step) ++ codes " skip " ++ byte_hex byte) (32 ∷ why_text why) (10 ∷ []))
 
 -- a line, whose offset is put together with what stands behind it
-pub line_joined : (offset byte : ℕ) (why : Why) (ending : List ℕ) → ending ≡ 32 ∷ why_text why ++ 10 ∷ [] → decimal offset ++ (codes " skip " ++ byte_hex byte ++ ending) ≡ skip_line offset byte why
-line_joined offset byte why ending back =
+pub line_joined : (offset byte : ℕ) (why : Why) (template : List ℕ) → template ≡ codes " skip 00 " ++ why_text why ++ 10 ∷ [] → decimal offset ++ (take 6 template ++ byte_hex byte ++ drop 8 template) ≡ skip_line offset byte why
+line_joined offset byte why template back =
     let last : List ℕ = 32 ∷ why_text why ++ 10 ∷ [] in
-    ap (λ (e : List ℕ). decimal offset ++ (codes " skip " ++ byte_hex byte ++ e)) back
+    ap (λ (t : List ℕ). decimal offset ++ (take 6 t ++ byte_hex byte ++ drop 8 t)) back
     ∙ (sym (append_assoc (decimal offset) (codes " skip " ++ byte_hex byte) last)
     ∙ (ap (λ (t : List ℕ). t ++ last) (sym (append_assoc (decimal offset) (codes " skip ") (byte_hex byte)))
     ∙ sym (append_assoc (decimal offset ++ codes " skip " ++ byte_hex byte) (32 ∷ why_text why) (10 ∷ []))))
@@ -76,21 +75,3 @@ skips_split out place small bytes why within =
     ap (λ (n : ℕ). skip_lines place (take small bytes) why ++ skip_lines (place + n) (drop small bytes) why) long
     ∙ (sym (skips_append place (take small bytes) (drop small bytes) why)
     ∙ ap (λ (xs : List ℕ). skip_lines place xs why) (take-append-drop small bytes))))
-
--- a line, whose digits were written at the end of the first twenty bytes
-pub line_of : (start end number : ℕ) (digits line others behind : List ℕ) → start + length (decimal number) ≡ 20 → 20 ≤ end → end ≤ length line → length digits ≡ 48 → drop start digits ≡ decimal number ++ others → take end line ≡ take 20 digits ++ behind → take (end - start) (drop start line) ≡ decimal number ++ behind
-line_of start end number digits line others behind place over within whole written put =
-    let back : start + (20 - start) ≡ 20 = omega arith in
-    let shown : 20 - start ≡ length (decimal number) = omega arith in
-    let front : drop start (take 20 digits) ≡ decimal number =
-    ap (λ (n : ℕ). drop start (take n digits)) (sym back)
-    ∙ (drop-take start (20 - start) digits
-    ∙ (ap (take (20 - start)) written
-    ∙ (ap (λ (n : ℕ). take n (decimal number ++ others)) shown
-    ∙ take-append_seam (decimal number) others))) in
-    let whole_end : start + (end - start) ≡ end = omega arith in
-    sym (drop-take start (end - start) line)
-    ∙ (ap (λ (n : ℕ). drop start (take n line)) whole_end
-    ∙ (ap (drop start) put
-    ∙ (drop-append-le start (take 20 digits) behind (omega (arith, length-take 20 digits))
-    ∙ ap (λ (t : List ℕ). t ++ behind) front)))

@@ -1,8 +1,8 @@
--- The table of numbers below 256, and how many digits a number has.
-use Rattle.std.proofs.Common.{◌≡◌, ℕ, zero, suc, ◌+◌, ◌-◌, ◌/◌, ◌%◌, ◌^◌, ◌<◌, ◌≤◌, Bool, true, false, ◌&&◌, T, eqb, nat_lt, if◌then◌else◌, List, [], ◌∷◌, ◌++◌, length, take, get_or, refl, sym, ap, ◌∙◌, arith, eqb→eq}
+-- The table of numbers below 256.
+use Rattle.std.proofs.Common.{◌≡◌, ℕ, zero, suc, ◌+◌, ◌-◌, ◌/◌, ◌%◌, ◌<◌, ◌≤◌, Bool, true, false, ◌&&◌, T, eqb, nat_lt, if◌then◌else◌, List, [], ◌∷◌, ◌++◌, length, take, get_or, refl, sym, ap, ◌∙◌, arith, eqb→eq}
 use lib.Ieee.Fits.{and_l, and_r}
 use Rattle.std.specs.Fmt.{decimal}
-use Rattle.itoa.proofs.Decimal.{decimal_two, decimal_pair, length_one, length_two, length_pair}
+use Rattle.itoa.proofs.Decimal.{decimal_two, decimal_pair}
 use Rattle.std.proofs.lemmas.Fmt.{decimal_digit}
 use Rattle.std.proofs.lemmas.Bool.{ltb-true, ltb-false}
 use Rattle.mav_text.specs.FrameText.{pair_text}
@@ -66,9 +66,3 @@ small_shown d n h =
     let row : List ℕ = get_or SMALL n d in
     let there : T (is_small row n) = small_in SMALL d 0 n n (omega arith) all_small h in
     same_is _ _ (and_l _ (eqb (get_or row 3 0 - 3) 0) there) ∙ shown n (omega arith)
-
-pub length_three : (n : ℕ) → 100 ≤ n → n < 1000 → length (decimal n) ≡ 3
-length_three n low high = let l = length_pair n low (omega arith) in let o = length_one (n / 100) (omega arith) in omega arith
-
-pub length_of_four : (n : ℕ) → 1000 ≤ n → n < 10000 → length (decimal n) ≡ 4
-length_of_four n low high = let l = length_pair n (omega arith) (omega arith) in let o = length_two (n / 100) (omega arith) (omega arith) in omega arith

@@ -81,11 +81,14 @@ is_char Char = true
 is_char _ = false
 
 -- a char or a char array in double quotes, another array in square brackets, or a single value
+abbrev pub shown_text : Ty → ℕ → List ℕ → List ℕ
+shown_text ty len words =
+    if is_char ty then 34 ∷ chars_text words ++ 34 ∷ []
+    else if len == 0 then values_text ty words
+    else 91 ∷ values_text ty words ++ 93 ∷ []
+
 abbrev pub value_text : Field → List ℕ → List ℕ
-value_text field words =
-    if is_char field.ty then 34 ∷ chars_text words ++ 34 ∷ []
-    else if field.len == 0 then values_text field.ty words
-    else 91 ∷ values_text field.ty words ++ 93 ∷ []
+value_text field words = shown_text field.ty field.len words
 
 -- ` name=value`
 abbrev pub field_text : Field → List ℕ → List ℕ

@@ -1,3 +1,4 @@
 pub mod LayoutText
 pub mod FrameText
+pub mod RecipeText
 pub mod TextLaws

@@ -1,6 +1,23 @@
 // Texts that are put together in a fixed chunk of bytes, of which those up to a place count.
 ghost use Rattle.std.specs.Prelude.{◌≡◌, ◌+◌, ◌≤◌, ◌∷◌, [], ◌++◌, length, take};
 
+/// How many bytes a chunk has.
+pub(crate) const CHUNK_BYTES: usize = 2048;
+
+/// Room in which texts are put together. What it holds between calls doesn't matter.
+#[derive(Drop)]
+pub struct Chunk {
+    pub(crate) bytes: [u8; 2048],
+}
+
+impl Chunk {
+    pub fn new() -> Chunk {
+        Chunk {
+            bytes: [0; CHUNK_BYTES],
+        }
+    }
+}
+
 /// Puts the first `len` bytes of a part at a place, and answers the place behind them. All of the part is copied, since
 /// a copy of fixed size is the fastest.
 #[inline(always)]

@@ -1,5 +1,5 @@
 // Digits of numbers.
-ghost use Rattle.std.specs.Prelude.{◌≡◌, ◌+◌, ◌*◌, ◌<◌, ◌≤◌, ◌∷◌, ◌^◌, [], drop, take, length};
+ghost use Rattle.std.specs.Prelude.{◌≡◌, ◌<◌, ◌^◌, drop};
 ghost use Rattle.std.specs.Fmt.{decimal};
 ghost use Rattle.mav_text.specs.FrameText.{pair_text, byte_hex, word_hex};
 
@@ -10,41 +10,6 @@ static HEX: [u8; 512] =
 
 static PAIRS: [u8; 200] =
     *b"00010203040506070809101112131415161718192021222324252627282930313233343536373839404142434445464748495051525354555657585960616263646566676869707172737475767778798081828384858687888990919293949596979899";
-
-/// How many digits a number has.
-pub(crate) fn digit_count(number: u64) -> usize
-    ensures digits { result ≡ length (decimal number) }
-    ensures few { result ≤ 20 }
-{
-    count_digits(number)
-}
-
-fn count_digits(number: u64) -> usize
-    ensures { result ≡ length (decimal number) }
-{
-    let mut rest = number;
-    let mut count = 0;
-    while rest >= 10_000 {
-        rest /= 10_000;
-        count += 4;
-    }
-    count + few_digits(rest)
-}
-
-#[inline(always)]
-fn few_digits(number: u64) -> usize
-    requires { number < 10000 }
-    ensures digits { result ≡ length (decimal number) }
-    ensures few { result ≤ 4 }
-{
-    if number < 10 {
-        return 1;
-    }
-    if number < 100 {
-        return 2;
-    }
-    if number < 1000 { 3 } else { 4 }
-}
 
 /// The digits of a number, right-aligned, and where they begin.
 #[inline]
@@ -89,24 +54,4 @@ pub(crate) fn word_digits(word: u64) -> [u8; 8]
     let [e, f] = byte_digits((word / 256 % 256) as u8);
     let [g, h] = byte_digits((word % 256) as u8);
     [a, b, c, d, e, f, g, h]
-}
-
-/// The digits of a word of `size` bytes, highest byte first, right-aligned, and where they begin.
-pub(crate) fn write_hex(word: u64, size: usize, digits: &mut [u8; 16]) -> usize
-    requires { size ≤ 8 }
-    ensures within { result + 2 * size ≡ 16 }
-    ensures digits { drop result digits.new ≡ word_hex size word }
-{
-    let mut rest = word;
-    let mut at = 16;
-    let mut left = size;
-    while left > 0 {
-        let [high, low] = byte_digits((rest % 256) as u8);
-        digits[at - 1] = low;
-        digits[at - 2] = high;
-        rest /= 256;
-        at -= 2;
-        left -= 1;
-    }
-    at
 }

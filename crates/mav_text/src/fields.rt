@@ -1,106 +1,144 @@
 // The text of a frame.
-ghost use Rattle.std.specs.Prelude.{◌≡◌, ◌+◌, ◌≤◌, ◌++◌, length, take, OnOk, OnErr, vec_len};
+ghost use Rattle.std.specs.Prelude.{◌≡◌, ◌+◌, ◌≤◌, ◌++◌, length, take, IfOk, OnOk, OnErr, vec_len};
 ghost use Rattle.field_layout.specs.Types.{element_size};
 ghost use Rattle.field_layout.specs.Definition.{all_fields, element_count, size_of};
 ghost use Rattle.field_layout.specs.Reading.{words_from};
-ghost use Rattle.mav_text.specs.FrameText.{field_text, fields_text, frame_text, words_in};
+ghost use Rattle.mav_text.specs.FrameText.{block_text, field_text, fields_text, frame_text, words_in};
 
 use crate::NoMemory;
-use crate::value::Text;
+use crate::chunk::{CHUNK_BYTES, put_part};
+use crate::values::{put_block, put_byte, put_sender, put_value};
 use field_layout::{Field, Layout};
-use mav_frame::Frame;
+use mav_frame::{Block, Frame};
 
-// Puts a name behind the text, or where it is long appends both.
-fn put_name(text: &mut Text, name: &[u8], out: &mut Vec<u8>) -> Result<(), NoMemory>
-    requires { length text.old ≤ 520 }
-    ensures text { OnOk result (out.new.items ++ text.new ≡ (out.old.items ++ text.old) ++ name.now) }
-    ensures room { length text.new ≤ 648 }
+// How many bytes of a chunk are enough to append them.
+const ENOUGH_BYTES: usize = 512;
+
+// The longest name that is put into a chunk.
+const NAME_BYTES: usize = 128;
+
+// Puts a name at a place, or where it is long appends the chunk's text and the name. Answers where the chunk's text now
+// ends.
+fn put_name(
+    chunk: &mut [u8; 2048],
+    at: usize,
+    name: &[u8],
+    out: &mut Vec<u8>,
+) -> Result<usize, NoMemory>
+    requires { at ≤ 1000 }
+    ensures text { IfOk result (λ end. out.new.items ++ take end chunk.new ≡ (out.old.items ++ take at chunk.old) ++ name.now) }
+    ensures room { IfOk result (λ end. end ≤ at + 128) }
     ensures front { take (vec_len out.old) out.new.items ≡ out.old.items }
 {
-    if name.len() <= 128 {
-        text.append(name);
-        return Ok(());
+    if name.len() <= NAME_BYTES {
+        return Ok(put_part(chunk, at, name, name.len()));
     }
-    out.extend_from_slice(text.bytes())?;
-    text.clear();
+    out.extend_from_slice(&chunk[..at])?;
     out.extend_from_slice(name)?;
-    Ok(())
+    Ok(0)
 }
 
-// Appends the text where it is long.
+// Appends the chunk's text where it is enough, and answers where its text now ends.
 #[inline(always)]
-fn append_enough(text: &mut Text, out: &mut Vec<u8>) -> Result<(), NoMemory>
-    ensures text { OnOk result (out.new.items ++ text.new ≡ out.old.items ++ text.old) }
-    ensures room { OnOk result (length text.new ≤ 512) }
+fn append_enough(chunk: &[u8; 2048], end: usize, out: &mut Vec<u8>) -> Result<usize, NoMemory>
+    requires { end ≤ 2048 }
+    ensures text { IfOk result (λ left. out.new.items ++ take left chunk.now ≡ out.old.items ++ take end chunk.now) }
+    ensures room { IfOk result (λ left. left ≤ 512) }
     ensures front { take (vec_len out.old) out.new.items ≡ out.old.items }
 {
-    if text.bytes().len() <= 512 {
-        return Ok(());
+    if end <= ENOUGH_BYTES {
+        return Ok(end);
     }
-    out.extend_from_slice(text.bytes())?;
-    text.clear();
-    Ok(())
+    out.extend_from_slice(&chunk[..end])?;
+    Ok(0)
 }
 
-// Puts a field, whose value begins at a place of the payload, behind the text.
+// Puts a field, whose value begins at a place of the payload, and answers where the chunk's text now ends.
 fn put_field(
-    text: &mut Text,
+    chunk: &mut [u8; 2048],
+    at: usize,
     field: &Field,
     payload: &[u8],
-    at: usize,
+    place: usize,
     out: &mut Vec<u8>,
-) -> Result<(), NoMemory>
-    requires within { at + size_of field.now ≤ 255 }
-    requires room { length text.old ≤ 512 }
-    ensures text { OnOk result (out.new.items ++ text.new ≡ (out.old.items ++ text.old) ++ field_text field.now (words_from payload.now at (element_size field.now.ty) (element_count field.now))) }
-    ensures room { OnOk result (length text.new ≤ 512) }
+) -> Result<usize, NoMemory>
+    requires within { place + size_of field.now ≤ length payload.now }
+    requires payload { length payload.now ≤ 255 }
+    requires room { at ≤ 512 }
+    ensures text { IfOk result (λ end. out.new.items ++ take end chunk.new ≡ (out.old.items ++ take at chunk.old) ++ field_text field.now (words_from payload.now place (element_size field.now.ty) (element_count field.now))) }
+    ensures room { IfOk result (λ end. end ≤ 512) }
     ensures front { take (vec_len out.old) out.new.items ≡ out.old.items }
 {
-    text.push(b' ');
-    put_name(text, field.name.bytes(), out)?;
-    text.push(b'=');
-    text.value(field, payload, at);
-    append_enough(text, out)?;
-    Ok(())
+    let end = put_byte(chunk, at, b' ');
+    let end = put_name(chunk, end, field.name.bytes(), out)?;
+    let end = put_byte(chunk, end, b'=');
+    let end = put_value(chunk, end, field.ty, field.len, payload, place);
+    append_enough(chunk, end, out)
 }
 
-// Puts the fields behind the text.
+// Puts the fields, and answers where the chunk's text now ends.
 fn put_all(
+    chunk: &mut [u8; 2048],
+    at: usize,
     layout: &Layout,
     payload: &[u8],
-    text: &mut Text,
     out: &mut Vec<u8>,
-) -> Result<(), NoMemory>
-    requires { length text.old ≤ 512 }
-    ensures text { OnOk result (out.new.items ++ text.new ≡ (out.old.items ++ text.old) ++ fields_text (words_in layout.now payload.now) 0 (all_fields layout.now)) }
-    ensures room { OnOk result (length text.new ≤ 512) }
+) -> Result<usize, NoMemory>
+    requires payload { length payload.now ≡ 255 }
+    requires room { at ≤ 512 }
+    ensures text { IfOk result (λ end. out.new.items ++ take end chunk.new ≡ (out.old.items ++ take at chunk.old) ++ fields_text (words_in layout.now payload.now) 0 (all_fields layout.now)) }
+    ensures room { IfOk result (λ end. end ≤ 512) }
     ensures front { take (vec_len out.old) out.new.items ≡ out.old.items }
 {
     let def = layout.def();
-    for place in 0..def.field_count() {
-        let at = usize::from(layout.offset(place));
-        put_field(text, def.field(place), payload, at, out)?;
+    let mut end = at;
+    for number in 0..def.field_count() {
+        let place = usize::from(layout.offset(number));
+        end = put_field(chunk, end, def.field(number), payload, place, out)?;
     }
-    Ok(())
+    Ok(end)
 }
 
-// Appends the text, or a part of it.
-fn append(
-    text: &mut Text,
+// Puts the end of a signed frame's text, or nothing where there is no signature block.
+#[inline]
+fn put_block_of(chunk: &mut [u8; 2048], at: usize, block: &Option<Block>) -> usize
+    requires { at ≤ 1000 }
+    ensures place { result ≤ at + 40 }
+    ensures text { take result chunk.new ≡ take at chunk.old ++ block_text block.now }
+{
+    match block {
+        None => at,
+        Some(block) => put_block(chunk, at, block.link, block.stamp),
+    }
+}
+
+// Puts the fields of a frame, and answers where the chunk's text now ends.
+fn put_fields_of(
+    chunk: &mut [u8; 2048],
+    at: usize,
     layout: &Layout,
     frame: &Frame,
     out: &mut Vec<u8>,
-) -> Result<(), NoMemory>
+) -> Result<usize, NoMemory>
+    requires { at ≤ 512 }
+    ensures text { IfOk result (λ end. out.new.items ++ take end chunk.new ≡ (out.old.items ++ take at chunk.old) ++ fields_text (words_in layout.now frame.now.payload) 0 (all_fields layout.now)) }
+    ensures room { IfOk result (λ end. end ≤ 512) }
+    ensures front { take (vec_len out.old) out.new.items ≡ out.old.items }
+{
+    put_all(chunk, at, layout, &frame.payload, out)
+}
+
+// Appends the text, or a part of it.
+fn append(layout: &Layout, frame: &Frame, out: &mut Vec<u8>) -> Result<(), NoMemory>
     ensures ok { OnOk result (out.new.items ≡ out.old.items ++ frame_text layout.now frame.now) }
     ensures err { OnErr result (take (vec_len out.old) out.new.items ≡ out.old.items) }
 {
-    text.clear();
-    put_name(text, layout.def().name.bytes(), out)?;
-    text.sender(frame);
-    append_enough(text, out)?;
-    put_all(layout, frame.payload_bytes(), text, out)?;
-    text.block(&frame.block);
-    out.extend_from_slice(text.bytes())?;
+    let mut chunk = [0; CHUNK_BYTES];
+    let end = put_name(&mut chunk, 0, layout.def().name.bytes(), out)?;
+    let end = put_sender(&mut chunk, end, frame.from.sys, frame.from.comp, frame.seq);
+    let end = put_fields_of(&mut chunk, end, layout, frame, out)?;
+    let end = put_block_of(&mut chunk, end, &frame.block);
+    out.extend_from_slice(&chunk[..end])?;
     Ok(())
 }
 
@@ -110,21 +148,8 @@ pub fn put_fields(layout: &Layout, frame: &Frame, out: &mut Vec<u8>) -> Result<(
     ensures ok { OnOk result (out.new.items ≡ out.old.items ++ frame_text layout.now frame.now) }
     ensures err { OnErr result (out.new.items ≡ out.old.items) }
 {
-    put_fields_by(&mut Text::new(), layout, frame, out)
-}
-
-/// The same by a text that is kept from frame to frame, whatever it holds.
-pub fn put_fields_by(
-    text: &mut Text,
-    layout: &Layout,
-    frame: &Frame,
-    out: &mut Vec<u8>,
-) -> Result<(), NoMemory>
-    ensures ok { OnOk result (out.new.items ≡ out.old.items ++ frame_text layout.now frame.now) }
-    ensures err { OnErr result (out.new.items ≡ out.old.items) }
-{
     let before = out.len();
-    let put = append(text, layout, frame, out);
+    let put = append(layout, frame, out);
     if put.is_err() {
         out.truncate(before);
     }

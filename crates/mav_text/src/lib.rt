@@ -4,22 +4,27 @@
 #![tactic(auto)]
 
 mod chunk;
+mod decimals;
 mod digits;
 mod fields;
 pub mod laws;
 mod layouts;
 mod pieces;
+mod recipe;
+mod recipes;
 mod skips;
 mod small;
 #[cfg(test)]
 mod tests;
-mod value;
+mod values;
+mod words;
 
-pub use fields::{put_fields, put_fields_by};
+pub use chunk::Chunk;
+pub use fields::put_fields;
 pub use layouts::put_layout;
 pub use pieces::put_decimal;
+pub use recipes::Recipes;
 pub use skips::{put_skip, put_skips};
 use std::alloc::AllocError;
-pub use value::Text;
 
 pub type NoMemory = AllocError;

@@ -1,44 +1,42 @@
 // The texts of skipped bytes.
-ghost use Rattle.std.specs.Prelude.{◌≡◌, ◌+◌, ◌%◌, ◌^◌, ◌<◌, ◌≤◌, ◌++◌, ◌∷◌, [], length, take, codes, IfOk, OnOk, OnErr, vec_len};
+ghost use Rattle.std.specs.Prelude.{◌≡◌, ◌+◌, ◌%◌, ◌^◌, ◌<◌, ◌≤◌, ◌++◌, ◌∷◌, [], length, take, drop, codes, IfOk, OnOk, OnErr, vec_len};
 ghost use Rattle.std.specs.Fmt.{decimal};
 ghost use Rattle.mav_text.specs.FrameText.{pair_text, byte_hex, why_text, skip_line, skip_lines};
 
 use crate::NoMemory;
-use crate::chunk::{put_part, put_two};
-use crate::digits::{byte_digits, pair_digits, write_decimal};
-use itoa::write_digits;
+use crate::chunk::{Chunk, put_part, put_two};
+use crate::decimals::put_number;
+use crate::digits::{byte_digits, pair_digits};
 use mav_frame::Why;
 use std::marker::Model;
 
 // More than the longest line has.
 const LINE_BYTES: usize = 48;
 
-// How many bytes of lines are put together before they are appended, and as much more as one line may have.
-const CHUNK_BYTES: usize = 576;
+// From how many bytes on a chunk is appended: one more line fits behind fewer.
+const ENOUGH_BYTES: usize = 1984;
 
-const ENOUGH_BYTES: usize = 512;
-
-// What stands behind the byte of a line.
+// What stands behind the offset of a line, with `00` in place of the byte's digits.
 #[derive(Drop)]
-struct Ending {
-    bytes: [u8; 16],
+struct Template {
+    bytes: [u8; 24],
     len: usize,
 }
 
-impl Model for Ending {
+impl Model for Template {
     ghost use Rattle.std.specs.Prelude.{List, ℕ, ◌≤◌, take};
 
     ghost Value = { List ℕ };
 
-    ghost view = { λ e. take e.len e.bytes };
+    ghost view = { λ t. take t.len t.bytes };
 
-    ghost invariant = { λ e. e.len ≤ 16 };
+    ghost invariant = { λ t. t.len ≤ 24 };
 }
 
 // The digits of a number.
 #[derive(Drop)]
 struct Digits {
-    bytes: [u8; 20],
+    bytes: [u8; 24],
     len: usize,
 }
 
@@ -52,30 +50,31 @@ impl Model for Digits {
     ghost invariant = { λ d. d.len ≤ 20 };
 }
 
-impl Ending {
-    fn of(why: Why) -> Ending
-        ensures { result ≡ 32 ∷ why_text why ++ 10 ∷ [] }
+impl Template {
+    fn of(why: Why) -> Template
+        ensures text { result ≡ codes " skip 00 " ++ why_text why ++ 10 ∷ [] }
+        ensures digits { 8 ≤ length result }
     {
         match why {
-            Why::NotStx => Ending {
-                bytes: *b" not-stx\n       ",
-                len: 9,
+            Why::NotStx => Template {
+                bytes: *b" skip 00 not-stx\n       ",
+                len: 17,
             },
-            Why::UnknownFlag => Ending {
-                bytes: *b" unknown-flag\n  ",
-                len: 14,
+            Why::UnknownFlag => Template {
+                bytes: *b" skip 00 unknown-flag\n  ",
+                len: 22,
             },
-            Why::UnknownId => Ending {
-                bytes: *b" unknown-id\n    ",
-                len: 12,
+            Why::UnknownId => Template {
+                bytes: *b" skip 00 unknown-id\n    ",
+                len: 20,
             },
-            Why::BadCheck => Ending {
-                bytes: *b" bad-check\n     ",
-                len: 11,
+            Why::BadCheck => Template {
+                bytes: *b" skip 00 bad-check\n     ",
+                len: 19,
             },
-            Why::Short => Ending {
-                bytes: *b" short\n         ",
-                len: 7,
+            Why::Short => Template {
+                bytes: *b" skip 00 short\n         ",
+                len: 15,
             },
         }
     }
@@ -85,13 +84,9 @@ impl Digits {
     fn of(number: u64) -> Digits
         ensures { result ≡ decimal number }
     {
-        let mut bytes = [0; 20];
-        let at = write_decimal(number, &mut bytes);
-        bytes.copy_within(at.., 0);
-        Digits {
-            bytes,
-            len: 20 - at,
-        }
+        let mut bytes = [0; 24];
+        let len = put_number(&mut bytes, 0, number);
+        Digits { bytes, len }
     }
 }
 
@@ -101,49 +96,58 @@ pub fn put_skip(offset: u64, byte: u8, why: Why, out: &mut Vec<u8>) -> Result<()
     ensures err { OnErr result (out.new.items ≡ out.old.items) }
 {
     let mut line = [0; LINE_BYTES];
-    let start = write_digits(offset, &mut line, 20);
-    let end = put_behind(&mut line, 20, byte, &Ending::of(why));
-    out.extend_from_slice(&line[start..end])?;
+    let place = put_number(&mut line, 0, offset);
+    let end = put_behind(&mut line, place, byte, &Template::of(why));
+    out.extend_from_slice(&line[..end])?;
     Ok(())
 }
 
-// Puts what stands behind the offset of a line.
+// Puts what stands behind the offset of a line: all of the template, and then the byte's digits in it.
 #[inline(always)]
-fn put_behind<const N: usize>(chunk: &mut [u8; N], at: usize, byte: u8, ending: &Ending) -> usize
-    requires { at + 24 ≤ N }
+fn put_behind<const N: usize>(
+    chunk: &mut [u8; N],
+    at: usize,
+    byte: u8,
+    template: &Template,
+) -> usize
+    requires room { at + 24 ≤ N }
+    requires digits { 8 ≤ length template.now }
     ensures room { (at ≤ result) × (result ≤ at + 24) }
-    ensures text { take result chunk.new ≡ take at chunk.old ++ (codes " skip " ++ byte_hex byte ++ ending.now) }
+    ensures text { take result chunk.new ≡ take at chunk.old ++ (take 6 template.now ++ byte_hex byte ++ drop 8 template.now) }
 {
-    let place = put_part(chunk, at, b" skip ", 6);
-    let place = put_two(chunk, place, byte_digits(byte));
-    put_part(chunk, place, &ending.bytes, ending.len)
+    let end = put_part(chunk, at, &template.bytes, template.len);
+    let [high, low] = byte_digits(byte);
+    chunk[at + 6] = high;
+    chunk[at + 7] = low;
+    end
 }
 
 // Puts the line of a byte, whose offset has these hundreds and these last two digits.
 #[inline(always)]
 fn put_line(
-    chunk: &mut [u8; 576],
+    chunk: &mut [u8; 2048],
     at: usize,
     hundreds: &Digits,
     pair: usize,
     byte: u8,
-    ending: &Ending,
+    template: &Template,
 ) -> usize
-    requires room { at ≤ 512 }
+    requires room { at ≤ 1984 }
     requires pair { pair < 100 }
-    ensures room { result ≤ 576 }
-    ensures text { take result chunk.new ≡ take at chunk.old ++ (hundreds.now ++ pair_text pair ++ codes " skip " ++ byte_hex byte ++ ending.now) }
+    requires digits { 8 ≤ length template.now }
+    ensures room { result ≤ 2048 }
+    ensures text { take result chunk.new ≡ take at chunk.old ++ (hundreds.now ++ pair_text pair ++ take 6 template.now ++ byte_hex byte ++ drop 8 template.now) }
 {
     let place = put_part(chunk, at, &hundreds.bytes, hundreds.len);
     let place = put_two(chunk, place, pair_digits(pair));
-    put_behind(chunk, place, byte, ending)
+    put_behind(chunk, place, byte, template)
 }
 
 // Appends the chunk's text where it is enough, and answers where its text now ends.
 #[inline(always)]
-fn append_enough(chunk: &[u8; 576], end: usize, out: &mut Vec<u8>) -> Result<usize, NoMemory>
-    requires { end ≤ 576 }
-    ensures room { IfOk result (λ left. left ≤ 512) }
+fn append_enough(chunk: &[u8; 2048], end: usize, out: &mut Vec<u8>) -> Result<usize, NoMemory>
+    requires { end ≤ 2048 }
+    ensures room { IfOk result (λ left. left ≤ 1984) }
     ensures text { IfOk result (λ left. out.new.items ++ take left chunk.now ≡ out.old.items ++ take end chunk.now) }
     ensures front { take (vec_len out.old) out.new.items ≡ out.old.items }
 {
@@ -159,24 +163,24 @@ fn append_run(
     offset: u64,
     bytes: &[u8],
     why: Why,
-    chunk: &mut [u8; 576],
+    chunk: &mut [u8; 2048],
     end: usize,
     out: &mut Vec<u8>,
 ) -> Result<usize, NoMemory>
     requires fits { offset + length bytes.now < 2 ^ 64 }
     requires hundreds { 100 ≤ offset }
     requires same { offset % 100 + length bytes.now ≤ 100 }
-    requires room { end ≤ 512 }
-    ensures room { IfOk result (λ left. left ≤ 512) }
+    requires room { end ≤ 1984 }
+    ensures room { IfOk result (λ left. left ≤ 1984) }
     ensures text { IfOk result (λ left. out.new.items ++ take left chunk.new ≡ (out.old.items ++ take end chunk.old) ++ skip_lines offset bytes.now why) }
     ensures front { take (vec_len out.old) out.new.items ≡ out.old.items }
 {
     let hundreds = Digits::of(offset / 100);
-    let ending = Ending::of(why);
+    let template = Template::of(why);
     let mut left = end;
     let mut pair = (offset % 100) as usize;
     for byte in bytes {
-        let behind = put_line(chunk, left, &hundreds, pair, *byte, &ending);
+        let behind = put_line(chunk, left, &hundreds, pair, *byte, &template);
         left = append_enough(chunk, behind, out)?;
         pair += 1;
     }
@@ -194,19 +198,24 @@ fn run_length(offset: u64, count: usize) -> usize
 }
 
 // Appends the lines of bytes from offset 100 on, or some of them.
-fn append_runs(offset: u64, bytes: &[u8], why: Why, out: &mut Vec<u8>) -> Result<(), NoMemory>
+fn append_runs(
+    offset: u64,
+    bytes: &[u8],
+    why: Why,
+    chunk: &mut [u8; 2048],
+    out: &mut Vec<u8>,
+) -> Result<(), NoMemory>
     requires fits { offset + length bytes.now < 2 ^ 64 }
     requires hundreds { 100 ≤ offset }
     ensures ok { OnOk result (out.new.items ≡ out.old.items ++ skip_lines offset bytes.now why) }
     ensures err { OnErr result (take (vec_len out.old) out.new.items ≡ out.old.items) }
 {
-    let mut chunk = [0; CHUNK_BYTES];
     let mut end = 0;
     let mut done = 0;
     while done < bytes.len() {
         let place = offset + done as u64;
         let next = done + run_length(place, bytes.len() - done);
-        end = append_run(place, &bytes[done..next], why, &mut chunk, end, out)?;
+        end = append_run(place, &bytes[done..next], why, chunk, end, out)?;
         done = next;
     }
     out.extend_from_slice(&chunk[..end])
@@ -238,7 +247,13 @@ fn small_length(offset: u64, count: usize) -> usize
 }
 
 // Appends the lines, or some of them.
-fn append_lines(offset: u64, bytes: &[u8], why: Why, out: &mut Vec<u8>) -> Result<(), NoMemory>
+fn append_lines(
+    offset: u64,
+    bytes: &[u8],
+    why: Why,
+    chunk: &mut Chunk,
+    out: &mut Vec<u8>,
+) -> Result<(), NoMemory>
     requires { offset + length bytes.now < 2 ^ 64 }
     ensures ok { OnOk result (out.new.items ≡ out.old.items ++ skip_lines offset bytes.now why) }
     ensures err { OnErr result (take (vec_len out.old) out.new.items ≡ out.old.items) }
@@ -248,18 +263,33 @@ fn append_lines(offset: u64, bytes: &[u8], why: Why, out: &mut Vec<u8>) -> Resul
     if small == bytes.len() {
         return Ok(());
     }
-    append_runs(offset + small as u64, &bytes[small..], why, out)?;
+    append_runs(
+        offset + small as u64,
+        &bytes[small..],
+        why,
+        &mut chunk.bytes,
+        out,
+    )?;
     Ok(())
 }
 
 /// Appends the lines of bytes that are skipped one after another for one reason, the first of which stands at `offset`.
-pub fn put_skips(offset: u64, bytes: &[u8], why: Why, out: &mut Vec<u8>) -> Result<(), NoMemory>
+pub fn put_skips(
+    offset: u64,
+    bytes: &[u8],
+    why: Why,
+    chunk: &mut Chunk,
+    out: &mut Vec<u8>,
+) -> Result<(), NoMemory>
     requires { offset + length bytes.now < 2 ^ 64 }
     ensures ok { OnOk result (out.new.items ≡ out.old.items ++ skip_lines offset bytes.now why) }
     ensures err { OnErr result (out.new.items ≡ out.old.items) }
 {
+    if bytes.len() == 1 {
+        return put_skip(offset, bytes[0], why, out);
+    }
     let before = out.len();
-    let put = append_lines(offset, bytes, why, out);
+    let put = append_lines(offset, bytes, why, chunk, out);
     if put.is_err() {
         out.truncate(before);
     }

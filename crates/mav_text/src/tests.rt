@@ -1,3 +1,4 @@
 // Tests of texts.
 mod frames;
 mod layouts;
+mod recipes;

@@ -137,10 +137,24 @@ fn skipped_bytes(rt: HostRuntime) -> Result<(), Fail> {
 #[test]
 fn runs_of_skipped_bytes(rt: HostRuntime) -> Result<(), Fail> {
     let mut out = Vec::new(rt.alloc());
-    put_skips(8, &[0x0F, 0xA0, 0xFE, 0x99], Why::NotStx, &mut out)?;
-    put_skips(98, &[0xFD, 0xFD, 0xFD], Why::UnknownFlag, &mut out)?;
+    let mut chunk = Chunk::new();
+    put_skips(
+        8,
+        &[0x0F, 0xA0, 0xFE, 0x99],
+        Why::NotStx,
+        &mut chunk,
+        &mut out,
+    )?;
+    put_skips(
+        98,
+        &[0xFD, 0xFD, 0xFD],
+        Why::UnknownFlag,
+        &mut chunk,
+        &mut out,
+    )?;
+    put_skips(100, &[0x01], Why::Short, &mut chunk, &mut out)?;
     let expected: &str =
-        "8 skip 0f not-stx\n9 skip a0 not-stx\n10 skip fe not-stx\n11 skip 99 not-stx\n98 skip fd unknown-flag\n99 skip fd unknown-flag\n100 skip fd unknown-flag\n";
+        "8 skip 0f not-stx\n9 skip a0 not-stx\n10 skip fe not-stx\n11 skip 99 not-stx\n98 skip fd unknown-flag\n99 skip fd unknown-flag\n100 skip fd unknown-flag\n100 skip 01 short\n";
     assert_eq!(rt; out.as_slice(), expected.as_bytes());
     Ok(())
 }

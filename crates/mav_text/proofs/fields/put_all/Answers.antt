@@ -1,4 +1,4 @@
-use Rattle.std.proofs.Common.{◌≡◌, ℕ, List, ◌∷◌, ◌++◌, Some, vec_len, refl, sym, ap, ◌∙◌, arith}
+use Rattle.std.proofs.Common.{◌≡◌, ℕ, ◌∷◌, ◌++◌, Some, take, vec_len, refl, sym, ap, ◌∙◌, arith}
 use Rattle.std.specs.Prelude.{slice_get}
 use Rattle.field_layout.specs.Types.{element_size}
 use Rattle.field_layout.specs.Definition.{Definition, all_fields, element_count}
@@ -13,22 +13,22 @@ use Rattle.mav_text.proofs.fields.put_all.Goals as goal
 
 pub put_field-requires-clause-within : goal.put_field-requires-clause-within
 put_field-requires-clause-within c =
-    let def = c.args.layout.now in let place = c.loop-place.place in
-    let got : slice_get (all_fields def) place ≡ Some c.field.result.now = ap (λ (d : Definition). slice_get (all_fields d) place) (sym c.def-def.ensures.same) ∙ c.field.ensures in
-    omega (arith, c.offset.ensures, c.from-at.ensures, place_room def place c.field.result.now got, short_payload def c.def-def.ensures.faultless)
+    let def = c.args.layout.now in let number = c.loop-number.number in
+    let got : slice_get (all_fields def) number ≡ Some c.field.result.now = ap (λ (d : Definition). slice_get (all_fields d) number) (sym c.def-def.ensures.same) ∙ c.field.ensures in
+    omega (arith, c.requires.payload, c.offset.ensures, c.from-place.ensures, place_room def number c.field.result.now got, short_payload def c.def-def.ensures.faultless)
 
-pub loop-place-preserved : goal.loop-place-preserved
-loop-place-preserved c =
-    let l = c.loop-place in
-    let def = c.args.layout.now in let place = l.place in let field = c.field.result.now in let payload = c.args.payload.now in
-    let got : slice_get (all_fields def) place ≡ Some field = ap (λ (d : Definition). slice_get (all_fields d) place) (sym c.def-def.ensures.same) ∙ c.field.ensures in
+pub loop-number-preserved : goal.loop-number-preserved
+loop-number-preserved c =
+    let l = c.loop-number in
+    let def = c.args.layout.now in let number = l.number in let field = c.field.result.now in let payload = c.args.payload.now in
+    let got : slice_get (all_fields def) number ≡ Some field = ap (λ (d : Definition). slice_get (all_fields d) number) (sym c.def-def.ensures.same) ∙ c.field.ensures in
     let words = words_in def payload in
-    let at : c.from-at.result ≡ offset_of def place = c.from-at.ensures ∙ c.offset.ensures in
-    let now = l.out.items ++ l.text in
-    let put : c.put_field.new.out.items ++ c.put_field.new.text ≡ now ++ field_text field (words place field) =
-    c.in_ok-put_field.ensures.text ∙ ap (λ (n : ℕ). now ++ field_text field (words_from payload n (element_size field.ty) (element_count field))) at in
+    let at : c.from-place.result ≡ offset_of def number = c.from-place.ensures ∙ c.offset.ensures in
+    let now = l.out.items ++ take l.end l.chunk in
+    let put : c.put_field.new.out.items ++ take c.in_ok-end.end c.put_field.new.chunk ≡ now ++ field_text field (words number field) =
+    c.in_ok-end.ensures.text ∙ ap (λ (n : ℕ). now ++ field_text field (words_from payload n (element_size field.ty) (element_count field))) at in
     record {
-      room = c.in_ok-put_field.ensures.room;
-      kept = kept_more c.args.out.now.items l.out.items c.put_field.new.out.items (vec_len c.args.out.now) (vec_len l.out) c.args.out.now.ok.0 l.out.ok.0 l.invariant.kept c.put_field.ensures.front;
-      text = field_put words place (all_fields def) field now _ field.name (61 ∷ value_text field (words place field)) got put refl refl ∙ l.invariant.text;
+      room = c.in_ok-end.ensures.room;
+      kept = kept_more c.args.out.now.items l.out.items c.put_field.new.out.items (vec_len c.args.out.now) (vec_len l.out) c.args.out.now.ok.0 l.out.ok.0 l.invariant.kept c.in_ok-end.ensures.front;
+      text = field_put words number (all_fields def) field now _ field.name (61 ∷ value_text field (words number field)) got put refl refl ∙ l.invariant.text;
     }

@@ -1,5 +1,4 @@
-use Rattle.std.proofs.Common.{◌≡◌, ℕ, ◌+◌, ◌-◌, List, ◌++◌, drop, length, take, vec_len, sym, ap, ◌∙◌, arith}
-use Rattle.mav_text.specs.FrameText.{skip_lines}
+use Rattle.std.proofs.Common.{ℕ, ◌+◌, ◌++◌, take, vec_len, ◌∙◌, arith}
 use Rattle.mav_text.proofs.SkipSteps.{kept_more, skips_part}
 use Rattle.mav_text.proofs.skips.append_runs.Goals as goal
 
