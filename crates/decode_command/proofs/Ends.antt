@@ -1,7 +1,7 @@
 -- How a run of `decode` comes to its end.
-use Rattle.std.proofs.Common.{◌≡◌, ◌≢◌, ◌<◌, ◌≤◌, ◌+◌, ◌∙◌, ◌⊎◌, inl, inr, ℕ, ltb, if◌then◌else◌, Bool, true, false, List, [], ◌∷◌, ◌++◌, length, take, drop, refl, sym, ap, subst, arith, Option, Some, None, Result, Ok, Err, OnOk, IfErr, IsErrOf, IsTrue, append_assoc, length-append}
+use Rattle.std.proofs.Common.{◌≡◌, ◌<◌, ◌≤◌, ◌+◌, ◌∙◌, ◌⊎◌, inl, inr, ℕ, if◌then◌else◌, Bool, true, false, List, [], ◌++◌, length, take, refl, sym, ap, subst, Option, Some, None, Result, Ok, Err, OnOk, IfErr, IsErrOf, IsTrue}
 use Rattle.std.proofs.Math.Seq.{take-append-add}
-use Rattle.std.proofs.lemmas.Bool.{lt-ltb, le-ltb, ltb-true}
+use Rattle.std.proofs.lemmas.Bool.{lt-ltb, le-ltb}
 use Rattle.std.specs.Result.{result_err}
 use Rattle.std.specs.Io.KnownBytes.{append_known, prepend_known}
 use Rattle.mav_ports.specs.Puts.{Sent, SentFront}
@@ -10,9 +10,8 @@ use Rattle.decode_command.specs.declared.known.Known.{Known}
 use Rattle.dialect.specs.Messages.{extras_of}
 use Rattle.mav_frame.specs.declared.events.Event.{Event}
 use Rattle.command_ends.specs.declared.halts.Halt.{Halt}
-use Rattle.command_ends.specs.declared.halts.Halt.TheVariants.{Usage, Stopped, ReadFault, WriteFault, NoMemory, TurnsSpent}
+use Rattle.command_ends.specs.declared.halts.Halt.TheVariants.{Stopped, ReadFault, WriteFault, NoMemory, TurnsSpent}
 use Rattle.command_ends.specs.declared.stops.Limit.TheVariants.{InputBytes}
-use Rattle.command_ends.specs.declared.stops.Stop.{Stop}
 use Rattle.command_ends.specs.declared.stops.Stop.TheVariants.{AtLimit}
 use Rattle.command_ends.specs.Runs.{Outside, Untold, text_so_far}
 use Rattle.decode_command.specs.Parsing.{final_events, incremental_events}

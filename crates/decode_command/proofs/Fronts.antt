@@ -1,12 +1,9 @@
 -- Fronts of a text, where a decoder halts.
-use Rattle.std.proofs.Common.{◌≡◌, ℕ, ◌+◌, false, List, [], ◌++◌, sym, ap, ◌∙◌, subst, append_assoc, Option}
-use Rattle.mav_ports.specs.Puts.{Sent, SentFront}
+use Rattle.std.proofs.Common.{◌≡◌, ℕ, ◌+◌, false, List, ◌++◌, ap, ◌∙◌, append_assoc, Option}
 use Rattle.decode_command.specs.declared.known.Known.{Known}
 use Rattle.dialect.specs.Messages.{extras_of}
 use Rattle.mav_frame.specs.declared.events.Event.{Event}
 use Rattle.mav_frame.proofs.LongerParse.{more_bytes_keep}
-use Rattle.mav_stream.specs.Held.{Held}
-use Rattle.mav_stream.specs.Progress.{Progress}
 use Rattle.decode_command.specs.Parsing.{final_events, incremental_events}
 use Rattle.decode_command.specs.DecodeText.{event_lines, lines_from, bytes_in, decode_text, last_line}
 use Rattle.decode_command.specs.Decodes.{Halted, Front, Unfinished}

@@ -2,7 +2,7 @@ pub mod Results
 pub mod Parses
 pub mod Lines
 pub mod Steps
-pub mod Sweeps
+pub mod Passes
 pub mod Fronts
 pub mod Pieces
 pub mod Ends

@@ -3,7 +3,7 @@ use Rattle.std.proofs.Common.{◌≡◌, ℕ, ◌+◌, List, [], ◌∷◌, ◌+
 use Rattle.decode_command.specs.declared.known.Known.{Known}
 use Rattle.mav_frame.specs.declared.looks.Why.{Why}
 use Rattle.mav_frame.specs.declared.events.Event.{Event}
-use Rattle.mav_frame.specs.declared.events.Event.TheVariants.{Skipped}
+use Rattle.mav_scan.specs.Ahead.{skipped_for}
 use Rattle.mav_text.specs.FrameText.{skip_line, skip_lines}
 use Rattle.decode_command.specs.DecodeText.{event_size, event_line, lines_from, bytes_in, frames_in, skips_in}
 
@@ -20,10 +20,6 @@ pub lines_more : (known : Known) (given more : List Event) → lines_from known 
 lines_more known given more =
     let there : 0 + bytes_in given ≡ bytes_in given = omega arith in
     lines_append known 0 given more ∙ ap (λ (n : ℕ). lines_from known 0 given ++ lines_from known n more) there
-
--- the event of a byte that is skipped for that reason
-abbrev pub skipped_for : Why → ℕ → Event
-skipped_for why byte = Skipped byte why
 
 -- the lines of bytes that are skipped for one reason
 pub run_lines : (known : Known) (why : Why) (offset : ℕ) (bytes : List ℕ) → skip_lines offset bytes why ≡ lines_from known offset (map (skipped_for why) bytes)

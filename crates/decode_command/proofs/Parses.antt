@@ -1,12 +1,12 @@
 -- The parse as a function is the parse.
-use Rattle.std.proofs.Common.{◌≡◌, ℕ, zero, suc, ◌-◌, List, [], ◌∷◌, ◌++◌, length, refl, sym, ap, ◌∙◌, subst, inl, inr, ◌⊎◌, arith}
+use Rattle.std.proofs.Common.{◌≡◌, ℕ, ◌-◌, List, [], ◌∷◌, ◌++◌, length, refl, sym, ap, ◌∙◌, subst, inl, inr, ◌⊎◌, arith}
 use Rattle.mav_frame.specs.Packet.{Packet}
 use Rattle.mav_frame.specs.Encoding.{encoding, checked_bytes, block_bytes}
 use Rattle.mav_frame.specs.Numbers.{little_endian}
 use Rattle.mav_frame.specs.Looks.{look_of}
 use Rattle.mav_frame.specs.Parse.{IsIncomplete, EventAt, Final, Incremental, BeginsIncremental, BeginsFinal}
 use Rattle.mav_frame.specs.declared.looks.Look.{Look}
-use Rattle.mav_frame.specs.declared.looks.Look.TheVariants.{Frame as Found, NotHere, More}
+use Rattle.mav_frame.specs.declared.looks.Look.TheVariants.{Frame as Found, NotHere}
 use Rattle.mav_frame.specs.declared.looks.Why.{Why}
 use Rattle.mav_frame.specs.declared.looks.Why.TheVariants.{Short}
 use Rattle.mav_frame.specs.declared.events.Event.{Event}

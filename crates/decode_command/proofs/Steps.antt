@@ -1,17 +1,15 @@
 -- What a step of a decoder makes of the bytes taken.
-use Rattle.std.proofs.Common.{◌≡◌, ℕ, ◌+◌, ◌≤◌, false, List, [], ◌∷◌, ◌++◌, length, refl, sym, ap, ◌∙◌, subst, arith, append_assoc, append-nil, length-append, Option}
-use Rattle.std.specs.Io.KnownBytes.{append_known}
+use Rattle.std.proofs.Common.{◌≡◌, ℕ, ◌+◌, ◌≤◌, List, [], ◌∷◌, ◌++◌, length, sym, ap, ◌∙◌, subst, arith, append_assoc, append-nil, length-append, Option}
 use Rattle.mav_ports.specs.Puts.{Sent, SentFront}
 use Rattle.decode_command.specs.declared.known.Known.{Known}
 use Rattle.dialect.specs.Messages.{extras_of}
 use Rattle.mav_frame.specs.Encoding.{encoding}
-use Rattle.mav_frame.specs.Parse.{EventAt}
 use Rattle.mav_frame.specs.declared.events.Event.{Event}
 use Rattle.mav_frame.specs.declared.events.Event.TheVariants.{Frame, Skipped}
 use Rattle.mav_stream.specs.Held.{Held}
 use Rattle.mav_stream.specs.Progress.{Progress, IsWhole}
 use Rattle.decode_command.specs.DecodeText.{event_size, frames_of, skips_of, event_line, event_lines, lines_from, bytes_in, frames_in, skips_in}
-use Rattle.decode_command.specs.Decodes.{Decoding, Drained, Halted, Gave, PutsLine, Puts, IsWithin, Stepped, StepHalted}
+use Rattle.decode_command.specs.Decodes.{Decoding, Drained, Halted, Gave, PutsLine, Puts, IsWithin, Stepped}
 use Rattle.decode_command.specs.declared.decoder.Decoder.{Decoder}
 use Rattle.decode_command.proofs.Lines.{lines_more, bytes_more, frames_more, skips_more}
 
@@ -63,11 +61,6 @@ events_put known taken old new held events before now d on puts =
           (subst (λ (text : List ℕ). Sent before now text (old.text.items ++ lines_from old.known old.offset events)) lines grown);
     }
 
--- an event takes its bytes off those held
-pub event_bytes : (extras : List (ℕ × ℕ)) (event : Event) (b rest : List ℕ) → EventAt extras event b rest → length b ≡ event_size event + length rest
-event_bytes extras (Frame p) b rest h = ap length h.2 ∙ length-append (encoding p) rest
-event_bytes extras (Skipped c w) b rest h = ap length h.0 ∙ omega arith
-
 some_bytes : (event : Event) → frames_of event + skips_of event ≤ event_size event
 some_bytes (Frame p) = let l = length-append (encoding p) [] in omega arith
 some_bytes (Skipped c w) = omega arith
@@ -75,13 +68,6 @@ some_bytes (Skipped c w) = omega arith
 counted_within : (events : List Event) → frames_in events + skips_in events ≤ bytes_in events
 counted_within [] = omega arith
 counted_within (event ∷ events) = omega (arith, some_bytes event, counted_within events)
-
--- the limit behind an event that the reader gave, and behind its line
-pub within_event : (decoder : Decoder) (held : Held) (event : Event) → IsWithin decoder 0 → length decoder.reader.bytes ≡ event_size event + length held.bytes → IsWithin (record decoder { reader = held }) (event_size event)
-within_event decoder held event w e = record { bytes = omega (arith, w.bytes, e); counts = w.counts }
-
-pub within_one : (old : Decoder) (event : Event) → IsWithin old (event_size event) → IsWithin old (bytes_in (event ∷ []))
-within_one old event w = record { bytes = omega (arith, w.bytes); counts = w.counts }
 
 pub within_put : (old new : Decoder) (events : List Event) → IsWithin old (bytes_in events) → Puts events old new → IsWithin new 0
 within_put old new events w puts =
@@ -106,28 +92,12 @@ stepped events old new middle after sent w puts moved is =
           record { given = put.given; same = put.same; progress = put.progress; offset = put.offset; frames = put.frames; skipped = put.skipped; sent = moved before (event_lines known put.given) put.sent };
     })
 
--- a front of the lines was sent, and the reader has given the events
-pub step_halted : (events : List Event) (old new : Decoder) (middle after : Option (List ℕ)) → new.reader ≡ old.reader → ((before : Option (List ℕ)) (whole : List ℕ) → Sent before middle whole old.text.items → SentFront before after whole) → StepHalted events old new middle after
-step_halted events old new middle after same front = record {
-  reader = same;
-  halted = λ known taken before held d gave. record {
-    given = d.given ++ events;
-    progress = subst (λ (h : Held). Progress (extras_of known.dialect) taken (d.given ++ events) h) (sym same) (gave d.given d.progress);
-    front = longer_front before after (event_lines known d.given) (lines_from known (bytes_in d.given) events) (event_lines known (d.given ++ events)) (lines_more known d.given events) (front before (event_lines known d.given) d.sent);
-  };
-}
-
--- the same where the lines were put, and a write failed
-pub write_halted : (events : List Event) (old new halt : Decoder) (middle after : Option (List ℕ)) → Puts events old new → halt.reader ≡ new.reader → ((before : Option (List ℕ)) (whole : List ℕ) → Sent before middle whole new.text.items → SentFront before after whole) → StepHalted events old halt middle after
-write_halted events old new halt middle after puts same front = record {
-  reader = same ∙ puts.reader;
-  halted = λ known taken before held d gave.
-      let put = events_put known taken old new held events before middle d gave puts in
-      record {
-        given = put.given;
-        progress = subst (λ (h : Held). Progress (extras_of known.dialect) taken put.given h) (sym same) put.progress;
-        front = front before (event_lines known put.given) put.sent;
-      };
+-- nothing was put: the lines of the events so far were sent, but for those that are held
+pub unput_halted : (known : Known) (taken : List ℕ) (old new : Decoder) (before now : Option (List ℕ)) → new.reader ≡ old.reader → Decoding known taken old before now → Halted known taken new before now
+unput_halted known taken old new before now same d = record {
+  given = d.given;
+  progress = subst (λ (h : Held). Progress (extras_of known.dialect) taken d.given h) (sym same) d.progress;
+  front = (old.text.items, d.sent);
 }
 
 -- where the reader needs more bytes the events are the whole parse

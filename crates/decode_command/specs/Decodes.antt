@@ -1,9 +1,11 @@
 -- A stream that is decoded piece by piece.
-use Rattle.std.specs.Prelude.{ℕ, ◌≡◌, ◌≤◌, ◌+◌, List, [], ◌∷◌, ◌++◌, length, Option}
+use Rattle.std.specs.Prelude.{ℕ, ◌≡◌, ◌≤◌, ◌+◌, List, ◌++◌, length, Option}
 use Rattle.std.specs.Io.KnownBytes.{append_known}
 use Rattle.mav_ports.specs.Puts.{Sent, SentFront}
 use Rattle.decode_command.specs.declared.known.Known.{Known}
 use Rattle.dialect.specs.Messages.{extras_of}
+use Rattle.mav_frame.specs.Encoding.{encoding}
+use Rattle.mav_frame.specs.Looks.{frame_size_at, packet_at}
 use Rattle.mav_frame.specs.Parse.{Final}
 use Rattle.mav_frame.specs.declared.events.Event.{Event}
 use Rattle.mav_stream.specs.Held.{Held}
@@ -53,6 +55,10 @@ abbrev pub Gave : Known → List ℕ → List Event → Held → Held → Type 0
 Gave known taken events before after =
     (given : List Event) → Progress (extras_of known.dialect) taken given before → Progress (extras_of known.dialect) taken (given ++ events) after
 
+-- a frame stands in front, and has so many bytes
+abbrev pub IsFrameOf : List ℕ → ℕ → Type 0
+IsFrameOf bytes size = (size ≡ length (encoding (packet_at bytes))) × (size ≡ frame_size_at bytes)
+
 -- what the line of an event changes
 pub record PutsLine (event : Event) (old new : Decoder) : Type 0 where
   pub known : new.known ≡ old.known
@@ -84,10 +90,3 @@ pub record Stepped (events : List Event) (old new : Decoder) (middle after : Opt
   pub decoding : (known : Known) (taken : List ℕ) (before : Option (List ℕ)) (held : Held)
       → Decoding known taken (record old { reader = held }) before middle → Gave known taken events held old.reader
       → Decoding known taken new before after
-
--- or a front of the lines was sent
-pub record StepHalted (events : List Event) (old new : Decoder) (middle after : Option (List ℕ)) : Type 0 where
-  pub reader : new.reader ≡ old.reader
-  pub halted : (known : Known) (taken : List ℕ) (before : Option (List ℕ)) (held : Held)
-      → Decoding known taken (record old { reader = held }) before middle → Gave known taken events held old.reader
-      → Halted known taken new before after

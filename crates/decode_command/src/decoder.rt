@@ -1,23 +1,24 @@
 // A stream that is decoded as its bytes come.
-ghost use Rattle.std.specs.Prelude.{◌≡◌, ◌<◌, ◌≤◌, ◌+◌, ◌++◌, ◌∷◌, ◌⊎◌, ℕ, List, [], length, map, true, false, IfOk, IfErr, OnOk, IsErrOf};
+ghost use Rattle.std.specs.Prelude.{◌≡◌, ◌<◌, ◌≤◌, ◌+◌, ◌++◌, ◌⊎◌, ℕ, List, [], length, take, map, false, IfOk, IfErr, OnOk, OnErr, IsErrOf};
 ghost use Rattle.std.specs.declared.option.Option.{Option};
 ghost use Rattle.mav_ports.specs.Counts.{Rose};
 ghost use Rattle.decode_command.specs.declared.known.Known.{Known};
-ghost use Rattle.mav_frame.specs.declared.events.Event.TheVariants.{Frame as FrameEvent, Skipped};
-ghost use Rattle.mav_stream.specs.Garbage.{before_stx, not_stx};
-ghost use Rattle.mav_stream.specs.Flagged.{before_other, unknown_flag};
+ghost use Rattle.mav_frame.specs.Looks.{packet_at};
+ghost use Rattle.mav_frame.specs.declared.events.Event.TheVariants.{Frame as FrameEvent};
+ghost use Rattle.mav_scan.specs.Ahead.{events_ahead, held_behind, size_ahead, skipped_for, IfFrame};
 ghost use Rattle.mav_stream.specs.Held.{nothing_held};
 ghost use Rattle.dialect.specs.Messages.{extras_of};
-ghost use Rattle.decode_command.specs.DecodeText.{event_size, counts_line};
-ghost use Rattle.decode_command.specs.Decodes.{Decoding, Drained, Halted, Front, Finished, Unfinished, PutsLine, Puts, IsWithin, Stepped, StepHalted};
+ghost use Rattle.decode_command.specs.DecodeText.{counts_line};
+ghost use Rattle.decode_command.specs.Decodes.{Decoding, Drained, Halted, Front, Finished, Unfinished, Gave, IsFrameOf, PutsLine, Puts, IsWithin, Stepped};
 
 use crate::known::Known;
-use crate::writing::{ENOUGH_BYTES, put_frame, write, write_enough};
+use crate::prepared::Prepared;
+use crate::writing::{ENOUGH_BYTES, write, write_enough};
 use command_ends::Halt;
-use mav_frame::{Frame, Why};
+use mav_frame::Why;
 use mav_ports::{NoMemory, Sink};
-use mav_stream::{Next, Reader};
-use mav_text::{Text, put_decimal, put_skip, put_skips};
+use mav_scan::{Ahead, Scanner};
+use mav_text::{Chunk, put_decimal, put_skips};
 use std::alloc::Global;
 
 // More than a line has.
@@ -26,11 +27,10 @@ const LINE_BYTES: usize = 8192;
 /// A stream of which some bytes were taken: what is held of it, and the lines that aren't written yet.
 #[derive(Drop)]
 pub struct Decoder {
-    known: Known,
-    reader: Reader,
+    known: Prepared,
+    reader: Scanner,
     text: Vec<u8>,
-    /// Of the last frame.
-    fields: Text,
+    chunk: Chunk,
     /// Where the next event stands.
     offset: u64,
     frames: u64,
@@ -44,12 +44,12 @@ impl Decoder {
         ensures text { IfOk result (λ d. d.text.items ≡ []) }
         ensures counts { IfOk result (λ d. (d.offset ≡ 0) × (d.frames ≡ 0) × (d.skipped ≡ 0)) }
     {
-        let reader = Reader::new(known.dialect.extras().copy()?);
+        let extras = known.dialect.extras().copy()?;
         Ok(Decoder {
-            known,
-            reader,
+            known: Prepared::new(alloc, known)?,
+            reader: Scanner::new(alloc, extras)?,
             text: Vec::with_capacity(alloc, ENOUGH_BYTES + LINE_BYTES)?,
-            fields: Text::new(),
+            chunk: Chunk::new(),
             offset: 0,
             frames: 0,
             skipped: 0,
@@ -130,28 +130,27 @@ impl Decoder {
             → K.faults out.new ≡ K.faults out.old }
     {
         loop {
-            self.sweep(out)?;
-            match self.reader.next() {
-                Next::Frame(frame) => self.frame(&frame, out)?,
-                Next::Skipped(byte, why) => self.skip(byte, why, out)?,
-                Next::Need => return Ok(()),
+            match self.reader.ahead() {
+                Ahead::Need => return Ok(()),
+                ahead => self.pass(ahead, out)?,
             }
         }
     }
 
-    // Puts the lines of runs of bytes that are skipped for one reason.
-    fn sweep<K: Sink>(&mut self, out: &mut K) -> Result<(), Halt>
-        requires { IsWithin self.old 0 }
-        ensures within { OnOk result (IsWithin self.new 0) }
-        ensures sum { OnOk result (self.new.offset + length self.new.reader.bytes
-            ≡ self.old.offset + length self.old.reader.bytes) }
-        ensures room { OnOk result (length self.new.reader.bytes ≤ length self.old.reader.bytes) }
+    // Puts the lines of what stands in front, and takes its bytes off.
+    #[inline]
+    fn pass<K: Sink>(&mut self, ahead: Ahead, out: &mut K) -> Result<(), Halt>
+        requires within { IsWithin self.old 0 }
+        requires size { size_ahead ahead ≤ length self.old.reader.bytes }
+        requires frame { IfFrame ahead (IsFrameOf self.old.reader.bytes) }
+        ensures done { OnOk result (Stepped (events_ahead self.old.reader.bytes ahead)
+            (record self.old { reader = held_behind self.old.reader ahead }) self.new
+            (K.sent out.old) (K.sent out.new)) }
         ensures ended { self.new.reader.ended ≡ self.old.reader.ended }
-        ensures decoding { (known : Known) (taken : List ℕ) (before : Option (List ℕ))
-            → Decoding known taken self.old before (K.sent out.old)
-            → OnOk result (Decoding known taken self.new before (K.sent out.new)) }
         ensures halted { (known : Known) (taken : List ℕ) (before : Option (List ℕ))
             → Decoding known taken self.old before (K.sent out.old)
+            → Gave known taken (events_ahead self.old.reader.bytes ahead) self.old.reader
+            (held_behind self.old.reader ahead)
             → IfErr result (λ _. Halted known taken self.new before (K.sent out.new)) }
         ensures error { IfErr result (λ e. (e ≡ Halt.WriteFault) ⊎ (e ≡ Halt.NoMemory)) }
         ensures rose { IsErrOf result Halt.WriteFault
@@ -159,153 +158,58 @@ impl Decoder {
         ensures sound { ¬ IsErrOf result Halt.WriteFault
             → K.faults out.new ≡ K.faults out.old }
     {
-        self.sweep_garbage(out)?;
-        self.sweep_flagged(out)
-    }
-
-    // Puts the lines of the bytes in front of the next STX.
-    fn sweep_garbage<K: Sink>(&mut self, out: &mut K) -> Result<(), Halt>
-        requires { IsWithin self.old 0 }
-        ensures within { OnOk result (IsWithin self.new 0) }
-        ensures sum { OnOk result (self.new.offset + length self.new.reader.bytes
-            ≡ self.old.offset + length self.old.reader.bytes) }
-        ensures room { OnOk result (length self.new.reader.bytes ≤ length self.old.reader.bytes) }
-        ensures ended { self.new.reader.ended ≡ self.old.reader.ended }
-        ensures decoding { (known : Known) (taken : List ℕ) (before : Option (List ℕ))
-            → Decoding known taken self.old before (K.sent out.old)
-            → OnOk result (Decoding known taken self.new before (K.sent out.new)) }
-        ensures halted { (known : Known) (taken : List ℕ) (before : Option (List ℕ))
-            → Decoding known taken self.old before (K.sent out.old)
-            → IfErr result (λ _. Halted known taken self.new before (K.sent out.new)) }
-        ensures error { IfErr result (λ e. (e ≡ Halt.WriteFault) ⊎ (e ≡ Halt.NoMemory)) }
-        ensures rose { IsErrOf result Halt.WriteFault
-            → Rose (K.faults out.old) (K.faults out.new) }
-        ensures sound { ¬ IsErrOf result Halt.WriteFault
-            → K.faults out.new ≡ K.faults out.old }
-    {
-        if self.reader.garbage().is_empty() {
-            return Ok(());
-        }
-        self.append_garbage()?;
-        self.reader.skip_garbage();
+        self.append(ahead)?;
+        self.reader.remove(ahead.size());
         write_enough(&mut self.text, out)
     }
 
-    // Puts the lines of the STX in front whose flags are unknown.
-    fn sweep_flagged<K: Sink>(&mut self, out: &mut K) -> Result<(), Halt>
-        requires { IsWithin self.old 0 }
-        ensures within { OnOk result (IsWithin self.new 0) }
-        ensures sum { OnOk result (self.new.offset + length self.new.reader.bytes
-            ≡ self.old.offset + length self.old.reader.bytes) }
-        ensures room { OnOk result (length self.new.reader.bytes ≤ length self.old.reader.bytes) }
-        ensures ended { self.new.reader.ended ≡ self.old.reader.ended }
-        ensures decoding { (known : Known) (taken : List ℕ) (before : Option (List ℕ))
-            → Decoding known taken self.old before (K.sent out.old)
-            → OnOk result (Decoding known taken self.new before (K.sent out.new)) }
-        ensures halted { (known : Known) (taken : List ℕ) (before : Option (List ℕ))
-            → Decoding known taken self.old before (K.sent out.old)
-            → IfErr result (λ _. Halted known taken self.new before (K.sent out.new)) }
-        ensures error { IfErr result (λ e. (e ≡ Halt.WriteFault) ⊎ (e ≡ Halt.NoMemory)) }
-        ensures rose { IsErrOf result Halt.WriteFault
-            → Rose (K.faults out.old) (K.faults out.new) }
-        ensures sound { ¬ IsErrOf result Halt.WriteFault
-            → K.faults out.new ≡ K.faults out.old }
-    {
-        if self.reader.flagged().is_empty() {
-            return Ok(());
-        }
-        self.append_flagged()?;
-        self.reader.skip_flagged();
-        write_enough(&mut self.text, out)
-    }
-
-    fn append_garbage(&mut self) -> Result<(), NoMemory>
-        requires { IsWithin self.old 0 }
+    // Puts the lines.
+    #[inline]
+    fn append(&mut self, ahead: Ahead) -> Result<(), NoMemory>
+        requires within { IsWithin self.old 0 }
+        requires size { size_ahead ahead ≤ length self.old.reader.bytes }
+        requires frame { IfFrame ahead (IsFrameOf self.old.reader.bytes) }
         ensures lines { OnOk result
-            (Puts (map not_stx (before_stx self.old.reader.bytes)) self.old self.new) }
+            (Puts (events_ahead self.old.reader.bytes ahead) self.old self.new) }
         ensures reader { self.new.reader ≡ self.old.reader }
+        ensures text { OnErr result (self.new.text.items ≡ self.old.text.items) }
     {
-        let bytes = self.reader.garbage();
-        let count = bytes.len() as u64;
-        put_skips(self.offset, bytes, Why::NotStx, &mut self.text)?;
-        self.offset += count;
-        self.skipped += count;
-        Ok(())
+        match ahead {
+            Ahead::Frame(size) => self.append_frame(size),
+            Ahead::Run(why, count) => self.append_skips(why, count),
+            Ahead::Need => Ok(()),
+        }
     }
 
-    fn append_flagged(&mut self) -> Result<(), NoMemory>
-        requires { IsWithin self.old 0 }
-        ensures lines { OnOk result
-            (Puts (map unknown_flag (before_other self.old.reader.bytes)) self.old self.new) }
+    fn append_frame(&mut self, size: usize) -> Result<(), NoMemory>
+        requires within { IsWithin self.old 0 }
+        requires size { size ≤ length self.old.reader.bytes }
+        requires frame { IsFrameOf self.old.reader.bytes size }
+        ensures line { OnOk result
+            (PutsLine (FrameEvent (packet_at self.old.reader.bytes)) self.old self.new) }
         ensures reader { self.new.reader ≡ self.old.reader }
+        ensures text { OnErr result (self.new.text.items ≡ self.old.text.items) }
     {
-        let bytes = self.reader.flagged();
-        let run = bytes.len() as u64;
-        put_skips(self.offset, bytes, Why::UnknownFlag, &mut self.text)?;
-        self.offset += run;
-        self.skipped += run;
-        Ok(())
-    }
-
-    // Puts the line of a frame.
-    fn frame<K: Sink>(&mut self, frame: &Frame, out: &mut K) -> Result<(), Halt>
-        requires { IsWithin self.old (event_size (FrameEvent frame.now)) }
-        ensures done { OnOk result (Stepped (FrameEvent frame.now ∷ []) self.old self.new
-            (K.sent out.old) (K.sent out.new)) }
-        ensures halted { IfErr result (λ _. StepHalted (FrameEvent frame.now ∷ []) self.old self.new
-            (K.sent out.old) (K.sent out.new)) }
-        ensures error { IfErr result (λ e. (e ≡ Halt.WriteFault) ⊎ (e ≡ Halt.NoMemory)) }
-        ensures rose { IsErrOf result Halt.WriteFault
-            → Rose (K.faults out.old) (K.faults out.new) }
-        ensures sound { ¬ IsErrOf result Halt.WriteFault
-            → K.faults out.new ≡ K.faults out.old }
-    {
-        self.append_frame(frame)?;
-        write_enough(&mut self.text, out)
-    }
-
-    // Puts the line of a skipped byte.
-    fn skip<K: Sink>(&mut self, byte: u8, why: Why, out: &mut K) -> Result<(), Halt>
-        requires { IsWithin self.old 1 }
-        ensures done { OnOk result (Stepped (Skipped byte why ∷ []) self.old self.new
-            (K.sent out.old) (K.sent out.new)) }
-        ensures halted { IfErr result (λ _. StepHalted (Skipped byte why ∷ []) self.old self.new
-            (K.sent out.old) (K.sent out.new)) }
-        ensures error { IfErr result (λ e. (e ≡ Halt.WriteFault) ⊎ (e ≡ Halt.NoMemory)) }
-        ensures rose { IsErrOf result Halt.WriteFault
-            → Rose (K.faults out.old) (K.faults out.new) }
-        ensures sound { ¬ IsErrOf result Halt.WriteFault
-            → K.faults out.new ≡ K.faults out.old }
-    {
-        self.append_skip(byte, why)?;
-        write_enough(&mut self.text, out)
-    }
-
-    fn append_frame(&mut self, frame: &Frame) -> Result<(), NoMemory>
-        requires { IsWithin self.old (event_size (FrameEvent frame.now)) }
-        ensures line { OnOk result (PutsLine (FrameEvent frame.now) self.old self.new) }
-        ensures reader { self.new.reader ≡ self.old.reader }
-    {
-        put_frame(
-            &self.known,
-            self.offset,
-            frame,
-            &mut self.fields,
-            &mut self.text,
-        )?;
-        self.offset += frame.size() as u64;
+        let frame = self.reader.bytes();
+        self.known
+            .put_frame(self.offset, frame, &mut self.chunk, &mut self.text)?;
+        self.offset += size as u64;
         self.frames += 1;
         Ok(())
     }
 
-    fn append_skip(&mut self, byte: u8, why: Why) -> Result<(), NoMemory>
-        requires { IsWithin self.old 1 }
-        ensures line { OnOk result (PutsLine (Skipped byte why) self.old self.new) }
+    fn append_skips(&mut self, why: Why, count: usize) -> Result<(), NoMemory>
+        requires within { IsWithin self.old 0 }
+        requires size { count ≤ length self.old.reader.bytes }
+        ensures lines { OnOk result
+            (Puts (map (skipped_for why) (take count self.old.reader.bytes)) self.old self.new) }
         ensures reader { self.new.reader ≡ self.old.reader }
+        ensures text { OnErr result (self.new.text.items ≡ self.old.text.items) }
     {
-        put_skip(self.offset, byte, why, &mut self.text)?;
-        self.offset += 1;
-        self.skipped += 1;
+        let bytes = &self.reader.bytes()[..count];
+        put_skips(self.offset, bytes, why, &mut self.chunk, &mut self.text)?;
+        self.offset += count as u64;
+        self.skipped += count as u64;
         Ok(())
     }
 }

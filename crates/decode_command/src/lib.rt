@@ -10,6 +10,7 @@ mod commands;
 mod decoder;
 mod known;
 pub mod laws;
+mod prepared;
 mod writing;
 
 pub use commands::{decode, decode_by};

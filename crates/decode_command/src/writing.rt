@@ -3,15 +3,9 @@ ghost use Rattle.std.specs.Prelude.{◌≡◌, List, ℕ, [], ◌++◌, OnOk, If
 ghost use Rattle.std.specs.declared.option.Option.{Option};
 ghost use Rattle.mav_ports.specs.Counts.{Rose};
 ghost use Rattle.mav_ports.specs.Puts.{Sent, SentFront};
-ghost use Rattle.dialect.specs.Messages.{definition_with};
-ghost use Rattle.decode_command.specs.DecodeText.{frame_line, verdict_text};
 
-use crate::known::Known;
 use command_ends::Halt;
-use mav_frame::Frame;
-use mav_ports::{NoMemory, Sink, write_all};
-use mav_sign::{Key, verifies};
-use mav_text::{Text, put_decimal, put_fields_by};
+use mav_ports::{Sink, write_all};
 
 /// How many bytes of lines are written at once.
 pub(crate) const ENOUGH_BYTES: usize = 65_536;
@@ -50,40 +44,4 @@ pub(crate) fn write_enough<K: Sink>(text: &mut Vec<u8>, out: &mut K) -> Result<(
         return Ok(());
     }
     write(text, out)
-}
-
-// Whether the signature of a signed frame is that of the key.
-fn verdict(key: &Option<Key>, frame: &Frame) -> &'static [u8]
-    ensures { result.now ≡ verdict_text key.now frame.now frame.now.block }
-{
-    let (Some(key), Some(_)) = (key, &frame.block) else {
-        return b"";
-    };
-    if verifies(key, frame) {
-        b" good"
-    } else {
-        b" bad"
-    }
-}
-
-/// Appends the line of a frame, by a text that is kept from frame to frame.
-pub(crate) fn put_frame(
-    known: &Known,
-    offset: u64,
-    frame: &Frame,
-    fields: &mut Text,
-    text: &mut Vec<u8>,
-) -> Result<(), NoMemory>
-    ensures { OnOk result (text.new.items ≡ text.old.items
-        ++ frame_line (definition_with frame.now.id known.now.dialect) known.now.key offset frame.now) }
-{
-    let Some(layout) = known.dialect.get(frame.id) else {
-        return Ok(());
-    };
-    put_decimal(offset, text)?;
-    text.push(b' ')?;
-    put_fields_by(fields, layout, frame, text)?;
-    text.extend_from_slice(verdict(&known.key, frame))?;
-    text.push(b'\n')?;
-    Ok(())
 }

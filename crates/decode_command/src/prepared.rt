@@ -1,0 +1,77 @@
+// What is known, made ready for the lines of frames.
+ghost use Rattle.std.specs.Prelude.{◌≡◌, ◌∷◌, ◌++◌, ◌≤◌, [], length, OnOk, OnErr, IfOk};
+ghost use Rattle.dialect.specs.Messages.{definition_with};
+ghost use Rattle.mav_frame.specs.Looks.{id_at, frame_size_at, packet_at};
+ghost use Rattle.decode_command.specs.DecodeText.{frame_line, verdict_text};
+
+use crate::known::Known;
+use mav_frame::frame_at;
+use mav_ports::NoMemory;
+use mav_sign::{Key, verifies};
+use mav_text::{Chunk, Recipes};
+use std::alloc::Global;
+use std::marker::Model;
+
+/// What contracts see as what it was made of.
+#[derive(Drop)]
+pub(crate) struct Prepared {
+    recipes: Recipes,
+    key: Option<Key>,
+}
+
+impl Model for Prepared {
+    ghost use Rattle.decode_command.specs.declared.known.Known.{Known};
+
+    ghost Value = { Known };
+
+    ghost view = { λ p. record { dialect = p.recipes; key = p.key } };
+}
+
+// What stands behind a frame's text: whether the signature of a signed frame is that of the key, and the line end.
+#[inline]
+fn ending(key: &Option<Key>, frame: &[u8]) -> &'static [u8]
+    requires { frame_size_at frame.now ≤ length frame.now }
+    ensures text { result.now ≡ verdict_text key.now (packet_at frame.now) (packet_at frame.now).block ++ 10 ∷ [] }
+    ensures short { length result.now ≤ 16 }
+{
+    let Some(key) = key else {
+        return b"\n";
+    };
+    if frame[2] == 0 {
+        return b"\n";
+    }
+    if verifies(key, &frame_at(frame)) {
+        b" good\n"
+    } else {
+        b" bad\n"
+    }
+}
+
+impl Prepared {
+    pub(crate) fn new(alloc: Global, known: Known) -> Result<Prepared, NoMemory>
+        ensures { IfOk result (λ prepared. prepared ≡ known) }
+    {
+        Ok(Prepared {
+            recipes: Recipes::new(alloc, known.dialect)?,
+            key: known.key,
+        })
+    }
+
+    /// Appends the line of the frame that stands in front of some bytes.
+    #[inline]
+    pub(crate) fn put_frame(
+        &self,
+        offset: u64,
+        frame: &[u8],
+        chunk: &mut Chunk,
+        text: &mut Vec<u8>,
+    ) -> Result<(), NoMemory>
+        requires { frame_size_at frame.now ≤ length frame.now }
+        ensures ok { OnOk result (text.new.items ≡ text.old.items
+            ++ frame_line (definition_with (id_at frame.now) self.now.dialect) self.now.key offset (packet_at frame.now)) }
+        ensures err { OnErr result (text.new.items ≡ text.old.items) }
+    {
+        let ending = ending(&self.key, frame);
+        self.recipes.put_line(offset, frame, ending, chunk, text)
+    }
+}
