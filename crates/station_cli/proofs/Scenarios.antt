@@ -46,14 +46,3 @@ module _ {A : Type 0} (has_ended : A → Type 0) (faults idles : A → ℕ) (lef
   pub fleets_unread : (halted : Type 0) → halted → (named_key frames : Bool) → Fleets named_key frames (untold_over (record { refusals_before = refusals; refusals_after = refusals; sent_before = sent; sent_after = sent }) (Some NoMemory)) halted (input_of has_ended faults idles left key key) (input_of has_ended faults idles left main main)
   fleets_unread halted h false frames = unmade has_ended faults idles left key main main refusals sent (fleet_script default_key frames) main
   fleets_unread halted h true frames = inl (unmade has_ended faults idles left key main main refusals sent key_script key, h, took_nothing (left key), refl)
-
--- a line without options
-pub played_plainly : {Settings : Type 0} (has_key has_frames : Settings → Bool) (given none : Settings) (runs : Script → Input → Type 0) (halted : Type 0) (key main : Input) → given ≡ none → has_key none ≡ false → has_frames none ≡ false → Fleets (has_key given) (has_frames given) runs halted key main → runs (fleet_script default_key false) main
-played_plainly has_key has_frames given none runs halted key main plain no_key no_frames d =
-    fleets_as (has_key none) false (has_frames none) false runs halted key main no_key no_frames (subst (λ s. Fleets (has_key s) (has_frames s) runs halted key main) plain d)
-
-pub carried_plainly : {Settings : Type 0} (has_key has_frames : Settings → Bool) (given none : Settings) (out : Output) (code : ℕ) (key main : Input) → given ≡ none → has_key none ≡ false → has_frames none ≡ false → FleetsCarry (has_key given) (has_frames given) out code key main → CarriesOver default_key false out code main
-carried_plainly has_key has_frames given none out code key main plain no_key no_frames d =
-    subst (λ b. FleetsCarry false b out code key main) no_frames
-    (subst (λ b. FleetsCarry b (has_frames none) out code key main) no_key
-    (subst (λ s. FleetsCarry (has_key s) (has_frames s) out code key main) plain d))

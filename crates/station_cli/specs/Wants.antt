@@ -1,6 +1,5 @@
 -- What the words ask to be made.
-use Rattle.std.specs.Prelude.{◌≡◌, ℕ, List, [], map, option_map, string_bytes}
-use Rattle.command_line.specs.declared.commands.Command.{Command}
+use Rattle.std.specs.Prelude.{◌≡◌, ℕ, List, map, option_map, string_bytes}
 use Rattle.command_line.specs.declared.commands.OptionName.TheVariants.{Defs, Key}
 use Rattle.command_line.specs.Built.{built}
 use Rattle.command_line.specs.Grammar.{Asked, Asks}
@@ -16,7 +15,3 @@ pub record Wants (words : List (List ℕ)) (w : Wanted) : Type 0 where
   pub key : option_map string_bytes w.key ≡ value_given Key asked.settings
   pub ports : map string_bytes w.ports.items ≡ port_words asked.command asked.plain
   pub keepers : w.keepers ≡ 0
-
--- these words are a line of this command, without options
-abbrev pub AsksFor : Command → List (List ℕ) → Type 0
-AsksFor command words = (asked : Asked) × Asks built words asked × (asked.command ≡ command) × (asked.settings ≡ [])
