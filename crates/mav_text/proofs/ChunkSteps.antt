@@ -5,16 +5,20 @@ use Rattle.std.proofs.lemmas.List.{set-append_right}
 use Rattle.std.proofs.lemmas.Slice.{take-put_mid}
 use borrow.Rule.Slice.PartMut.{put_mid}
 
--- the front of a part, behind what stood in front of it
-pub part_put : (at k len : ℕ) (chunk part whole : List ℕ) → whole ≡ part → at + length part ≤ length chunk → len ≤ length part → take (at + len) (put_mid at k chunk whole) ≡ take at chunk ++ take len part
-part_put at k len chunk part whole same room short =
+-- a front of what was put, behind what stood in front of it
+pub front_put : (at len : ℕ) (chunk new part : List ℕ) → at ≤ length chunk → len ≤ length part → take (at + length part) new ≡ take at chunk ++ part → take (at + len) new ≡ take at chunk ++ take len part
+front_put at len chunk new part before short put =
     let long : length (take at chunk) ≡ at = omega (arith, length-take at chunk) in
-    let all : take (at + length part) (put_mid at k chunk whole) ≡ take at chunk ++ part =
-    take-put_mid at k chunk whole (at + length part) (ap (λ (ys : List ℕ). at + length ys) (sym same)) (omega arith) ∙ ap (λ (ys : List ℕ). take at chunk ++ ys) same in
-    sym (take-take (at + len) (at + length part) (put_mid at k chunk whole) (omega arith))
-    ∙ (ap (take (at + len)) all
+    sym (take-take (at + len) (at + length part) new (omega arith))
+    ∙ (ap (take (at + len)) put
     ∙ (ap (λ (n : ℕ). take (n + len) (take at chunk ++ part)) (sym long)
     ∙ take-append-add (take at chunk) part len))
+
+-- the same of a part that is copied
+pub part_put : (at k len : ℕ) (chunk part whole : List ℕ) → whole ≡ part → at + length part ≤ length chunk → len ≤ length part → take (at + len) (put_mid at k chunk whole) ≡ take at chunk ++ take len part
+part_put at k len chunk part whole same room short =
+    front_put at len chunk (put_mid at k chunk whole) part (omega arith) short
+    (take-put_mid at k chunk whole (at + length part) (ap (λ (ys : List ℕ). at + length ys) (sym same)) (omega arith) ∙ ap (λ (ys : List ℕ). take at chunk ++ ys) same)
 
 -- a front of which one element is set
 front_set : (n i : ℕ) (xs : List ℕ) (x : ℕ) → i < n → take n (set xs i x) ≡ set (take n xs) i x

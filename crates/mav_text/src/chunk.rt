@@ -49,3 +49,31 @@ pub(crate) fn put_two<const N: usize>(chunk: &mut [u8; N], at: usize, two: [u8; 
     chunk[at + 1] = second;
     at + 2
 }
+
+// Puts four bytes at a place.
+#[inline(always)]
+fn put_four<const N: usize>(chunk: &mut [u8; N], at: usize, four: [u8; 4])
+    requires { at + 4 ≤ N }
+    ensures { take (at + 4) chunk.new ≡ take at chunk.old ++ four }
+{
+    let [first, second, third, fourth] = four;
+    let place = put_two(chunk, at, [first, second]);
+    let _end = put_two(chunk, place, [third, fourth]);
+}
+
+/// Puts four bytes at a place, of which the first `len` count, and answers the place behind these.
+#[inline(always)]
+pub(crate) fn put_of_four<const N: usize>(
+    chunk: &mut [u8; N],
+    at: usize,
+    four: [u8; 4],
+    len: usize,
+) -> usize
+    requires room { at + 4 ≤ N }
+    requires len { len ≤ 4 }
+    ensures place { result ≡ at + len }
+    ensures text { take result chunk.new ≡ take at chunk.old ++ take len four }
+{
+    put_four(chunk, at, four);
+    at + len
+}

@@ -3,7 +3,7 @@ ghost use Rattle.std.specs.Prelude.{◌≡◌, ◌+◌, ◌-◌, ◌*◌, ◌/�
 ghost use Rattle.std.specs.Fmt.{decimal};
 ghost use Rattle.mav_text.specs.FrameText.{pair_text, word_hex};
 
-use crate::chunk::{put_part, put_two};
+use crate::chunk::{put_of_four, put_part, put_two};
 use crate::digits::{pair_digits, word_digits};
 use crate::small::small_digits;
 
@@ -26,7 +26,7 @@ fn put_digits<const N: usize>(chunk: &mut [u8; N], at: usize, number: u8) -> usi
     ensures text { take result chunk.new ≡ take at chunk.old ++ decimal number }
 {
     let (digits, len) = small_digits(number);
-    put_part(chunk, at, digits, len)
+    put_of_four(chunk, at, digits, len)
 }
 
 // Four digits of a number below 10,000, the first of which may be zeros.
@@ -84,7 +84,7 @@ fn put_middle<const N: usize>(chunk: &mut [u8; N], at: usize, number: u32) -> us
 }
 
 /// Puts the digits of a number at a place, and answers the place behind them.
-#[inline]
+#[inline(always)]
 pub(crate) fn put_number<const N: usize>(chunk: &mut [u8; N], at: usize, number: u64) -> usize
     requires { at + 24 ≤ N }
     ensures place { (at ≤ result) × (result ≤ at + 20) }
@@ -112,6 +112,7 @@ fn put_high<const N: usize>(chunk: &mut [u8; N], at: usize, number: u64) -> usiz
 }
 
 // The digits of a number from 100,000,000 on.
+#[inline(never)]
 fn put_large<const N: usize>(chunk: &mut [u8; N], at: usize, number: u64) -> usize
     requires room { at + 24 ≤ N }
     requires number { 100000000 ≤ number }

@@ -264,11 +264,11 @@ static SMALL: [[u8; 4]; 256] = [
 
 /// Four bytes that begin with the digits of a number, and how many of them these are.
 #[inline(always)]
-pub(crate) fn small_digits(number: u8) -> (&'static [u8; 4], usize)
+pub(crate) fn small_digits(number: u8) -> ([u8; 4], usize)
     ensures few { result.1 ≤ 3 }
-    ensures digits { take result.1 result.0.now ≡ decimal number }
+    ensures digits { take result.1 result.0 ≡ decimal number }
 {
-    let row = &SMALL[usize::from(number)];
+    let row = SMALL[usize::from(number)];
     let len = row[3];
     (row, usize::from(len))
 }

@@ -82,7 +82,7 @@ fn put_chars(chunk: &mut [u8; 2048], at: usize, payload: &[u8], from: usize, cou
 }
 
 // Puts characters in double quotes.
-#[inline]
+#[inline(never)]
 fn put_quoted(chunk: &mut [u8; 2048], at: usize, payload: &[u8], from: usize, count: usize) -> usize
     requires within { from + count ≤ length payload.now }
     requires room { at + 4 * count + 2 ≤ 2048 }
@@ -170,7 +170,7 @@ fn put_values(
 }
 
 // Puts an array in square brackets.
-#[inline]
+#[inline(never)]
 fn put_array(
     chunk: &mut [u8; 2048],
     at: usize,
@@ -199,7 +199,7 @@ fn count_of(len: u8) -> usize
 }
 
 /// Puts a value of so many elements of a type, 0 for a single one, that begins at a place of the payload.
-#[inline]
+#[inline(always)]
 pub(crate) fn put_value(
     chunk: &mut [u8; 2048],
     at: usize,
