@@ -30,22 +30,22 @@ fn after(register: u16, byte: u8) -> u16
 }
 
 // The register after the eight bytes from a place on: what each of them makes of a register that was 0, with the
-// register's own two bytes in the first two.
+// register's own two bytes in the first two. Those two, which wait for the register, are looked up last.
 #[inline(always)]
 fn after_eight(register: u16, bytes: &[u8], at: usize) -> u16
     requires { at + 8 ≤ length bytes.now }
     ensures { result ≡ check_from register (eight_at at bytes.now) }
 {
-    let low = (register % 256) as u8;
-    let high = (register / 256) as u8;
-    let first = after_zeros(7, bytes[at] ^ low);
-    let second = after_zeros(6, bytes[at + 1] ^ high);
     let third = after_zeros(5, bytes[at + 2]);
     let fourth = after_zeros(4, bytes[at + 3]);
     let fifth = after_zeros(3, bytes[at + 4]);
     let sixth = after_zeros(2, bytes[at + 5]);
     let seventh = after_zeros(1, bytes[at + 6]);
     let eighth = after_zeros(0, bytes[at + 7]);
+    let low = (register % 256) as u8;
+    let high = (register / 256) as u8;
+    let first = after_zeros(7, bytes[at] ^ low);
+    let second = after_zeros(6, bytes[at + 1] ^ high);
     (first ^ second) ^ (third ^ (fourth ^ (fifth ^ (sixth ^ (seventh ^ eighth)))))
 }
 
