@@ -19,7 +19,7 @@ use Rattle.mav_stream.specs.declared.Next.TheVariants.{Frame as NextFrame, Skipp
 use Rattle.mav_stream.proofs.Steps.{next_on, whole_at}
 use Rattle.mav_scan.specs.Ahead.{ahead_by, events_ahead, held_behind, size_ahead, run_length, IfEvent, IfFrame, IfNeed}
 use Rattle.mav_scan.specs.declared.ahead.Ahead.TheVariants.{Run, Need}
-use Rattle.mav_scan.proofs.Gives.{gives_frame, gives_short, needs, has_room}
+use Rattle.mav_stream.proofs.Answers.{gives_frame, gives_short, needs, has_room}
 use Rattle.mav_scan.proofs.SkippedRuns.{each_looked, run_within, run_some, runs_on}
 
 -- ---- which frame a look finds

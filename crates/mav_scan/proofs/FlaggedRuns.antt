@@ -5,7 +5,7 @@ use Rattle.mav_frame.specs.Looks.{look_of}
 use Rattle.mav_frame.specs.declared.looks.Look.TheVariants.{NotHere}
 use Rattle.mav_frame.specs.declared.looks.Why.TheVariants.{UnknownFlag, Short}
 use Rattle.mav_frame.proofs.Reasons.{listed}
-use Rattle.mav_stream.specs.Flagged.{is_flagged, before_other}
+use Rattle.mav_scan.specs.Flagged.{is_flagged, before_other}
 
 -- a place behind the first byte
 behind : (x : ℕ) (xs : List ℕ) (k : ℕ) → is_flagged (x ∷ xs) (suc k) ≡ is_flagged xs k

@@ -5,7 +5,7 @@ use Rattle.std.proofs.lemmas.Bool.Decides.{nat_tests}
 use Rattle.mav_frame.specs.Looks.{look_of}
 use Rattle.mav_frame.specs.declared.looks.Look.TheVariants.{NotHere}
 use Rattle.mav_frame.specs.declared.looks.Why.TheVariants.{NotStx}
-use Rattle.mav_stream.specs.Garbage.{before_stx}
+use Rattle.mav_scan.specs.Garbage.{before_stx}
 
 differs : (x : ℕ) → x ≢ 0xFD → (x == 0xFD) ≡ false
 differs x h = grind (arith, nat_tests)

@@ -1,6 +1,4 @@
-mod Windows
 mod GarbageRuns
 mod FlaggedRuns
-mod Gives
 mod SkippedRuns
 mod Aheads

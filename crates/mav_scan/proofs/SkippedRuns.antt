@@ -7,8 +7,8 @@ use Rattle.mav_frame.specs.declared.looks.Why.{Why}
 use Rattle.mav_frame.specs.declared.looks.Why.TheVariants.{NotStx, UnknownFlag, UnknownId, BadCheck, Short}
 use Rattle.mav_frame.specs.declared.events.Event.{Event}
 use Rattle.mav_frame.proofs.Reasons.{reason}
-use Rattle.mav_stream.specs.Garbage.{before_stx}
-use Rattle.mav_stream.specs.Flagged.{is_flagged, before_other}
+use Rattle.mav_scan.specs.Garbage.{before_stx}
+use Rattle.mav_scan.specs.Flagged.{is_flagged, before_other}
 use Rattle.mav_stream.specs.Held.{Held}
 use Rattle.mav_stream.specs.Progress.{Progress}
 use Rattle.mav_stream.specs.declared.Next.TheVariants.{Skipped}
@@ -16,7 +16,7 @@ use Rattle.mav_stream.proofs.Steps.{next_on}
 use Rattle.mav_scan.specs.Ahead.{run_length, skipped_for}
 use Rattle.mav_scan.proofs.GarbageRuns.{garbage_looked, garbage_within}
 use Rattle.mav_scan.proofs.FlaggedRuns.{flagged_looked, flagged_within}
-use Rattle.mav_scan.proofs.Gives.{gives_skip, some_held}
+use Rattle.mav_stream.proofs.Answers.{gives_skip, some_held}
 
 module _ (extras : List (ℕ × ℕ)) (b : List ℕ) where
   first : (why : Why) → look_of extras b ≡ NotHere why → (k : ℕ) → k < 1 → look_of extras (drop k b) ≡ NotHere why

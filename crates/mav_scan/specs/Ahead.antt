@@ -8,8 +8,8 @@ use Rattle.mav_frame.specs.declared.looks.Why.TheVariants.{NotStx, UnknownFlag, 
 use Rattle.mav_frame.specs.declared.events.Event.{Event}
 use Rattle.mav_frame.specs.declared.events.Event.TheVariants.{Frame as FrameEvent, Skipped}
 use Rattle.mav_stream.specs.Held.{Held}
-use Rattle.mav_stream.specs.Garbage.{before_stx}
-use Rattle.mav_stream.specs.Flagged.{before_other}
+use Rattle.mav_scan.specs.Garbage.{before_stx}
+use Rattle.mav_scan.specs.Flagged.{before_other}
 use Rattle.mav_scan.specs.declared.ahead.Ahead.{Ahead}
 use Rattle.mav_scan.specs.declared.ahead.Ahead.TheVariants.{Frame, Run, Need}
 

@@ -1,2 +1,4 @@
+pub mod Garbage
+pub mod Flagged
 pub mod Ahead
 pub mod Entries

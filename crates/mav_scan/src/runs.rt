@@ -1,6 +1,6 @@
 // How many bytes in front begin no frame for one reason.
-ghost use Rattle.std.specs.Prelude.{◌≡◌, ◌+◌, ◌<◌, ◌≤◌, ◌≢◌, ℕ, length, slice_index, true, false};
-ghost use Rattle.mav_stream.specs.Flagged.{is_flagged as is_flagged_at};
+ghost use Rattle.std.specs.Prelude.{◌≡◌, ◌+◌, ◌-◌, ◌<◌, ◌≤◌, ◌≢◌, ℕ, length, slice_index, true, false};
+ghost use Rattle.mav_scan.specs.Flagged.{is_flagged as is_flagged_at};
 ghost use Rattle.mav_scan.specs.Ahead.{run_length};
 
 use crate::looking::STX;
@@ -19,12 +19,39 @@ fn stx_place(bytes: &[u8]) -> usize
     }
 }
 
+// Whether an STX with unknown flags stands at a place; both bytes are read, which a loop can do for several places at
+// once.
 #[inline(always)]
 fn is_flagged(bytes: &[u8], place: usize) -> bool
     requires { place + 2 < length bytes.now }
     ensures { result ≡ is_flagged_at bytes.now place }
 {
-    bytes[place] == STX && bytes[place + 2] > 1
+    (bytes[place] == STX) & (bytes[place + 2] > 1)
+}
+
+// Whether they stand at eight places from one on.
+#[inline(always)]
+fn are_flagged(bytes: &[u8], place: usize) -> bool
+    requires { place + 10 ≤ length bytes.now }
+    ensures { result ≡ true → (k : ℕ) → k < 8 → is_flagged_at bytes.now (place + k) ≡ true }
+{
+    let mut all = true;
+    for step in 0..8 {
+        all &= is_flagged(bytes, place + step);
+    }
+    all
+}
+
+// How many stand in front, eight by eight.
+fn flagged_eights(bytes: &[u8]) -> usize
+    ensures within { result ≤ length bytes.now - 2 }
+    ensures before { (k : ℕ) → k < result → is_flagged_at bytes.now k ≡ true }
+{
+    let mut place = 0;
+    while place + 10 <= bytes.len() && are_flagged(bytes, place) {
+        place += 8;
+    }
+    place
 }
 
 // How many STX with unknown flags stand in front.
@@ -34,7 +61,7 @@ fn flagged_length(bytes: &[u8]) -> usize
     ensures other { is_flagged_at bytes.now result ≡ false }
 {
     let most = bytes.len().saturating_sub(2);
-    for place in 0..most {
+    for place in flagged_eights(bytes)..most {
         if !is_flagged(bytes, place) {
             return place;
         }

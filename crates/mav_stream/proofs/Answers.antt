@@ -69,7 +69,7 @@ at_most_13 : (unsigned : Bool) → (if unsigned then 0 else 13) ≤ 13
 at_most_13 true = omega arith
 at_most_13 false = omega arith
 
-has_room : (extras : List (ℕ × ℕ)) (b : List ℕ) → IsBytes b → IsIncomplete extras b → length b < 280
+pub has_room : (extras : List (ℕ × ℕ)) (b : List ℕ) → IsBytes b → IsIncomplete extras b → length b < 280
 has_room extras b bytes h = elim (cases_lt (length b) 10) [
   | inl short ↦ omega arith
   | inr long ↦ let len = bytes 1 in let short = h.short long in let block = at_most_13 (slice_index b 2 == 0) in omega arith

@@ -1,15 +1,11 @@
 -- Any list of calls, by its steps.
-use Rattle.std.proofs.Common.{ℕ, List, [], ◌∷◌, ◌++◌, map, take, sym, subst, append_assoc, append-nil}
+use Rattle.std.proofs.Common.{ℕ, List, [], ◌∷◌, ◌++◌, take, sym, subst, append_assoc, append-nil}
 use Rattle.std.specs.Prelude.{flat_map}
 use Rattle.mav_frame.specs.declared.events.Event.{Event}
 use Rattle.mav_stream.specs.Held.{Held, nothing_held}
-use Rattle.mav_stream.specs.Garbage.{not_stx}
-use Rattle.mav_stream.specs.Flagged.{unknown_flag}
 use Rattle.mav_stream.specs.Nexts.{given_by}
 use Rattle.mav_stream.specs.Progress.{Progress}
-use Rattle.mav_stream.specs.Calls.{Call, fed, closed, asked, swept, passed, CallIs, CallsAre, taken_by, events_of, AnyCalls, AnyCallsToNeed}
-use Rattle.mav_stream.proofs.GarbageRuns.{swept_on}
-use Rattle.mav_stream.proofs.FlaggedRuns.{passed_on}
+use Rattle.mav_stream.specs.Calls.{Call, fed, closed, asked, CallIs, CallsAre, taken_by, events_of, AnyCalls, AnyCallsToNeed}
 use Rattle.mav_stream.proofs.Steps.{begun, fed_on, closed_on, next_on, whole_at}
 
 module _ (extras : List (ℕ × ℕ)) where
@@ -20,10 +16,6 @@ module _ (extras : List (ℕ × ℕ)) where
       subst (λ (z : List ℕ × List Event × Held). Progress extras z.0 z.1 z.2) (λ i. (sym (append-nil taken) i, sym (append-nil given) i, sym is i)) (closed_on extras taken given old h)
   one_call taken given old h (asked answer) new is =
       subst (λ (z : List ℕ). Progress extras z (given ++ given_by answer) new) (sym (append-nil taken)) (next_on extras taken given old h answer new is)
-  one_call taken given old h (swept bytes) new is =
-      subst (λ (z : List ℕ × List ℕ × Held). Progress extras z.0 (given ++ map not_stx z.1) z.2) (λ i. (sym (append-nil taken) i, sym is.0 i, sym is.1 i)) (swept_on extras taken old old.bytes given h)
-  one_call taken given old h (passed bytes) new is =
-      subst (λ (z : List ℕ × List ℕ × Held). Progress extras z.0 (given ++ map unknown_flag z.1) z.2) (λ i. (sym (append-nil taken) i, sym is.0 i, sym is.1 i)) (passed_on extras taken old old.bytes given h)
 
   calls_on : (calls : List Call) (taken : List ℕ) (given : List Event) (old new : Held) → Progress extras taken given old → CallsAre old calls new → Progress extras (taken ++ flat_map taken_by calls) (given ++ flat_map events_of calls) new
   calls_on [] taken given old new h is =

@@ -1,6 +1,4 @@
-mod Windows
+pub mod Windows
 pub mod Steps
-mod Answers
-mod GarbageRuns
-mod FlaggedRuns
+pub mod Answers
 mod CallList

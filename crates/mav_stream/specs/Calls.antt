@@ -1,21 +1,17 @@
 -- Any list of calls of one reader, however its stream is cut.
-use Rattle.std.specs.Prelude.{ℕ, ◌≡◌, ◌-◌, ◌++◌, ◌∷◌, List, [], length, take, min, map, flat_map, true, false}
+use Rattle.std.specs.Prelude.{ℕ, ◌≡◌, ◌-◌, ◌++◌, ◌∷◌, List, [], length, take, min, flat_map, true, false}
 use Rattle.mav_frame.specs.declared.events.Event.{Event}
 use Rattle.mav_stream.specs.Held.{Held, nothing_held}
-use Rattle.mav_stream.specs.Garbage.{before_stx, from_stx, not_stx}
-use Rattle.mav_stream.specs.Flagged.{before_other, from_other, unknown_flag}
 use Rattle.mav_stream.specs.Nexts.{NextIs, given_by}
 use Rattle.mav_stream.specs.Progress.{Progress, IsWhole}
 use Rattle.mav_stream.specs.declared.Next.{Next}
 use Rattle.mav_stream.specs.declared.Next.TheVariants.{Need}
 
--- `feed` of a piece, which took so many bytes; `end`; `next` and its answer; `skip_garbage` and `skip_flagged` of these bytes
+-- `feed` of a piece, which took so many bytes; `end`; `next` and its answer
 pub data Call : Type 0 where
   fed : List ℕ → ℕ → Call
   closed : Call
   asked : Next → Call
-  swept : List ℕ → Call
-  passed : List ℕ → Call
 
 -- what the call does
 abbrev pub CallIs : Held → Call → Held → Type 0
@@ -23,8 +19,6 @@ CallIs old (fed piece count) new =
     (old.ended ≡ false) × (count ≡ min (length piece) (280 - length old.bytes)) × (new ≡ record old { bytes = old.bytes ++ take count piece })
 CallIs old closed new = new ≡ record old { ended = true }
 CallIs old (asked answer) new = NextIs old answer new
-CallIs old (swept bytes) new = (bytes ≡ before_stx old.bytes) × (new ≡ record old { bytes = from_stx old.bytes })
-CallIs old (passed bytes) new = (bytes ≡ before_other old.bytes) × (new ≡ record old { bytes = from_other old.bytes })
 
 -- what the calls do, one after another
 abbrev pub CallsAre : Held → List Call → Held → Type 0
@@ -36,15 +30,11 @@ abbrev pub taken_by : Call → List ℕ
 taken_by (fed piece count) = take count piece
 taken_by closed = []
 taken_by (asked answer) = []
-taken_by (swept bytes) = []
-taken_by (passed bytes) = []
 
 abbrev pub events_of : Call → List Event
 events_of (fed piece count) = []
 events_of closed = []
 events_of (asked answer) = given_by answer
-events_of (swept bytes) = map not_stx bytes
-events_of (passed bytes) = map unknown_flag bytes
 
 -- over any list of calls the events given begin the parse of the bytes taken
 abbrev pub AnyCalls : Type 0

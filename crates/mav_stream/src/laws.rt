@@ -1,7 +1,7 @@
 //! Laws of a reader's calls: functions without a body, whose contract is the law.
 ghost use Rattle.mav_stream.specs.Calls.{AnyCalls, AnyCallsToNeed};
 
-/// Over any list of `feed`, `end`, `next`, `skip_garbage` and `skip_flagged` calls the events given begin the parse of the bytes taken.
+/// Over any list of `feed`, `end` and `next` calls the events given begin the parse of the bytes taken.
 pub fn any_calls()
     ensures { AnyCalls }
 {}

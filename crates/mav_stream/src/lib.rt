@@ -1,8 +1,8 @@
 //! A reader of MAVLink 2 streams that come in pieces, in 280 bytes and without memory.
 //!
 //! [`Reader`] takes bytes by `feed`, and its `next` gives one event at a time: a frame, or a skipped byte and why no frame
-//! begins there; `skip_garbage` and `skip_flagged` skip a run of bytes at once. The events are those of the whole stream's parse as `mav_frame` defines it, however the stream is cut:
-//! of the incremental parse until `end`, and then of the final parse. No call takes memory or fails.
+//! begins there. The events are those of the whole stream's parse as `mav_frame` defines it, however the stream is cut: of
+//! the incremental parse until `end`, and then of the final parse. No call takes memory or fails.
 #![tactic(auto)]
 
 pub mod laws;

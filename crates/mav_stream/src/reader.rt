@@ -1,8 +1,6 @@
 // The reader of a stream.
-ghost use Rattle.std.specs.Prelude.{◌≡◌, ◌+◌, ◌-◌, ◌<◌, ◌≤◌, ◌≢◌, ◌++◌, ℕ, List, [], length, take, drop, min, map, slice_index, true, false};
+ghost use Rattle.std.specs.Prelude.{◌≡◌, ◌-◌, ◌<◌, ◌++◌, ℕ, List, [], length, take, drop, min, slice_index, true, false};
 ghost use Rattle.mav_frame.specs.declared.events.Event.{Event};
-ghost use Rattle.mav_stream.specs.Garbage.{before_stx, from_stx, not_stx};
-ghost use Rattle.mav_stream.specs.Flagged.{is_flagged as is_flagged_at, before_other, from_other, unknown_flag};
 ghost use Rattle.mav_stream.specs.Held.{Held, nothing_held};
 ghost use Rattle.mav_stream.specs.Nexts.{NextIs, HasRoomBehind, given_by};
 ghost use Rattle.mav_stream.specs.Progress.{Progress, WholeAtNeed};
@@ -10,47 +8,8 @@ ghost use Rattle.mav_stream.specs.Progress.{Progress, WholeAtNeed};
 use crate::Next;
 use crate::window::Window;
 use mav_frame::{Sight, Why, frame_at, sight};
-use memchr::memchr;
 use std::marker::Model;
 use x25_check::Extras;
-
-// The byte that begins a frame.
-const STX: u8 = 0xFD;
-
-// Where the first STX stands, or how many bytes there are.
-fn stx_place(bytes: &[u8]) -> usize
-    ensures within { result ≤ length bytes.now }
-    ensures before { (k : ℕ) → k < result → slice_index bytes.now k ≢ 0xFD }
-    ensures found { result < length bytes.now → slice_index bytes.now result ≡ 0xFD }
-{
-    match memchr(STX, bytes) {
-        Some(place) => place,
-        None => bytes.len(),
-    }
-}
-
-#[inline(always)]
-fn is_flagged(bytes: &[u8], place: usize) -> bool
-    requires { place + 2 < length bytes.now }
-    ensures { result ≡ is_flagged_at bytes.now place }
-{
-    bytes[place] == STX && bytes[place + 2] > 1
-}
-
-// How many STX with unknown flags stand in front.
-fn flagged_length(bytes: &[u8]) -> usize
-    ensures within { result ≤ length bytes.now }
-    ensures before { (k : ℕ) → k < result → is_flagged_at bytes.now k ≡ true }
-    ensures other { is_flagged_at bytes.now result ≡ false }
-{
-    let most = bytes.len().saturating_sub(2);
-    for place in 0..most {
-        if !is_flagged(bytes, place) {
-            return place;
-        }
-    }
-    most
-}
 
 /// A reader of one stream, which contracts see as the bytes that it holds: those taken that are in no event yet, at most 280.
 #[derive(Drop)]
@@ -111,44 +70,6 @@ impl Reader {
     {
         let _held = self.window.bytes();
         self.looked()
-    }
-
-    /// The bytes held in front of the first STX, or all where there is none: `next` would skip them one by one.
-    pub fn garbage(&self) -> &[u8]
-        ensures { result.now ≡ before_stx self.now.bytes }
-    {
-        let held = self.window.bytes();
-        &held[..stx_place(held)]
-    }
-
-    /// Skips these bytes, at a few instructions a byte.
-    pub fn skip_garbage(&mut self)
-        ensures held { self.new ≡ record self.old { bytes = from_stx self.old.bytes } }
-        ensures room { length self.new.bytes ≤ length self.old.bytes }
-        // The events given and those of these bytes begin the parse.
-        ensures progress { (extras : List (ℕ × ℕ)) (taken : List ℕ) (given : List Event) → Progress extras taken given self.old → Progress extras taken (given ++ map not_stx (before_stx self.old.bytes)) self.new }
-    {
-        let count = stx_place(self.window.bytes());
-        self.window.remove(count);
-    }
-
-    /// The STX held in front with an unknown flag two bytes on: `next` would skip them one by one.
-    pub fn flagged(&self) -> &[u8]
-        ensures { result.now ≡ before_other self.now.bytes }
-    {
-        let held = self.window.bytes();
-        &held[..flagged_length(held)]
-    }
-
-    /// Skips these bytes.
-    pub fn skip_flagged(&mut self)
-        ensures held { self.new ≡ record self.old { bytes = from_other self.old.bytes } }
-        ensures room { length self.new.bytes ≤ length self.old.bytes }
-        // The events given and those of these bytes begin the parse.
-        ensures progress { (extras : List (ℕ × ℕ)) (taken : List ℕ) (given : List Event) → Progress extras taken given self.old → Progress extras taken (given ++ map unknown_flag (before_other self.old.bytes)) self.new }
-    {
-        let flagged = flagged_length(self.window.bytes());
-        self.window.remove(flagged);
     }
 
     #[inline(never)]

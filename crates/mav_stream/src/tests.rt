@@ -120,49 +120,6 @@ fn at_most_280_bytes_are_held(rt: HostRuntime) -> Result<(), Fail> {
     Ok(())
 }
 
-// The events of a stream that is held whole, where each run of garbage is skipped at once.
-fn read_by_runs(alloc: Global, extras: Extras, bytes: &[u8]) -> Result<Vec<Event>, NoMemory> {
-    let mut reader = Reader::new(extras);
-    let mut events = Vec::new(alloc);
-    let _ = reader.feed(bytes);
-    reader.end();
-    for _ in 0..281 {
-        for byte in reader.garbage() {
-            events.push(Event::Skipped(*byte, Why::NotStx))?;
-        }
-        reader.skip_garbage();
-        match reader.next() {
-            Next::Frame(frame) => events.push(Event::Frame(frame))?,
-            Next::Skipped(byte, why) => events.push(Event::Skipped(byte, why))?,
-            Next::Need => break,
-        }
-    }
-    Ok(events)
-}
-
-#[test]
-fn runs_of_garbage_are_skipped_byte_by_byte(rt: HostRuntime) -> Result<(), Fail> {
-    let alloc = rt.alloc();
-    for start in 0..35 {
-        let bytes = &CAPTURE[start..];
-        let events = read_by_runs(alloc, extras(alloc)?, bytes)?;
-        let whole = parse(alloc, &extras(alloc)?, bytes)?;
-        assert!(rt; events.as_slice() == whole.as_slice(), "from {start}");
-    }
-    Ok(())
-}
-
-#[test]
-fn garbage_ends_in_front_of_the_first_stx(rt: HostRuntime) -> Result<(), Fail> {
-    let mut reader = Reader::new(extras(rt.alloc())?);
-    assert_eq!(rt; reader.feed(&[7, 8, 0xFD, 9]), 4);
-    assert!(rt; reader.garbage() == [7, 8].as_slice());
-    reader.skip_garbage();
-    assert!(rt; reader.garbage().is_empty());
-    assert_eq!(rt; reader.next(), Next::Need);
-    Ok(())
-}
-
 // A stream of few different bytes, by a fixed generator, so that parts of frames are frequent.
 fn random_stream(alloc: Global, mut seed: u32) -> Result<Vec<u8>, NoMemory> {
     let mut bytes = Vec::new(alloc);

@@ -1,5 +1,5 @@
 use Rattle.std.proofs.Common.{◌≡◌, ◌<◌, ℕ, true}
-use Rattle.mav_stream.specs.Flagged.{is_flagged}
+use Rattle.mav_scan.specs.Flagged.{is_flagged}
 use Rattle.mav_scan.proofs.runs.flagged_length.Given as goal
 
 abbrev pub invariant-loop-place : goal.invariant-loop-place

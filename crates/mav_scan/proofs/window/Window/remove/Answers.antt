@@ -1,5 +1,5 @@
 use Rattle.std.proofs.Common.{◌≡◌, ℕ, ◌-◌, ◌≤◌, drop, length, slice_range, ap, ◌∙◌, arith, length-take}
-use Rattle.mav_scan.proofs.Windows.{without_first}
+use Rattle.mav_stream.proofs.Windows.{without_first}
 use Rattle.mav_scan.proofs.window.Window.remove.Goals as goal
 
 pub returns : goal.returns

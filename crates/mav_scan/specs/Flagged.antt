@@ -1,8 +1,5 @@
 -- Bytes that begin no frame because of an incompatibility flag that isn't known (MAVLink guide, Incompatibility Flags).
 use Rattle.std.specs.Prelude.{ℕ, ◌+◌, Bool, List, [], ◌∷◌, ◌==◌, ◌&&◌, nat_lt, slice_index, if◌then◌else◌}
-use Rattle.mav_frame.specs.declared.events.Event.{Event}
-use Rattle.mav_frame.specs.declared.events.Event.TheVariants.{Skipped}
-use Rattle.mav_frame.specs.declared.looks.Why.TheVariants.{UnknownFlag}
 
 -- whether an STX stands at a place, and an unknown flag two bytes on
 abbrev pub is_flagged : List ℕ → ℕ → Bool
@@ -12,12 +9,3 @@ is_flagged bytes place = slice_index bytes place == 0xFD && nat_lt 1 (slice_inde
 abbrev pub before_other : List ℕ → List ℕ
 before_other [] = []
 before_other (byte ∷ bytes) = if is_flagged (byte ∷ bytes) 0 then byte ∷ before_other bytes else []
-
--- the bytes from that place on
-abbrev pub from_other : List ℕ → List ℕ
-from_other [] = []
-from_other (byte ∷ bytes) = if is_flagged (byte ∷ bytes) 0 then from_other bytes else byte ∷ bytes
-
--- the event of such a byte
-abbrev pub unknown_flag : ℕ → Event
-unknown_flag byte = Skipped byte UnknownFlag
