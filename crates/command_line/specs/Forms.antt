@@ -54,7 +54,7 @@ all_differ (g ∷ gs) = not (list_any (is_named g.name) gs) && all_differ gs
 abbrev pub has_given : OptionName → List Given → Bool
 has_given name settings = list_any (is_named name) settings
 
--- `-` alone, which stands for standard input
+-- `-` alone, which means standard input
 abbrev pub is_stdin : List ℕ → Bool
 is_stdin word = bytes_eq word (codes "-")
 

@@ -1,4 +1,4 @@
--- Words that stand for numbers and bytes.
+-- The numbers and bytes of words.
 use Rattle.std.specs.Prelude.{◌≡◌, ◌≤◌, ◌&&◌, ◌||◌, nat_le, ℕ, Bool, List, length, IsTrue}
 use Rattle.std.specs.List.{list_all}
 use Rattle.std.specs.Fmt.{decimal}

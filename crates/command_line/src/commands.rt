@@ -105,7 +105,7 @@ impl Command {
 }
 
 impl OptionName {
-    /// The word that stands for it.
+    /// Its word.
     pub(crate) fn word(self) -> &'static str
         ensures { result.now ≡ option_word self }
     {

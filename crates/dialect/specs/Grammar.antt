@@ -24,7 +24,7 @@ max_messages = 512
 abbrev pub field_of : FieldText → Option Field
 field_of text = option_map (λ (ty : FieldType). record { ty = ty.0; len = ty.1; name = text.name }) (field_type_of text.ty)
 
--- the definition that a message spells
+-- the definition that a message encodes
 abbrev pub definition_of : MessageText → Definition
 definition_of text = record {
   id = text.id;

@@ -1,4 +1,4 @@
--- How definitions spell the types of fields (MAVLink guide, XML Schema: field).
+-- How definitions write the types of fields (MAVLink guide, XML Schema: field).
 use Rattle.std.specs.Prelude.{ℕ, ◌+◌, ◌*◌, ◌-◌, ◌==◌, ◌&&◌, not, nat_le, Bool, if◌then◌else◌, List, [], ◌∷◌, codes, fold, find, slice_index, Option, Some, None, option_map, option_and_then}
 use Rattle.std.specs.List.{list_all, before_first, after_first}
 use Rattle.std.specs.Option.{option_or}

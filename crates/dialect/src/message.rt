@@ -75,7 +75,7 @@ fn fields_of(alloc: Global, fields: &[SpelledField]) -> Result<Vec<Field>, NoMem
     Ok(defined)
 }
 
-/// The definition that a message spells.
+/// The definition that a message encodes.
 pub(crate) fn definition_of(alloc: Global, message: &SpelledMessage) -> Result<MessageDef, NoMemory>
     ensures { IfOk result (λ def. def ≡ spec.definition_of message.now) }
 {

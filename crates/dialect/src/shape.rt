@@ -1,4 +1,4 @@
-// Messages as definitions spell them.
+// Messages as definitions write them.
 ghost use Rattle.std.specs.Prelude.{◌≡◌, codes, map, length, option_map, option_and_then, IfOk};
 ghost use Rattle.serde_json.specs.Find.{get};
 ghost use Rattle.serde_json.specs.View.{view};

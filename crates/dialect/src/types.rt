@@ -1,4 +1,4 @@
-// The types of fields as definitions spell them.
+// The types of fields as definitions write them.
 ghost use Rattle.std.specs.Prelude.{◌≡◌, ◌-◌, ◌≤◌, ◌==◌, length, position, find, slice_index};
 ghost use Rattle.std.specs.List.{list_all};
 ghost use Rattle.std.specs.Str.{bytes_eq};

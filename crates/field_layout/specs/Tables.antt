@@ -8,7 +8,7 @@ use Rattle.field_layout.specs.CrcExtra.{crc_extra_of}
 use Rattle.field_layout.specs.Faults.{first_fault}
 use Rattle.field_layout.specs.Target.{target_offset}
 
--- the definition has no fault, and each table is what it stands for
+-- the definition has no fault, and each table is what it represents
 pub record IsLaidOut (layout : Inside) : Type 0 where
   pub faultless : first_fault layout.def ≡ None
   pub order : layout.order.items ≡ map place_of (wire_order layout.def)

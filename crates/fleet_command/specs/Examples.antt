@@ -28,7 +28,7 @@ the_station = record { sys = 255; comp = 190 }
 abbrev pub the_plan : List Item
 the_plan = record { frame = 6; command = 16; current = 0; autocontinue = 1; p = 0 ∷ 0 ∷ 0 ∷ 0 ∷ []; x = pos 473977420; y = pos 85455940; z = 0 } ∷ []
 
--- that plan was installed, once, from an upload of that station that was sent whole; and that it is told so is true
+-- that plan was installed, once, from a fully transmitted upload of that station; and that it is told so is true
 pub record IsInstalledOnce : Type 0 where
   pub safe : Safe (played the_key true one_item)
   pub installed : InstallIsTrue (history_of (played the_key true one_item).scene.nodes safe.events) the_drone 0 the_plan the_station

@@ -22,7 +22,7 @@ pub record LinesAreTrue (p : Played) (safe : Safe p) : Type 0 where
   -- installed never is, before or after; a plan that was got is one that the drone held since the download began
   pub outcomes : (place : ℕ) (station : Name) (told : Told) → slice_get p.events place ≡ Some (Ended station told)
       → OutcomeIsTrue (history_of p.scene.nodes safe.events) station told
-  -- each line `install` is: the plan is that of the station's latest upload, which the station has sent whole
+  -- each line `install` is: the plan is that of the station's latest upload, which the station has fully transmitted
   pub installs : (place : ℕ) (drone : Name) (kind : ℕ) (plan : List Item) (by : Name) → slice_get p.events place ≡ Some (Installed drone kind plan by)
       → InstallIsTrue (history_of p.scene.nodes safe.events) drone kind plan by
   -- no upload is installed twice

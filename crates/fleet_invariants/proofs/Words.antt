@@ -1,4 +1,4 @@
--- The numbers that words spell are in the ranges of their types.
+-- The numbers of words are in the ranges of their types.
 use Rattle.std.proofs.Common.{◌≡◌, ℕ, ℤ, pos, ◌+◌, ◌-◌, ◌*◌, ◌%◌, ◌^◌, ◌<◌, ◌≤◌, Bool, true, false, if◌then◌else◌, ◌==◌, ◌&&◌, nat_lt, List, [], ◌∷◌, length, Option, Some, None, IfSome, Ok, Err, is_some, unwrap_or, refl, arith}
 use Rattle.std.specs.Prelude.{All, FitsSigned, IfOk, nat_le}
 use Rattle.std.specs.Int.{w32}

@@ -50,7 +50,7 @@ pub record Played : Type 0 where
 abbrev pub most_lines : ℕ
 most_lines = 100000
 
--- line `number`, which spells `text`: what happened up to it, and then its own step
+-- line `number`, whose bytes are `text`: what happened up to it, and then its own step
 abbrev pub stopped : Played → Stop → Played
 stopped p stop = record p { stop = Some stop }
 

@@ -1,7 +1,7 @@
 //! Secret keys as inputs give them.
 //!
 //! [`read_key`] reads an input to its end as 64 hexadecimal digits and an optional line end; no
-//! byte at all stands for [`default_key`]. It takes no memory, and never more than 67 bytes of the
+//! byte at all means [`default_key`]. It takes no memory, and never more than 67 bytes of the
 //! input: a longer one is refused without reading on.
 #![tactic(auto)]
 

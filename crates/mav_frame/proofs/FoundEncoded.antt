@@ -1,4 +1,4 @@
--- What is read as a frame spells it.
+-- What is read as a frame encodes it.
 use Rattle.std.proofs.Common.{◌≡◌, ℕ, zero, suc, ◌+◌, ◌-◌, ◌*◌, ◌/◌, ◌%◌, ◌<◌, ◌≤◌, ◌==◌, ◌&&◌, Bool, true, false, not, nat_lt, List, [], ◌∷◌, ◌++◌, length, All, take, drop, get_or, slice_index, slice_range, Option, Some, None, IfSome, if◌then◌else◌, refl, sym, ap, ◌∙◌, subst, arith, length-take, length-drop, take-add, drop-cons}
 use Rattle.std.proofs.lemmas.Bool.{ltb-false}
 use Rattle.std.proofs.lemmas.List.{drop-take, drop-drop, get_or_default}
@@ -196,7 +196,7 @@ module _ (extras : List (ℕ × ℕ)) (b : List ℕ) (h : IsBytes b) (f : Facts 
     block = block_fits;
   }
 
--- a look finds a frame only where its bytes spell it
+-- a look finds a frame only where its bytes encode it
 pub once : (extras : List (ℕ × ℕ)) (b : List ℕ) (p : Packet) (n : ℕ) → IsBytes b → look_of extras b ≡ Found p n → (n ≤ length b) × Encodes extras p (take n b) × FitsFrame p
 once extras b p n h e =
     let f = facts extras b p n e in

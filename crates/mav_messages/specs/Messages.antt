@@ -1,4 +1,4 @@
--- What a message stands for: its definition, and its values.
+-- What a message represents: its definition, and its values.
 use Rattle.std.specs.Prelude.{ℕ, ◌==◌, List, find, Option}
 use Rattle.field_layout.specs.Definition.{Definition}
 use Rattle.dialect.specs.Profile.{profile_definitions, heartbeat_definition, ping_definition, param_request_read_definition, param_request_list_definition, param_value_definition, param_set_definition, global_position_int_definition, mission_current_definition, mission_request_list_definition, mission_count_definition, mission_clear_all_definition, mission_item_reached_definition, mission_ack_definition, mission_request_int_definition, mission_item_int_definition, command_long_definition, command_ack_definition, file_transfer_protocol_definition, statustext_definition}

@@ -40,7 +40,7 @@ sent_in before middle after text next rest more first second = record {
       ∙ append_known_twice before first.part second.part;
 }
 
--- one piece is sent whole
+-- all of one piece is sent
 pub sent_piece : (before after : Option (List ℕ)) (piece : List ℕ) → after ≡ append_known before piece → Sent before after piece []
 sent_piece before after piece e = record { part = piece; whole = append-nil piece; appended = e }
 

@@ -1,6 +1,6 @@
 // Names of nodes and of signed streams.
 
-/// A MAVLink node: system id and component id. 0 stands for every system or every component
+/// A MAVLink node: system id and component id. 0 addresses every system or every component
 /// (MAVLink guide, Routing).
 #[derive(Clone, Copy, Debug, PartialEq, Eq)]
 pub struct Name {

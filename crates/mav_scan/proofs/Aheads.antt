@@ -44,7 +44,7 @@ module _ (p : Packet) (n : ℕ) where
   found_id None b e = absurd (not_found UnknownId e)
   found_id (Some extra) b e = checked _ (packet_at b) (frame_size_at b) (past _ (More _) _ (more_found _) e)
 
-  -- it is the one that the bytes spell
+  -- it is the one that the bytes encode
   found_is : (extras : List (ℕ × ℕ)) (b : List ℕ) → look_of extras b ≡ Found p n → (packet_at b ≡ p) × (frame_size_at b ≡ n)
   found_is extras b e =
       let behind_stx = past (nat_lt 0 (length b) && not (slice_index b 0 == 0xFD)) (NotHere NotStx) _ (not_found NotStx) e in

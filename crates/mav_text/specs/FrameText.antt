@@ -53,7 +53,7 @@ number_text Char word = decimal word
 
 -- ---- values of fields
 
--- a character that stands for itself: printable ASCII, neither a quote nor a backslash
+-- a character that is written as it is: printable ASCII, neither a quote nor a backslash
 abbrev pub is_plain : ℕ → Bool
 is_plain byte = nat_le 32 byte && nat_le byte 126 && not (byte == 34) && not (byte == 92)
 

@@ -1,5 +1,5 @@
 // Texts that are put together in a fixed chunk of bytes, of which those up to a place count.
-ghost use Rattle.std.specs.Prelude.{◌≡◌, ◌+◌, ◌≤◌, ◌∷◌, [], ◌++◌, length, take};
+ghost use Rattle.std.specs.Prelude.{◌≡◌, ◌+◌, ◌≤◌, ◌∷◌, [], ◌++◌, length, take, slice_range};
 
 /// How many bytes a chunk has.
 pub(crate) const CHUNK_BYTES: usize = 2048;
@@ -34,6 +34,59 @@ pub(crate) fn put_part<const N: usize>(
 {
     let bytes = &mut chunk[..];
     bytes[at..at + part.len()].copy_from_slice(part);
+    at + len
+}
+
+// Puts eight bytes of a part at a place, and answers the place behind them. All are read before one is written, and
+// written side by side, which makes one load and one store of them.
+#[inline(always)]
+fn put_eight<const N: usize, const M: usize>(
+    chunk: &mut [u8; N],
+    at: usize,
+    part: &[u8; M],
+    from: usize,
+) -> usize
+    requires room { at + 8 ≤ N }
+    requires part { from + 8 ≤ M }
+    ensures place { result ≡ at + 8 }
+    ensures text { take result chunk.new ≡ take at chunk.old ++ slice_range part.now from (from + 8) }
+{
+    let first = part[from];
+    let second = part[from + 1];
+    let third = part[from + 2];
+    let fourth = part[from + 3];
+    let fifth = part[from + 4];
+    let sixth = part[from + 5];
+    let seventh = part[from + 6];
+    let eighth = part[from + 7];
+    chunk[at] = first;
+    chunk[at + 1] = second;
+    chunk[at + 2] = third;
+    chunk[at + 3] = fourth;
+    chunk[at + 4] = fifth;
+    chunk[at + 5] = sixth;
+    chunk[at + 6] = seventh;
+    chunk[at + 7] = eighth;
+    at + 8
+}
+
+/// Puts the first `len` bytes of a part, at most 24, at a place, and answers the place behind them. Always 24 are copied.
+#[inline(always)]
+pub(crate) fn put_short<const N: usize, const M: usize>(
+    chunk: &mut [u8; N],
+    at: usize,
+    part: &[u8; M],
+    len: usize,
+) -> usize
+    requires room { at + 24 ≤ N }
+    requires part { 24 ≤ M }
+    requires len { len ≤ 24 }
+    ensures place { result ≡ at + len }
+    ensures text { take result chunk.new ≡ take at chunk.old ++ take len part.now }
+{
+    let second = put_eight(chunk, at, part, 0);
+    let third = put_eight(chunk, second, part, 8);
+    let _end = put_eight(chunk, third, part, 16);
     at + len
 }
 

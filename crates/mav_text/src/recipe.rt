@@ -9,7 +9,7 @@ ghost use Rattle.mav_text.specs.FrameText.{block_text, sender_text};
 ghost use Rattle.mav_text.specs.RecipeText as spec;
 
 use crate::NoMemory;
-use crate::chunk::put_part;
+use crate::chunk::{put_part, put_short};
 use crate::decimals::put_number;
 use crate::values::{put_block, put_sender, put_value};
 use crate::words::{read_four, read_two};
@@ -118,7 +118,7 @@ impl Front {
         ensures text { take result chunk.new ≡ take at chunk.old ++ self.now }
     {
         if self.len <= SHORT_FRONT_BYTES {
-            put_part(chunk, at, &self.bytes[..SHORT_FRONT_BYTES], self.len)
+            put_short(chunk, at, &self.bytes, self.len)
         } else {
             put_part(chunk, at, &self.bytes, self.len)
         }

@@ -4,7 +4,7 @@ ghost use Rattle.std.specs.Fmt.{decimal};
 ghost use Rattle.mav_text.specs.FrameText.{pair_text, byte_hex, why_text, skip_line, skip_lines};
 
 use crate::NoMemory;
-use crate::chunk::{Chunk, put_part, put_two};
+use crate::chunk::{Chunk, put_short, put_two};
 use crate::decimals::put_number;
 use crate::digits::{byte_digits, pair_digits};
 use mav_frame::Why;
@@ -115,7 +115,7 @@ fn put_behind<const N: usize>(
     ensures room { (at ≤ result) × (result ≤ at + 24) }
     ensures text { take result chunk.new ≡ take at chunk.old ++ (take 6 template.now ++ byte_hex byte ++ drop 8 template.now) }
 {
-    let end = put_part(chunk, at, &template.bytes, template.len);
+    let end = put_short(chunk, at, &template.bytes, template.len);
     let [high, low] = byte_digits(byte);
     chunk[at + 6] = high;
     chunk[at + 7] = low;
@@ -138,7 +138,7 @@ fn put_line(
     ensures room { result ≤ 2048 }
     ensures text { take result chunk.new ≡ take at chunk.old ++ (hundreds.now ++ pair_text pair ++ take 6 template.now ++ byte_hex byte ++ drop 8 template.now) }
 {
-    let place = put_part(chunk, at, &hundreds.bytes, hundreds.len);
+    let place = put_short(chunk, at, &hundreds.bytes, hundreds.len);
     let place = put_two(chunk, place, pair_digits(pair));
     put_behind(chunk, place, byte, template)
 }

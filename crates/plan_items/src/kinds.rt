@@ -11,7 +11,7 @@ pub enum PlanKind {
 }
 
 impl PlanKind {
-    /// The number that stands for all kinds in a clear, MAV_MISSION_TYPE_ALL.
+    /// The number that means all kinds in a clear, MAV_MISSION_TYPE_ALL.
     pub const ALL: u8 = 255;
 
     /// The most items that a plan of this kind has.

@@ -3,7 +3,7 @@ use crate::Item;
 use mav_ports::Name;
 
 /// A message about a plan, for the node `to` (MAVLink guide, Mission Protocol). `kind` is the
-/// number of a kind as it was sent, of none too, and `PlanKind::ALL` stands for all kinds.
+/// number of a kind as it was sent, of none too, and `PlanKind::ALL` means all kinds.
 #[derive(Clone, Copy, Debug, PartialEq, Eq)]
 pub enum PlanMsg {
     /// MISSION_COUNT

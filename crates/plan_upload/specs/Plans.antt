@@ -22,7 +22,7 @@ with_plan p kind items =
     else if kind == 1 then record p { fence = items }
     else record p { rally = items }
 
--- the number that stands for every kind in a clear (MAV_MISSION_TYPE_ALL)
+-- the number that means every kind in a clear (MAV_MISSION_TYPE_ALL)
 abbrev pub every_kind : ℕ
 every_kind = 255
 

@@ -1,4 +1,4 @@
--- The words of a line, and what a word spells.
+-- The words of a line, and what each of them says.
 use Rattle.std.specs.Prelude.{ℕ, ℤ, pos, negsuc, ◌+◌, ◌-◌, ◌*◌, ◌^◌, ◌==◌, ◌&&◌, not, nat_lt, nat_le, Bool, false, if◌then◌else◌, List, [], ◌∷◌, length, Option, Some, None, Ok, Err, slice_index_or}
 use Rattle.std.specs.declared.result.Result.{Result}
 use Rattle.std.specs.List.{slice_split, list_any, list_all, before_first, after_first}
@@ -20,7 +20,7 @@ word_at words k = slice_index_or words k []
 abbrev pub is_digit : ℕ → Bool
 is_digit b = nat_le 48 b && nat_le b 57
 
--- the number that decimal digits stand for, behind those that were read before
+-- the number of decimal digits, behind those that were read before
 abbrev pub digits_onto : ℕ → List ℕ → ℕ
 digits_onto n [] = n
 digits_onto n (d ∷ ds) = digits_onto (n * 10 + (d - 48)) ds

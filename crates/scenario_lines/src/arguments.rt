@@ -2,7 +2,7 @@
 ghost use Rattle.std.specs.Prelude.{◌≤◌, IfOk};
 
 use crate::numbers::{integer, number, wire_word};
-use crate::spellings::{kind, kind_or_all, name};
+use crate::names::{kind, kind_or_all, name};
 use crate::words::Words;
 use crate::{Reason, Role, Roster};
 use mav_ports::Name;

@@ -13,7 +13,7 @@ pub enum Reason {
     Later,
     /// The number of words.
     Count,
-    /// The spelling or the range of a number.
+    /// The form or the range of a number.
     Number,
     /// No node of that name was named before in that role.
     Node,

@@ -11,12 +11,12 @@ mod happenings;
 mod items;
 mod laws;
 mod lines;
+mod names;
 mod nodes;
 mod numbers;
 mod orders;
 mod reading;
 mod roster;
-mod spellings;
 mod words;
 
 pub use faults::{LineFault, Reason};

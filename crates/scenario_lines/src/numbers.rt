@@ -1,4 +1,4 @@
-// Numbers as words spell them.
+// Numbers in the words of a line.
 ghost use Rattle.std.specs.Prelude.{◌≡◌, ◌<◌, ◌≤◌, ◌&&◌, nat_le, if◌then◌else◌, ◌-◌, ◌^◌, negsuc, Some, None};
 ghost use Rattle.std.specs.List.{list_all};
 ghost use Rattle.scenario_lines.specs.Words.{is_digit, is_numeral, digits_value, number_in, integer_of, wire_word, bytes_word};
@@ -35,7 +35,7 @@ fn is_numeral(word: &[u8]) -> bool
     }
 }
 
-/// The number that decimal digits stand for, where it is at most `high`.
+/// The number of decimal digits, where it is at most `high`.
 fn value_up_to(digits: &[u8], high: u64) -> Option<u64>
     ensures { result ≡ (if nat_le (digits_value digits.now) high then Some (digits_value digits.now) else None) }
 {

@@ -15,7 +15,7 @@ use crate::happenings::{
 use crate::items::{read_item, read_items};
 use crate::nodes::{read_drone, read_station};
 use crate::orders::{read_begin, read_cancel, read_clear, read_empty, read_get};
-use crate::spellings::is_word;
+use crate::names::is_word;
 use crate::words::Words;
 use crate::{Line, LineFault, Reason, Roster};
 use std::alloc::Global;

@@ -1,4 +1,4 @@
-// The words of a line, and what a word spells.
+// The words of a line, and what each of them says.
 ghost use Rattle.std.specs.Prelude.{◌≡◌, IfOk};
 
 use crate::NoMemory;

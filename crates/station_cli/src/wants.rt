@@ -10,7 +10,7 @@ pub struct Wanted {
     pub keepers: u8,
 }
 
-/// The inputs that the words name; the others stand for nothing, and aren't read.
+/// The inputs that the words name; the others are empty, and aren't read.
 #[derive(Drop)]
 pub struct Inputs<S> {
     pub main: S,

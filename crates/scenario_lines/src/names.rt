@@ -1,4 +1,4 @@
-// Words that stand for names and kinds.
+// The words for names and kinds.
 ghost use Rattle.std.specs.Prelude.{◌≡◌, position};
 ghost use Rattle.std.specs.Str.{bytes_eq};
 ghost use Rattle.scenario_lines.specs.Words.{is_point, name_of_word};
@@ -8,10 +8,10 @@ use crate::numbers::number;
 use mav_ports::Name;
 use plan_items::PlanKind;
 
-pub(crate) fn is_word(word: &[u8], spelling: &str) -> bool
-    ensures { result ≡ bytes_eq word.now spelling.now }
+pub(crate) fn is_word(word: &[u8], text: &str) -> bool
+    ensures { result ≡ bytes_eq word.now text.now }
 {
-    word == spelling.as_bytes()
+    word == text.as_bytes()
 }
 
 fn first_point(word: &[u8]) -> Option<usize>
