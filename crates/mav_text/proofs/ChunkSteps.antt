@@ -1,6 +1,6 @@
 -- Parts that are put into a chunk.
 use Rattle.std.proofs.Common.{◌≡◌, ℕ, zero, suc, ◌+◌, ◌-◌, ◌<◌, ◌≤◌, List, [], ◌∷◌, ◌++◌, length, take, drop, set, get_or, slice_range, refl, sym, ap, ◌∙◌, arith, append_assoc, append-nil, length-take, take-take}
-use Rattle.std.proofs.Math.Seq.{take-add, take-append-add}
+use Rattle.std.proofs.Math.Seq.{take-add, take-append-add, take-set-lt}
 use Rattle.std.proofs.lemmas.List.{set-append_right, take_more, take_more_set, get_or-drop, length-drop, length-set}
 use Rattle.std.proofs.lemmas.Slice.{take-put_mid}
 use borrow.Rule.Slice.PartMut.{put_mid}
@@ -82,13 +82,6 @@ short_put at len chunk first second third part one two before some short put1 pu
     front_put at len chunk third (take 24 part) before (omega (arith, long)) whole
     ∙ ap (λ (l : List ℕ). front ++ l) (take-take len 24 part short)
 
--- a front of which one element is set
-front_set : (n i : ℕ) (xs : List ℕ) (x : ℕ) → i < n → take n (set xs i x) ≡ set (take n xs) i x
-front_set zero i xs x inside = absurd (omega arith)
-front_set (suc n) i [] x inside = refl
-front_set (suc n) zero (y ∷ ys) x inside = refl
-front_set (suc n) (suc i) (y ∷ ys) x inside = ap (λ (l : List ℕ). y ∷ l) (front_set n i ys x (omega arith))
-
 -- two elements that are set side by side
 two_set : (k : ℕ) (xs : List ℕ) (x y : ℕ) → k + 2 ≤ length xs → set (set xs k x) (k + 1) y ≡ take k xs ++ (x ∷ y ∷ drop (k + 2) xs)
 two_set k [] x y inside = absurd (omega arith)
@@ -99,14 +92,14 @@ two_set (suc k) (a ∷ xs) x y inside =
     let twice : suc k + 2 ≡ suc (k + 2) = omega arith in
     rw (once, twice) (ap (λ (l : List ℕ). a ∷ l) (two_set k xs x y (omega arith)))
 
--- a text that is put behind another one, and then the digits at its seventh and eighth places
-pub digits_put : (at end : ℕ) (old new text : List ℕ) (high low : ℕ) → at ≤ length old → 8 ≤ length text → end ≡ at + length text → take end new ≡ take at old ++ text → take end (set (set new (at + 6) high) (at + 7) low) ≡ take at old ++ (take 6 text ++ (high ∷ low ∷ []) ++ drop 8 text)
-digits_put at end old new text high low before some is put =
+-- a text that is put behind another one, and then two digits at places of it
+pub digits_put : (k at end : ℕ) (old new text : List ℕ) (high low : ℕ) → at ≤ length old → k + 2 ≤ length text → end ≡ at + length text → take end new ≡ take at old ++ text → take end (set (set new (at + k) high) (at + k + 1) low) ≡ take at old ++ (take k text ++ (high ∷ low ∷ drop (k + 2) text))
+digits_put k at end old new text high low before some is put =
     let long : length (take at old) ≡ at = omega (arith, length-take at old) in
-    let six : at + 6 - at ≡ 6 = omega arith in
-    let seven : at + 7 - at ≡ 7 = omega arith in
-    front_set end (at + 7) (set new (at + 6) high) low (omega arith)
-    ∙ (ap (λ (l : List ℕ). set l (at + 7) low) (front_set end (at + 6) new high (omega arith) ∙ (ap (λ (l : List ℕ). set l (at + 6) high) put
-    ∙ set-append_right (take at old) text at (at + 6) high long (omega arith)))
-    ∙ (set-append_right (take at old) (set text (at + 6 - at) high) at (at + 7) low long (omega arith)
-    ∙ ap (λ (l : List ℕ). take at old ++ l) ((λ i. set (set text (six i) high) (seven i) low) ∙ (two_set 6 text high low (omega arith) ∙ sym (append_assoc (take 6 text) (high ∷ low ∷ []) (drop 8 text))))))
+    let here : at + k - at ≡ k = omega arith in
+    let next : at + k + 1 - at ≡ k + 1 = omega arith in
+    take-set-lt end (set new (at + k) high) (at + k + 1) low (omega arith)
+    ∙ (ap (λ (l : List ℕ). set l (at + k + 1) low) (take-set-lt end new (at + k) high (omega arith) ∙ (ap (λ (l : List ℕ). set l (at + k) high) put
+    ∙ set-append_right (take at old) text at (at + k) high long (omega arith)))
+    ∙ (set-append_right (take at old) (set text (at + k - at) high) at (at + k + 1) low long (omega arith)
+    ∙ ap (λ (l : List ℕ). take at old ++ l) ((λ i. set (set text (here i) high) (next i) low) ∙ two_set k text high low (omega arith))))

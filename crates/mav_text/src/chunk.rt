@@ -1,5 +1,5 @@
 // Texts that are put together in a fixed chunk of bytes, of which those up to a place count.
-ghost use Rattle.std.specs.Prelude.{◌≡◌, ◌+◌, ◌≤◌, ◌∷◌, [], ◌++◌, length, take, slice_range};
+ghost use Rattle.std.specs.Prelude.{◌≡◌, ◌+◌, ◌≤◌, ◌∷◌, [], ◌++◌, length, take, slice_index, slice_range, slice_set};
 
 /// How many bytes a chunk has.
 pub(crate) const CHUNK_BYTES: usize = 2048;
@@ -101,6 +101,17 @@ pub(crate) fn put_two<const N: usize>(chunk: &mut [u8; N], at: usize, two: [u8; 
     chunk[at] = first;
     chunk[at + 1] = second;
     at + 2
+}
+
+/// Writes two bytes over those at a place.
+#[inline(always)]
+pub(crate) fn set_two<const N: usize>(chunk: &mut [u8; N], at: usize, two: [u8; 2])
+    requires { at + 2 ≤ N }
+    ensures { chunk.new ≡ slice_set (slice_set chunk.old at (slice_index two 0)) (at + 1) (slice_index two 1) }
+{
+    let [first, second] = two;
+    chunk[at] = first;
+    chunk[at + 1] = second;
 }
 
 // Puts four bytes at a place.

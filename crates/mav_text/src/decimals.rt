@@ -68,9 +68,9 @@ fn put_low<const N: usize>(chunk: &mut [u8; N], at: usize, number: u32) -> usize
     put_two(chunk, place, pair_digits((number % 100) as usize))
 }
 
-// The digits of a number below 100,000,000.
+/// Puts the digits of a number below 100,000,000, and answers the place behind them.
 #[inline(always)]
-fn put_middle<const N: usize>(chunk: &mut [u8; N], at: usize, number: u32) -> usize
+pub(crate) fn put_middle<const N: usize>(chunk: &mut [u8; N], at: usize, number: u32) -> usize
     requires room { at + 9 ≤ N }
     requires number { number < 100000000 }
     ensures place { (at ≤ result) × (result ≤ at + 8) }

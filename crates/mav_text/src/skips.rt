@@ -1,17 +1,24 @@
 // The texts of skipped bytes.
-ghost use Rattle.std.specs.Prelude.{◌≡◌, ◌+◌, ◌%◌, ◌^◌, ◌<◌, ◌≤◌, ◌++◌, ◌∷◌, [], length, take, drop, codes, IfOk, OnOk, OnErr, vec_len};
+ghost use Rattle.std.specs.Prelude.{◌≡◌, ◌+◌, ◌*◌, ◌%◌, ◌^◌, ◌<◌, ◌≤◌, ◌++◌, ◌∷◌, [], length, take, drop, codes, IfOk, OnOk, OnErr, vec_len};
 ghost use Rattle.std.specs.Fmt.{decimal};
-ghost use Rattle.mav_text.specs.FrameText.{pair_text, byte_hex, why_text, skip_line, skip_lines};
+ghost use Rattle.mav_text.specs.FrameText.{byte_hex, why_text, skip_line, skip_lines};
 
 use crate::NoMemory;
-use crate::chunk::{Chunk, put_short, put_two};
-use crate::decimals::put_number;
+use crate::chunk::{Chunk, put_part, put_two, set_two};
+use crate::decimals::{put_middle, put_number};
 use crate::digits::{byte_digits, pair_digits};
 use mav_frame::Why;
 use std::marker::Model;
 
 // More than the longest line has.
 const LINE_BYTES: usize = 48;
+
+// More than a line has whose offset is below `FAR_OFFSET`, and the most that it has.
+const BLANK_BYTES: usize = 40;
+
+const MOST_BYTES: usize = 32;
+
+const FAR_OFFSET: u64 = 10_000_000_000;
 
 // From how many bytes on a chunk is appended: one more line fits behind fewer.
 const ENOUGH_BYTES: usize = 1984;
@@ -30,24 +37,32 @@ impl Model for Template {
 
     ghost view = { λ t. take t.len t.bytes };
 
-    ghost invariant = { λ t. t.len ≤ 24 };
+    ghost invariant = { λ t. t.len ≤ 22 };
 }
 
-// The digits of a number.
+// A line whose offset has some hundreds, with `00` in place of the offset's last two digits and of the byte's.
 #[derive(Drop)]
-struct Digits {
-    bytes: [u8; 24],
+struct Blank {
+    hundreds: u64,
+    why: Why,
+    bytes: [u8; 40],
+    pair: usize,
     len: usize,
 }
 
-impl Model for Digits {
-    ghost use Rattle.std.specs.Prelude.{List, ℕ, ◌≤◌, take};
+impl Model for Blank {
+    ghost use Rattle.std.specs.Prelude.{◌≡◌, ◌<◌, ◌≤◌, ◌++◌, ◌∷◌, [], ℕ, length, take, codes};
+    ghost use Rattle.std.specs.Fmt.{decimal};
+    ghost use Rattle.mav_frame.specs.declared.looks.Why.{Why};
+    ghost use Rattle.mav_text.specs.FrameText.{why_text};
 
-    ghost Value = { List ℕ };
+    ghost Value = { ℕ × Why };
 
-    ghost view = { λ d. take d.len d.bytes };
+    ghost view = { λ b. (b.hundreds, b.why) };
 
-    ghost invariant = { λ d. d.len ≤ 20 };
+    ghost invariant = { λ b. (0 < b.hundreds) × (b.hundreds < 100000000) × (b.pair ≤ 8) × (b.len ≤ 32)
+        × (b.pair ≡ length (decimal b.hundreds))
+        × (take b.len b.bytes ≡ decimal b.hundreds ++ (codes "00 skip 00 " ++ why_text b.why ++ 10 ∷ [])) };
 }
 
 impl Template {
@@ -80,13 +95,38 @@ impl Template {
     }
 }
 
-impl Digits {
-    fn of(number: u64) -> Digits
-        ensures { result ≡ decimal number }
+impl Blank {
+    fn of(hundreds: u64, why: Why) -> Blank
+        requires some { 0 < hundreds }
+        requires near { hundreds < 100000000 }
+        ensures { result ≡ (hundreds, why) }
     {
-        let mut bytes = [0; 24];
-        let len = put_number(&mut bytes, 0, number);
-        Digits { bytes, len }
+        let template = Template::of(why);
+        let mut bytes = [0; BLANK_BYTES];
+        let pair = put_middle(&mut bytes, 0, hundreds as u32);
+        let behind = put_two(&mut bytes, pair, [b'0', b'0']);
+        let len = put_part(&mut bytes, behind, &template.bytes, template.len);
+        Blank {
+            hundreds,
+            why,
+            bytes,
+            pair,
+            len,
+        }
+    }
+
+    // Puts the line of a byte whose offset has these last two digits. A copy of fixed size is the fastest.
+    #[inline(always)]
+    fn put(&self, chunk: &mut [u8; 2048], at: usize, pair: usize, byte: u8) -> usize
+        requires room { at ≤ 1984 }
+        requires pair { pair < 100 }
+        ensures room { result ≤ 2048 }
+        ensures text { take result chunk.new ≡ take at chunk.old ++ skip_line (100 * self.now.0 + pair) byte self.now.1 }
+    {
+        let end = put_part(chunk, at, &self.bytes[..MOST_BYTES], self.len);
+        set_two(chunk, at + self.pair, pair_digits(pair));
+        set_two(chunk, at + self.pair + 8, byte_digits(byte));
+        end
     }
 }
 
@@ -115,32 +155,9 @@ fn put_behind<const N: usize>(
     ensures room { (at ≤ result) × (result ≤ at + 24) }
     ensures text { take result chunk.new ≡ take at chunk.old ++ (take 6 template.now ++ byte_hex byte ++ drop 8 template.now) }
 {
-    let end = put_short(chunk, at, &template.bytes, template.len);
-    let [high, low] = byte_digits(byte);
-    chunk[at + 6] = high;
-    chunk[at + 7] = low;
+    let end = put_part(chunk, at, &template.bytes, template.len);
+    set_two(chunk, at + 6, byte_digits(byte));
     end
-}
-
-// Puts the line of a byte, whose offset has these hundreds and these last two digits.
-#[inline(always)]
-fn put_line(
-    chunk: &mut [u8; 2048],
-    at: usize,
-    hundreds: &Digits,
-    pair: usize,
-    byte: u8,
-    template: &Template,
-) -> usize
-    requires room { at ≤ 1984 }
-    requires pair { pair < 100 }
-    requires digits { 8 ≤ length template.now }
-    ensures room { result ≤ 2048 }
-    ensures text { take result chunk.new ≡ take at chunk.old ++ (hundreds.now ++ pair_text pair ++ take 6 template.now ++ byte_hex byte ++ drop 8 template.now) }
-{
-    let place = put_short(chunk, at, &hundreds.bytes, hundreds.len);
-    let place = put_two(chunk, place, pair_digits(pair));
-    put_behind(chunk, place, byte, template)
 }
 
 // Appends the chunk's text where it is enough, and answers where its text now ends.
@@ -167,7 +184,7 @@ fn append_run(
     end: usize,
     out: &mut Vec<u8>,
 ) -> Result<usize, NoMemory>
-    requires fits { offset + length bytes.now < 2 ^ 64 }
+    requires near { offset + length bytes.now < 10 ^ 10 }
     requires hundreds { 100 ≤ offset }
     requires same { offset % 100 + length bytes.now ≤ 100 }
     requires room { end ≤ 1984 }
@@ -175,12 +192,11 @@ fn append_run(
     ensures text { IfOk result (λ left. out.new.items ++ take left chunk.new ≡ (out.old.items ++ take end chunk.old) ++ skip_lines offset bytes.now why) }
     ensures front { take (vec_len out.old) out.new.items ≡ out.old.items }
 {
-    let hundreds = Digits::of(offset / 100);
-    let template = Template::of(why);
+    let blank = Blank::of(offset / 100, why);
     let mut left = end;
     let mut pair = (offset % 100) as usize;
     for byte in bytes {
-        let behind = put_line(chunk, left, &hundreds, pair, *byte, &template);
+        let behind = blank.put(chunk, left, pair, *byte);
         left = append_enough(chunk, behind, out)?;
         pair += 1;
     }
@@ -205,7 +221,7 @@ fn append_runs(
     chunk: &mut [u8; 2048],
     out: &mut Vec<u8>,
 ) -> Result<(), NoMemory>
-    requires fits { offset + length bytes.now < 2 ^ 64 }
+    requires near { offset + length bytes.now < 10 ^ 10 }
     requires hundreds { 100 ≤ offset }
     ensures ok { OnOk result (out.new.items ≡ out.old.items ++ skip_lines offset bytes.now why) }
     ensures err { OnErr result (take (vec_len out.old) out.new.items ≡ out.old.items) }
@@ -258,6 +274,9 @@ fn append_lines(
     ensures ok { OnOk result (out.new.items ≡ out.old.items ++ skip_lines offset bytes.now why) }
     ensures err { OnErr result (take (vec_len out.old) out.new.items ≡ out.old.items) }
 {
+    if offset + bytes.len() as u64 >= FAR_OFFSET {
+        return append_each(offset, bytes, why, out);
+    }
     let small = small_length(offset, bytes.len());
     append_each(offset, &bytes[..small], why, out)?;
     if small == bytes.len() {
