@@ -1,5 +1,5 @@
 -- Lines of skipped bytes, one after another.
-use Rattle.std.proofs.Common.{◌≡◌, ℕ, suc, ◌+◌, ◌-◌, ◌*◌, ◌/◌, ◌%◌, ◌^◌, ◌<◌, ◌≤◌, List, [], ◌∷◌, ◌++◌, codes, length, take, drop, get_or, set, sym, ap, ◌∙◌, arith, append_assoc, drop-cons, take-take, take-append-drop, length-take, length-append}
+use Rattle.std.proofs.Common.{◌≡◌, ℕ, suc, ◌+◌, ◌-◌, ◌*◌, ◌/◌, ◌%◌, ◌<◌, ◌≤◌, List, [], ◌∷◌, ◌++◌, codes, length, take, drop, get_or, set, sym, ap, ◌∙◌, arith, append_assoc, drop-cons, take-take, take-append-drop, length-take, length-append}
 use Rattle.std.proofs.lemmas.List.{take_all, length-drop}
 use Rattle.std.proofs.Math.Seq.{take-append-add, take-append_seam, drop-append-add}
 use Rattle.std.specs.Fmt.{decimal}

@@ -1,5 +1,5 @@
 // Texts that are put together in a fixed chunk of bytes, of which those up to a place count.
-ghost use Rattle.std.specs.Prelude.{◌≡◌, ◌+◌, ◌≤◌, ◌∷◌, [], ◌++◌, length, take, slice_index, slice_range, slice_set};
+ghost use Rattle.std.specs.Prelude.{◌≡◌, ◌+◌, ◌≤◌, ◌∷◌, [], ◌++◌, length, replicate, take, slice_index, slice_range, slice_set};
 
 /// How many bytes a chunk has.
 pub(crate) const CHUNK_BYTES: usize = 2048;
@@ -11,7 +11,9 @@ pub struct Chunk {
 }
 
 impl Chunk {
-    pub fn new() -> Chunk {
+    pub fn new() -> Chunk
+        ensures { result.bytes ≡ replicate 2048 0 }
+    {
         Chunk {
             bytes: [0; CHUNK_BYTES],
         }

@@ -134,27 +134,24 @@ fn skipped_bytes(rt: HostRuntime) -> Result<(), Fail> {
     Ok(())
 }
 
+// The line of 99 and that of 100, and the last offset whose line is put whole, among them.
 #[test]
 fn runs_of_skipped_bytes(rt: HostRuntime) -> Result<(), Fail> {
     let mut out = Vec::new(rt.alloc());
     let mut chunk = Chunk::new();
-    put_skips(
-        8,
-        &[0x0F, 0xA0, 0xFE, 0x99],
-        Why::NotStx,
-        &mut chunk,
-        &mut out,
-    )?;
-    put_skips(
-        98,
-        &[0xFD, 0xFD, 0xFD],
-        Why::UnknownFlag,
-        &mut chunk,
-        &mut out,
-    )?;
-    put_skips(100, &[0x01], Why::Short, &mut chunk, &mut out)?;
+    let runs: [(u64, &[u8], Why); 6] = [
+        (8, &[0x0F, 0xA0, 0xFE, 0x99], Why::NotStx),
+        (98, &[0xFD, 0xFD, 0xFD], Why::UnknownFlag),
+        (100, &[0x01], Why::Short),
+        (1199, &[0xFD, 0xF0], Why::UnknownFlag),
+        (9_999_999_997, &[0x9A, 0xBC], Why::UnknownId),
+        (9_999_999_999, &[0xDE, 0x00], Why::BadCheck),
+    ];
+    for (offset, bytes, why) in runs {
+        put_skips(offset, bytes, why, &mut chunk, &mut out)?;
+    }
     let expected: &str =
-        "8 skip 0f not-stx\n9 skip a0 not-stx\n10 skip fe not-stx\n11 skip 99 not-stx\n98 skip fd unknown-flag\n99 skip fd unknown-flag\n100 skip fd unknown-flag\n100 skip 01 short\n";
+        "8 skip 0f not-stx\n9 skip a0 not-stx\n10 skip fe not-stx\n11 skip 99 not-stx\n98 skip fd unknown-flag\n99 skip fd unknown-flag\n100 skip fd unknown-flag\n100 skip 01 short\n1199 skip fd unknown-flag\n1200 skip f0 unknown-flag\n9999999997 skip 9a unknown-id\n9999999998 skip bc unknown-id\n9999999999 skip de bad-check\n10000000000 skip 00 bad-check\n";
     assert_eq!(rt; out.as_slice(), expected.as_bytes());
     Ok(())
 }

@@ -1,4 +1,4 @@
-use Rattle.std.proofs.Common.{ℕ, ◌+◌, length, arith}
+use Rattle.std.proofs.Common.{arith}
 use Rattle.mav_text.proofs.ChunkSteps.{eight_put}
 use Rattle.mav_text.proofs.chunk.put_eight.Goals as goal
 

@@ -1,4 +1,4 @@
-use Rattle.std.proofs.Common.{◌≡◌, ℕ, List, ◌+◌, length, take, ap, ◌∙◌, arith}
+use Rattle.std.proofs.Common.{◌≡◌, ℕ, ◌+◌, take, ap, ◌∙◌, arith}
 use Rattle.mav_text.proofs.ChunkSteps.{short_put}
 use Rattle.mav_text.proofs.chunk.put_short.Goals as goal
 

@@ -1,4 +1,4 @@
-use Rattle.std.proofs.Common.{◌≡◌, ℕ, ◌+◌, ◌≤◌, List, [], ◌∷◌, ◌++◌, take, drop, length, slice_index, set, ap, ◌∙◌, sym, arith, append_assoc, length-take}
+use Rattle.std.proofs.Common.{◌≡◌, ℕ, ◌+◌, ◌≤◌, List, [], ◌∷◌, ◌++◌, take, drop, length, slice_index, ap, ◌∙◌, sym, arith, append_assoc, length-take}
 use Rattle.mav_text.specs.FrameText.{byte_hex}
 use Rattle.mav_text.proofs.ChunkSteps.{digits_put}
 use Rattle.mav_text.proofs.skips.put_behind.Goals as goal
