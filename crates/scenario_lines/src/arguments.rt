@@ -1,7 +1,7 @@
 // What a word of a line has to be, and the reason against one that isn't.
 ghost use Rattle.std.specs.Prelude.{◌≤◌, IfOk};
 
-use crate::names::{kind, kind_or_all, name};
+use crate::name_words::{kind, kind_or_all, name};
 use crate::numbers::{integer, number, wire_word};
 use crate::words::Words;
 use crate::{Reason, Role, Roster};

@@ -11,7 +11,7 @@ mod happenings;
 mod items;
 mod laws;
 mod lines;
-mod names;
+mod name_words;
 mod nodes;
 mod numbers;
 mod orders;

@@ -13,7 +13,7 @@ use crate::happenings::{
     read_clock, read_deliver, read_flow, read_heartbeat, read_noise, read_tick,
 };
 use crate::items::{read_item, read_items};
-use crate::names::is_word;
+use crate::name_words::is_word;
 use crate::nodes::{read_drone, read_station};
 use crate::orders::{read_begin, read_cancel, read_clear, read_empty, read_get};
 use crate::words::Words;

@@ -1,7 +1,7 @@
 -- The place of the first point parts the name.
 use Rattle.std.proofs.Common.{sym, ◌∙◌}
 use Rattle.scenario_lines.proofs.Names.{no_point, no_system, no_component, a_name}
-use Rattle.scenario_lines.proofs.names.name.Goals as goal
+use Rattle.scenario_lines.proofs.name_words.name.Goals as goal
 
 pub returns-in_err-point : goal.returns-in_err-point
 returns-in_err-point c = c.from_residual.ensures ∙ sym (no_point c.args.word.now (sym c.in_err-point.ensures))
