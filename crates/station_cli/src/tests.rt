@@ -11,6 +11,7 @@ mod dialects;
 mod keys;
 mod limits;
 mod signed;
+mod worked;
 
 const ONE_ITEM: &[u8] =
     b"drone 1\nstation 255 190\nitem 6 16 473977420 85455940\nbegin 255.190 1.1 mission\nflow 20\n";
