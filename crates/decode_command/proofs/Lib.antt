@@ -8,3 +8,4 @@ pub mod Pieces
 pub mod Ends
 pub mod Starts
 pub mod Stays
+pub mod Worked

@@ -3,3 +3,4 @@ pub mod ParseLaws
 pub mod DecodeText
 pub mod Script
 pub mod Decodes
+pub mod Examples

@@ -1,6 +1,5 @@
 -- The upload of one item, computed from the definitions alone: checksums, signatures and all.
-use Rattle.std.proofs.Common.{◌≡◌, ℕ, List, [], true, false, Option, Some, refl, ap, ◌∙◌}
-use Rattle.std.specs.Io.KnownBytes.{append_known}
+use Rattle.std.proofs.Common.{◌≡◌, ℕ, List, true, false, refl}
 use Rattle.std.specs.Fmt.{digits}
 use Rattle.hex.specs.Hex.{encode_with, decode_pairs}
 use Rattle.sha2.specs.Sha256.{first_words, schedule, rounds, compress, hash_after, digest_bytes, sha256}
@@ -19,10 +18,6 @@ script = fleet_script the_key false
 pub one_item_output : output_of script (end_of (script.stop true one_item)) true one_item ≡ one_item_installed
 unfolding digits item_fault whole_fault plan_fault encode_with decode_pairs first_words schedule rounds compress hash_after digest_bytes sha256 check.after_byte
 one_item_output = refl
-
--- so that is what an empty output holds then
-pub one_item_sent : (before after : Option (List ℕ)) → before ≡ Some [] → after ≡ append_known before (output_of script (end_of (script.stop true one_item)) true one_item) → after ≡ Some one_item_installed
-one_item_sent before after empty sent = sent ∙ ap (λ (b : Option (List ℕ)). append_known b (output_of script (end_of (script.stop true one_item)) true one_item)) empty ∙ ap Some one_item_output
 
 pub one_item_code : code_of (end_of (script.stop true one_item)) ≡ 0
 unfolding digits item_fault whole_fault plan_fault encode_with decode_pairs first_words schedule rounds compress hash_after digest_bytes sha256 check.after_byte

@@ -1,17 +1,20 @@
--- What the clauses of `run` say of `fleet file` over one scenario, where the ports are in memory and don't fail.
-use Rattle.std.proofs.Common.{◌≡◌, ◌≢◌, ◌⊎◌, inl, inr, ◌∙◌, ℕ, true, false, List, [], ◌∷◌, codes, refl, arith, lit≤, Option, Some, None, IsTrue}
+-- What the clauses of `run` say of a command and one file, where the ports are in memory and don't fail.
+use Rattle.std.proofs.Common.{◌≡◌, ◌≢◌, ◌≤◌, ◌⊎◌, inl, inr, ◌∙◌, ℕ, true, false, List, [], ◌∷◌, codes, refl, ap, arith, lit≤, Option, Some, None, IsTrue}
+use Rattle.std.specs.Io.KnownBytes.{append_known}
 use Rattle.mav_ports.specs.SureReads.{SureReads}
 use Rattle.mav_ports.specs.SureWrites.{SureWrites}
-use Rattle.command_line.specs.declared.commands.Command.TheVariants.{Fleet}
-use Rattle.command_line.specs.Built.{built}
+use Rattle.command_line.specs.declared.commands.Command.{Command}
+use Rattle.command_line.specs.declared.commands.Command.TheVariants.{Fleet, Decode}
+use Rattle.command_line.specs.Built.{built, is_built}
+use Rattle.command_line.specs.Commands.{command_word, needs_key}
+use Rattle.command_line.specs.Forms.{stdin_files, ArePlain, IsFile}
 use Rattle.command_line.specs.Grammar.{Asked, Asks, Bare}
-use Rattle.command_ends.specs.Runs.{OrFails, end_of, output_of as output_by}
+use Rattle.command_ends.specs.Runs.{Script, end_of, output_of as output_by}
 use Rattle.command_ends.specs.Endings.{code_of}
 use Rattle.key_input.specs.KeyText.{default_key}
-use Rattle.fleet_command.specs.Script.{fleet_script}
-use Rattle.fleet_command.specs.Examples.{one_item, one_item_installed, the_key, IsInstalledOnce}
+use Rattle.fleet_command.specs.Examples.{one_item, the_key, IsInstalledOnce}
 use Rattle.fleet_command.proofs.Theorem.{theorem_of}
-use Rattle.fleet_command.proofs.Worked.{script, one_item_sent, one_item_code, one_item_authentic, installed_once}
+use Rattle.fleet_command.proofs.Worked.{one_item_authentic, installed_once}
 use Rattle.station_cli.specs.Seen.{Input, Output, input_of, output_of, around, promised_over}
 use Rattle.station_cli.specs.Fleets.{CarriesOver}
 
@@ -21,22 +24,34 @@ never same = cc
 some_byte : (byte : ℕ) (bytes : List ℕ) → byte ∷ bytes ≢ []
 some_byte byte bytes same = cc
 
--- the words are a line of the grammar
-abbrev pub line : Asked
-line = record { command = Fleet; settings = []; plain = codes "file" ∷ [] }
+abbrev the_file : List (List ℕ)
+the_file = codes "file" ∷ []
 
-pub line_asks : (words : List (List ℕ)) → words ≡ codes "fleet" ∷ codes "file" ∷ [] → Asks built words line
-line_asks words same = record {
+-- a command and a file are a line of the grammar
+abbrev pub asked : Command → Asked
+asked command = record { command = command; settings = []; plain = the_file }
+
+is_file : IsFile the_file
+is_file = (codes "file", refl, some_byte 102 (codes "ile"))
+
+asks : (command : Command) (words : List (List ℕ)) → words ≡ command_word command ∷ the_file → is_built command ≡ true → (IsTrue (needs_key command) → ⊥) → ArePlain command [] the_file → stdin_files command [] the_file ≤ 1 → Asks built words (asked command)
+asks command words same is_built no_key plain one = record {
   written = record { pieces = Bare (codes "file") ∷ []; behind = None; are_pieces = (refl, tt); words_are = same; settings_are = refl; plain_are = refl };
   fits = record {
-    command_built = refl;
+    command_built = is_built;
     options_taken = tt;
     once = refl;
-    key_given = λ needed. absurd (never needed);
-    plain_words = (codes "file", refl, some_byte 102 (codes "ile"));
-    one_stdin = lit≤ tt;
+    key_given = λ needed. absurd (no_key needed);
+    plain_words = plain;
+    one_stdin = one;
   };
 }
+
+pub asks_fleet : (words : List (List ℕ)) → words ≡ codes "fleet" ∷ the_file → Asks built words (asked Fleet)
+asks_fleet words same = asks Fleet words same refl never is_file (lit≤ tt)
+
+pub asks_decode : (words : List (List ℕ)) → words ≡ codes "decode" ∷ the_file → Asks built words (asked Decode)
+asks_decode words same = asks Decode words same refl never is_file (lit≤ tt)
 
 -- such an input and such an output, before and after
 abbrev sure_input : SureReads → SureReads → Input
@@ -45,22 +60,21 @@ sure_input old new = input_of (λ (s : SureReads). IsTrue s.ended) (λ (s : Sure
 abbrev sure_output : SureWrites → SureWrites → Output
 sure_output old new = output_of (λ (s : SureWrites). s.faults) (λ (s : SureWrites). Some s.sent) old new
 
-module _ (old new : SureReads) (before after : SureWrites) (code : ℕ) (scenario : Some old.left ≡ Some one_item) where
-  told : promised_over (sure_output before after) code (fleet_script default_key false) (sure_input old new) → OrFails (code_of (end_of (script.stop true one_item))) (output_by script (end_of (script.stop true one_item)) true one_item) code (Some before.sent) (Some after.sent)
-  told promises = promises.told one_item scenario (λ h. omega (arith, h)) (λ busy. omega (arith, busy (omega arith)))
-
-  pub status_told : promised_over (sure_output before after) code (fleet_script default_key false) (sure_input old new) → (code ≡ 0) ⊎ ((code ≡ 5) ⊎ (code ≡ 7))
-  status_told promises = elim (told promises) [
-    | inl p ↦ inl (p.0 ∙ one_item_code)
+-- a script's input, and what is written of it, by computation
+module _ (s : Script) (bytes text : List ℕ) (done : code_of (end_of (s.stop true bytes)) ≡ 0) (whole : output_by s (end_of (s.stop true bytes)) true bytes ≡ text) (old new : SureReads) (before after : SureWrites) (code : ℕ) (input : Some old.left ≡ Some bytes) (promises : promised_over (sure_output before after) code s (sure_input old new)) where
+  pub status_told : (code ≡ 0) ⊎ ((code ≡ 5) ⊎ (code ≡ 7))
+  status_told = elim (promises.told bytes input (λ h. omega (arith, h)) (λ busy. omega (arith, busy (omega arith)))) [
+    | inl p ↦ inl (p.0 ∙ done)
     | inr q ↦ inr q
   ]
 
-  pub report_told : Some before.sent ≡ Some [] → code ≡ 0 → promised_over (sure_output before after) code (fleet_script default_key false) (sure_input old new) → Some after.sent ≡ Some one_item_installed
-  report_told empty zero promises = elim (told promises) [
-    | inl p ↦ one_item_sent (Some before.sent) (Some after.sent) empty p.1
+  pub text_told : Some before.sent ≡ Some [] → code ≡ 0 → Some after.sent ≡ Some text
+  text_told empty zero = elim (promises.told bytes input (λ h. omega (arith, h)) (λ busy. omega (arith, busy (omega arith)))) [
+    | inl p ↦ p.1 ∙ (ap (λ (b : Option (List ℕ)). append_known b (output_by s (end_of (s.stop true bytes)) true bytes)) empty ∙ ap Some whole)
     | inr q ↦ elim q [ inl e ↦ absurd (omega (arith, e, zero)) | inr e ↦ absurd (omega (arith, e, zero)) ]
   ]
 
-  pub installed_told : code ≡ 0 → CarriesOver default_key false (sure_output before after) code (sure_input old new) → IsInstalledOnce
-  installed_told zero carries =
-      installed_once (theorem_of the_key false (around (sure_input old new) (sure_output before after)) one_item (Some old.left) (Some new.left) (Some before.sent) (Some after.sent) code carries zero scenario (λ spent. spent.1) one_item_authentic)
+-- and what the main theorem says of the upload of one item
+pub installed_told : (old new : SureReads) (before after : SureWrites) (code : ℕ) → Some old.left ≡ Some one_item → code ≡ 0 → CarriesOver default_key false (sure_output before after) code (sure_input old new) → IsInstalledOnce
+installed_told old new before after code scenario zero carries =
+    installed_once (theorem_of the_key false (around (sure_input old new) (sure_output before after)) one_item (Some old.left) (Some new.left) (Some before.sent) (Some after.sent) code carries zero scenario (λ spent. spent.1) one_item_authentic)
