@@ -21,8 +21,8 @@ use mav_scan::{Ahead, Scanner};
 use mav_text::{Chunk, put_decimal, put_skips};
 use std::alloc::Global;
 
-// More than a line has.
-const LINE_BYTES: usize = 8192;
+// More than the lines of what stands in front have.
+const MOST_BYTES: usize = 49_152;
 
 /// A stream of which some bytes were taken: what is held of it, and the lines that aren't written yet.
 #[derive(Drop)]
@@ -48,7 +48,7 @@ impl Decoder {
         Ok(Decoder {
             known: Prepared::new(alloc, known)?,
             reader: Scanner::new(alloc, extras)?,
-            text: Vec::with_capacity(alloc, ENOUGH_BYTES + LINE_BYTES)?,
+            text: Vec::with_capacity(alloc, ENOUGH_BYTES + MOST_BYTES)?,
             chunk: Chunk::new(),
             offset: 0,
             frames: 0,

@@ -1,5 +1,6 @@
 -- STX with unknown flags begin no frame, one by one.
-use Rattle.std.proofs.Common.{◌≡◌, ℕ, zero, suc, ◌+◌, ◌<◌, ◌≤◌, Bool, true, false, List, [], ◌∷◌, ◌==◌, ◌&&◌, nat_lt, if◌then◌else◌, length, drop, slice_index, inl, inr, refl, sym, ap, ◌∙◌, subst, arith}
+use Rattle.std.proofs.Common.{◌≡◌, ℕ, zero, suc, ◌+◌, ◌<◌, ◌≤◌, Bool, true, false, List, [], ◌∷◌, ◌==◌, ◌&&◌, nat_lt, if◌then◌else◌, length, min, drop, slice_index, inl, inr, refl, sym, ap, ◌∙◌, subst, arith}
+use Rattle.std.proofs.lemmas.Bool.{cases_lt}
 use Rattle.std.proofs.lemmas.Bool.Decides.{nat_tests}
 use Rattle.mav_frame.specs.Looks.{look_of}
 use Rattle.mav_frame.specs.declared.looks.Look.TheVariants.{NotHere}
@@ -12,7 +13,7 @@ behind : (x : ℕ) (xs : List ℕ) (k : ℕ) → is_flagged (x ∷ xs) (suc k) �
 behind x xs k = let e : suc k + 2 ≡ suc (k + 2) = omega arith in ap (λ (n : ℕ). slice_index xs k == 0xFD && nat_lt 1 (slice_index (x ∷ xs) n)) e
 
 -- where none stands the run ends
-pub run_stops : (b : List ℕ) (n : ℕ) → n ≤ length b → ((k : ℕ) → k < n → is_flagged b k ≡ true) → is_flagged b n ≡ false → n ≡ length (before_other b)
+run_stops : (b : List ℕ) (n : ℕ) → n ≤ length b → ((k : ℕ) → k < n → is_flagged b k ≡ true) → is_flagged b n ≡ false → n ≡ length (before_other b)
 run_stops [] zero within before other = refl
 run_stops [] (suc n) within before other = absurd (omega arith)
 run_stops (x ∷ xs) zero within before other =
@@ -20,6 +21,21 @@ run_stops (x ∷ xs) zero within before other =
 run_stops (x ∷ xs) (suc n) within before other =
     let ih = run_stops xs n (omega arith) (λ k h. sym (behind x xs k) ∙ before (suc k) (omega arith)) (sym (behind x xs n) ∙ other) in
     subst (λ (t : Bool). suc n ≡ length (if t then x ∷ before_other xs else [])) (sym (before 0 (omega arith))) (ap (λ (k : ℕ). suc k) ih)
+
+-- it isn't shorter than bytes that are all of it
+run_reaches : (b : List ℕ) (n : ℕ) → n ≤ length b → ((k : ℕ) → k < n → is_flagged b k ≡ true) → n ≤ length (before_other b)
+run_reaches b zero within before = omega arith
+run_reaches [] (suc n) within before = absurd (omega arith)
+run_reaches (x ∷ xs) (suc n) within before =
+    let ih = run_reaches xs n (omega arith) (λ k h. sym (behind x xs k) ∙ before (suc k) (omega arith)) in
+    subst (λ (t : Bool). suc n ≤ length (if t then x ∷ before_other xs else [])) (sym (before 0 (omega arith))) (omega (arith, ih))
+
+-- the run, where only so many bytes of it are looked for
+pub run_capped : (b : List ℕ) (n most : ℕ) → n ≤ min most (length b) → ((k : ℕ) → k < n → is_flagged b k ≡ true) → (n < most → is_flagged b n ≡ false) → n ≡ min most (length (before_other b))
+run_capped b n most within before other = elim (cases_lt n most) [
+  | inl less ↦ let e = run_stops b n (omega arith) before (other less) in omega (arith, e)
+  | inr more ↦ let r = run_reaches b n (omega arith) before in omega (arith, r)
+]
 
 shorter : (t : Bool) (x : ℕ) (xs : List ℕ) → length (before_other xs) ≤ length xs → length (if t then x ∷ before_other xs else []) ≤ length (x ∷ xs)
 shorter true x xs h = omega arith

@@ -1,5 +1,5 @@
 -- Bytes in front of an STX begin no frame, one by one.
-use Rattle.std.proofs.Common.{◌≡◌, ◌≢◌, ℕ, zero, suc, ◌<◌, ◌≤◌, Bool, true, false, List, [], ◌∷◌, ◌==◌, if◌then◌else◌, length, drop, slice_index, refl, sym, ap, subst, arith}
+use Rattle.std.proofs.Common.{◌≡◌, ◌≢◌, ℕ, zero, suc, ◌<◌, ◌≤◌, Bool, true, false, List, [], ◌∷◌, ◌==◌, if◌then◌else◌, length, min, take, drop, slice_index, refl, sym, ap, subst, arith}
 use Rattle.std.specs.Prelude.{nat_lt}
 use Rattle.std.proofs.lemmas.Bool.Decides.{nat_tests}
 use Rattle.mav_frame.specs.Looks.{look_of}
@@ -29,6 +29,16 @@ shorter false x xs h = omega arith
 pub garbage_within : (b : List ℕ) → length (before_stx b) ≤ length b
 garbage_within [] = omega arith
 garbage_within (x ∷ xs) = shorter (x == 0xFD) x xs (garbage_within xs)
+
+-- the run in a front of the bytes
+front_step : (t : Bool) (n x : ℕ) (xs : List ℕ) → length (before_stx (take n xs)) ≡ min n (length (before_stx xs)) → length (if t then [] else x ∷ before_stx (take n xs)) ≡ min (suc n) (length (if t then [] else x ∷ before_stx xs))
+front_step true n x xs h = omega arith
+front_step false n x xs h = omega arith
+
+pub garbage_front : (n : ℕ) (b : List ℕ) → length (before_stx (take n b)) ≡ min n (length (before_stx b))
+garbage_front zero b = omega arith
+garbage_front (suc n) [] = omega arith
+garbage_front (suc n) (x ∷ xs) = front_step (x == 0xFD) n x xs (garbage_front n xs)
 
 some : (x : ℕ) (xs : List ℕ) → nat_lt 0 (length (x ∷ xs)) ≡ true
 some x xs = grind (arith, nat_tests)

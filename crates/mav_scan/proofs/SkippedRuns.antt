@@ -25,15 +25,15 @@ module _ (extras : List (ℕ × ℕ)) (b : List ℕ) where
 
   -- each byte of a run is skipped for the reason of the first
   pub each_looked : (why : Why) → look_of extras b ≡ NotHere why → (k : ℕ) → k < run_length why b → look_of extras (drop k b) ≡ NotHere why
-  each_looked NotStx e k h = garbage_looked extras b k h
-  each_looked UnknownFlag e k h = flagged_looked extras b k h
+  each_looked NotStx e k h = garbage_looked extras b k (omega (arith, h))
+  each_looked UnknownFlag e k h = flagged_looked extras b k (omega (arith, h))
   each_looked UnknownId e k h = first UnknownId e k h
   each_looked BadCheck e k h = first BadCheck e k h
   each_looked Short e k h = first Short e k h
 
   pub run_within : (why : Why) → look_of extras b ≡ NotHere why → run_length why b ≤ length b
-  run_within NotStx e = garbage_within b
-  run_within UnknownFlag e = flagged_within b
+  run_within NotStx e = let most = garbage_within b in omega arith
+  run_within UnknownFlag e = let most = flagged_within b in omega arith
   run_within UnknownId e = let some = some_held extras b UnknownId e in omega arith
   run_within BadCheck e = let some = some_held extras b BadCheck e in omega arith
   run_within Short e = let some = some_held extras b Short e in omega arith
@@ -53,8 +53,8 @@ both a b stx flag = grind (arith, nat_tests)
 
 -- some bytes are skipped for that reason
 pub run_some : (extras : List (ℕ × ℕ)) (b : List ℕ) (why : Why) → look_of extras b ≡ NotHere why → 0 < run_length why b
-run_some extras b NotStx e = let r = reason extras b NotStx e in stx_some b r.0 r.1
-run_some extras b UnknownFlag e = let r = reason extras b UnknownFlag e in flagged_some b (omega (arith, r.1)) (both (slice_index b 0) (slice_index b 2) r.0 r.2)
+run_some extras b NotStx e = let r = reason extras b NotStx e in let some = stx_some b r.0 r.1 in omega arith
+run_some extras b UnknownFlag e = let r = reason extras b UnknownFlag e in let some = flagged_some b (omega (arith, r.1)) (both (slice_index b 0) (slice_index b 2) r.0 r.2) in omega arith
 run_some extras b UnknownId e = omega arith
 run_some extras b BadCheck e = omega arith
 run_some extras b Short e = omega arith

@@ -1,5 +1,5 @@
 -- What stands in front of the bytes that a scanner holds.
-use Rattle.std.specs.Prelude.{ℕ, ◌&&◌, nat_lt, if◌then◌else◌, List, [], ◌∷◌, length, take, drop, map}
+use Rattle.std.specs.Prelude.{ℕ, ◌&&◌, nat_lt, if◌then◌else◌, List, [], ◌∷◌, length, take, drop, map, min}
 use Rattle.mav_frame.specs.Looks.{look_of, packet_at}
 use Rattle.mav_frame.specs.declared.looks.Look.{Look}
 use Rattle.mav_frame.specs.declared.looks.Look.TheVariants.{Frame as Found, NotHere, More}
@@ -13,11 +13,15 @@ use Rattle.mav_scan.specs.Flagged.{before_other}
 use Rattle.mav_scan.specs.declared.ahead.Ahead.{Ahead}
 use Rattle.mav_scan.specs.declared.ahead.Ahead.TheVariants.{Frame, Run, Need}
 
--- how many bytes in front are skipped one by one for the reason of the first: those in front of the next STX, the STX
--- with unknown flags, else one
+-- the most bytes that are answered as one run
+abbrev pub most_run : ℕ
+most_run = 1024
+
+-- how many bytes in front are skipped one by one for the reason of the first: those in front of the next STX, or the STX
+-- with unknown flags, at most so many of either; else one
 abbrev pub run_length : Why → List ℕ → ℕ
-run_length NotStx bytes = length (before_stx bytes)
-run_length UnknownFlag bytes = length (before_other bytes)
+run_length NotStx bytes = min most_run (length (before_stx bytes))
+run_length UnknownFlag bytes = min most_run (length (before_other bytes))
 run_length UnknownId bytes = 1
 run_length BadCheck bytes = 1
 run_length Short bytes = 1

@@ -4,7 +4,8 @@ ghost use Rattle.mav_scan.specs.Ahead.{size_ahead};
 
 use mav_frame::Why;
 
-/// A frame and its length in bytes, how many bytes are skipped one by one and why, or nothing before more bytes come.
+/// A frame and its length in bytes, how many bytes are skipped one by one and why (at most 1,024 at once), or nothing
+/// before more bytes come.
 #[derive(Clone, Copy, Debug, PartialEq, Eq)]
 pub enum Ahead {
     Frame(usize),

@@ -1,11 +1,14 @@
 // How many bytes in front begin no frame for one reason.
-ghost use Rattle.std.specs.Prelude.{◌≡◌, ◌+◌, ◌-◌, ◌<◌, ◌≤◌, ◌≢◌, ℕ, length, slice_index, true, false};
+ghost use Rattle.std.specs.Prelude.{◌≡◌, ◌+◌, ◌-◌, ◌<◌, ◌≤◌, ◌≢◌, ℕ, length, min, slice_index, true, false};
 ghost use Rattle.mav_scan.specs.Flagged.{is_flagged as is_flagged_at};
-ghost use Rattle.mav_scan.specs.Ahead.{run_length};
+ghost use Rattle.mav_scan.specs.Ahead.{most_run, run_length};
 
 use crate::looking::STX;
 use mav_frame::Why;
 use memchr::memchr;
+
+// The most bytes of a run, so that what is made of one stays small.
+const MOST_RUN: usize = 1024;
 
 // Where the first STX stands, or how many bytes there are.
 fn stx_place(bytes: &[u8]) -> usize
@@ -42,26 +45,27 @@ fn are_flagged(bytes: &[u8], place: usize) -> bool
     all
 }
 
-// How many stand in front, eight by eight.
-fn flagged_eights(bytes: &[u8]) -> usize
-    ensures within { result ≤ length bytes.now - 2 }
+// How many stand in front, eight by eight, of so many bytes.
+fn flagged_eights(bytes: &[u8], most: usize) -> usize
+    requires { most ≤ length bytes.now - 2 }
+    ensures within { result ≤ most }
     ensures before { (k : ℕ) → k < result → is_flagged_at bytes.now k ≡ true }
 {
     let mut place = 0;
-    while place + 10 <= bytes.len() && are_flagged(bytes, place) {
+    while place + 8 <= most && are_flagged(bytes, place) {
         place += 8;
     }
     place
 }
 
-// How many STX with unknown flags stand in front.
+// How many STX with unknown flags stand in front, of the most that a run has.
 fn flagged_length(bytes: &[u8]) -> usize
-    ensures within { result ≤ length bytes.now }
+    ensures within { result ≤ min most_run (length bytes.now) }
     ensures before { (k : ℕ) → k < result → is_flagged_at bytes.now k ≡ true }
-    ensures other { is_flagged_at bytes.now result ≡ false }
+    ensures other { result < most_run → is_flagged_at bytes.now result ≡ false }
 {
-    let most = bytes.len().saturating_sub(2);
-    for place in flagged_eights(bytes)..most {
+    let most = bytes.len().saturating_sub(2).min(MOST_RUN);
+    for place in flagged_eights(bytes, most)..most {
         if !is_flagged(bytes, place) {
             return place;
         }
@@ -74,7 +78,7 @@ pub(crate) fn run_for(why: Why, bytes: &[u8]) -> usize
     ensures { result ≡ run_length why bytes.now }
 {
     match why {
-        Why::NotStx => stx_place(bytes),
+        Why::NotStx => stx_place(&bytes[..bytes.len().min(MOST_RUN)]),
         Why::UnknownFlag => flagged_length(bytes),
         Why::UnknownId | Why::BadCheck | Why::Short => 1,
     }

@@ -103,12 +103,27 @@ fn ids_above_the_table_are_looked_up(rt: HostRuntime) -> Result<(), Fail> {
 }
 
 #[test]
+fn a_run_of_garbage_is_answered_in_parts(rt: HostRuntime) -> Result<(), Fail> {
+    let garbage = vec![in rt.alloc(); 7u8; 1030]?;
+    let mut scanner = Scanner::new(rt.alloc(), extras(rt.alloc())?)?;
+    assert_eq!(rt; scanner.feed(&garbage), 1030);
+    assert_eq!(rt; scanner.feed(&HEARTBEAT), 21);
+    assert_eq!(rt; pass(&mut scanner), Ahead::Run(Why::NotStx, 1024));
+    assert_eq!(rt; pass(&mut scanner), Ahead::Run(Why::NotStx, 6));
+    assert_eq!(rt; pass(&mut scanner), Ahead::Frame(21));
+    Ok(())
+}
+
+#[test]
 fn a_large_piece_fills_the_room(rt: HostRuntime) -> Result<(), Fail> {
     let flagged = vec![in rt.alloc(); 0xFDu8; 65_817]?;
     let mut scanner = Scanner::new(rt.alloc(), extras(rt.alloc())?)?;
     assert_eq!(rt; scanner.feed(&flagged), 65_816);
     assert_eq!(rt; scanner.feed(&flagged), 0);
-    assert_eq!(rt; pass(&mut scanner), Ahead::Run(Why::UnknownFlag, 65_814));
+    for _ in 0..64 {
+        assert_eq!(rt; pass(&mut scanner), Ahead::Run(Why::UnknownFlag, 1024));
+    }
+    assert_eq!(rt; pass(&mut scanner), Ahead::Run(Why::UnknownFlag, 278));
     assert_eq!(rt; pass(&mut scanner), Ahead::Need);
     assert_eq!(rt; scanner.feed(&[0, 0]), 2);
     assert_eq!(rt; pass(&mut scanner), Ahead::Need);
