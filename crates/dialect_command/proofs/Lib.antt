@@ -3,3 +3,4 @@ pub mod Readings
 pub mod Writings
 pub mod Endings
 pub mod Refusals
+pub mod Worked

@@ -2,3 +2,4 @@ pub mod Script
 pub mod Reads
 pub mod Writes
 pub mod Ends
+pub mod Examples

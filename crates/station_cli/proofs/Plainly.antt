@@ -1,10 +1,12 @@
--- What the clauses of `run` say of a command and one file, where the ports are in memory and don't fail.
-use Rattle.std.proofs.Common.{◌≡◌, ◌≢◌, ◌≤◌, ◌⊎◌, inl, inr, ◌∙◌, ℕ, true, false, List, [], ◌∷◌, codes, refl, ap, arith, lit≤, Option, Some, None, IsTrue}
+-- What the clauses of `run` say of a command without options, where the ports are in memory and don't fail.
+use Rattle.std.proofs.Common.{◌≡◌, ◌≢◌, ◌+◌, ◌-◌, ◌^◌, ◌<◌, ◌≤◌, ◌⊎◌, inl, inr, ◌∙◌, ℕ, true, false, List, [], ◌∷◌, codes, refl, ap, arith, lit≤, Option, Some, None, IsTrue}
 use Rattle.std.specs.Io.KnownBytes.{append_known}
+use Rattle.std.specs.Prelude.{⊤}
+use Rattle.mav_ports.specs.Counts.{Rose}
 use Rattle.mav_ports.specs.SureReads.{SureReads}
 use Rattle.mav_ports.specs.SureWrites.{SureWrites}
 use Rattle.command_line.specs.declared.commands.Command.{Command}
-use Rattle.command_line.specs.declared.commands.Command.TheVariants.{Fleet, Decode}
+use Rattle.command_line.specs.declared.commands.Command.TheVariants.{Fleet, Dialect, Decode}
 use Rattle.command_line.specs.Built.{built, is_built}
 use Rattle.command_line.specs.Commands.{command_word, needs_key}
 use Rattle.command_line.specs.Forms.{stdin_files, ArePlain, IsFile}
@@ -53,23 +55,48 @@ asks_fleet words same = asks Fleet words same refl never is_file (lit≤ tt)
 pub asks_decode : (words : List (List ℕ)) → words ≡ codes "decode" ∷ the_file → Asks built words (asked Decode)
 asks_decode words same = asks Decode words same refl never is_file (lit≤ tt)
 
+abbrev pub asked_dialect : Asked
+asked_dialect = record { command = Dialect; settings = []; plain = [] }
+
+pub asks_dialect : (words : List (List ℕ)) → words ≡ codes "dialect" ∷ [] → Asks built words asked_dialect
+asks_dialect words same = record {
+  written = record { pieces = []; behind = None; are_pieces = tt; words_are = same; settings_are = refl; plain_are = refl };
+  fits = record { command_built = refl; options_taken = tt; once = refl; key_given = λ needed. absurd (never needed); plain_words = refl; one_stdin = lit≤ tt };
+}
+
 -- such an input and such an output, before and after
-abbrev sure_input : SureReads → SureReads → Input
+abbrev pub sure_input : SureReads → SureReads → Input
 sure_input old new = input_of (λ (s : SureReads). IsTrue s.ended) (λ (s : SureReads). 0) (λ (s : SureReads). 0) (λ (s : SureReads). Some s.left) old new
 
 abbrev sure_output : SureWrites → SureWrites → Output
 sure_output old new = output_of (λ (s : SureWrites). s.faults) (λ (s : SureWrites). Some s.sent) old new
 
+-- no input is read
+abbrev pub no_input : Input
+no_input = record { spent = ⊤; unread = ⊤; faults_before = 0; faults_after = 0; idles_before = 0; idles_after = 0; left_before = Some []; left_after = Some [] }
+
+abbrev Fails : Input → Type 0
+Fails main = Rose main.faults_before main.faults_after
+
+abbrev Idles : Input → Type 0
+Idles main = main.idles_after < 2 ^ 64 - 1 → main.idles_before + 1000000 ≤ main.idles_after
+
+pub sure : Rose 0 0 → ⊥
+sure h = omega (arith, h)
+
+pub awake : (0 < 2 ^ 64 - 1 → 0 + 1000000 ≤ 0) → ⊥
+awake busy = omega (arith, busy (omega arith))
+
 -- a script's input, and what is written of it, by computation
-module _ (s : Script) (bytes text : List ℕ) (done : code_of (end_of (s.stop true bytes)) ≡ 0) (whole : output_by s (end_of (s.stop true bytes)) true bytes ≡ text) (old new : SureReads) (before after : SureWrites) (code : ℕ) (input : Some old.left ≡ Some bytes) (promises : promised_over (sure_output before after) code s (sure_input old new)) where
+module _ (s : Script) (bytes text : List ℕ) (done : code_of (end_of (s.stop true bytes)) ≡ 0) (whole : output_by s (end_of (s.stop true bytes)) true bytes ≡ text) (main : Input) (before after : SureWrites) (code : ℕ) (input : main.left_before ≡ Some bytes) (no_fault : Fails main → ⊥) (no_idle : Idles main → ⊥) (promises : promised_over (sure_output before after) code s main) where
   pub status_told : (code ≡ 0) ⊎ ((code ≡ 5) ⊎ (code ≡ 7))
-  status_told = elim (promises.told bytes input (λ h. omega (arith, h)) (λ busy. omega (arith, busy (omega arith)))) [
+  status_told = elim (promises.told bytes input no_fault no_idle) [
     | inl p ↦ inl (p.0 ∙ done)
     | inr q ↦ inr q
   ]
 
   pub text_told : Some before.sent ≡ Some [] → code ≡ 0 → Some after.sent ≡ Some text
-  text_told empty zero = elim (promises.told bytes input (λ h. omega (arith, h)) (λ busy. omega (arith, busy (omega arith)))) [
+  text_told empty zero = elim (promises.told bytes input no_fault no_idle) [
     | inl p ↦ p.1 ∙ (ap (λ (b : Option (List ℕ)). append_known b (output_by s (end_of (s.stop true bytes)) true bytes)) empty ∙ ap Some whole)
     | inr q ↦ elim q [ inl e ↦ absurd (omega (arith, e, zero)) | inr e ↦ absurd (omega (arith, e, zero)) ]
   ]

@@ -1,6 +1,7 @@
 // What the contract of `run` alone says of whole runs, at the ports in memory.
 ghost use Rattle.std.specs.Prelude.{◌≡◌, ◌∷◌, ◌⊎◌, [], Some, codes, map, string_bytes, IfOk};
 ghost use Rattle.decode_command.specs.Examples.{one_heartbeat, one_heartbeat_text};
+ghost use Rattle.dialect_command.specs.Examples.{profile_layouts};
 ghost use Rattle.fleet_command.specs.Examples.{one_item, one_item_installed, IsInstalledOnce};
 
 use super::{INSTALLED, ONE_ITEM};
@@ -74,6 +75,22 @@ fn decode_one_heartbeat(
     run(alloc, words, inputs, out, clock)
 }
 
+// By computation, CRC_EXTRA bytes and all, the text is that of the nineteen messages.
+fn tell_the_profile(
+    alloc: Global,
+    words: &[String],
+    inputs: &mut Inputs<SureSource>,
+    out: &mut SureSink,
+    clock: &mut MemClock,
+) -> u8
+    requires words { map string_bytes words.now ≡ codes "dialect" ∷ [] }
+    requires empty { ⟦<SureSink as Sink>⟧.sent out.old ≡ Some [] }
+    ensures status { (result ≡ 0) ⊎ ((result ≡ 5) ⊎ (result ≡ 7)) }
+    ensures text { result ≡ 0 → ⟦<SureSink as Sink>⟧.sent out.new ≡ Some profile_layouts }
+{
+    run(alloc, words, inputs, out, clock)
+}
+
 #[test]
 fn the_contract_alone_tells_the_report(rt: HostRuntime) -> Result<(), Fail> {
     let alloc = rt.alloc();
@@ -97,5 +114,19 @@ fn the_contract_alone_tells_the_text(rt: HostRuntime) -> Result<(), Fail> {
     let status = decode_one_heartbeat(alloc, &words, &mut inputs, &mut out, &mut clock);
     assert_eq!(rt; status, 0);
     assert_eq!(rt; out.sent(), DECODED);
+    Ok(())
+}
+
+#[test]
+fn the_contract_alone_tells_the_profile(rt: HostRuntime) -> Result<(), Fail> {
+    let alloc = rt.alloc();
+    let mut words = Vec::new(alloc);
+    words.push(String::from_str(alloc, "dialect")?)?;
+    let mut inputs = inputs_over(alloc, b"")?;
+    let mut out = SureSink::with_room(alloc, 4096)?;
+    let mut clock = MemClock::new(0);
+    let status = tell_the_profile(alloc, &words, &mut inputs, &mut out, &mut clock);
+    assert_eq!(rt; status, 0);
+    assert_eq!(rt; out.sent().len(), 2880);
     Ok(())
 }
