@@ -1,8 +1,9 @@
 // The limits of a scenario, met exactly where they stand, and inputs that give nothing.
 use super::{output_of, source, status_of, words_of};
 use crate::{Inputs, run};
-use mav_ports::{Got, MemClock, MemSink, Source};
+use mav_ports::{Got, MemClock, MemSink, Source, StdSink, StdSource};
 use std::alloc::{AllocError, Global};
+use std::io::{self, Read, Write};
 use std::test::Fail;
 
 const REFUSED: &[u8] =
@@ -113,5 +114,52 @@ fn an_output_that_takes_nothing_ends_the_run(rt: HostRuntime) -> Result<(), Fail
     let main = source(alloc, b"drone 1\n", 1, &[])?;
     assert_eq!(rt; status_of(alloc, main, &mut out)?, 5);
     assert_eq!(rt; out.sent(), b"".as_slice());
+    Ok(())
+}
+
+// A reader that only counts.
+#[derive(Drop)]
+struct Zeros {
+    left: usize,
+}
+
+impl Read for Zeros {
+    fn read(&mut self, buf: &mut [u8]) -> io::Result<usize> {
+        let count = buf.len().min(self.left);
+        self.left -= count;
+        Ok(count)
+    }
+}
+
+// A writer that keeps nothing.
+#[derive(Drop)]
+struct Nowhere;
+
+impl Write for Nowhere {
+    fn write(&mut self, buf: &[u8]) -> io::Result<usize> {
+        Ok(buf.len())
+    }
+
+    fn flush(&mut self) -> io::Result<()> {
+        Ok(())
+    }
+}
+
+fn status_of_zeros(alloc: Global, count: usize) -> Result<u8, AllocError> {
+    let words = words_of(alloc, &["decode", "file"])?;
+    let mut inputs = Inputs {
+        main: StdSource::new(Some(Zeros { left: count })),
+        defs: StdSource::new(None),
+        key: StdSource::new(None),
+    };
+    let mut out = StdSink::new(Nowhere);
+    let mut clock = MemClock::new(0);
+    Ok(run(alloc, &words, &mut inputs, &mut out, &mut clock))
+}
+
+#[test]
+fn a_stream_has_at_most_256_mebibytes(rt: HostRuntime) -> Result<(), Fail> {
+    assert_eq!(rt; status_of_zeros(rt.alloc(), 268_435_456)?, 0);
+    assert_eq!(rt; status_of_zeros(rt.alloc(), 268_435_457)?, 6);
     Ok(())
 }
