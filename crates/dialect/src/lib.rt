@@ -23,6 +23,3 @@ use std::alloc::AllocError;
 pub use types::type_word;
 
 pub type NoMemory = AllocError;
-
-#[cfg(test)]
-mod tests;

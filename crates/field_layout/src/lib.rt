@@ -29,6 +29,3 @@ pub use unpacking::unpack;
 pub use values::Values;
 
 pub type NoMemory = AllocError;
-
-#[cfg(test)]
-mod tests;

@@ -13,8 +13,6 @@ mod looking;
 mod looks;
 mod numbers;
 mod parsing;
-#[cfg(test)]
-mod tests;
 
 pub use encoding::encode;
 pub use events::Event;

@@ -31,6 +31,3 @@ pub use missions::{
 };
 pub use nodes::{GlobalPositionInt, Heartbeat, Ping, Statustext};
 pub use params::{ParamRequestList, ParamRequestRead, ParamSet, ParamValue};
-
-#[cfg(test)]
-mod tests;

@@ -8,8 +8,6 @@ mod looking;
 mod numbers;
 mod runs;
 mod scanner;
-#[cfg(test)]
-mod tests;
 mod window;
 
 pub use ahead::Ahead;

@@ -5,4 +5,3 @@ pub mod Profiles
 mod Sending
 mod Hearing
 mod Streaming
-mod Tables

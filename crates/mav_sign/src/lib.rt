@@ -24,6 +24,3 @@ pub use stamps::Stamps;
 use std::alloc::AllocError;
 
 pub type NoMemory = AllocError;
-
-#[cfg(test)]
-mod tests;

@@ -7,8 +7,6 @@
 
 pub mod laws;
 mod reader;
-#[cfg(test)]
-mod tests;
 mod window;
 
 use mav_frame::{Frame, Why};

@@ -14,8 +14,6 @@ mod recipe;
 mod recipes;
 mod skips;
 mod small;
-#[cfg(test)]
-mod tests;
 mod values;
 mod words;
 

@@ -1,6 +1,6 @@
 use Rattle.std.proofs.Common.{◌≡◌, ◌<◌, ◌≤◌, ◌-◌, length, take, false}
 use Rattle.mav_stream.specs.Progress.{Progress}
-use Rattle.mav_stream.proofs.tests.read_in_pieces.Given as goal
+use Rattle.wire_tests.proofs.streams.read_in_pieces.Given as goal
 
 abbrev pub invariant-loop-place : goal.invariant-loop-place
 invariant-loop-place l = record {

@@ -1,6 +1,6 @@
 use Rattle.std.proofs.Common.{◌≡◌, ℕ, List, length}
 use Rattle.mav_stream.specs.Progress.{Progress}
-use Rattle.mav_stream.proofs.tests.drain.Given as goal
+use Rattle.wire_tests.proofs.streams.drain.Given as goal
 
 abbrev pub invariant-loop-frame : goal.invariant-loop-frame
 invariant-loop-frame l = record {

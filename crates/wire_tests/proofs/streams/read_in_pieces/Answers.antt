@@ -2,7 +2,7 @@ use Rattle.std.proofs.Common.{◌≡◌, ◌≤◌, ℕ, ◌+◌, ◌-◌, List,
 use Rattle.std.proofs.lemmas.List.{take-take}
 use Rattle.mav_stream.specs.Held.{Held}
 use Rattle.mav_stream.specs.Progress.{Progress}
-use Rattle.mav_stream.proofs.tests.read_in_pieces.Goals as goal
+use Rattle.wire_tests.proofs.streams.read_in_pieces.Goals as goal
 
 -- the bytes taken, and those of the next piece
 one_more : (place count size : ℕ) (bytes : List ℕ) → count ≤ size → take place bytes ++ take count (take size (drop place bytes)) ≡ take (place + count) bytes

@@ -1,4 +1,0 @@
-// Tests of texts.
-mod frames;
-mod layouts;
-mod recipes;

@@ -1,0 +1,9 @@
+mod Checksums
+mod Layouts
+mod Definitions
+mod Messages
+mod Frames
+mod Ahead
+mod Lines
+mod Signatures
+mod Profiles
