@@ -7,7 +7,7 @@ use Rattle.std.specs.Io.KnownBytes.{append_known, prepend_known}
 use Rattle.mav_ports.specs.Puts.{Sent, SentFront}
 use Rattle.mav_ports.proofs.Known.{sent_all}
 use Rattle.decode_command.specs.declared.known.Known.{Known}
-use Rattle.dialect.specs.Messages.{extras_of}
+use Rattle.mav_profile.specs.Messages.{extras_of}
 use Rattle.mav_frame.specs.declared.events.Event.{Event}
 use Rattle.command_ends.specs.declared.halts.Halt.{Halt}
 use Rattle.command_ends.specs.declared.halts.Halt.TheVariants.{Stopped, ReadFault, WriteFault, NoMemory, TurnsSpent}

@@ -1,7 +1,7 @@
 -- Fronts of a text, where a decoder halts.
 use Rattle.std.proofs.Common.{◌≡◌, ℕ, ◌+◌, false, List, ◌++◌, ap, ◌∙◌, append_assoc, Option}
 use Rattle.decode_command.specs.declared.known.Known.{Known}
-use Rattle.dialect.specs.Messages.{extras_of}
+use Rattle.mav_profile.specs.Messages.{extras_of}
 use Rattle.mav_frame.specs.declared.events.Event.{Event}
 use Rattle.mav_frame.proofs.LongerParse.{more_bytes_keep}
 use Rattle.decode_command.specs.Parsing.{final_events, incremental_events}

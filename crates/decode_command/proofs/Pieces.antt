@@ -4,7 +4,7 @@ use Rattle.std.proofs.lemmas.List.{take-take, take_all}
 use Rattle.mav_ports.specs.Puts.{Sent, SentFront}
 use Rattle.mav_ports.proofs.Known.{sent_all}
 use Rattle.decode_command.specs.declared.known.Known.{Known}
-use Rattle.dialect.specs.Messages.{extras_of}
+use Rattle.mav_profile.specs.Messages.{extras_of}
 use Rattle.mav_frame.specs.Parse.{Final}
 use Rattle.mav_frame.specs.declared.events.Event.{Event}
 use Rattle.mav_stream.specs.Held.{Held}

@@ -3,7 +3,7 @@ use Rattle.std.proofs.Common.{◌≡◌, ℕ, List, [], refl, sym, subst, arith,
 use Rattle.mav_ports.specs.Puts.{Sent}
 use Rattle.mav_ports.proofs.Known.{sent_start}
 use Rattle.decode_command.specs.declared.known.Known.{Known}
-use Rattle.dialect.specs.Messages.{extras_of}
+use Rattle.mav_profile.specs.Messages.{extras_of}
 use Rattle.mav_frame.specs.Parse.{IsIncomplete}
 use Rattle.mav_stream.specs.Held.{Held, nothing_held}
 use Rattle.mav_stream.specs.Progress.{Progress, IsWhole}

@@ -2,7 +2,7 @@
 use Rattle.std.proofs.Common.{◌≡◌, true, None, refl}
 use Rattle.std.specs.Fmt.{digits}
 use Rattle.x25_check.specs.Check as check
-use Rattle.dialect.specs.Profile.{profile_definitions}
+use Rattle.mav_profile.specs.Profile.{profile_definitions}
 use Rattle.command_ends.specs.Endings.{code_of}
 use Rattle.command_ends.specs.Runs.{Script, output_of, end_of}
 use Rattle.decode_command.specs.Script.{decode_script}

@@ -3,7 +3,7 @@ use Rattle.std.specs.Prelude.{ℕ, ◌≡◌, ◌≤◌, ◌+◌, List, ◌++◌
 use Rattle.std.specs.Io.KnownBytes.{append_known}
 use Rattle.mav_ports.specs.Puts.{Sent, SentFront}
 use Rattle.decode_command.specs.declared.known.Known.{Known}
-use Rattle.dialect.specs.Messages.{extras_of}
+use Rattle.mav_profile.specs.Messages.{extras_of}
 use Rattle.mav_frame.specs.Encoding.{encoding}
 use Rattle.mav_frame.specs.Looks.{frame_size_at, packet_at}
 use Rattle.mav_frame.specs.Parse.{Final}

@@ -1,7 +1,7 @@
 -- What `decode` does with the bytes of its input, told by given definitions and perhaps a key.
 use Rattle.std.specs.Prelude.{ℕ, nat_lt, Bool, true, false, if◌then◌else◌, List, length, take, Some, None}
 use Rattle.decode_command.specs.declared.known.Known.{Known}
-use Rattle.dialect.specs.Messages.{extras_of}
+use Rattle.mav_profile.specs.Messages.{extras_of}
 use Rattle.command_ends.specs.declared.stops.Limit.TheVariants.{InputBytes}
 use Rattle.command_ends.specs.declared.stops.Stop.TheVariants.{AtLimit}
 use Rattle.command_ends.specs.Runs.{Script}

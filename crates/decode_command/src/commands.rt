@@ -3,7 +3,7 @@ ghost use Rattle.std.specs.Prelude.{◌≡◌, ◌<◌, ◌≤◌, ◌+◌, [], 
 ghost use Rattle.std.specs.Result.{result_err};
 ghost use Rattle.mav_ports.specs.Gets.{IsSpent};
 ghost use Rattle.command_ends.specs.Runs.{Untold, outside};
-ghost use Rattle.dialect.specs.Profile.{profile_definitions};
+ghost use Rattle.mav_profile.specs.Profile.{profile_definitions};
 ghost use Rattle.decode_command.specs.Decodes.{Drained, IsWithin};
 ghost use Rattle.decode_command.specs.Script.{decode_script, most_input_bytes};
 

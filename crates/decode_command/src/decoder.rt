@@ -7,7 +7,7 @@ ghost use Rattle.mav_frame.specs.Looks.{packet_at};
 ghost use Rattle.mav_frame.specs.declared.events.Event.TheVariants.{Frame as FrameEvent};
 ghost use Rattle.mav_scan.specs.Ahead.{events_ahead, held_behind, size_ahead, skipped_for, IfFrame};
 ghost use Rattle.mav_stream.specs.Held.{nothing_held};
-ghost use Rattle.dialect.specs.Messages.{extras_of};
+ghost use Rattle.mav_profile.specs.Messages.{extras_of};
 ghost use Rattle.decode_command.specs.DecodeText.{counts_line};
 ghost use Rattle.decode_command.specs.Decodes.{Decoding, Drained, Halted, Front, Finished, Unfinished, Gave, IsFrameOf, PutsLine, Puts, IsWithin, Stepped};
 

@@ -1,6 +1,6 @@
 // What is known, made ready for the lines of frames.
 ghost use Rattle.std.specs.Prelude.{◌≡◌, ◌∷◌, ◌++◌, ◌≤◌, [], length, OnOk, OnErr, IfOk};
-ghost use Rattle.dialect.specs.Messages.{definition_with};
+ghost use Rattle.mav_profile.specs.Messages.{definition_with};
 ghost use Rattle.mav_frame.specs.Looks.{id_at, frame_size_at, packet_at};
 ghost use Rattle.decode_command.specs.DecodeText.{frame_line, verdict_text};
 

@@ -3,6 +3,4 @@ pub mod Names
 pub mod Shape
 pub mod Spelled
 pub mod Grammar
-pub mod Messages
-pub mod Profile
 pub mod ProfileTable

@@ -2,8 +2,8 @@
 ghost use Rattle.std.specs.Prelude.{◌≡◌, ◌≢◌, ◌↔◌, length, slice_get, IsTrue, IfOk, IfErr};
 ghost use Rattle.std.specs.Option.{option_copied};
 ghost use Rattle.dialect.specs.Grammar.{definitions_of};
-ghost use Rattle.dialect.specs.Messages.{definition_with, extras_of};
-ghost use Rattle.dialect.specs.Profile.{profile_definitions};
+ghost use Rattle.mav_profile.specs.Messages.{definition_with, extras_of};
+ghost use Rattle.mav_profile.specs.Profile.{profile_definitions};
 
 use crate::layouts::Layouts;
 use crate::profile::profile_layouts;
@@ -26,7 +26,7 @@ pub struct Dialect {
 impl Model for Dialect {
     ghost use Rattle.std.specs.Prelude.{◌≡◌, List};
     ghost use Rattle.field_layout.specs.Definition.{Definition};
-    ghost use Rattle.dialect.specs.Messages.{extras_of};
+    ghost use Rattle.mav_profile.specs.Messages.{extras_of};
 
     ghost Value = { List Definition };
 

@@ -19,7 +19,7 @@ pub(crate) struct Known {
 impl Model for Known {
     ghost use Rattle.std.specs.Prelude.{◌≡◌, List, map};
     ghost use Rattle.field_layout.specs.Definition.{Definition};
-    ghost use Rattle.dialect.specs.Messages.{name_of};
+    ghost use Rattle.mav_profile.specs.Messages.{name_of};
 
     ghost Value = { List Definition };
 

@@ -2,7 +2,7 @@
 ghost use Rattle.std.specs.Prelude.{◌≡◌, ◌∷◌, ◌++◌, [], false, length, slice_get, IfOk};
 ghost use Rattle.std.specs.Option.{option_copied};
 ghost use Rattle.dialect.specs.Grammar.{has_id};
-ghost use Rattle.dialect.specs.Messages.{definition_with};
+ghost use Rattle.mav_profile.specs.Messages.{definition_with};
 
 use crate::NoMemory;
 use field_layout::Layout;
@@ -20,7 +20,7 @@ pub(crate) struct Layouts {
 impl Model for Layouts {
     ghost use Rattle.std.specs.Prelude.{◌≡◌, List, map};
     ghost use Rattle.field_layout.specs.Definition.{Definition};
-    ghost use Rattle.dialect.specs.Messages.{id_of};
+    ghost use Rattle.mav_profile.specs.Messages.{id_of};
 
     ghost Value = { List Definition };
 

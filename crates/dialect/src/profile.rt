@@ -1,7 +1,7 @@
 // The messages of the profile (MAVLink common message set). The extension fields are those that this profile reads.
 ghost use Rattle.std.specs.Prelude.{◌≡◌, [], map, None, IfOk, IsTrue};
 ghost use Rattle.field_layout.specs.Faults.{first_fault};
-ghost use Rattle.dialect.specs.Profile.{profile_definitions};
+ghost use Rattle.mav_profile.specs.Profile.{profile_definitions};
 ghost use Rattle.dialect.specs.ProfileTable.{field_of_row, definition_of_row, are_laid_out_behind};
 
 use crate::NoMemory;

@@ -5,7 +5,7 @@ use Rattle.field_layout.specs.Definition.{Definition}
 use Rattle.dialect.specs.declared.faults.DialectFault.{DialectFault}
 use Rattle.dialect.specs.declared.faults.DialectFault.TheVariants.{NotJson, Shape, BadType, BadName, TwiceId, TwiceName, Layout, TooMany, NoMemory}
 use Rattle.dialect.specs.Grammar.{definitions_of}
-use Rattle.dialect.specs.Profile.{profile_definitions}
+use Rattle.mav_profile.specs.Profile.{profile_definitions}
 use Rattle.mav_text.specs.LayoutText.{dialect_text}
 use Rattle.command_ends.specs.declared.stops.Place.TheVariants.{Definitions}
 use Rattle.command_ends.specs.declared.stops.InputReason.{InputReason}

@@ -3,8 +3,8 @@ use Rattle.std.proofs.Common.{◌≡◌, ◌≢◌, ℕ, zero, suc, ◌+◌, ◌
 use Rattle.std.proofs.lemmas.List.{length-append, map-append}
 use Rattle.mav_ports.specs.declared.names.Name.{Name}
 use Rattle.mav_ports.specs.declared.names.Stream.{Stream}
-use Rattle.dialect.specs.Messages.{extras_of}
-use Rattle.dialect.specs.Profile.{profile_definitions}
+use Rattle.mav_profile.specs.Messages.{extras_of}
+use Rattle.mav_profile.specs.Profile.{profile_definitions}
 use Rattle.mav_nodes.specs.Links.{new_link}
 use Rattle.mav_nodes.specs.Nodes.{new_drone, new_station}
 use Rattle.scenario_lines.specs.Standing.{is_called, has_name}

@@ -2,8 +2,8 @@
 use Rattle.std.specs.Prelude.{ℕ, ◌≡◌, Bool, false, List, [], slice_get, codes, All, Some, None}
 use Rattle.std.specs.Str.{bytes_eq}
 use Rattle.mav_ports.specs.declared.names.Name.{Name}
-use Rattle.dialect.specs.Messages.{extras_of}
-use Rattle.dialect.specs.Profile.{profile_definitions}
+use Rattle.mav_profile.specs.Messages.{extras_of}
+use Rattle.mav_profile.specs.Profile.{profile_definitions}
 use Rattle.mav_frame.specs.Packet.{Packet, FitsFrame}
 use Rattle.mav_frame.specs.Encoding.{encoding, IsSealed}
 use Rattle.mav_sign.specs.Signing.{Verifies}

@@ -1,8 +1,8 @@
 -- What is known of a frame that a node has just sent.
 use Rattle.std.proofs.Common.{◌≡◌, ◌∙◌, ℕ, List, [], ◌∷◌, ◌++◌, length, slice_get, Option, Some, sym, ap}
 use Rattle.plan_items.specs.declared.messages.PlanMsg.{PlanMsg}
-use Rattle.dialect.specs.Messages.{extras_of}
-use Rattle.dialect.specs.Profile.{profile_definitions}
+use Rattle.mav_profile.specs.Messages.{extras_of}
+use Rattle.mav_profile.specs.Profile.{profile_definitions}
 use Rattle.mav_ports.specs.declared.names.Stream.{Stream}
 use Rattle.mav_frame.specs.Packet.{Packet, SignatureBlock}
 use Rattle.mav_messages.specs.declared.messages.Message.{Message}

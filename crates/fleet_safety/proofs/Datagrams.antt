@@ -9,8 +9,8 @@ use Rattle.plan_safety.specs.World.{Nodes, Distinct, World}
 use Rattle.plan_safety.specs.History.{final}
 use Rattle.mav_frame.specs.Packet.{Packet}
 use Rattle.mav_frame.specs.FinalParse.{final_parse}
-use Rattle.dialect.specs.Messages.{extras_of}
-use Rattle.dialect.specs.Profile.{profile_definitions}
+use Rattle.mav_profile.specs.Messages.{extras_of}
+use Rattle.mav_profile.specs.Profile.{profile_definitions}
 use Rattle.mav_sign.specs.Signing.{Verifies}
 use Rattle.mav_sign.specs.Endpoints.{frames_of}
 use Rattle.mav_nodes.specs.Links.{Done, Outcome, done, and_then}

@@ -1,7 +1,7 @@
 // Messages of the command protocol (MAVLink common messages; MAVLink guide, Command Protocol).
 ghost use Rattle.std.specs.Prelude.{◌≡◌, []};
 ghost use Rattle.field_layout.specs.Payload.{serialised, FitsLayout, Represents};
-ghost use Rattle.dialect.specs.Profile.{command_long_definition, command_ack_definition};
+ghost use Rattle.mav_profile.specs.Profile.{command_long_definition, command_ack_definition};
 ghost use Rattle.mav_messages.specs.Values.{command_long_values, command_ack_values};
 
 use crate::buffer::Buffer;

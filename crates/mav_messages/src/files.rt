@@ -1,7 +1,7 @@
 // The message of file transfer (MAVLink common messages; MAVLink guide, MAVLink FTP).
 ghost use Rattle.std.specs.Prelude.{◌≡◌, []};
 ghost use Rattle.field_layout.specs.Payload.{serialised, FitsLayout, Represents};
-ghost use Rattle.dialect.specs.Profile.{file_transfer_protocol_definition};
+ghost use Rattle.mav_profile.specs.Profile.{file_transfer_protocol_definition};
 ghost use Rattle.mav_messages.specs.Values.{file_transfer_protocol_values};
 
 use crate::buffer::Buffer;

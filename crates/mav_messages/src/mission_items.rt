@@ -1,7 +1,7 @@
 // The message that carries an item of a plan (MAVLink common messages; MAVLink guide, Mission Protocol).
 ghost use Rattle.std.specs.Prelude.{◌≡◌, []};
 ghost use Rattle.field_layout.specs.Payload.{serialised, FitsLayout, Represents};
-ghost use Rattle.dialect.specs.Profile.{mission_item_int_definition};
+ghost use Rattle.mav_profile.specs.Profile.{mission_item_int_definition};
 ghost use Rattle.mav_messages.specs.Values.{mission_item_int_values};
 
 use crate::buffer::Buffer;

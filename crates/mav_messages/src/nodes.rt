@@ -1,7 +1,7 @@
 // Messages of nodes about themselves (MAVLink common messages).
 ghost use Rattle.std.specs.Prelude.{◌≡◌, []};
 ghost use Rattle.field_layout.specs.Payload.{serialised, FitsLayout, Represents};
-ghost use Rattle.dialect.specs.Profile.{heartbeat_definition, ping_definition, global_position_int_definition, statustext_definition};
+ghost use Rattle.mav_profile.specs.Profile.{heartbeat_definition, ping_definition, global_position_int_definition, statustext_definition};
 ghost use Rattle.mav_messages.specs.Values.{heartbeat_values, ping_values, global_position_int_values, statustext_values};
 
 use crate::buffer::Buffer;

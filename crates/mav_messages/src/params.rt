@@ -1,7 +1,7 @@
 // Messages of the parameter protocol (MAVLink common messages; MAVLink guide, Parameter Protocol).
 ghost use Rattle.std.specs.Prelude.{◌≡◌, []};
 ghost use Rattle.field_layout.specs.Payload.{serialised, FitsLayout, Represents};
-ghost use Rattle.dialect.specs.Profile.{param_request_read_definition, param_request_list_definition, param_value_definition, param_set_definition};
+ghost use Rattle.mav_profile.specs.Profile.{param_request_read_definition, param_request_list_definition, param_value_definition, param_set_definition};
 ghost use Rattle.mav_messages.specs.Values.{param_request_read_values, param_request_list_values, param_value_values, param_set_values};
 
 use crate::buffer::Buffer;

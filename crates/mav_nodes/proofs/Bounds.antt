@@ -17,7 +17,7 @@ use Rattle.field_layout.specs.WireOrder.{Placed, wire_order}
 use Rattle.field_layout.specs.Payload.{le_bytes, field_bytes, words_at, serialised, kept, without_trailing_zeros, truncated, FitsLayout}
 use Rattle.field_layout.proofs.Serialised.{length-serialised}
 use Rattle.field_layout.proofs.Truncation.{truncated_le}
-use Rattle.dialect.specs.Profile.{profile_definitions}
+use Rattle.mav_profile.specs.Profile.{profile_definitions}
 use Rattle.mav_sign.proofs.Profiles.{profile_has}
 use Rattle.mav_messages.specs.declared.messages.Message.{Message}
 use Rattle.mav_messages.specs.Messages.{definition_of, values_of}

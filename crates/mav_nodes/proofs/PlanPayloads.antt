@@ -6,7 +6,7 @@ use Rattle.field_layout.specs.Definition.{Definition}
 use Rattle.field_layout.specs.Payload.{Represents}
 use Rattle.field_layout.proofs.Unique.{one_list}
 use Rattle.field_layout.proofs.Decoding.{IsBytes, decoded_all, decoded_represents}
-use Rattle.dialect.specs.Profile.{profile_definitions, ping_definition, mission_request_list_definition, mission_count_definition, mission_clear_all_definition, mission_ack_definition, mission_request_int_definition, mission_item_int_definition}
+use Rattle.mav_profile.specs.Profile.{profile_definitions, ping_definition, mission_request_list_definition, mission_count_definition, mission_clear_all_definition, mission_ack_definition, mission_request_int_definition, mission_item_int_definition}
 use Rattle.plan_items.specs.declared.messages.PlanMsg.TheVariants as plan
 use Rattle.mav_messages.specs.declared.messages.Message.{Message}
 use Rattle.mav_messages.specs.declared.messages.Message.TheVariants.{Heartbeat, Ping, ParamRequestRead, ParamRequestList, ParamValue, ParamSet, GlobalPositionInt, MissionCurrent, MissionRequestList, MissionCount, MissionClearAll, MissionItemReached, MissionAck, MissionRequestInt, MissionItemInt, CommandLong, CommandAck, FileTransferProtocol, Statustext}

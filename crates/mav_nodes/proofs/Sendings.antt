@@ -18,8 +18,8 @@ use Rattle.x25_check.specs.Extras.{extra_of}
 use Rattle.field_layout.specs.CrcExtra.{crc_extra_of}
 use Rattle.field_layout.specs.Definition.{Definition, all_fields}
 use Rattle.field_layout.specs.Payload.{FitsLayout}
-use Rattle.dialect.specs.Messages.{extras_of}
-use Rattle.dialect.specs.Profile.{profile_definitions}
+use Rattle.mav_profile.specs.Messages.{extras_of}
+use Rattle.mav_profile.specs.Profile.{profile_definitions}
 use Rattle.mav_ports.specs.declared.names.Stream.{Stream}
 use Rattle.mav_frame.specs.Encoding.{checksum}
 use Rattle.mav_frame.specs.Parse.{Final}

@@ -4,8 +4,8 @@ use Rattle.std.proofs.lemmas.List.Elements.{All-from_recursion}
 use Rattle.x25_check.specs.Extras.{extra_of}
 use Rattle.field_layout.specs.Definition.{Definition}
 use Rattle.field_layout.specs.CrcExtra.{crc_extra_of}
-use Rattle.dialect.specs.Messages.{extras_of}
-use Rattle.dialect.specs.Profile.{profile_definitions}
+use Rattle.mav_profile.specs.Messages.{extras_of}
+use Rattle.mav_profile.specs.Profile.{profile_definitions}
 use Rattle.mav_sign.specs.Endpoints.{HasProfile}
 
 pub profile_known : HasProfile (extras_of profile_definitions)

@@ -6,8 +6,8 @@ use Rattle.mav_frame.specs.Encoding.{encoding, IsSealed}
 use Rattle.mav_frame.specs.FinalParse.{final_parse}
 use Rattle.mav_frame.specs.declared.events.Event.TheVariants.{Frame}
 use Rattle.field_layout.specs.Payload.{serialised, truncated, FitsLayout}
-use Rattle.dialect.specs.Messages.{extras_of}
-use Rattle.dialect.specs.Profile.{profile_definitions}
+use Rattle.mav_profile.specs.Messages.{extras_of}
+use Rattle.mav_profile.specs.Profile.{profile_definitions}
 use Rattle.mav_messages.specs.declared.messages.Message.{Message}
 use Rattle.mav_messages.specs.Messages.{definition_of, values_of}
 use Rattle.mav_messages.specs.Plans.{plan_of}

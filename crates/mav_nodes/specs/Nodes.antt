@@ -11,8 +11,8 @@ use Rattle.plan_upload.specs.Changes.{change_by}
 use Rattle.plan_upload.specs.Plans.{Plans, plan_at, no_plans}
 use Rattle.plan_upload.specs.Drone.{DroneState, DroneTick, drone_step, drone_tick, fresh_drone}
 use Rattle.plan_upload.specs.Station.{StationState, StationStep, Told, station_step, station_tick, station_cancel, fresh_station, begin_upload, begin_clear, begin_get, untold}
-use Rattle.dialect.specs.Messages.{extras_of}
-use Rattle.dialect.specs.Profile.{profile_definitions}
+use Rattle.mav_profile.specs.Messages.{extras_of}
+use Rattle.mav_profile.specs.Profile.{profile_definitions}
 use Rattle.mav_messages.specs.declared.messages.Message.{Message}
 use Rattle.mav_messages.specs.declared.messages.Message.TheVariants.{Heartbeat}
 use Rattle.mav_sign.specs.Endpoints.{EndpointState}

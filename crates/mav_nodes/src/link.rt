@@ -1,7 +1,7 @@
 // A node's end of its links.
 ghost use Rattle.std.specs.Prelude.{◌≡◌, Some, None, IfOk, IfErr};
-ghost use Rattle.dialect.specs.Messages.{extras_of};
-ghost use Rattle.dialect.specs.Profile.{profile_definitions};
+ghost use Rattle.mav_profile.specs.Messages.{extras_of};
+ghost use Rattle.mav_profile.specs.Profile.{profile_definitions};
 ghost use Rattle.field_layout.specs.Payload.{Represents};
 ghost use Rattle.mav_messages.specs.Plans.{plan_of as plan_carried};
 ghost use Rattle.mav_messages.specs.Messages.{definition_of, values_of, profile_definition};
@@ -12,7 +12,6 @@ ghost use Rattle.mav_nodes.specs.Steps.{answers};
 ghost use Rattle.mav_nodes.specs.Promises.{LinkDid, IsTried};
 
 use crate::{News, NoMemory, NodeFault};
-use dialect::Dialect;
 use mav_frame::Frame;
 use mav_messages::Message;
 use mav_ports::Stream;
@@ -56,8 +55,7 @@ fn profile_extras(alloc: Global) -> Result<Extras, NoMemory>
     ensures same { IfOk result (λ extras. extras ≡ extras_of profile_definitions) }
     ensures profile { IfOk result (λ extras. HasProfile extras) }
 {
-    let profile = Dialect::profile(alloc)?;
-    let extras = profile.extras().copy()?;
+    let extras = mav_profile::profile_extras(alloc)?;
     Ok(extras)
 }
 

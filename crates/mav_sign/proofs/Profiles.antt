@@ -2,7 +2,7 @@
 use Rattle.std.proofs.Common.{arith}
 use Rattle.std.specs.Prelude.{All}
 use Rattle.field_layout.specs.Definition.{Definition}
-use Rattle.dialect.specs.Profile.{profile_definitions, heartbeat_definition}
+use Rattle.mav_profile.specs.Profile.{profile_definitions, heartbeat_definition}
 use Rattle.mav_messages.specs.declared.messages.Message.{Message}
 use Rattle.mav_messages.specs.declared.messages.Message.TheVariants.{Heartbeat, Ping, ParamRequestRead, ParamRequestList, ParamValue, ParamSet, GlobalPositionInt, MissionCurrent, MissionRequestList, MissionCount, MissionClearAll, MissionItemReached, MissionAck, MissionRequestInt, MissionItemInt, CommandLong, CommandAck, FileTransferProtocol, Statustext}
 use Rattle.mav_messages.specs.Messages.{definition_of}

@@ -5,7 +5,7 @@ use Rattle.x25_check.specs.Extras.{extra_of}
 use Rattle.field_layout.specs.Definition.{Definition}
 use Rattle.field_layout.specs.CrcExtra.{crc_extra_of}
 use Rattle.field_layout.specs.Payload.{serialised, truncated, Represents as PayloadRepresents}
-use Rattle.dialect.specs.Profile.{profile_definitions}
+use Rattle.mav_profile.specs.Profile.{profile_definitions}
 use Rattle.mav_ports.specs.declared.names.Stream.{Stream}
 use Rattle.mav_messages.specs.declared.messages.Message.{Message}
 use Rattle.mav_messages.specs.Messages.{definition_of, values_of, profile_definition}

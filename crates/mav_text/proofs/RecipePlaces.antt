@@ -4,7 +4,7 @@ use Rattle.std.specs.Prelude.{slice_get, option_map}
 use Rattle.std.proofs.lemmas.Bool.{cases_eq}
 use Rattle.std.proofs.lemmas.Option.{none-some, same_Some, slice_get_within, get_or_from_slice_get}
 use Rattle.field_layout.specs.Definition.{Definition}
-use Rattle.dialect.specs.Messages.{definition_with}
+use Rattle.mav_profile.specs.Messages.{definition_with}
 use Rattle.mav_text.specs.RecipeText.{Recipe, recipe_of, IsPlaced, HasPlaces}
 
 in_front : {A : Type 0} (xs ys : List A) (i : ℕ) → i < length xs → slice_get (xs ++ ys) i ≡ slice_get xs i

@@ -8,7 +8,7 @@ use Rattle.field_layout.specs.Definition.{Definition, all_fields, full_len_of}
 use Rattle.field_layout.specs.WireOrder.{offset_of}
 use Rattle.field_layout.specs.Reading.{words_from}
 use Rattle.mav_frame.specs.Packet.{Packet}
-use Rattle.dialect.specs.Messages.{definition_with}
+use Rattle.mav_profile.specs.Messages.{definition_with}
 use Rattle.mav_text.specs.FrameText.{frame_text, shown_text, sender_text, block_text}
 
 -- a field: ` name=`, its type, its length, and where its value begins in the payload

@@ -1,6 +1,6 @@
 // The lines of frames of a dialect's messages.
 ghost use Rattle.std.specs.Prelude.{◌≡◌, ◌≤◌, ◌<◌, ◌++◌, ℕ, None, length, slice_index_or, take, vec_len, option_map, Some, OnOk, OnErr, IfOk, IfSome};
-ghost use Rattle.dialect.specs.Messages.{definition_with};
+ghost use Rattle.mav_profile.specs.Messages.{definition_with};
 ghost use Rattle.mav_frame.specs.Looks.{id_at, frame_size_at, packet_at};
 ghost use Rattle.mav_text.specs.RecipeText.{HasPlaces, line_of, recipe_of};
 

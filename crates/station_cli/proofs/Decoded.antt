@@ -3,7 +3,7 @@ use Rattle.std.proofs.Common.{◌≡◌, inl, inr, ℕ, Bool, true, false, List,
 use Rattle.std.specs.Result.{result_err}
 use Rattle.mav_ports.specs.Gets.{IsSpent}
 use Rattle.mav_ports.proofs.Known.{prepend_known_nil}
-use Rattle.dialect.specs.Profile.{profile_definitions}
+use Rattle.mav_profile.specs.Profile.{profile_definitions}
 use Rattle.command_ends.specs.declared.halts.Halt.{Halt}
 use Rattle.command_ends.specs.declared.halts.Halt.TheVariants.{WriteFault, NoMemory}
 use Rattle.command_ends.specs.Endings.{code_of}

@@ -2,7 +2,7 @@
 use Rattle.std.specs.Prelude.{◌≡◌, ◌⊎◌, ℕ, Bool, true, false, List, None, Some}
 use Rattle.std.specs.declared.option.Option.{Option}
 use Rattle.field_layout.specs.Definition.{Definition}
-use Rattle.dialect.specs.Profile.{profile_definitions}
+use Rattle.mav_profile.specs.Profile.{profile_definitions}
 use Rattle.command_ends.specs.Runs.{Script}
 use Rattle.key_input.specs.Script.{key_script, HoldsKey, TookAtMost}
 use Rattle.dialect_command.specs.Reads.{Holds}

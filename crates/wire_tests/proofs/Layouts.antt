@@ -14,7 +14,7 @@ use Rattle.field_layout.specs.Faults.{first_fault}
 use Rattle.field_layout.specs.Payload.{serialised, truncated}
 use Rattle.field_layout.specs.Target.{target_of}
 use Rattle.field_layout.proofs.Decoding.{decoded_all}
-use Rattle.dialect.specs.Profile.{single, array, profile_definitions, mission_item_int_definition, mission_current_definition}
+use Rattle.mav_profile.specs.Profile.{single, array, profile_definitions, mission_item_int_definition, mission_current_definition}
 
 -- id, CRC_EXTRA, and the lengths without and with the extensions
 abbrev sizes : Definition → List ℕ

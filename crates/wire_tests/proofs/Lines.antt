@@ -6,7 +6,7 @@ use Rattle.field_layout.specs.declared.ty.Ty.{Ty}
 use Rattle.field_layout.specs.declared.ty.Ty.TheVariants.{I8, U8, Char, I16, U16, I32, U32, I64, U64, F32, F64, Version}
 use Rattle.field_layout.specs.declared.fields.Field.{Field}
 use Rattle.field_layout.specs.Definition.{Definition}
-use Rattle.dialect.specs.Profile.{single, array, heartbeat_definition}
+use Rattle.mav_profile.specs.Profile.{single, array, heartbeat_definition}
 use Rattle.mav_frame.specs.Packet.{Packet}
 use Rattle.mav_frame.specs.Looks.{packet_at}
 use Rattle.mav_frame.specs.declared.looks.Why.TheVariants.{NotStx, UnknownFlag, UnknownId, BadCheck, Short}

@@ -5,7 +5,7 @@ use Rattle.std.specs.Prelude.{◌-◌, neg_ℤ, None}
 use Rattle.mav_ports.specs.declared.names.Name.{Name}
 use Rattle.field_layout.specs.Payload.{serialised, truncated}
 use Rattle.field_layout.proofs.Decoding.{decoded_all}
-use Rattle.dialect.specs.Profile.{mission_ack_definition}
+use Rattle.mav_profile.specs.Profile.{mission_ack_definition}
 use Rattle.mav_messages.specs.Messages.{definition_of, values_of, profile_definition}
 use Rattle.mav_messages.specs.Targets.{target_in}
 use Rattle.mav_messages.specs.Plans.{plan_of}

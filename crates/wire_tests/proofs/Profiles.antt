@@ -5,8 +5,8 @@ use Rattle.x25_check.specs.Check.{after_byte}
 use Rattle.x25_check.specs.Extras.{extra_of}
 use Rattle.field_layout.specs.Definition.{Definition}
 use Rattle.field_layout.specs.CrcExtra.{crc_extra_of}
-use Rattle.dialect.specs.Profile.{profile_definitions}
-use Rattle.dialect.specs.Messages.{extras_of}
+use Rattle.mav_profile.specs.Profile.{profile_definitions}
+use Rattle.mav_profile.specs.Messages.{extras_of}
 use Rattle.mav_sign.specs.Endpoints.{HasProfile}
 
 -- it has the byte of each message

@@ -1,6 +1,6 @@
 use Rattle.std.proofs.lemmas.Result.{err_from_is_err_and}
 use Rattle.command_ends.proofs.Untolds.{untold_nothing}
-use Rattle.dialect.specs.Profile.{profile_definitions}
+use Rattle.mav_profile.specs.Profile.{profile_definitions}
 use Rattle.decode_command.specs.Script.{decode_script}
 use Rattle.decode_command.proofs.commands.decode.Goals as goal
 

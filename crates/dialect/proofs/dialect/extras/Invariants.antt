@@ -1,5 +1,5 @@
 use Rattle.std.proofs.Common.{◌≡◌, take}
-use Rattle.dialect.specs.Messages.{extras_of}
+use Rattle.mav_profile.specs.Messages.{extras_of}
 use Rattle.dialect.proofs.dialect.extras.Given as goal
 
 abbrev pub invariant-loop-layout : goal.invariant-loop-layout

@@ -1,9 +1,7 @@
-use Rattle.std.proofs.Common.{ap, sym, ◌∙◌, subst}
+use Rattle.std.proofs.Common.{sym, subst}
 use Rattle.mav_sign.specs.Endpoints.{HasProfile}
-use Rattle.dialect.specs.Messages.{extras_of}
 use Rattle.mav_nodes.proofs.Tables.{profile_known}
 use Rattle.mav_nodes.proofs.link.profile_extras.Goals as goal
 
 pub returns-clause-profile : goal.returns-clause-profile
-returns-clause-profile c =
-    subst HasProfile (sym (c.in_ok-extras.ensures ∙ (c.extras.ensures ∙ ap extras_of c.in_ok-profile.ensures))) profile_known
+returns-clause-profile c = subst HasProfile (sym c.in_ok-extras.ensures) profile_known

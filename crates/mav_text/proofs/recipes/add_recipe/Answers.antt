@@ -1,6 +1,6 @@
 use Rattle.std.proofs.Common.{◌≡◌, ℕ, List, ◌∷◌, ◌++◌, [], Some, Option, length, set, sym, ap, ◌∙◌, arith, subst}
 use Rattle.std.specs.Prelude.{option_map}
-use Rattle.dialect.specs.Messages.{definition_with}
+use Rattle.mav_profile.specs.Messages.{definition_with}
 use Rattle.mav_text.specs.RecipeText.{HasPlaces, Recipe, recipe_of}
 use Rattle.mav_text.proofs.RecipePlaces.{place_added}
 use Rattle.mav_text.proofs.recipes.add_recipe.Goals as goal

@@ -2,7 +2,7 @@ use Rattle.std.proofs.Common.{refl}
 use Rattle.std.specs.Result.{result_err}
 use Rattle.command_ends.proofs.Untolds.{ran_told}
 use Rattle.command_ends.proofs.Ends.{promised}
-use Rattle.dialect.specs.Profile.{profile_definitions}
+use Rattle.mav_profile.specs.Profile.{profile_definitions}
 use Rattle.dialect_command.specs.Script.{dialect_script, profile_script}
 use Rattle.dialect_command.proofs.Stays.{dialect_steady, telling_steady}
 use Rattle.station_cli.proofs.Usages.{words_told, halted_code}

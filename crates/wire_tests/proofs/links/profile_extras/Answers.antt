@@ -1,6 +1,6 @@
 use Rattle.std.proofs.Common.{ap, sym, ◌∙◌, subst}
 use Rattle.mav_sign.specs.Endpoints.{HasProfile}
-use Rattle.dialect.specs.Messages.{extras_of}
+use Rattle.mav_profile.specs.Messages.{extras_of}
 use Rattle.wire_tests.proofs.Profiles.{profile_known}
 use Rattle.wire_tests.proofs.links.profile_extras.Goals as goal
 

@@ -3,7 +3,7 @@ use Rattle.std.proofs.Common.{ap, ◌∙◌}
 use Rattle.std.specs.List.{list_any}
 use Rattle.std.specs.Str.{bytes_eq}
 use Rattle.dialect.specs.Grammar.{has_name}
-use Rattle.dialect.specs.Messages.{name_of}
+use Rattle.mav_profile.specs.Messages.{name_of}
 use Rattle.dialect.proofs.Keys.{list_any-map}
 use Rattle.dialect.proofs.known.Known.with.Goals as goal
 

@@ -1,7 +1,7 @@
 -- The layout at the place of its id.
 use Rattle.std.proofs.Common.{◌≡◌, ◌==◌, map, position, Some, None, slice_get, sym, ap, ◌∙◌}
 use Rattle.std.specs.Option.{option_copied}
-use Rattle.dialect.specs.Messages.{id_of, definition_with}
+use Rattle.mav_profile.specs.Messages.{id_of, definition_with}
 use Rattle.dialect.proofs.Keys.{find-position-map, find-nowhere-map}
 use Rattle.dialect.proofs.layouts.Layouts.get.Goals as goal
 

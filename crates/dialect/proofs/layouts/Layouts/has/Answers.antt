@@ -1,7 +1,7 @@
 use Rattle.std.proofs.Common.{◌==◌, ap, ◌∙◌}
 use Rattle.std.specs.List.{list_any}
 use Rattle.dialect.specs.Grammar.{has_id}
-use Rattle.dialect.specs.Messages.{id_of}
+use Rattle.mav_profile.specs.Messages.{id_of}
 use Rattle.dialect.proofs.Keys.{list_any-map}
 use Rattle.dialect.proofs.layouts.Layouts.has.Goals as goal
 

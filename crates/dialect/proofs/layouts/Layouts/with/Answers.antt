@@ -2,7 +2,7 @@
 use Rattle.std.proofs.Common.{◌==◌, map, sym, ap, ◌∙◌}
 use Rattle.indexmap.specs.IndexSet.{insert_key}
 use Rattle.dialect.specs.Grammar.{has_id}
-use Rattle.dialect.specs.Messages.{id_of}
+use Rattle.mav_profile.specs.Messages.{id_of}
 use Rattle.dialect.proofs.Keys.{ids-insert_key}
 use Rattle.dialect.proofs.layouts.Layouts.with.Goals as goal
 

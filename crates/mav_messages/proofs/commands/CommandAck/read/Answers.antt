@@ -1,6 +1,6 @@
 use Rattle.std.proofs.Common.{refl}
 use Rattle.std.specs.Int.{w32}
-use Rattle.dialect.specs.Profile.{command_ack_definition}
+use Rattle.mav_profile.specs.Profile.{command_ack_definition}
 use Rattle.mav_messages.proofs.Decoded.{represents, signed_word}
 use Rattle.mav_messages.proofs.commands.CommandAck.read.Goals as goal
 

@@ -1,6 +1,6 @@
 use Rattle.std.proofs.Common.{refl, rules}
 use Rattle.field_layout.specs.Definition.{all_fields}
-use Rattle.dialect.specs.Profile.{command_ack_definition}
+use Rattle.mav_profile.specs.Profile.{command_ack_definition}
 use Rattle.mav_messages.specs.Values.{command_ack_values}
 use Rattle.std.specs.Int.{w32}
 use mir.Val.{SFits}

@@ -1,5 +1,5 @@
 use Rattle.std.proofs.Common.{refl}
-use Rattle.dialect.specs.Profile.{command_long_definition}
+use Rattle.mav_profile.specs.Profile.{command_long_definition}
 use Rattle.mav_messages.proofs.Decoded.{represents}
 use Rattle.mav_messages.proofs.commands.CommandLong.read.Goals as goal
 

@@ -1,6 +1,6 @@
 use Rattle.std.proofs.Common.{refl}
 use Rattle.field_layout.specs.Definition.{all_fields}
-use Rattle.dialect.specs.Profile.{command_long_definition}
+use Rattle.mav_profile.specs.Profile.{command_long_definition}
 use Rattle.mav_messages.specs.Values.{command_long_values}
 use Rattle.mav_messages.proofs.Decoded.{fits_layout}
 use Rattle.mav_messages.proofs.commands.CommandLong.write.Goals as goal

@@ -1,5 +1,5 @@
 use Rattle.std.proofs.Common.{refl}
-use Rattle.dialect.specs.Profile.{file_transfer_protocol_definition}
+use Rattle.mav_profile.specs.Profile.{file_transfer_protocol_definition}
 use Rattle.mav_messages.proofs.Decoded.{represents}
 use Rattle.mav_messages.proofs.files.FileTransferProtocol.read.Goals as goal
 

@@ -1,7 +1,7 @@
 use Rattle.std.proofs.Common.{refl, rules, append_assoc}
 use Rattle.std.proofs.lemmas.List.{append-nil}
 use Rattle.field_layout.specs.Definition.{all_fields}
-use Rattle.dialect.specs.Profile.{file_transfer_protocol_definition}
+use Rattle.mav_profile.specs.Profile.{file_transfer_protocol_definition}
 use Rattle.mav_messages.specs.Values.{file_transfer_protocol_values}
 use Rattle.mav_messages.proofs.Decoded.{fits_layout}
 use Rattle.mav_messages.proofs.files.FileTransferProtocol.write.Goals as goal

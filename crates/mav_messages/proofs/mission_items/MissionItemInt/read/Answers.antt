@@ -1,6 +1,6 @@
 use Rattle.std.proofs.Common.{refl}
 use Rattle.std.specs.Int.{w32}
-use Rattle.dialect.specs.Profile.{mission_item_int_definition}
+use Rattle.mav_profile.specs.Profile.{mission_item_int_definition}
 use Rattle.mav_messages.proofs.Decoded.{represents, signed_word}
 use Rattle.mav_messages.proofs.mission_items.MissionItemInt.read.Goals as goal
 

@@ -1,6 +1,6 @@
 use Rattle.std.proofs.Common.{refl, rules}
 use Rattle.field_layout.specs.Definition.{all_fields}
-use Rattle.dialect.specs.Profile.{mission_item_int_definition}
+use Rattle.mav_profile.specs.Profile.{mission_item_int_definition}
 use Rattle.mav_messages.specs.Values.{mission_item_int_values}
 use Rattle.std.specs.Int.{w32}
 use mir.Val.{SFits}

@@ -1,5 +1,5 @@
 use Rattle.std.proofs.Common.{refl}
-use Rattle.dialect.specs.Profile.{mission_request_int_definition}
+use Rattle.mav_profile.specs.Profile.{mission_request_int_definition}
 use Rattle.mav_messages.proofs.Decoded.{represents}
 use Rattle.mav_messages.proofs.missions.MissionRequestInt.read.Goals as goal
 

@@ -1,6 +1,6 @@
 use Rattle.std.proofs.Common.{refl}
 use Rattle.std.specs.Int.{w16, w32}
-use Rattle.dialect.specs.Profile.{global_position_int_definition}
+use Rattle.mav_profile.specs.Profile.{global_position_int_definition}
 use Rattle.mav_messages.proofs.Decoded.{represents, signed_word}
 use Rattle.mav_messages.proofs.nodes.GlobalPositionInt.read.Goals as goal
 

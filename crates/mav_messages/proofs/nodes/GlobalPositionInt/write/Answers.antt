@@ -1,6 +1,6 @@
 use Rattle.std.proofs.Common.{refl, rules}
 use Rattle.field_layout.specs.Definition.{all_fields}
-use Rattle.dialect.specs.Profile.{global_position_int_definition}
+use Rattle.mav_profile.specs.Profile.{global_position_int_definition}
 use Rattle.mav_messages.specs.Values.{global_position_int_values}
 use Rattle.std.specs.Int.{w16, w32}
 use mir.Val.{SFits}

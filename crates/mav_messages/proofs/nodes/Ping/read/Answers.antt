@@ -1,5 +1,5 @@
 use Rattle.std.proofs.Common.{refl}
-use Rattle.dialect.specs.Profile.{ping_definition}
+use Rattle.mav_profile.specs.Profile.{ping_definition}
 use Rattle.mav_messages.proofs.Decoded.{represents}
 use Rattle.mav_messages.proofs.nodes.Ping.read.Goals as goal
 

@@ -1,6 +1,6 @@
 use Rattle.std.proofs.Common.{refl}
 use Rattle.field_layout.specs.Definition.{all_fields}
-use Rattle.dialect.specs.Profile.{ping_definition}
+use Rattle.mav_profile.specs.Profile.{ping_definition}
 use Rattle.mav_messages.specs.Values.{ping_values}
 use Rattle.mav_messages.proofs.Decoded.{fits_layout}
 use Rattle.mav_messages.proofs.nodes.Ping.write.Goals as goal

@@ -1,5 +1,5 @@
 use Rattle.std.proofs.Common.{refl}
-use Rattle.dialect.specs.Profile.{param_request_list_definition}
+use Rattle.mav_profile.specs.Profile.{param_request_list_definition}
 use Rattle.mav_messages.proofs.Decoded.{represents}
 use Rattle.mav_messages.proofs.params.ParamRequestList.read.Goals as goal
 

@@ -1,6 +1,6 @@
 use Rattle.std.proofs.Common.{refl}
 use Rattle.field_layout.specs.Definition.{all_fields}
-use Rattle.dialect.specs.Profile.{param_request_list_definition}
+use Rattle.mav_profile.specs.Profile.{param_request_list_definition}
 use Rattle.mav_messages.specs.Values.{param_request_list_values}
 use Rattle.mav_messages.proofs.Decoded.{fits_layout}
 use Rattle.mav_messages.proofs.params.ParamRequestList.write.Goals as goal

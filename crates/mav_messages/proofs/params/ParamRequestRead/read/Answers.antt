@@ -1,6 +1,6 @@
 use Rattle.std.proofs.Common.{refl}
 use Rattle.std.specs.Int.{w16}
-use Rattle.dialect.specs.Profile.{param_request_read_definition}
+use Rattle.mav_profile.specs.Profile.{param_request_read_definition}
 use Rattle.mav_messages.proofs.Decoded.{represents, signed_word}
 use Rattle.mav_messages.proofs.params.ParamRequestRead.read.Goals as goal
 

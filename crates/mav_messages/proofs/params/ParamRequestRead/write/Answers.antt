@@ -1,7 +1,7 @@
 use Rattle.std.proofs.Common.{refl, rules, append_assoc}
 use Rattle.std.proofs.lemmas.List.{append-nil}
 use Rattle.field_layout.specs.Definition.{all_fields}
-use Rattle.dialect.specs.Profile.{param_request_read_definition}
+use Rattle.mav_profile.specs.Profile.{param_request_read_definition}
 use Rattle.mav_messages.specs.Values.{param_request_read_values}
 use Rattle.std.specs.Int.{w16}
 use mir.Val.{SFits}

@@ -1,5 +1,5 @@
 use Rattle.std.proofs.Common.{refl}
-use Rattle.dialect.specs.Profile.{param_value_definition}
+use Rattle.mav_profile.specs.Profile.{param_value_definition}
 use Rattle.mav_messages.proofs.Decoded.{represents}
 use Rattle.mav_messages.proofs.params.ParamValue.read.Goals as goal
 

@@ -1,5 +1,5 @@
 use Rattle.std.proofs.Common.{◌≡◌, List, ℕ, ◌++◌, OnOk, ap, ◌∙◌, subst}
-use Rattle.dialect.specs.Messages.{definition_with}
+use Rattle.mav_profile.specs.Messages.{definition_with}
 use Rattle.mav_frame.specs.Looks.{packet_at}
 use Rattle.mav_text.specs.RecipeText.{line_of}
 use Rattle.mav_text.proofs.RecipeSteps.{line_by_recipe}

@@ -2,7 +2,7 @@ use Rattle.std.proofs.Common.{◌≡◌, ◌<◌, List, Some, length, sym, ap, �
 use Rattle.std.specs.Prelude.{slice_get, option_map}
 use Rattle.std.proofs.lemmas.Option.{slice_get_read}
 use Rattle.field_layout.specs.Definition.{Definition}
-use Rattle.dialect.specs.Messages.{definition_with}
+use Rattle.mav_profile.specs.Messages.{definition_with}
 use Rattle.mav_text.specs.RecipeText.{recipe_of}
 use Rattle.mav_text.proofs.recipes.Recipes.recipe.Goals as goal
 
