@@ -14,8 +14,6 @@ mod laws;
 mod lines;
 mod pieces;
 mod reading;
-#[cfg(test)]
-mod tests;
 
 pub use commands::{Command, OptionName};
 pub use faults::WantedFault;

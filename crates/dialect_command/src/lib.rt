@@ -8,8 +8,6 @@
 mod commands;
 mod definitions;
 mod layouts;
-#[cfg(test)]
-mod tests;
 
 pub use commands::{dialect, profile};
 pub use definitions::read_definitions;

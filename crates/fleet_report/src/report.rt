@@ -22,9 +22,6 @@ use plan_upload::{OpFault, Outcome};
 use std::alloc::Global;
 use std::marker::Model;
 
-#[cfg(test)]
-mod tests;
-
 /// The text that a line, or the end of a scenario, adds to the report. Contracts see its bytes, and whether frames are
 /// printed whole.
 ///

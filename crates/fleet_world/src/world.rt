@@ -19,9 +19,6 @@ use scenario_lines::{Line, LineFault, read};
 use std::alloc::Global;
 use std::marker::Model;
 
-#[cfg(test)]
-mod tests;
-
 /// The nodes of a scenario, the frames that they sent, and the draft of a plan. Contracts say which scene it is in.
 #[derive(Drop)]
 pub struct World {

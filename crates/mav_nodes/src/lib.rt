@@ -13,8 +13,6 @@ mod link;
 mod news;
 mod orders;
 mod station_node;
-#[cfg(test)]
-mod tests;
 
 pub use drone_node::DroneNode;
 pub use faults::{NodeFault, OrderFault};

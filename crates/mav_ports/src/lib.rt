@@ -20,8 +20,6 @@ mod std_sink;
 mod std_source;
 mod sure_sink;
 mod sure_source;
-#[cfg(test)]
-mod tests;
 
 pub use clocks::Clock;
 pub use mem_clock::MemClock;

@@ -48,19 +48,3 @@ impl PlanKind {
         }
     }
 }
-
-#[cfg(test)]
-mod tests {
-    use super::*;
-
-    #[test]
-    fn kinds_have_numbers_and_limits(rt: HostRuntime) {
-        assert_eq!(rt;
-            PlanKind::of(PlanKind::Fence.number()),
-            Some(PlanKind::Fence)
-        );
-        assert_eq!(rt; PlanKind::of(3), None);
-        assert_eq!(rt; PlanKind::of(PlanKind::ALL), None);
-        assert_eq!(rt; PlanKind::Rally.limit(), 50);
-    }
-}

@@ -5,9 +5,6 @@ ghost use Rattle.plan_items.specs.Plans.{items_of, spare_of, room_of};
 use crate::{Item, NoMemory};
 use std::alloc::Global;
 
-#[cfg(test)]
-mod tests;
-
 /// The items of a plan of any kind, first to last.
 #[derive(Drop)]
 pub struct Plan {

@@ -8,9 +8,6 @@ ghost use Rattle.plan_items.specs.Validation.{is_global, goes_to_place, is_frame
 
 use crate::{Item, MavCommand, MavFrame, Plan, PlanFault, PlanKind, word_small};
 
-#[cfg(test)]
-mod tests;
-
 // 90 degrees in units of 1e-7 degrees.
 const MAX_LATITUDE: i32 = 900_000_000;
 

@@ -45,27 +45,3 @@ pub fn word_small(word: u32) -> Option<u8>
     let k = k as u8;
     if small_word(k) == word { Some(k) } else { None }
 }
-
-#[cfg(test)]
-mod tests {
-    use super::*;
-
-    #[test]
-    fn words_are_the_bits_of_singles(rt: HostRuntime) {
-        assert_eq!(rt; small_word(0), 0);
-        assert_eq!(rt; small_word(1), 0x3F80_0000);
-        assert_eq!(rt; small_word(3), 0x4040_0000);
-        assert_eq!(rt; small_word(4), 0x4080_0000);
-        assert_eq!(rt; small_word(64), 0x4280_0000);
-        assert_eq!(rt; small_word(70), 0x428C_0000);
-    }
-
-    #[test]
-    fn only_words_of_small_numbers_name_them(rt: HostRuntime) {
-        assert_eq!(rt; word_small(0x428C_0000), Some(70));
-        assert_eq!(rt; word_small(0), Some(0));
-        assert_eq!(rt; word_small(0x428E_0000), None);
-        assert_eq!(rt; word_small(0x3F00_0000), None);
-        assert_eq!(rt; word_small(u32::MAX), None);
-    }
-}

@@ -8,8 +8,6 @@ ghost use Rattle.plan_upload.specs.Gathering.{stream_of};
 ghost use Rattle.plan_upload.specs.Heard.{is_heard};
 ghost use Rattle.plan_upload.specs.Plans.{no_plans, plan_at, IsHoldable};
 
-#[cfg(test)]
-mod tests;
 mod transfers;
 
 use crate::NoMemory;

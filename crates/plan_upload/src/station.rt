@@ -15,8 +15,6 @@ mod getting;
 mod listing;
 mod pinging;
 mod sending;
-#[cfg(test)]
-mod tests;
 
 use crate::addresses::{broadcast, is_same_name, is_same_stream, node, receiver};
 use crate::buffers::Buffer;

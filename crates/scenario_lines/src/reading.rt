@@ -127,6 +127,3 @@ pub fn read_item_line(alloc: Global, drafted: usize, text: &[u8]) -> Result<Line
     let words = Words::of(alloc, text)?;
     faulted(read_item_words(drafted, &words))
 }
-
-#[cfg(test)]
-mod tests;

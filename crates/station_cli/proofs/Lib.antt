@@ -2,4 +2,3 @@ pub mod Usages
 pub mod Same
 pub mod Decoded
 pub mod Scenarios
-pub mod Plainly

@@ -10,8 +10,6 @@ mod decoding;
 mod fleets;
 mod keys;
 mod runs;
-#[cfg(test)]
-mod tests;
 mod wants;
 mod words;
 

@@ -1,0 +1,3 @@
+pub mod Drones
+pub mod Stations
+pub mod Items

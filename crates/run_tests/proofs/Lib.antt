@@ -1,0 +1,3 @@
+pub mod Plainly
+pub mod Lines
+pub mod Reports

@@ -1,0 +1,279 @@
+// Runs whose input fails, gives nothing or is too long, and runs whose output fails.
+use mav_ports::{Got, MemClock, Source, StdSink, StdSource, SureSink};
+use station_cli::{Inputs, run};
+use std::alloc::{AllocError, Global};
+use std::io::{self, Error, ErrorKind, Read, Write};
+use std::test::Fail;
+
+const ONE_ITEM: &[u8] =
+    b"drone 1\nstation 255 190\nitem 6 16 473977420 85455940\nbegin 255.190 1.1 mission\nflow 20\n";
+
+const DEFINITIONS: &[u8] =
+    b"{\"messages\":[{\"id\":0,\"name\":\"HEARTBEAT\",\"fields\":[{\"type\":\"uint8_t\",\"name\":\"type\"}]}]}";
+
+// 80 digits.
+const ZEROS: &[u8] =
+    b"00000000000000000000000000000000000000000000000000000000000000000000000000000000";
+
+const KEY: &[u8] = b"abcdabcdabcdabcdabcdabcdabcdabcdabcdabcdabcdabcdabcdabcdabcdabcd\n";
+
+const NO_LIMIT: u64 = u64::MAX;
+
+// Words over inputs of which each read gives one byte, and fails behind so many; an output with room for so many bytes;
+// the status, and what was written.
+#[derive(Clone, Copy)]
+struct Run {
+    words: &'static str,
+    bytes: &'static [u8],
+    reads: u64,
+    room: usize,
+    status: u8,
+    output: &'static [u8],
+}
+
+static RUNS: [Run; 12] = [
+    // An input that fails at once, inside a line, inside a frame, inside definitions.
+    Run {
+        words: "fleet f",
+        bytes: ONE_ITEM,
+        reads: 0,
+        room: 100,
+        status: 4,
+        output: b"read fault\n",
+    },
+    Run {
+        words: "fleet f",
+        bytes: ONE_ITEM,
+        reads: 8,
+        room: 100,
+        status: 4,
+        output: b"read fault\n",
+    },
+    Run {
+        words: "decode f",
+        bytes: b"\x00\xfd\x09\x00\x00\x00",
+        reads: 6,
+        room: 100,
+        status: 4,
+        output: b"0 skip 00 not-stx\nread fault\n",
+    },
+    Run {
+        words: "dialect --defs=d",
+        bytes: DEFINITIONS,
+        reads: 21,
+        room: 100,
+        status: 4,
+        output: b"read fault\n",
+    },
+    // A key is not read past its 67th byte, and one that fails comes first.
+    Run {
+        words: "decode --key k f",
+        bytes: ZEROS,
+        reads: 67,
+        room: 100,
+        status: 3,
+        output: b"bad key: key\n",
+    },
+    Run {
+        words: "decode --key k f",
+        bytes: ZEROS,
+        reads: 66,
+        room: 100,
+        status: 4,
+        output: b"read fault\n",
+    },
+    Run {
+        words: "fleet --key=k f",
+        bytes: KEY,
+        reads: 6,
+        room: 100,
+        status: 4,
+        output: b"read fault\n",
+    },
+    Run {
+        words: "decode --defs=d --key=k f",
+        bytes: b"{}",
+        reads: 0,
+        room: 100,
+        status: 4,
+        output: b"read fault\n",
+    },
+    // An output that takes nothing, or fails inside a line.
+    Run {
+        words: "fleet f",
+        bytes: b"fly\n",
+        reads: NO_LIMIT,
+        room: 0,
+        status: 5,
+        output: b"",
+    },
+    Run {
+        words: "fleet f",
+        bytes: ONE_ITEM,
+        reads: NO_LIMIT,
+        room: 3,
+        status: 5,
+        output: b"1 2",
+    },
+    Run {
+        words: "decode f",
+        bytes: b"\x00",
+        reads: NO_LIMIT,
+        room: 10,
+        status: 5,
+        output: b"0 skip 00 ",
+    },
+    Run {
+        words: "dialect",
+        bytes: b"",
+        reads: 0,
+        room: 10,
+        status: 5,
+        output: b"0 HEARTBEA",
+    },
+];
+
+// Gives these bytes one by one and then zeros, and fails at the call behind so many.
+#[derive(Drop)]
+struct Feed {
+    bytes: &'static [u8],
+    zeros: usize,
+    reads: u64,
+}
+
+impl Read for Feed {
+    fn read(&mut self, buf: &mut [u8]) -> io::Result<usize> {
+        if self.reads == 0 {
+            return Err(Error::from(ErrorKind::Other));
+        }
+        self.reads -= 1;
+        if let (Some((first, rest)), Some(slot)) = (self.bytes.split_first(), buf.first_mut()) {
+            *slot = *first;
+            self.bytes = rest;
+            return Ok(1);
+        }
+        let count = buf.len().min(self.zeros);
+        self.zeros -= count;
+        Ok(count)
+    }
+}
+
+fn fed_by(bytes: &'static [u8], zeros: usize, reads: u64) -> StdSource<Feed> {
+    StdSource::new(Some(Feed {
+        bytes,
+        zeros,
+        reads,
+    }))
+}
+
+fn words_of(alloc: Global, text: &str) -> Result<Vec<String>, AllocError> {
+    let mut words = Vec::new(alloc);
+    for word in text.split(' ') {
+        words.push(String::from_str(alloc, word)?)?;
+    }
+    Ok(words)
+}
+
+fn is_met(alloc: Global, wanted: &Run) -> Result<bool, AllocError> {
+    let words = words_of(alloc, wanted.words)?;
+    let mut inputs = Inputs {
+        main: fed_by(wanted.bytes, 0, wanted.reads),
+        defs: fed_by(wanted.bytes, 0, wanted.reads),
+        key: fed_by(wanted.bytes, 0, wanted.reads),
+    };
+    let mut out = SureSink::with_room(alloc, wanted.room)?;
+    let status = run(alloc, &words, &mut inputs, &mut out, &mut MemClock::new(0));
+    Ok(status == wanted.status && out.sent() == wanted.output)
+}
+
+// Whether each run ends as it is wanted.
+fn are_met(alloc: Global, runs: &[Run]) -> Result<bool, AllocError> {
+    for wanted in runs {
+        if !is_met(alloc, wanted)? {
+            return Ok(false);
+        }
+    }
+    Ok(true)
+}
+
+#[test]
+fn runs_end_at_the_first_fault(rt: HostRuntime) -> Result<(), Fail> {
+    assert!(rt; are_met(rt.alloc(), &RUNS)?);
+    Ok(())
+}
+
+/// It gives nothing, for ever.
+#[derive(Drop)]
+struct Idler {
+    idles: u64,
+}
+
+impl Source for Idler {
+    ghost use Rattle.std.specs.Prelude.{None};
+
+    ghost left = { λ s. None };
+
+    ghost faults = { λ s. 0 };
+
+    ghost idles = { λ s. s.idles };
+
+    ghost has_ended = { λ s. ⊥ };
+
+    fn read(&mut self, _buf: &mut [u8]) -> Got {
+        self.idles = self.idles.saturating_add(1);
+        Got::Idle
+    }
+}
+
+// Whether such an input is given up, and told so, after a million reads.
+fn is_given_up(alloc: Global) -> Result<bool, AllocError> {
+    let words = words_of(alloc, "fleet f")?;
+    let mut inputs = Inputs {
+        main: Idler { idles: 0 },
+        defs: Idler { idles: 0 },
+        key: Idler { idles: 0 },
+    };
+    let mut out = SureSink::with_room(alloc, 100)?;
+    let status = run(alloc, &words, &mut inputs, &mut out, &mut MemClock::new(0));
+    let told = out.sent() == b"turns spent 1000000\n".as_slice();
+    Ok(status == 11 && told && inputs.main.idles == 1_000_000)
+}
+
+#[test]
+fn an_input_that_gives_nothing_is_given_up(rt: HostRuntime) -> Result<(), Fail> {
+    assert!(rt; is_given_up(rt.alloc())?);
+    Ok(())
+}
+
+// A writer that keeps nothing.
+#[derive(Drop)]
+struct Nowhere;
+
+impl Write for Nowhere {
+    fn write(&mut self, buf: &[u8]) -> io::Result<usize> {
+        Ok(buf.len())
+    }
+
+    fn flush(&mut self) -> io::Result<()> {
+        Ok(())
+    }
+}
+
+// The status of `decode` over so many zeros.
+fn status_of_zeros(alloc: Global, count: usize) -> Result<u8, AllocError> {
+    let words = words_of(alloc, "decode f")?;
+    let mut inputs = Inputs {
+        main: fed_by(b"", count, NO_LIMIT),
+        defs: fed_by(b"", 0, 0),
+        key: fed_by(b"", 0, 0),
+    };
+    let mut out = StdSink::new(Nowhere);
+    Ok(run(alloc, &words, &mut inputs, &mut out, &mut MemClock::new(0)))
+}
+
+#[test]
+fn a_stream_has_at_most_256_mebibytes(rt: HostRuntime) -> Result<(), Fail> {
+    assert_eq!(rt; status_of_zeros(rt.alloc(), 268_435_456)?, 0);
+    assert_eq!(rt; status_of_zeros(rt.alloc(), 268_435_457)?, 6);
+    Ok(())
+}
