@@ -1,5 +1,5 @@
 -- What lines of scenarios say, computed from the definitions.
-use Rattle.std.proofs.Common.{◌≡◌, ℕ, List, [], ◌∷◌, codes, Option, Some, None, pos, neg_ℤ, refl}
+use Rattle.std.proofs.Common.{◌≡◌, [], ◌∷◌, codes, Some, None, pos, neg_ℤ, refl}
 use Rattle.std.specs.Prelude.{map}
 use Rattle.hex.specs.Hex.{decode_pairs}
 use Rattle.mav_ports.specs.declared.names.Name.{Name}

@@ -1,6 +1,6 @@
 -- Texts that are known from the report's description, computed from the definitions. The frame's checksum was computed
 -- by another program.
-use Rattle.std.proofs.Common.{◌≡◌, ℕ, List, [], ◌∷◌, codes, None, Some, true, false, pos, neg_ℤ, refl}
+use Rattle.std.proofs.Common.{◌≡◌, [], ◌∷◌, codes, None, true, false, pos, neg_ℤ, refl}
 use Rattle.std.specs.Fmt.{digits}
 use Rattle.hex.specs.Hex.{encode_with}
 use Rattle.mav_ports.specs.declared.names.Name.{Name}
@@ -14,7 +14,7 @@ use Rattle.mav_messages.specs.declared.messages.Message.TheVariants.{Heartbeat, 
 use Rattle.mav_messages.specs.Plans.{message_of_plan}
 use Rattle.mav_nodes.specs.Signed.{sealed_packet}
 use Rattle.mav_sign.specs.declared.admission.Admit.TheVariants.{NotLater}
-use Rattle.fleet_report.specs.Events.{Event, Sent, Installed, Emptied, Dropped, Missing, Refused, Ended, events_text, plan_text}
+use Rattle.fleet_report.specs.Events.{Sent, Installed, Emptied, Dropped, Missing, Refused, Ended, events_text, plan_text}
 use Rattle.x25_check.specs.Check as check
 
 abbrev drone : Name
