@@ -2,3 +2,4 @@ pub mod Sorts
 pub mod Agreement
 pub mod FormsAgree
 pub mod Readings
+mod Wholes

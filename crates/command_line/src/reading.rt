@@ -1,5 +1,5 @@
 // Words are read from left to right.
-ghost use Rattle.std.specs.Prelude.{◌≡◌, [], ◌∷◌, ◌++◌, List, ℕ, Some, None, OnOk, IfOk, IsErrOf, map, string_bytes};
+ghost use Rattle.std.specs.Prelude.{◌≡◌, [], ◌∷◌, ◌++◌, List, ℕ, Some, None, OnOk, IfOk, IsErrOf, map, is_some, string_bytes};
 ghost use Rattle.command_line.specs.Built.{built};
 ghost use Rattle.command_line.specs.Grammar.{Asks, AskNothing};
 ghost use Rattle.command_line.specs.Lines.{given_of, asked_by, parts_of, with_rest};
@@ -22,6 +22,19 @@ struct Reader {
 }
 
 impl Reader {
+    fn new(alloc: Global) -> Reader
+        ensures place { result.place ≡ Place.Anything }
+        ensures settings { result.settings.items ≡ [] }
+        ensures words { result.words.items ≡ [] }
+    {
+        Reader {
+            alloc,
+            place: Place::Anything,
+            settings: Vec::new(alloc),
+            words: Vec::new(alloc),
+        }
+    }
+
     fn set(&mut self, name: OptionName, value: &str) -> Result<(), WantedFault>
         ensures ok { OnOk result ((map given_of self.new.settings.items
             ≡ map given_of self.old.settings.items ++ (record { name = name; value = value.now }) ∷ [])
@@ -87,6 +100,29 @@ impl Reader {
             Place::Behind => self.keep(word),
         }
     }
+
+    // Takes words in order.
+    fn take_all(&mut self, words: &[String]) -> Result<(), WantedFault>
+        ensures taken { OnOk result (with_rest self.new.place self.new.settings.items self.new.words.items []
+            ≡ with_rest self.old.place self.old.settings.items self.old.words.items (map string_bytes words.now)) }
+        ensures refused { IsErrOf result WantedFault.Usage
+            → with_rest self.old.place self.old.settings.items self.old.words.items (map string_bytes words.now) ≡ None }
+    {
+        for word in words {
+            self.take(word.as_str())?;
+        }
+        Ok(())
+    }
+
+    // Whether no value is missing behind the last word.
+    fn is_whole(&self) -> bool
+        ensures { result ≡ is_some (parts_at self.now.place []) }
+    {
+        match self.place {
+            Place::Value(_) => false,
+            Place::Anything | Place::Behind => true,
+        }
+    }
 }
 
 // Reads the words behind the command.
@@ -96,18 +132,12 @@ fn read_behind(alloc: Global, words: &[String]) -> Result<Reader, WantedFault>
     ensures refused { IsErrOf result WantedFault.Usage
         → parts_at Place.Anything (map string_bytes words.now) ≡ None }
 {
-    let mut reader = Reader {
-        alloc,
-        place: Place::Anything,
-        settings: Vec::new(alloc),
-        words: Vec::new(alloc),
-    };
-    for word in words {
-        reader.take(word.as_str())?;
-    }
-    match reader.place {
-        Place::Value(_) => Err(WantedFault::Usage),
-        Place::Anything | Place::Behind => Ok(reader),
+    let mut reader = Reader::new(alloc);
+    reader.take_all(words)?;
+    if reader.is_whole() {
+        Ok(reader)
+    } else {
+        Err(WantedFault::Usage)
     }
 }
 

@@ -1,14 +1,13 @@
 -- A decoder before the first byte.
-use Rattle.std.proofs.Common.{◌≡◌, ℕ, List, [], refl, sym, subst, arith, Option}
+use Rattle.std.proofs.Common.{◌≡◌, ℕ, List, [], ◌+◌, length, refl, sym, ap, subst, arith, Option}
 use Rattle.mav_ports.specs.Puts.{Sent}
 use Rattle.mav_ports.proofs.Known.{sent_start}
-use Rattle.decode_command.specs.declared.known.Known.{Known}
 use Rattle.mav_profile.specs.Messages.{extras_of}
 use Rattle.mav_frame.specs.Parse.{IsIncomplete}
 use Rattle.mav_stream.specs.Held.{Held, nothing_held}
 use Rattle.mav_stream.specs.Progress.{Progress, IsWhole}
 use Rattle.mav_stream.proofs.Steps.{begun}
-use Rattle.decode_command.specs.Decodes.{Drained}
+use Rattle.decode_command.specs.Decodes.{Drained, IsNew, IsWithin}
 use Rattle.decode_command.specs.declared.decoder.Decoder.{Decoder}
 
 -- nothing is an incomplete frame
@@ -23,18 +22,30 @@ nothing extras = record {
 nothing_whole : (extras : List (ℕ × ℕ)) → IsWhole extras [] [] (nothing_held extras)
 nothing_whole extras = record { incremental = λ still. (refl, nothing extras); final = λ ended. refl }
 
-pub new_drained : (known : Known) (decoder : Decoder) (sent : Option (List ℕ)) → decoder.known ≡ known → decoder.reader ≡ nothing_held (extras_of known.dialect) → decoder.text.items ≡ [] → (decoder.offset ≡ 0) × (decoder.frames ≡ 0) × (decoder.skipped ≡ 0) → Drained decoder.known [] decoder sent sent
-new_drained known decoder sent same reader text counts =
-    subst (λ (k : Known). Drained k [] decoder sent sent) (sym same)
-    (record {
+pub new_drained : (decoder : Decoder) (sent : Option (List ℕ)) → IsNew decoder → Drained decoder.known [] decoder sent sent
+new_drained decoder sent new =
+    let extras = extras_of decoder.known.dialect in
+    record {
       decoding = record {
         given = [];
-        same = same;
-        progress = subst (λ (h : Held). Progress (extras_of known.dialect) [] [] h) (sym reader) (begun (extras_of known.dialect));
-        offset = counts.0;
-        frames = counts.1;
-        skipped = counts.2;
-        sent = subst (λ (held : List ℕ). Sent sent sent [] held) (sym text) (sent_start sent []);
+        same = refl;
+        progress = subst (λ (h : Held). Progress extras [] [] h) (sym new.reader) (begun extras);
+        offset = new.offset;
+        frames = new.frames;
+        skipped = new.skipped;
+        sent = subst (λ (held : List ℕ). Sent sent sent [] held) (sym new.text) (sent_start sent []);
       };
-      whole = subst (λ (h : Held). IsWhole (extras_of known.dialect) [] [] h) (sym reader) (nothing_whole (extras_of known.dialect));
-    })
+      whole = subst (λ (h : Held). IsWhole extras [] [] h) (sym new.reader) (nothing_whole extras);
+    }
+
+none_held : (decoder : Decoder) → IsNew decoder → length decoder.reader.bytes ≡ 0
+none_held decoder new = ap (λ (h : Held). length h.bytes) new.reader
+
+pub new_within : (decoder : Decoder) → IsNew decoder → IsWithin decoder 0
+new_within decoder new = record {
+  bytes = omega (arith, new.offset, none_held decoder new);
+  counts = omega (arith, new.offset, new.frames, new.skipped);
+}
+
+pub new_start : (decoder : Decoder) → IsNew decoder → decoder.offset + length decoder.reader.bytes ≡ 0
+new_start decoder new = omega (arith, new.offset, none_held decoder new)

@@ -1,5 +1,5 @@
 -- A stream that is decoded piece by piece.
-use Rattle.std.specs.Prelude.{ℕ, ◌≡◌, ◌≤◌, ◌+◌, List, ◌++◌, length, Option}
+use Rattle.std.specs.Prelude.{ℕ, ◌≡◌, ◌≤◌, ◌+◌, List, [], ◌++◌, length, Option}
 use Rattle.std.specs.Io.KnownBytes.{append_known}
 use Rattle.mav_ports.specs.Puts.{Sent, SentFront}
 use Rattle.decode_command.specs.declared.known.Known.{Known}
@@ -8,12 +8,20 @@ use Rattle.mav_frame.specs.Encoding.{encoding}
 use Rattle.mav_frame.specs.Looks.{frame_size_at, packet_at}
 use Rattle.mav_frame.specs.Parse.{Final}
 use Rattle.mav_frame.specs.declared.events.Event.{Event}
-use Rattle.mav_stream.specs.Held.{Held}
+use Rattle.mav_stream.specs.Held.{Held, nothing_held}
 use Rattle.mav_stream.specs.Progress.{Progress, IsWhole}
 use Rattle.decode_command.specs.Parsing.{final_events, incremental_events}
 use Rattle.decode_command.specs.DecodeText.{decode_text, event_size, frames_of, skips_of, event_line, event_lines, lines_from, bytes_in, frames_in, skips_in}
 use Rattle.decode_command.specs.Script.{most_input_bytes}
 use Rattle.decode_command.specs.declared.decoder.Decoder.{Decoder}
+
+-- no byte was taken, and nothing is held
+pub record IsNew (decoder : Decoder) : Type 0 where
+  pub reader : decoder.reader ≡ nothing_held (extras_of decoder.known.dialect)
+  pub text : decoder.text.items ≡ []
+  pub offset : decoder.offset ≡ 0
+  pub frames : decoder.frames ≡ 0
+  pub skipped : decoder.skipped ≡ 0
 
 -- the events so far begin the parse of the bytes taken; their lines were sent, but for those that are held
 pub record Decoding (known : Known) (taken : List ℕ) (decoder : Decoder) (before now : Option (List ℕ)) : Type 0 where

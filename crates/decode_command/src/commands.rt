@@ -4,7 +4,7 @@ ghost use Rattle.std.specs.Result.{result_err};
 ghost use Rattle.mav_ports.specs.Gets.{IsSpent};
 ghost use Rattle.command_ends.specs.Runs.{Untold, outside};
 ghost use Rattle.mav_profile.specs.Profile.{profile_definitions};
-ghost use Rattle.decode_command.specs.Decodes.{Drained, IsWithin};
+ghost use Rattle.decode_command.specs.Decodes.{Drained, IsNew, IsWithin};
 ghost use Rattle.decode_command.specs.Script.{decode_script, most_input_bytes};
 
 use crate::decoder::Decoder;
@@ -36,8 +36,27 @@ pub fn decode_by<S: Source, K: Sink>(
     ensures sound { ¬ IsErrOf result Halt.WriteFault → K.faults out.new ≡ K.faults out.old }
 {
     let mut decoder = Decoder::new(alloc, known)?;
+    decode_pieces(alloc, &mut decoder, main, out)
+}
+
+// Makes room for lines and a piece, and decodes.
+fn decode_pieces<S: Source, K: Sink>(
+    alloc: Global,
+    decoder: &mut Decoder,
+    main: &mut S,
+    out: &mut K,
+) -> Result<(), Halt>
+    requires { IsNew decoder.old }
+    ensures untold { Untold (decode_script decoder.old.known) (outside
+        (S.has_ended main.new × IsSpent (S.left main.new)) (S.faults main.old) (S.faults main.new)
+        (S.idles main.old) (S.idles main.new) (K.faults out.old) (K.faults out.new))
+        (S.left main.old) (S.left main.new) (K.sent out.old) (K.sent out.new)
+        (result_err result) }
+    ensures sound { ¬ IsErrOf result Halt.WriteFault → K.faults out.new ≡ K.faults out.old }
+{
+    decoder.make_room()?;
     let mut buf = vec![in alloc; 0u8; PIECE_BYTES]?;
-    decode_all(&mut decoder, main, &mut buf, out)
+    decode_all(decoder, main, &mut buf, out)
 }
 
 // Reads on until the input ends, or the decoder halts.

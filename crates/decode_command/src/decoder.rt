@@ -9,12 +9,13 @@ ghost use Rattle.mav_scan.specs.Ahead.{events_ahead, held_behind, size_ahead, sk
 ghost use Rattle.mav_stream.specs.Held.{nothing_held};
 ghost use Rattle.mav_profile.specs.Messages.{extras_of};
 ghost use Rattle.decode_command.specs.DecodeText.{counts_line};
-ghost use Rattle.decode_command.specs.Decodes.{Decoding, Drained, Halted, Front, Finished, Unfinished, Gave, IsFrameOf, PutsLine, Puts, IsWithin, Stepped};
+ghost use Rattle.decode_command.specs.Decodes.{Decoding, Drained, Halted, Front, Finished, Unfinished, Gave, IsFrameOf, PutsLine, Puts, IsWithin, Stepped, IsNew};
 
 use crate::known::Known;
 use crate::prepared::Prepared;
 use crate::writing::{ENOUGH_BYTES, write, write_enough};
 use command_ends::Halt;
+use dialect::Dialect;
 use mav_frame::Why;
 use mav_ports::{NoMemory, Sink};
 use mav_scan::{Ahead, Scanner};
@@ -37,23 +38,47 @@ pub struct Decoder {
     skipped: u64,
 }
 
+// A reader of nothing yet.
+fn scanner_of(alloc: Global, dialect: &Dialect) -> Result<Scanner, NoMemory>
+    ensures { IfOk result (λ reader. reader ≡ nothing_held (extras_of dialect.now)) }
+{
+    Scanner::new(alloc, dialect.extras().copy()?)
+}
+
 impl Decoder {
     pub(crate) fn new(alloc: Global, known: Known) -> Result<Decoder, NoMemory>
         ensures known { IfOk result (λ d. d.known ≡ known) }
-        ensures reader { IfOk result (λ d. d.reader ≡ nothing_held (extras_of known.dialect)) }
-        ensures text { IfOk result (λ d. d.text.items ≡ []) }
-        ensures counts { IfOk result (λ d. (d.offset ≡ 0) × (d.frames ≡ 0) × (d.skipped ≡ 0)) }
+        ensures new { IfOk result IsNew }
     {
-        let extras = known.dialect.extras().copy()?;
+        let reader = scanner_of(alloc, &known.dialect)?;
+        Decoder::behind(alloc, known, reader)
+    }
+
+    // A decoder behind a reader of nothing yet.
+    fn behind(alloc: Global, known: Known, reader: Scanner) -> Result<Decoder, NoMemory>
+        requires { reader ≡ nothing_held (extras_of known.dialect) }
+        ensures known { IfOk result (λ d. d.known ≡ known) }
+        ensures new { IfOk result IsNew }
+    {
+        let prepared = Prepared::new(alloc, known)?;
         Ok(Decoder {
-            known: Prepared::new(alloc, known)?,
-            reader: Scanner::new(alloc, extras)?,
-            text: Vec::with_capacity(alloc, ENOUGH_BYTES + MOST_BYTES)?,
+            known: prepared,
+            reader,
+            text: Vec::new(alloc),
             chunk: Chunk::new(),
             offset: 0,
             frames: 0,
             skipped: 0,
         })
+    }
+
+    /// Takes the memory for the lines.
+    pub(crate) fn make_room(&mut self) -> Result<(), NoMemory>
+        requires { IsNew self.old }
+        ensures known { self.new.known ≡ self.old.known }
+        ensures new { IsNew self.new }
+    {
+        self.text.reserve(ENOUGH_BYTES + MOST_BYTES)
     }
 
     /// Takes bytes that come next, and writes the lines of their events.

@@ -18,8 +18,8 @@ definition_of_row row = record {
   extensions = map field_of_row row.extensions.now;
 }
 
--- each row has a layout, and an id of its own behind earlier messages
-abbrev pub are_laid_out_behind : List Definition → List MessageRow → Bool
+-- each message has a layout, and an id of its own behind earlier messages
+abbrev pub are_laid_out_behind : List Definition → List Definition → Bool
 are_laid_out_behind earlier [] = true
-are_laid_out_behind earlier (row ∷ rows) =
-    is_none (first_fault (definition_of_row row)) && not (has_id earlier row.id) && are_laid_out_behind (earlier ++ definition_of_row row ∷ []) rows
+are_laid_out_behind earlier (def ∷ defs) =
+    is_none (first_fault def) && not (has_id earlier def.id) && are_laid_out_behind (earlier ++ def ∷ []) defs

@@ -1,5 +1,5 @@
 // The messages that were read.
-ghost use Rattle.std.specs.Prelude.{◌≡◌, ◌∷◌, ◌++◌, [], false, length, IfOk};
+ghost use Rattle.std.specs.Prelude.{◌≡◌, ◌∷◌, ◌++◌, [], false, length, OnOk};
 ghost use Rattle.dialect.specs.Grammar.{has_id, has_name};
 
 use crate::NoMemory;
@@ -56,16 +56,19 @@ impl Known {
         self.names.has(name)
     }
 
-    /// The messages and one more of another id and name.
-    pub(crate) fn with(self, layout: Layout) -> Result<Known, NoMemory>
-        requires id { has_id self layout.id ≡ false }
-        requires name { has_name self layout.name ≡ false }
-        ensures { IfOk result (λ known. known ≡ self ++ layout ∷ []) }
+    /// Appends a message of another id and name.
+    pub(crate) fn add(&mut self, layout: Layout) -> Result<(), NoMemory>
+        requires id { has_id self.old layout.id ≡ false }
+        requires name { has_name self.old layout.name ≡ false }
+        ensures { OnOk result (self.new ≡ self.old ++ layout ∷ []) }
     {
-        let Known { layouts, mut names } = self;
-        names.add(layout.def().name.bytes())?;
-        let layouts = layouts.with(layout)?;
-        Ok(Known { layouts, names })
+        let count = self.layouts.len();
+        self.names.add(layout.def().name.bytes())?;
+        let added = self.layouts.add(layout);
+        if added.is_err() {
+            self.names.cut(count);
+        }
+        added
     }
 
     pub(crate) fn into_layouts(self) -> Layouts

@@ -1,5 +1,5 @@
 // Layouts by their ids and by their places.
-ghost use Rattle.std.specs.Prelude.{◌≡◌, ◌∷◌, ◌++◌, [], false, length, slice_get, IfOk};
+ghost use Rattle.std.specs.Prelude.{◌≡◌, ◌∷◌, ◌++◌, [], false, length, slice_get, OnOk, OnErr};
 ghost use Rattle.std.specs.Option.{option_copied};
 ghost use Rattle.dialect.specs.Grammar.{has_id};
 ghost use Rattle.mav_profile.specs.Messages.{definition_with};
@@ -45,18 +45,16 @@ impl Layouts {
         self.ids.contains(&id)
     }
 
-    /// The layouts and one more of another id.
-    pub(crate) fn with(self, layout: Layout) -> Result<Layouts, NoMemory>
-        requires { has_id self layout.id ≡ false }
-        ensures { IfOk result (λ layouts. layouts ≡ self ++ layout ∷ []) }
+    /// Appends a layout of another id. Where there is no memory for it nothing has changed.
+    pub(crate) fn add(&mut self, layout: Layout) -> Result<(), NoMemory>
+        requires { has_id self.old layout.id ≡ false }
+        ensures added { OnOk result (self.new ≡ self.old ++ layout ∷ []) }
+        ensures unchanged { OnErr result (self.new ≡ self.old) }
     {
-        let Layouts {
-            mut ids,
-            mut layouts,
-        } = self;
-        ids.insert(layout.def().id)?;
-        layouts.push(layout)?;
-        Ok(Layouts { ids, layouts })
+        self.layouts.reserve(1)?;
+        self.ids.insert(layout.def().id)?;
+        self.layouts.push(layout).unwrap();
+        Ok(())
     }
 
     /// The layout of an id, found by its hash.

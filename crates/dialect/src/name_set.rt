@@ -1,5 +1,5 @@
 // Names that stand already.
-ghost use Rattle.std.specs.Prelude.{◌≡◌, false, [], ◌∷◌, ◌++◌, OnOk};
+ghost use Rattle.std.specs.Prelude.{◌≡◌, false, [], ◌∷◌, ◌++◌, take, OnOk, OnErr};
 ghost use Rattle.std.specs.List.{list_any};
 ghost use Rattle.std.specs.Str.{bytes_eq};
 
@@ -40,10 +40,18 @@ impl NameSet {
 
     pub(crate) fn add(&mut self, name: &[u8]) -> Result<(), NoMemory>
         requires { list_any (bytes_eq name.now) self.old ≡ false }
-        ensures { OnOk result (self.new ≡ self.old ++ name.now ∷ []) }
+        ensures added { OnOk result (self.new ≡ self.old ++ name.now ∷ []) }
+        ensures unchanged { OnErr result (self.new ≡ self.old) }
     {
         let alloc = *self.names.allocator();
         self.names.insert(name.to_vec(alloc)?)?;
         Ok(())
+    }
+
+    /// Keeps the first `count` names alone.
+    pub(crate) fn cut(&mut self, count: usize)
+        ensures { self.new ≡ take count self.old }
+    {
+        self.names.truncate(count);
     }
 }

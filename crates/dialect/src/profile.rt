@@ -1,5 +1,5 @@
 // The messages of the profile (MAVLink common message set). The extension fields are those that this profile reads.
-ghost use Rattle.std.specs.Prelude.{◌≡◌, [], map, None, IfOk, IsTrue};
+ghost use Rattle.std.specs.Prelude.{◌≡◌, ◌++◌, [], map, take, drop, None, OnOk, IfOk, IsTrue};
 ghost use Rattle.field_layout.specs.Faults.{first_fault};
 ghost use Rattle.mav_profile.specs.Profile.{profile_definitions};
 ghost use Rattle.dialect.specs.ProfileTable.{field_of_row, definition_of_row, are_laid_out_behind};
@@ -28,7 +28,8 @@ const TARGET_COMPONENT: FieldRow = FieldRow(Ty::U8, 0, b"target_component");
 
 const MISSION_TYPE: FieldRow = FieldRow(Ty::U8, 0, b"mission_type");
 
-const PROFILE: [MessageRow; 19] = [
+// Heartbeats and parameters.
+const PARAMETERS: [MessageRow; 6] = [
     MessageRow {
         id: 0,
         name: b"HEARTBEAT",
@@ -94,6 +95,10 @@ const PROFILE: [MessageRow; 19] = [
         ],
         extensions: &[],
     },
+];
+
+// The position, and the messages of missions but their items.
+const MISSIONS: [MessageRow; 8] = [
     MessageRow {
         id: 33,
         name: b"GLOBAL_POSITION_INT",
@@ -164,27 +169,32 @@ const PROFILE: [MessageRow; 19] = [
         ],
         extensions: &[MISSION_TYPE],
     },
-    MessageRow {
-        id: 73,
-        name: b"MISSION_ITEM_INT",
-        fields: &[
-            TARGET_SYSTEM,
-            TARGET_COMPONENT,
-            FieldRow(Ty::U16, 0, b"seq"),
-            FieldRow(Ty::U8, 0, b"frame"),
-            FieldRow(Ty::U16, 0, b"command"),
-            FieldRow(Ty::U8, 0, b"current"),
-            FieldRow(Ty::U8, 0, b"autocontinue"),
-            FieldRow(Ty::F32, 0, b"param1"),
-            FieldRow(Ty::F32, 0, b"param2"),
-            FieldRow(Ty::F32, 0, b"param3"),
-            FieldRow(Ty::F32, 0, b"param4"),
-            FieldRow(Ty::I32, 0, b"x"),
-            FieldRow(Ty::I32, 0, b"y"),
-            FieldRow(Ty::F32, 0, b"z"),
-        ],
-        extensions: &[MISSION_TYPE],
-    },
+];
+
+const MISSION_ITEMS: [MessageRow; 1] = [MessageRow {
+    id: 73,
+    name: b"MISSION_ITEM_INT",
+    fields: &[
+        TARGET_SYSTEM,
+        TARGET_COMPONENT,
+        FieldRow(Ty::U16, 0, b"seq"),
+        FieldRow(Ty::U8, 0, b"frame"),
+        FieldRow(Ty::U16, 0, b"command"),
+        FieldRow(Ty::U8, 0, b"current"),
+        FieldRow(Ty::U8, 0, b"autocontinue"),
+        FieldRow(Ty::F32, 0, b"param1"),
+        FieldRow(Ty::F32, 0, b"param2"),
+        FieldRow(Ty::F32, 0, b"param3"),
+        FieldRow(Ty::F32, 0, b"param4"),
+        FieldRow(Ty::I32, 0, b"x"),
+        FieldRow(Ty::I32, 0, b"y"),
+        FieldRow(Ty::F32, 0, b"z"),
+    ],
+    extensions: &[MISSION_TYPE],
+}];
+
+// Commands, files and texts.
+const COMMANDS: [MessageRow; 4] = [
     MessageRow {
         id: 76,
         name: b"COMMAND_LONG",
@@ -282,22 +292,65 @@ fn layout_of(def: MessageDef) -> Result<Layout, NoMemory>
     }
 }
 
-// The layouts of rows that have them.
-fn layouts_of(alloc: Global, rows: &[MessageRow]) -> Result<Layouts, NoMemory>
-    requires { IsTrue (are_laid_out_behind [] rows.now) }
-    ensures { IfOk result (λ layouts. layouts ≡ map definition_of_row rows.now) }
+// The layout of a row that has one.
+fn layout_of_row(alloc: Global, row: &MessageRow) -> Result<Layout, NoMemory>
+    requires { first_fault (definition_of_row row.now) ≡ None }
+    ensures { IfOk result (λ layout. layout ≡ definition_of_row row.now) }
 {
-    let mut layouts = Layouts::new(alloc);
+    layout_of(definition_of(alloc, row)?)
+}
+
+// Appends the layouts of rows that have them.
+fn lay_out(alloc: Global, rows: &[MessageRow], layouts: &mut Layouts) -> Result<(), NoMemory>
+    requires { IsTrue (are_laid_out_behind layouts.old (map definition_of_row rows.now)) }
+    ensures { OnOk result (layouts.new ≡ layouts.old ++ map definition_of_row rows.now) }
+{
     for row in rows {
-        let layout = layout_of(definition_of(alloc, row)?)?;
-        layouts = layouts.with(layout)?;
+        layouts.add(layout_of_row(alloc, row)?)?;
     }
-    Ok(layouts)
+    Ok(())
+}
+
+fn parameters() -> &'static [MessageRow]
+    ensures { map definition_of_row result.now ≡ take 6 profile_definitions }
+{
+    &PARAMETERS
+}
+
+fn missions() -> &'static [MessageRow]
+    ensures { map definition_of_row result.now ≡ take 8 (drop 6 profile_definitions) }
+{
+    &MISSIONS
+}
+
+fn mission_items() -> &'static [MessageRow]
+    ensures { map definition_of_row result.now ≡ take 1 (drop 14 profile_definitions) }
+{
+    &MISSION_ITEMS
+}
+
+fn commands() -> &'static [MessageRow]
+    ensures { map definition_of_row result.now ≡ drop 15 profile_definitions }
+{
+    &COMMANDS
+}
+
+// Appends the layouts of the profile's rows.
+fn lay_out_profile(alloc: Global, layouts: &mut Layouts) -> Result<(), NoMemory>
+    requires { layouts.old ≡ [] }
+    ensures { OnOk result (layouts.new ≡ profile_definitions) }
+{
+    lay_out(alloc, parameters(), layouts)?;
+    lay_out(alloc, missions(), layouts)?;
+    lay_out(alloc, mission_items(), layouts)?;
+    lay_out(alloc, commands(), layouts)
 }
 
 /// The layouts of the profile.
 pub(crate) fn profile_layouts(alloc: Global) -> Result<Layouts, NoMemory>
     ensures { IfOk result (λ layouts. layouts ≡ profile_definitions) }
 {
-    layouts_of(alloc, &PROFILE)
+    let mut layouts = Layouts::new(alloc);
+    lay_out_profile(alloc, &mut layouts)?;
+    Ok(layouts)
 }

@@ -1,5 +1,5 @@
 // Reading definitions.
-ghost use Rattle.std.specs.Prelude.{◌≡◌, ◌≢◌, ◌≤◌, [], false, map, length, None, Some, IfOk, IfErr};
+ghost use Rattle.std.specs.Prelude.{◌≡◌, ◌≢◌, ◌≤◌, ◌+◌, [], false, map, length, None, Some, OnOk, IfOk, IfErr};
 ghost use Rattle.serde_json.specs.View.{view};
 ghost use Rattle.dialect.specs.Shape.{message_in};
 ghost use Rattle.dialect.specs.Grammar as spec;
@@ -74,6 +74,21 @@ fn read_message(alloc: Global, known: &Known, value: &Value) -> Result<Layout, D
     laid_out(alloc, def, at)
 }
 
+// Reads messages behind those that are known.
+fn read_each(alloc: Global, values: &[Value], known: &mut Known) -> Result<(), DialectFault>
+    requires { length known.old + length values.now ≤ 512 }
+    ensures read { OnOk result
+        (spec.definitions_behind known.old (map view values.now) ≡ Ok known.new) }
+    ensures fault { IfErr result (λ fault. fault ≢ DialectFault.NoMemory
+        → spec.definitions_behind known.old (map view values.now) ≡ Err fault) }
+{
+    for value in values {
+        let layout = read_message(alloc, known, value)?;
+        known.add(layout)?;
+    }
+    Ok(())
+}
+
 // The layouts of messages.
 fn read_messages(alloc: Global, values: &[Value]) -> Result<Layouts, DialectFault>
     requires { length values.now ≤ 512 }
@@ -82,10 +97,7 @@ fn read_messages(alloc: Global, values: &[Value]) -> Result<Layouts, DialectFaul
         → spec.definitions_behind [] (map view values.now) ≡ Err fault) }
 {
     let mut known = Known::new(alloc);
-    for value in values {
-        let layout = read_message(alloc, &known, value)?;
-        known = known.with(layout)?;
-    }
+    read_each(alloc, values, &mut known)?;
     Ok(known.into_layouts())
 }
 

@@ -1,5 +1,6 @@
 // The layout of a message.
 ghost use Rattle.std.specs.Prelude.{◌≡◌, ◌<◌, length, map, None, IfOk, IfSome, IfNone, MatchResult};
+ghost use Rattle.std.specs.List.{range_with_len};
 ghost use Rattle.field_layout.specs.Definition.{all_fields, base_len_of, full_len_of};
 ghost use Rattle.field_layout.specs.WireOrder.{place_of, wire_order, offset_of};
 ghost use Rattle.field_layout.specs.CrcExtra.{crc_extra_of};
@@ -7,7 +8,7 @@ ghost use Rattle.field_layout.specs.Faults.{first_fault};
 ghost use Rattle.field_layout.specs.Target.{target_of};
 
 use crate::faults::{payload_len, repeated_place};
-use crate::order::{base_places, crc_extra, offset_table, push_extensions};
+use crate::order::Tables;
 use crate::target::{target_byte, target_offset};
 use crate::{LayoutFault, MessageDef, NoMemory};
 use mav_ports::Name;
@@ -69,23 +70,32 @@ impl Layout {
         requires len { full_len ≡ full_len_of def }
         ensures { IfOk result (λ layout. layout ≡ def) }
     {
-        let mut order = base_places(&def)?;
-        let crc_extra = crc_extra(&def, &order);
-        push_extensions(&mut order, &def)?;
-        let offsets = offset_table(&def, &order)?;
+        let tables = Tables::of(&def)?;
+        Ok(Layout::of_tables(def, full_len, tables))
+    }
+
+    fn of_tables(def: MessageDef, full_len: u8, tables: Tables) -> Layout
+        requires faultless { first_fault def ≡ None }
+        requires len { full_len ≡ full_len_of def }
+        requires order { tables.order.items ≡ map place_of (wire_order def) }
+        requires offsets { tables.offsets.items
+            ≡ map (offset_of def) (range_with_len 0 (length (all_fields def))) }
+        requires crc_extra { tables.crc_extra ≡ crc_extra_of def }
+        ensures { result ≡ def }
+    {
         let base_len = def.base_len() as u8;
-        let target_system = target_offset(&def, &offsets, b"target_system");
-        let target_component = target_offset(&def, &offsets, b"target_component");
-        Ok(Layout {
+        let target_system = target_offset(&def, &tables.offsets, b"target_system");
+        let target_component = target_offset(&def, &tables.offsets, b"target_component");
+        Layout {
             def,
-            order,
-            offsets,
+            order: tables.order,
+            offsets: tables.offsets,
             base_len,
             full_len,
-            crc_extra,
+            crc_extra: tables.crc_extra,
             target_system,
             target_component,
-        })
+        }
     }
 
     /// The byte that ends the check of the message's packets (MAVLink guide, Packet Serialization: CRC_EXTRA

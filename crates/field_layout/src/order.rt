@@ -1,5 +1,5 @@
 // The order of fields on the wire, and the offsets and the CRC_EXTRA that follow from it.
-ghost use Rattle.std.specs.Prelude.{◌≡◌, ◌≤◌, ◌++◌, length, map, OnOk, IfOk};
+ghost use Rattle.std.specs.Prelude.{◌≡◌, ◌≤◌, ◌++◌, [], length, map, OnOk, IfOk};
 ghost use Rattle.std.specs.List.{enumerate_from, range_with_len};
 ghost use Rattle.x25_check.specs.Check.{check_from};
 ghost use Rattle.field_layout.specs.Definition.{all_fields, full_len_of};
@@ -22,20 +22,19 @@ fn push_places(order: &mut Vec<usize>, fields: &[Field], size: usize) -> Result<
     Ok(())
 }
 
-/// The places of the base fields in wire order.
-pub(crate) fn base_places(def: &MessageDef) -> Result<Vec<usize>, NoMemory>
-    ensures { IfOk result (λ order. order.items ≡ map place_of (base_order def.now)) }
+// Appends the places of the base fields in wire order.
+fn push_base(order: &mut Vec<usize>, def: &MessageDef) -> Result<(), NoMemory>
+    requires { order.old.items ≡ [] }
+    ensures { OnOk result (order.new.items ≡ map place_of (base_order def.now)) }
 {
-    let mut order = Vec::new(*def.fields.allocator());
-    push_places(&mut order, &def.fields, 8)?;
-    push_places(&mut order, &def.fields, 4)?;
-    push_places(&mut order, &def.fields, 2)?;
-    push_places(&mut order, &def.fields, 1)?;
-    Ok(order)
+    push_places(order, &def.fields, 8)?;
+    push_places(order, &def.fields, 4)?;
+    push_places(order, &def.fields, 2)?;
+    push_places(order, &def.fields, 1)
 }
 
-/// Appends the places of the extensions to those of the base fields.
-pub(crate) fn push_extensions(order: &mut Vec<usize>, def: &MessageDef) -> Result<(), NoMemory>
+// Appends the places of the extensions to those of the base fields.
+fn push_extensions(order: &mut Vec<usize>, def: &MessageDef) -> Result<(), NoMemory>
     requires { order.old.items ≡ map place_of (base_order def.now) }
     ensures { OnOk result (order.new.items ≡ map place_of (wire_order def.now)) }
 {
@@ -43,6 +42,18 @@ pub(crate) fn push_extensions(order: &mut Vec<usize>, def: &MessageDef) -> Resul
         order.push(place)?;
     }
     Ok(())
+}
+
+// Appends the places of the fields in wire order, and answers the CRC_EXTRA.
+fn push_wire_order(order: &mut Vec<usize>, def: &MessageDef) -> Result<u8, NoMemory>
+    requires { order.old.items ≡ [] }
+    ensures order { OnOk result (order.new.items ≡ map place_of (wire_order def.now)) }
+    ensures extra { IfOk result (λ extra. extra ≡ crc_extra_of def.now) }
+{
+    push_base(order, def)?;
+    let crc_extra = crc_extra(def, order);
+    push_extensions(order, def)?;
+    Ok(crc_extra)
 }
 
 // The sizes of the fields before a place in wire order.
@@ -62,8 +73,8 @@ fn offset_in(def: &MessageDef, order: &[usize], place: usize) -> usize
     offset
 }
 
-/// The offset of each field, in definition order.
-pub(crate) fn offset_table(def: &MessageDef, order: &[usize]) -> Result<Vec<u8>, NoMemory>
+// The offset of each field, in definition order.
+fn offset_table(def: &MessageDef, order: &[usize]) -> Result<Vec<u8>, NoMemory>
     requires in_order { order.now ≡ map place_of (wire_order def.now) }
     requires short { full_len_of def.now ≤ 255 }
     ensures { IfOk result
@@ -95,8 +106,8 @@ fn push_field(check: &mut X25, field: &Field)
     }
 }
 
-/// The CRC_EXTRA of a message, from the places of its base fields in wire order.
-pub(crate) fn crc_extra(def: &MessageDef, base: &[usize]) -> u8
+// The CRC_EXTRA of a message, from the places of its base fields in wire order.
+fn crc_extra(def: &MessageDef, base: &[usize]) -> u8
     requires { base.now ≡ map place_of (base_order def.now) }
     ensures { result ≡ crc_extra_of def.now }
 {
@@ -107,4 +118,31 @@ pub(crate) fn crc_extra(def: &MessageDef, base: &[usize]) -> u8
     }
     let value = check.value();
     (value % 256) as u8 ^ (value / 256) as u8
+}
+
+/// What a layout keeps of the order of its fields.
+#[derive(Drop)]
+pub(crate) struct Tables {
+    pub(crate) order: Vec<usize>,
+    pub(crate) offsets: Vec<u8>,
+    pub(crate) crc_extra: u8,
+}
+
+impl Tables {
+    pub(crate) fn of(def: &MessageDef) -> Result<Tables, NoMemory>
+        requires { full_len_of def.now ≤ 255 }
+        ensures order { IfOk result (λ t. t.order.items ≡ map place_of (wire_order def.now)) }
+        ensures offsets { IfOk result
+            (λ t. t.offsets.items ≡ map (offset_of def.now) (range_with_len 0 (length (all_fields def.now)))) }
+        ensures crc_extra { IfOk result (λ t. t.crc_extra ≡ crc_extra_of def.now) }
+    {
+        let mut order = Vec::new(*def.fields.allocator());
+        let crc_extra = push_wire_order(&mut order, def)?;
+        let offsets = offset_table(def, &order)?;
+        Ok(Tables {
+            order,
+            offsets,
+            crc_extra,
+        })
+    }
 }

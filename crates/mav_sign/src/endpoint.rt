@@ -7,7 +7,7 @@ ghost use Rattle.mav_sign.specs.Kept.{Represents, kept_next};
 ghost use Rattle.mav_frame.specs.declared.events.Event.{Event};
 ghost use Rattle.mav_stream.specs.Progress.{Progress};
 ghost use Rattle.mav_sign.specs.Streams.{reader_of, ReadTo, PartHeard};
-ghost use Rattle.mav_sign.specs.Endpoints.{HasProfile, AdmittedIs, new_endpoint, HeardIs, after_frame, FrontHeard, Received, FrameOf, SentFrame};
+ghost use Rattle.mav_sign.specs.Endpoints.{HasProfile, AdmittedIs, new_endpoint, HeardIs, after_frame, Told, FrontHeard, Received, FrameOf, SentFrame};
 
 use crate::reading::read_frame;
 use crate::stamps::stream_of;
@@ -94,6 +94,20 @@ impl Endpoint {
         }
     }
 
+    // Tries a frame, and appends what is told of it.
+    #[inline]
+    fn hear_frame(&mut self, frame: &Frame, out: &mut Vec<Heard>)
+        requires { vec_len out.old < vec_capacity out.old }
+        ensures told { (history : List Entry) → Represents self.old.stamps history
+            → Told self.old.key history (frame.now ∷ []) out.old.items out.new.items self.new.stamps }
+        ensures room { (vec_capacity out.old ≤ vec_capacity out.new) × (vec_len out.new ≡ vec_len out.old + 1) }
+        ensures same { self.new ≡ record self.old { stamps = self.new.stamps } }
+    {
+        let heard = self.take(frame);
+        let added = out.push(heard);
+        added.unwrap();
+    }
+
     // Hears what stands at the front of some bytes, and answers how many bytes that takes.
     fn hear_front(&mut self, bytes: &[u8], out: &mut Vec<Heard>) -> usize
         requires some { 0 < length bytes.now }
@@ -106,9 +120,7 @@ impl Endpoint {
     {
         match look(&self.extras, bytes) {
             Look::Frame(frame, size) => {
-                let heard = self.take(&frame);
-                let added = out.push(heard);
-                added.unwrap();
+                self.hear_frame(&frame, out);
                 size
             }
             Look::NotHere(_) => 1,

@@ -1,7 +1,8 @@
-use Rattle.std.proofs.Common.{◌≡◌, ◌≤◌, ◌+◌, ◌++◌, ◌∙◌, ℕ, List, ap, sym, refl, arith, take, length, subst, Err, length-append, length-take}
+use Rattle.std.proofs.Common.{◌≡◌, ◌≤◌, ◌+◌, ◌++◌, ◌∙◌, [], ℕ, List, ap, sym, refl, arith, take, length, subst, Err, length-append, length-take}
 use Rattle.std.proofs.lemmas.List.{take-take}
 use Rattle.std.proofs.lemmas.Result.{err_from_is_err_and}
 use Rattle.mav_ports.specs.Counts.{Rose}
+use Rattle.mav_ports.proofs.Known.{prepend_known_nil}
 use Rattle.command_ends.proofs.Untolds.{took_none, took_more}
 use Rattle.decode_command.specs.Script.{most_input_bytes}
 use Rattle.decode_command.specs.Decodes.{Drained, Front}
@@ -120,3 +121,38 @@ returns-in-Failed-clause-untold g c =
     (took_none taken (g.S.Source.left c.args.main.now) (g.S.Source.left c.loop-count.main) (g.S.Source.left c.read_on.new.source) took read.bytes)
     (omega (arith, len)) inv.still inv.empty d
     (subst (λ n. Rose n (g.S.Source.faults c.read_on.new.source)) inv.faults (read.failed refl))
+
+pub loop-count-init : goal.loop-count-init
+loop-count-init g c = record {
+  within = c.requires.within;
+  sum = omega (arith, c.requires.start);
+  room = omega (arith, c.requires.start);
+  still = c.requires.still;
+  empty = c.requires.empty;
+  drained = λ start. ([], sym (prepend_known_nil (g.S.Source.left c.args.main.now)), refl, start);
+  faults = refl;
+  idles = omega arith;
+  refusals = refl;
+}
+
+pub returns-in_err-take-in-Bytes-clause-sound : goal.returns-in_err-take-in-Bytes-clause-sound
+returns-in_err-take-in-Bytes-clause-sound g c =
+    let e = err_from_is_err_and c.from_residual.result c.from_residual.ensures.1 in
+    rw (e.1, e.2) (λ other. c.in_err-take-in-Bytes.ensures.sound other ∙ c.loop-count.invariant.refusals)
+
+pub returns-in_err-take-in-Bytes-2-clause-sound : goal.returns-in_err-take-in-Bytes-2-clause-sound
+returns-in_err-take-in-Bytes-2-clause-sound g c =
+    let e = err_from_is_err_and c.from_residual-in_err-take-in-Bytes-2.result c.from_residual-in_err-take-in-Bytes-2.ensures.1 in
+    rw (e.1, e.2) (λ other. c.in_err-take-in-Bytes-2.ensures.sound other ∙ c.loop-count.invariant.refusals)
+
+pub returns-then-count-left-clause-sound : goal.returns-then-count-left-clause-sound
+returns-then-count-left-clause-sound g c = λ other. c.in_ok-take-in-Bytes.ensures.sound (λ e. cc) ∙ c.loop-count.invariant.refusals
+
+pub returns-in-End-clause-sound : goal.returns-in-End-clause-sound
+returns-in-End-clause-sound g c = λ other. c.finish.ensures.sound other ∙ c.loop-count.invariant.refusals
+
+pub returns-in-Idle-clause-sound : goal.returns-in-Idle-clause-sound
+returns-in-Idle-clause-sound g c = λ other. c.loop-count.invariant.refusals
+
+pub returns-in-Failed-clause-sound : goal.returns-in-Failed-clause-sound
+returns-in-Failed-clause-sound g c = λ other. c.loop-count.invariant.refusals

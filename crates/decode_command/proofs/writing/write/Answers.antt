@@ -1,5 +1,6 @@
-use Rattle.std.proofs.Common.{◌≡◌, List, ℕ, [], sym, ap, ◌∙◌, subst, append-nil, Option}
+use Rattle.std.proofs.Common.{◌≡◌, List, ℕ, [], sym, ap, ◌∙◌, subst, refl, append-nil, Option}
 use Rattle.std.specs.Io.KnownBytes.{append_known}
+use Rattle.std.proofs.lemmas.Result.{err_from_is_err_and}
 use Rattle.mav_ports.specs.Puts.{Sent}
 use Rattle.mav_ports.proofs.Known.{sent_step}
 use Rattle.decode_command.proofs.writing.write.Goals as goal
@@ -16,3 +17,21 @@ returns-clause-moved g c = λ before whole s.
 pub returns-clause-front : goal.returns-clause-front
 returns-clause-front g c = λ before whole s.
     ([], all_sent before (g.K.Sink.sent c.args.out.now) (g.K.Sink.sent c.write_all.new.sink) whole c.args.text.now.items s (c.in_ok-write_all.ensures.ok ∙ ap (append_known (g.K.Sink.sent c.args.out.now)) c.deref.ensures.value))
+
+pub returns-in_err-write_all-clause-rose : goal.returns-in_err-write_all-clause-rose
+returns-in_err-write_all-clause-rose g c = λ refused. c.in_err-write_all.ensures.rose
+
+pub returns-in_err-write_all-clause-error : goal.returns-in_err-write_all-clause-error
+returns-in_err-write_all-clause-error g c =
+    let e = err_from_is_err_and c.from_residual.result c.from_residual.ensures.1 in
+    rw (e.1, e.2) refl
+
+pub returns-in_err-write_all-clause-sound : goal.returns-in_err-write_all-clause-sound
+returns-in_err-write_all-clause-sound g c =
+    let e = err_from_is_err_and c.from_residual.result c.from_residual.ensures.1 in
+    rw e.1 tt
+
+pub returns-in_err-write_all-clause-moved : goal.returns-in_err-write_all-clause-moved
+returns-in_err-write_all-clause-moved g c =
+    let e = err_from_is_err_and c.from_residual.result c.from_residual.ensures.1 in
+    rw e.1 tt

@@ -21,7 +21,7 @@ loop-place-preserved c =
     let within : c.loop-place.place < length (all_fields c.args.def.now) = omega arith in
     record {
       known =
-          c.in_ok-add.ensures
+          c.in_ok-add.ensures.added
           ∙ ap (λ known. known ++ c.bytes-name.result.now ∷ []) c.loop-place.invariant.known
           ∙ ap (λ name. take c.loop-place.place (names_of c.args.def.now) ++ name ∷ []) c.bytes-name.ensures
           ∙ sym (take-names c.args.def.now c.loop-place.place c.field.result.now c.field.ensures within);

@@ -1,4 +1,5 @@
-use Rattle.std.proofs.Common.{◌≡◌, length, drop, refl, ap, ◌∙◌, arith, length-drop}
+use Rattle.std.proofs.Common.{◌≡◌, length, drop, refl, ap, ◌∙◌, arith, length-drop, subst}
+use Rattle.mav_ports.specs.Counts.{Rose}
 use Rattle.std.proofs.lemmas.Result.{err_from_is_err_and}
 use Rattle.mav_stream.specs.Held.{Held}
 use Rattle.mav_scan.specs.Ahead.{events_ahead, size_ahead}
@@ -34,3 +35,18 @@ returns-in_err-pass-in_default-clause-halted g c =
       passed.halted known taken before (c.loop-ahead.invariant.decoding known taken before d) (λ given p. c.ahead.ensures.progress _ taken given p),
       passed.ended ∙ c.loop-ahead.invariant.ended,
     ))
+
+pub returns-in_err-pass-in_default-clause-error : goal.returns-in_err-pass-in_default-clause-error
+returns-in_err-pass-in_default-clause-error g c =
+    let e = err_from_is_err_and c.from_residual.result c.from_residual.ensures.1 in
+    rw (e.1, e.2) c.in_err-pass-in_default.ensures.error
+
+pub returns-in_err-pass-in_default-clause-rose : goal.returns-in_err-pass-in_default-clause-rose
+returns-in_err-pass-in_default-clause-rose g c =
+    let e = err_from_is_err_and c.from_residual.result c.from_residual.ensures.1 in
+    rw (e.1, e.2) (λ refused. subst (λ n. Rose n (g.K.Sink.faults c.pass.new.out)) c.loop-ahead.invariant.refusals (c.in_err-pass-in_default.ensures.rose refused))
+
+pub returns-in_err-pass-in_default-clause-sound : goal.returns-in_err-pass-in_default-clause-sound
+returns-in_err-pass-in_default-clause-sound g c =
+    let e = err_from_is_err_and c.from_residual.result c.from_residual.ensures.1 in
+    rw (e.1, e.2) (λ other. c.in_err-pass-in_default.ensures.sound other ∙ c.loop-ahead.invariant.refusals)

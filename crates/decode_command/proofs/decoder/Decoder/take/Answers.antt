@@ -1,4 +1,5 @@
-use Rattle.std.proofs.Common.{◌≡◌, ◌≤◌, ◌+◌, ◌-◌, ℕ, length, take, drop, refl, ap, ◌∙◌, arith, length-take, length-append}
+use Rattle.std.proofs.Common.{◌≡◌, ◌≤◌, ◌+◌, ◌-◌, ℕ, length, take, drop, refl, ap, ◌∙◌, arith, length-take, length-append, subst}
+use Rattle.mav_ports.specs.Counts.{Rose}
 use Rattle.std.proofs.lemmas.Result.{err_from_is_err_and}
 use Rattle.mav_stream.specs.Held.{Held}
 use Rattle.decode_command.proofs.Results.{on_ok, if_err}
@@ -54,3 +55,22 @@ returns-clause-halted g c = λ known taken before d.
     if_err c.write.result
     (drained_front known _ l.self before (g.K.Sink.sent l.out) (g.K.Sink.sent c.write.new.out) l.invariant.still
     (piece_whole known taken c.args.piece.now l.place l.self before (g.K.Sink.sent l.out) c.loop-place-test.false (l.invariant.drained known taken before d)) c.write.ensures.front)
+
+pub returns-in_err-drain-clause-error : goal.returns-in_err-drain-clause-error
+returns-in_err-drain-clause-error g c =
+    let e = err_from_is_err_and c.from_residual.result c.from_residual.ensures.1 in
+    rw (e.1, e.2) c.in_err-drain.ensures.error
+
+pub returns-in_err-drain-clause-rose : goal.returns-in_err-drain-clause-rose
+returns-in_err-drain-clause-rose g c =
+    let e = err_from_is_err_and c.from_residual.result c.from_residual.ensures.1 in
+    rw (e.1, e.2) (λ refused. subst (λ n. Rose n (g.K.Sink.faults c.drain.new.out)) c.loop-place.invariant.refusals (c.in_err-drain.ensures.rose refused))
+
+pub returns-in_err-drain-clause-sound : goal.returns-in_err-drain-clause-sound
+returns-in_err-drain-clause-sound g c =
+    let e = err_from_is_err_and c.from_residual.result c.from_residual.ensures.1 in
+    rw (e.1, e.2) (λ other. c.in_err-drain.ensures.sound other ∙ c.loop-place.invariant.refusals)
+
+pub returns-clause-rose : goal.returns-clause-rose
+returns-clause-rose g c = λ refused.
+    subst (λ n. Rose n (g.K.Sink.faults c.write.new.out)) c.loop-place.invariant.refusals (c.write.ensures.rose refused)

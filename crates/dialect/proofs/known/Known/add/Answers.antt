@@ -1,11 +1,11 @@
--- The new name stands nowhere yet.
+-- The new name stands nowhere yet, and is taken off again where the layout isn't kept.
 use Rattle.std.proofs.Common.{ap, ◌∙◌}
 use Rattle.std.specs.List.{list_any}
 use Rattle.std.specs.Str.{bytes_eq}
 use Rattle.dialect.specs.Grammar.{has_name}
 use Rattle.mav_profile.specs.Messages.{name_of}
 use Rattle.dialect.proofs.Keys.{list_any-map}
-use Rattle.dialect.proofs.known.Known.with.Goals as goal
+use Rattle.dialect.proofs.known.Known.add.Goals as goal
 
 pub add-requires : goal.add-requires
 add-requires c =
