@@ -1,15 +1,17 @@
 // A drone as a node.
-ghost use Rattle.std.specs.Prelude.{◌≡◌, ◌++◌, map, None, Some, [], IfOk, IfErr};
+ghost use Rattle.std.specs.Prelude.{◌≡◌, ◌++◌, ◌∷◌, map, None, Some, [], IfOk, IfErr, OnOk};
+ghost use Rattle.plan_items.specs.declared.kinds.PlanKind.TheVariants.{Mission, Fence, Rally};
 ghost use Rattle.plan_items.specs.Kinds.{number_of};
 ghost use Rattle.plan_upload.specs.Drone.{DroneState};
 ghost use Rattle.plan_upload.specs.Plans.{plan_at};
-ghost use Rattle.mav_nodes.specs.News.{Installs, shown, said_by, events_of};
+ghost use Rattle.mav_nodes.specs.News.{Installs, Empties, shown, said_by, events_of};
 ghost use Rattle.mav_nodes.specs.Steps.{Side, takes, hears};
 ghost use Rattle.mav_nodes.specs.Nodes.{IsDrone, new_drone, drone_core, drone_receives, drone_ticks, drone_beats, change_events};
 ghost use Rattle.mav_nodes.specs.Promises.{DroneDid};
 
 use crate::heartbeats::drone_heartbeat;
 use crate::link::{Link, Tried};
+use crate::news::tell;
 use crate::{News, NoMemory, NodeFault};
 use mav_frame::{Event, Frame, event_at};
 use mav_ports::Stream;
@@ -52,22 +54,36 @@ fn tell_change(
     ensures fault { IfErr result (λ fault. fault ≡ NodeFault.NoMemory) }
 {
     match change {
-        Change::Same => {}
-        Change::Install(kind) => news.push(installed(drone, kind, by))?,
-        Change::Empty(Some(kind)) => news.push(News::Emptied { kind })?,
-        Change::Empty(None) => {
-            news.push(News::Emptied {
-                kind: PlanKind::Mission,
-            })?;
-            news.push(News::Emptied {
-                kind: PlanKind::Fence,
-            })?;
-            news.push(News::Emptied {
-                kind: PlanKind::Rally,
-            })?;
-        }
+        Change::Same => Ok(()),
+        Change::Install(kind) => tell(news, installed(drone, kind, by)),
+        Change::Empty(Some(kind)) => tell(news, News::Emptied { kind }),
+        Change::Empty(None) => tell_emptied(news),
     }
-    Ok(())
+}
+
+// Tells that all three plans became empty.
+fn tell_emptied(news: &mut Vec<News>) -> Result<(), NodeFault>
+    ensures told { OnOk result (events_of news.new.items ≡ events_of news.old.items ++ map shown (Empties Mission ∷ Empties Fence ∷ Empties Rally ∷ [])) }
+    ensures fault { IfErr result (λ fault. fault ≡ NodeFault.NoMemory) }
+{
+    tell(
+        news,
+        News::Emptied {
+            kind: PlanKind::Mission,
+        },
+    )?;
+    tell(
+        news,
+        News::Emptied {
+            kind: PlanKind::Fence,
+        },
+    )?;
+    tell(
+        news,
+        News::Emptied {
+            kind: PlanKind::Rally,
+        },
+    )
 }
 
 // The news that the drone's plan of a kind was installed.
@@ -133,10 +149,7 @@ impl DroneNode {
         match self.link.hear(frame) {
             Tried::Plan(from, message) => self.take(from, &message, clock, news),
             Tried::Other => Ok(()),
-            Tried::Dropped(answer) => {
-                news.push(News::Dropped(answer))?;
-                Ok(())
-            }
+            Tried::Dropped(answer) => tell(news, News::Dropped(answer)),
         }
     }
 

@@ -11,6 +11,7 @@ ghost use Rattle.mav_nodes.specs.Links.{Link as LinkState, IsLink, new_link, tri
 ghost use Rattle.mav_nodes.specs.Steps.{answers};
 ghost use Rattle.mav_nodes.specs.Promises.{LinkDid, IsTried};
 
+use crate::news::tell;
 use crate::{News, NoMemory, NodeFault};
 use mav_frame::Frame;
 use mav_messages::Message;
@@ -133,8 +134,7 @@ impl Link {
             → fault ≡ NodeFault.StampsSpent → sends clock message.now link ≡ None) }
     {
         let frame = self.endpoint.send(message, clock)?;
-        news.push(News::Sent(frame, *message))?;
-        Ok(())
+        tell(news, News::Sent(frame, *message))
     }
 
     /// Sends an answer, where there is one.

@@ -1,4 +1,7 @@
 // What happens in a node.
+ghost use Rattle.std.specs.Prelude.{◌≡◌, ◌++◌, ◌∷◌, [], OnOk, IfErr};
+
+use crate::NodeFault;
 use mav_frame::Frame;
 use mav_messages::Message;
 use mav_ports::Stream;
@@ -25,4 +28,13 @@ pub enum News {
     Dropped(Admit),
     /// The station's operation has ended.
     Outcome(Outcome),
+}
+
+/// One piece of news more.
+pub(crate) fn tell(news: &mut Vec<News>, piece: News) -> Result<(), NodeFault>
+    ensures told { OnOk result (news.new.items ≡ news.old.items ++ piece ∷ []) }
+    ensures fault { IfErr result (λ fault. fault ≡ NodeFault.NoMemory) }
+{
+    news.push(piece)?;
+    Ok(())
 }

@@ -9,6 +9,7 @@ ghost use Rattle.mav_nodes.specs.Promises.{StationDid, IsRefusal, OrderFails, Or
 
 use crate::heartbeats::station_heartbeat;
 use crate::link::{Link, Tried};
+use crate::news::tell;
 use crate::{News, NoMemory, NodeFault, Order, OrderFault};
 use mav_frame::{Event, Frame, event_at};
 use mav_ports::Stream;
@@ -56,10 +57,10 @@ impl StationNode {
         ensures station { IfOk result (λ done. self.new ≡ record self.old { station = untold self.old.station }) }
         ensures fault { IfErr result (λ fault. fault ≡ NodeFault.NoMemory) }
     {
-        if let Some(outcome) = self.station.outcome() {
-            news.push(News::Outcome(outcome))?;
+        match self.station.outcome() {
+            Some(outcome) => tell(news, News::Outcome(outcome)),
+            None => Ok(()),
         }
-        Ok(())
     }
 
     // An admitted plan message of a stream.
@@ -89,10 +90,7 @@ impl StationNode {
         match self.link.hear(frame) {
             Tried::Plan(from, message) => self.take(from, &message, clock, news),
             Tried::Other => Ok(()),
-            Tried::Dropped(answer) => {
-                news.push(News::Dropped(answer))?;
-                Ok(())
-            }
+            Tried::Dropped(answer) => tell(news, News::Dropped(answer)),
         }
     }
 

@@ -97,6 +97,17 @@ fn add_recipes(
     Ok(())
 }
 
+// The recipes of a dialect, and the places of the low ids among them.
+fn recipes_of(alloc: Global, dialect: &Dialect) -> Result<(Vec<Recipe>, Vec<Option<u16>>), NoMemory>
+    ensures len { IfOk result (λ made. length made.1.items ≡ 65536) }
+    ensures places { IfOk result (λ made. HasPlaces dialect.now made.0.items made.1.items) }
+{
+    let mut low = no_places(alloc, LOW_IDS)?;
+    let mut recipes = Vec::new(alloc);
+    add_recipes(alloc, dialect, &mut recipes, &mut low)?;
+    Ok((recipes, low))
+}
+
 // The id of a frame.
 #[inline(always)]
 fn read_id(frame: &[u8]) -> u32
@@ -130,14 +141,14 @@ impl Recipes {
     pub fn new(alloc: Global, dialect: Dialect) -> Result<Recipes, NoMemory>
         ensures { IfOk result (λ recipes. recipes ≡ dialect) }
     {
-        let mut recipes = Vec::new(alloc);
-        let mut low = no_places(alloc, LOW_IDS)?;
-        add_recipes(alloc, &dialect, &mut recipes, &mut low)?;
-        Ok(Recipes {
-            dialect,
-            recipes,
-            low,
-        })
+        match recipes_of(alloc, &dialect) {
+            Ok((recipes, low)) => Ok(Recipes {
+                dialect,
+                recipes,
+                low,
+            }),
+            Err(fault) => Err(fault),
+        }
     }
 
     /// The dialect.

@@ -53,10 +53,10 @@ impl Drone {
     pub fn new(alloc: Global, sys: u8) -> Result<Drone, NoMemory>
         ensures { IfOk result (λ d. d ≡ fresh_drone sys no_plans) }
     {
-        let plans = HeldPlans::new(alloc)?;
+        let results = Results::new(alloc)?;
         let upload = UploadSlot::new(alloc)?;
         let download = DownloadSlot::new(alloc)?;
-        let results = Results::new(alloc)?;
+        let plans = HeldPlans::new(alloc)?;
         Ok(Drone {
             sys,
             plans,

@@ -81,14 +81,14 @@ impl Station {
     {
         self.pings += 1;
         let number = self.pings;
-        self.operation = Some(OpenOperation {
+        self.stay(
             drone,
-            stage: Stage::Pinging {
+            Stage::Pinging {
                 task,
                 terminating,
                 number: Some(number),
             },
-        });
+        );
         PlanMsg::Ping {
             to: broadcast(),
             usec: self.boot,
@@ -104,14 +104,14 @@ impl Station {
         if self.pings < u32::MAX {
             return Some(self.ping(drone, task, terminating));
         }
-        self.operation = Some(OpenOperation {
+        self.stay(
             drone,
-            stage: Stage::Pinging {
+            Stage::Pinging {
                 task,
                 terminating,
                 number: None,
             },
-        });
+        );
         None
     }
 
@@ -292,8 +292,9 @@ impl Station {
         ensures station { self.new ≡ (station_step self.old from msg.now).station }
         ensures answer { result ≡ (station_step self.old from msg.now).answer }
     {
-        let operation = self.operation.take()?;
-        let OpenOperation { drone, stage } = operation;
+        let Some(OpenOperation { drone, stage }) = self.operation.take() else {
+            return None;
+        };
         if !is_same_stream(from, drone) || !is_same_name(receiver(msg), self.me) {
             self.stay(drone, stage);
             return None;
@@ -321,8 +322,9 @@ impl Station {
         ensures station { self.new ≡ (station_tick self.old).station }
         ensures answer { result ≡ (station_tick self.old).answer }
     {
-        let operation = self.operation.take()?;
-        let OpenOperation { drone, stage } = operation;
+        let Some(OpenOperation { drone, stage }) = self.operation.take() else {
+            return None;
+        };
         match stage {
             Stage::Pinging {
                 task,
@@ -346,8 +348,9 @@ impl Station {
         ensures station { self.new ≡ (station_cancel self.old).station }
         ensures answer { result ≡ (station_cancel self.old).answer }
     {
-        let operation = self.operation.take()?;
-        let OpenOperation { drone, stage } = operation;
+        let Some(OpenOperation { drone, stage }) = self.operation.take() else {
+            return None;
+        };
         match stage {
             Stage::Pinging { task, number, .. } => {
                 self.stay(
