@@ -7,7 +7,7 @@ ghost use Rattle.command_line.specs.Pieces.{option_sort, sort_of, joined_value};
 use crate::commands::{COMMANDS, Command, OPTION_NAMES, OptionName};
 
 /// What a word is in front of `--`.
-#[derive(Clone, Copy, Debug, PartialEq, Eq)]
+#[derive(Clone, Copy)]
 pub(crate) enum Sort {
     Plain,
     /// `--`
@@ -22,7 +22,7 @@ pub(crate) enum Sort {
 }
 
 /// What may stand at the next word.
-#[derive(Clone, Copy, Debug, PartialEq, Eq)]
+#[derive(Clone, Copy)]
 pub(crate) enum Place {
     Anything,
     Value(OptionName),
