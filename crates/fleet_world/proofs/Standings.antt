@@ -1,7 +1,5 @@
 -- What lines are read against, by the scene that a world is in.
-use Rattle.std.proofs.Common.{◌≡◌, ℕ, Bool, List, length, ap}
-use Rattle.scenario_lines.specs.declared.roster.Named.{Named}
-use Rattle.scenario_lines.specs.Standing.{Standing}
+use Rattle.std.proofs.Common.{◌≡◌, Bool, length}
 use Rattle.fleet_world.specs.Scene.{Scene, standing_of}
 use Rattle.fleet_world.specs.Seen.{World, IsScene, standing_in}
 
