@@ -62,18 +62,12 @@ fn a_source_over_memory_answers_as_its_contract_computes(rt: HostRuntime) -> Res
     Ok(())
 }
 
-#[test]
-fn a_sink_over_memory_answers_as_its_contract_computes(rt: HostRuntime) -> Result<(), Fail> {
-    let mut sink = sink_of_three(rt.alloc())?;
+// Whether a sink over memory answers as its contract computes.
+fn answers_to_the_end_of_room(alloc: Global) -> Result<bool, AllocError> {
+    let mut sink = sink_of_three(alloc)?;
     let put = writes_to_the_end_of_room(&mut sink);
-    assert_eq!(rt;
-        (put, sink.sent()),
-        (
-            [Put::Took(2), Put::Failed, Put::Took(1), Put::Failed],
-            b"abc".as_slice()
-        )
-    );
-    Ok(())
+    let answered = put == [Put::Took(2), Put::Failed, Put::Took(1), Put::Failed];
+    Ok(answered && sink.sent() == b"abc".as_slice())
 }
 
 // What seven reads answer.
@@ -126,7 +120,7 @@ fn written(alloc: Global) -> Result<bool, AllocError> {
 
 #[test]
 fn all_that_is_written_is_sent_while_there_is_room(rt: HostRuntime) -> Result<(), Fail> {
-    assert!(rt; written(rt.alloc())?);
+    assert!(rt; answers_to_the_end_of_room(rt.alloc())? && written(rt.alloc())?);
     Ok(())
 }
 
@@ -162,27 +156,8 @@ impl Write for Unsteady {
     }
 }
 
-#[test]
-fn a_source_over_a_reader_fails_at_its_errors_and_ends_once(rt: HostRuntime) {
-    let mut source = StdSource::new(Some(Unsteady { calls: 0 }));
-    assert_eq!(rt;
-        seven_reads(&mut source, &mut [0; 8]),
-        [
-            Got::Bytes(1),
-            Got::Failed,
-            Got::Bytes(1),
-            Got::End,
-            Got::End,
-            Got::End,
-            Got::End
-        ]
-    );
-}
-
-#[test]
-fn a_source_over_no_reader_fails(rt: HostRuntime) {
-    let mut nothing: StdSource<Unsteady> = StdSource::new(None);
-    assert_eq!(rt; nothing.read(&mut [0; 8]), Got::Failed);
+fn read_by(reader: Option<Unsteady>) -> [Got; 7] {
+    seven_reads(&mut StdSource::new(reader), &mut [0; 8])
 }
 
 // What four writes answer.
@@ -195,11 +170,28 @@ fn four_writes<K: Sink>(sink: &mut K) -> [Put; 4] {
     ]
 }
 
+fn written_by(writer: Unsteady) -> [Put; 4] {
+    four_writes(&mut StdSink::new(writer))
+}
+
+// A source over a reader ends once, and one over none fails; a sink also fails where none is taken.
 #[test]
-fn a_sink_over_a_writer_fails_at_its_errors_and_where_none_is_taken(rt: HostRuntime) {
-    let mut sink = StdSink::new(Unsteady { calls: 0 });
+fn the_adapters_fail_at_errors(rt: HostRuntime) {
     assert_eq!(rt;
-        four_writes(&mut sink),
+        read_by(Some(Unsteady { calls: 0 })),
+        [
+            Got::Bytes(1),
+            Got::Failed,
+            Got::Bytes(1),
+            Got::End,
+            Got::End,
+            Got::End,
+            Got::End
+        ]
+    );
+    assert_eq!(rt; read_by(None), [Got::Failed; 7]);
+    assert_eq!(rt;
+        written_by(Unsteady { calls: 0 }),
         [Put::Took(1), Put::Failed, Put::Took(1), Put::Failed]
     );
 }

@@ -1,5 +1,6 @@
 // What the contract of `run` alone says of whole runs, at the ports in memory.
-ghost use Rattle.std.specs.Prelude.{◌≡◌, ◌∷◌, ◌⊎◌, [], Some, codes, map, string_bytes, IfOk};
+ghost use Rattle.std.specs.Prelude.{◌≡◌, ◌∷◌, ◌⊎◌, [], true, false, Some, codes, map};
+ghost use Rattle.std.specs.Prelude.{string_bytes, IfOk};
 ghost use Rattle.decode_command.specs.Examples.{one_heartbeat, one_heartbeat_text};
 ghost use Rattle.dialect_command.specs.Examples.{profile_layouts};
 ghost use Rattle.fleet_command.specs.Examples.{one_item, one_item_installed, IsInstalledOnce};
@@ -17,21 +18,51 @@ const STREAM: &[u8] = &[
     7, 0xFD, 9, 0, 0, 0, 1, 1, 0, 0, 0, 0, 0, 0, 0, 2, 3, 81, 4, 3, 0xE7, 0x1E, 0xFD,
 ];
 
-// A command and the name of a file.
-fn words_for(alloc: Global, command: &str) -> Result<Vec<String>, AllocError>
-    ensures { IfOk result (λ words. map string_bytes words.items ≡ command.now ∷ codes "file" ∷ []) }
+// The three runs, from what their contracts say alone: what is written is a text that the
+// definitions compute, checksums, CRC_EXTRA bytes and signatures under the bytes 0 to 31 and all.
+// And in the history of the abstract mission store of the first the plan was installed, once, and
+// what its outcome tells is true.
+fn run_one(
+    alloc: Global,
+    words: &[String],
+    inputs: &mut Inputs<SureSource>,
+    out: &mut SureSink,
+) -> u8
+    requires one { ((map string_bytes words.now ≡ codes "fleet" ∷ codes "file" ∷ [])
+        × (⟦<SureSource as Source>⟧.left inputs.old.main ≡ Some one_item))
+        ⊎ (((map string_bytes words.now ≡ codes "decode" ∷ codes "file" ∷ [])
+        × (⟦<SureSource as Source>⟧.left inputs.old.main ≡ Some one_heartbeat))
+        ⊎ (map string_bytes words.now ≡ codes "dialect" ∷ [])) }
+    requires empty { ⟦<SureSink as Sink>⟧.sent out.old ≡ Some [] }
+    ensures status { (result ≡ 0) ⊎ ((result ≡ 5) ⊎ (result ≡ 7)) }
+    ensures report { map string_bytes words.now ≡ codes "fleet" ∷ codes "file" ∷ []
+        → ⟦<SureSource as Source>⟧.left inputs.old.main ≡ Some one_item
+        → result ≡ 0 → ⟦<SureSink as Sink>⟧.sent out.new ≡ Some one_item_installed }
+    ensures installed { map string_bytes words.now ≡ codes "fleet" ∷ codes "file" ∷ []
+        → ⟦<SureSource as Source>⟧.left inputs.old.main ≡ Some one_item
+        → result ≡ 0 → IsInstalledOnce }
+    ensures decoded { map string_bytes words.now ≡ codes "decode" ∷ codes "file" ∷ []
+        → ⟦<SureSource as Source>⟧.left inputs.old.main ≡ Some one_heartbeat
+        → result ≡ 0 → ⟦<SureSink as Sink>⟧.sent out.new ≡ Some one_heartbeat_text }
+    ensures told { map string_bytes words.now ≡ codes "dialect" ∷ []
+        → result ≡ 0 → ⟦<SureSink as Sink>⟧.sent out.new ≡ Some profile_layouts }
 {
-    let mut words = Vec::new(alloc);
-    words.push(String::from_str(alloc, command)?)?;
-    words.push(String::from_str(alloc, "file")?)?;
-    Ok(words)
+    run(alloc, words, inputs, out, &mut MemClock::new(0))
 }
 
-fn one_word(alloc: Global, command: &str) -> Result<Vec<String>, AllocError>
-    ensures { IfOk result (λ words. map string_bytes words.items ≡ command.now ∷ []) }
+// A command, and the name of a file where it takes one.
+fn words_for(alloc: Global, command: &str, has_file: bool) -> Result<Vec<String>, AllocError>
+    ensures file { has_file ≡ true
+        → IfOk result (λ words. map string_bytes words.items ≡ command.now ∷ codes "file" ∷ []) }
+    ensures alone { has_file ≡ false
+        → IfOk result (λ words. map string_bytes words.items ≡ command.now ∷ []) }
 {
     let mut words = Vec::new(alloc);
     words.push(String::from_str(alloc, command)?)?;
+    if !has_file {
+        return Ok(words);
+    }
+    words.push(String::from_str(alloc, "file")?)?;
     Ok(words)
 }
 
@@ -45,87 +76,27 @@ fn inputs_over(alloc: Global, main: &[u8]) -> Result<Inputs<SureSource>, AllocEr
     })
 }
 
-// By computation, checksums and signatures under the bytes 0 to 31, the report is this text. And in
-// the history of the abstract mission store of that run the plan was installed, once, and what its
-// outcome tells is true.
-fn upload_one_item(
-    alloc: Global,
-    words: &[String],
-    inputs: &mut Inputs<SureSource>,
-    out: &mut SureSink,
-    clock: &mut MemClock,
-) -> u8
-    requires words { map string_bytes words.now ≡ codes "fleet" ∷ codes "file" ∷ [] }
-    requires scenario { ⟦<SureSource as Source>⟧.left inputs.old.main ≡ Some one_item }
-    requires empty { ⟦<SureSink as Sink>⟧.sent out.old ≡ Some [] }
-    ensures status { (result ≡ 0) ⊎ ((result ≡ 5) ⊎ (result ≡ 7)) }
-    ensures report { result ≡ 0 → ⟦<SureSink as Sink>⟧.sent out.new ≡ Some one_item_installed }
-    ensures installed { result ≡ 0 → IsInstalledOnce }
+// The status of one of them.
+fn status_of(alloc: Global, command: &str, has_file: bool, main: &[u8]) -> Result<u8, AllocError>
+    requires one { ((command.now ≡ codes "fleet") × (has_file ≡ true) × (main.now ≡ one_item))
+        ⊎ (((command.now ≡ codes "decode") × (has_file ≡ true) × (main.now ≡ one_heartbeat))
+        ⊎ ((command.now ≡ codes "dialect") × (has_file ≡ false))) }
 {
-    run(alloc, words, inputs, out, clock)
-}
-
-// By computation the text is this one.
-fn decode_one_heartbeat(
-    alloc: Global,
-    words: &[String],
-    inputs: &mut Inputs<SureSource>,
-    out: &mut SureSink,
-    clock: &mut MemClock,
-) -> u8
-    requires words { map string_bytes words.now ≡ codes "decode" ∷ codes "file" ∷ [] }
-    requires stream { ⟦<SureSource as Source>⟧.left inputs.old.main ≡ Some one_heartbeat }
-    requires empty { ⟦<SureSink as Sink>⟧.sent out.old ≡ Some [] }
-    ensures status { (result ≡ 0) ⊎ ((result ≡ 5) ⊎ (result ≡ 7)) }
-    ensures text { result ≡ 0 → ⟦<SureSink as Sink>⟧.sent out.new ≡ Some one_heartbeat_text }
-{
-    run(alloc, words, inputs, out, clock)
-}
-
-// By computation, CRC_EXTRA bytes and all, the text is that of the nineteen messages.
-fn tell_the_profile(
-    alloc: Global,
-    words: &[String],
-    inputs: &mut Inputs<SureSource>,
-    out: &mut SureSink,
-    clock: &mut MemClock,
-) -> u8
-    requires words { map string_bytes words.now ≡ codes "dialect" ∷ [] }
-    requires empty { ⟦<SureSink as Sink>⟧.sent out.old ≡ Some [] }
-    ensures status { (result ≡ 0) ⊎ ((result ≡ 5) ⊎ (result ≡ 7)) }
-    ensures text { result ≡ 0 → ⟦<SureSink as Sink>⟧.sent out.new ≡ Some profile_layouts }
-{
-    run(alloc, words, inputs, out, clock)
+    let words = words_for(alloc, command, has_file)?;
+    let mut inputs = inputs_over(alloc, main)?;
+    let mut out = SureSink::with_room(alloc, 4096)?;
+    Ok(run_one(alloc, &words, &mut inputs, &mut out))
 }
 
 // The statuses of the three runs.
-fn uploaded(alloc: Global) -> Result<u8, AllocError> {
-    let words = words_for(alloc, "fleet")?;
-    let mut inputs = inputs_over(alloc, ONE_ITEM)?;
-    let mut out = SureSink::with_room(alloc, 4096)?;
-    Ok(upload_one_item(alloc, &words, &mut inputs, &mut out, &mut MemClock::new(0)))
-}
-
-fn decoded(alloc: Global) -> Result<u8, AllocError> {
-    let words = words_for(alloc, "decode")?;
-    let mut inputs = inputs_over(alloc, STREAM)?;
-    let mut out = SureSink::with_room(alloc, 4096)?;
-    Ok(decode_one_heartbeat(alloc, &words, &mut inputs, &mut out, &mut MemClock::new(0)))
-}
-
-fn told(alloc: Global) -> Result<u8, AllocError> {
-    let words = one_word(alloc, "dialect")?;
-    let mut inputs = inputs_over(alloc, b"")?;
-    let mut out = SureSink::with_room(alloc, 4096)?;
-    Ok(tell_the_profile(alloc, &words, &mut inputs, &mut out, &mut MemClock::new(0)))
+fn statuses(alloc: Global) -> Result<[u8; 3], AllocError> {
+    let uploaded = status_of(alloc, "fleet", true, ONE_ITEM)?;
+    let decoded = status_of(alloc, "decode", true, STREAM)?;
+    Ok([uploaded, decoded, status_of(alloc, "dialect", false, b"")?])
 }
 
 #[test]
 fn the_contract_alone_tells_what_is_written(rt: HostRuntime) -> Result<(), Fail> {
-    let alloc = rt.alloc();
-    assert_eq!(rt;
-        [uploaded(alloc)?, decoded(alloc)?, told(alloc)?],
-        [0, 0, 0]
-    );
+    assert_eq!(rt; statuses(rt.alloc())?, [0, 0, 0]);
     Ok(())
 }

@@ -1,12 +1,13 @@
-use Rattle.std.proofs.Common.{◌≡◌, ℕ, ◌∷◌, ◌++◌, Some, take, vec_len, refl, sym, ap, ◌∙◌, arith}
+use Rattle.std.proofs.Common.{◌≡◌, ℕ, List, ◌∷◌, ◌++◌, Some, length, take, vec_len, refl, sym, ap, ◌∙◌, arith, append-nil, drop_of_length-le}
 use Rattle.std.specs.Prelude.{slice_get}
+use Rattle.field_layout.specs.declared.fields.Field.{Field}
 use Rattle.field_layout.specs.Types.{element_size}
 use Rattle.field_layout.specs.Definition.{Definition, all_fields, element_count}
 use Rattle.field_layout.specs.WireOrder.{offset_of}
 use Rattle.field_layout.specs.Reading.{words_from}
 use Rattle.field_layout.proofs.Faultless.{short_payload}
 use Rattle.field_layout.proofs.Decoding.{place_room}
-use Rattle.mav_text.specs.FrameText.{field_text, value_text, words_in}
+use Rattle.mav_text.specs.FrameText.{field_text, fields_text, value_text, words_in}
 use Rattle.mav_text.proofs.FieldSteps.{field_put}
 use Rattle.mav_text.proofs.SkipSteps.{kept_more}
 use Rattle.mav_text.proofs.fields.put_all.Goals as goal
@@ -32,3 +33,15 @@ loop-number-preserved c =
       kept = kept_more c.args.out.now.items l.out.items c.put_field.new.out.items (vec_len c.args.out.now) (vec_len l.out) c.args.out.now.ok.0 l.out.ok.0 l.invariant.kept c.in_ok-end.ensures.front;
       text = field_put words number (all_fields def) field now _ field.name (61 ∷ value_text field (words number field)) got put refl refl ∙ l.invariant.text;
     }
+
+pub returns-in_err-end-clause-front : goal.returns-in_err-end-clause-front
+returns-in_err-end-clause-front c =
+    let l = c.loop-number in
+    kept_more c.args.out.now.items l.out.items c.put_field.new.out.items (vec_len c.args.out.now) (vec_len l.out) c.args.out.now.ok.0 l.out.ok.0 l.invariant.kept c.in_err-end.ensures.front
+
+pub returns-clause-text : goal.returns-clause-text
+returns-clause-text c =
+    let l = c.loop-number in let def = c.args.layout.now in let now = l.out.items ++ take l.end l.chunk in
+    let count = ap (λ (d : Definition). length (all_fields d)) c.def-def.ensures.same in
+    sym (append-nil now)
+    ∙ (ap (λ (fields : List Field). now ++ fields_text (words_in def c.args.payload.now) l.number fields) (sym (drop_of_length-le (all_fields def) (omega (arith, c.field_count-number-end.ensures, count, c.loop-number-test.false)))) ∙ l.invariant.text)

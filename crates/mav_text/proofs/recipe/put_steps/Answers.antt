@@ -1,5 +1,5 @@
-use Rattle.std.proofs.Common.{◌++◌, take, vec_len, ◌∙◌}
-use Rattle.mav_text.specs.RecipeText.{step_text}
+use Rattle.std.proofs.Common.{List, ◌++◌, take, vec_len, sym, ap, ◌∙◌, append-nil, drop_of_length-le}
+use Rattle.mav_text.specs.RecipeText.{Step, step_text, steps_text}
 use Rattle.mav_text.proofs.SkipSteps.{kept_more}
 use Rattle.mav_text.proofs.RecipeSteps.{steps_next, text_put}
 use Rattle.mav_text.proofs.recipe.put_steps.Goals as goal
@@ -13,3 +13,14 @@ loop-step-preserved c =
       kept = kept_more c.args.out.now.items l.out.items c.append_enough.new.out.items (vec_len c.args.out.now) (vec_len l.out) c.args.out.now.ok.0 l.out.ok.0 l.invariant.kept c.in_ok-left.ensures.front;
       text = steps_next (l.out.items ++ take l.left l.chunk) (c.append_enough.new.out.items ++ take c.in_ok-left.left c.put-end.new.chunk) payload l.step-index c.args.steps.now step c.loop-step-test.true c.step-item.is put ∙ l.invariant.text;
     }
+
+pub returns-in_err-left-clause-front : goal.returns-in_err-left-clause-front
+returns-in_err-left-clause-front c =
+    let l = c.loop-step in
+    kept_more c.args.out.now.items l.out.items c.append_enough.new.out.items (vec_len c.args.out.now) (vec_len l.out) c.args.out.now.ok.0 l.out.ok.0 l.invariant.kept c.in_err-left.ensures.front
+
+pub returns-clause-text : goal.returns-clause-text
+returns-clause-text c =
+    let l = c.loop-step in let now = l.out.items ++ take l.left l.chunk in
+    sym (append-nil now)
+    ∙ (ap (λ (steps : List Step). now ++ steps_text c.args.payload.now steps) (sym (drop_of_length-le c.args.steps.now c.loop-step-test.false)) ∙ l.invariant.text)

@@ -1,4 +1,4 @@
-use Rattle.std.proofs.Common.{◌≡◌, ℕ, ◌+◌, ◌*◌, ◌/◌, ◌<◌, List, ◌++◌, drop, get_or, length, take, vec_len, sym, ap, ◌∙◌, arith, append_assoc}
+use Rattle.std.proofs.Common.{◌≡◌, ℕ, ◌+◌, ◌*◌, ◌/◌, ◌<◌, List, ◌++◌, drop, get_or, length, take, vec_len, sym, ap, ◌∙◌, arith, append_assoc, append-nil, drop_of_length-le}
 use Rattle.mav_frame.specs.declared.looks.Why.{Why}
 use Rattle.mav_text.specs.FrameText.{skip_line, skip_lines}
 use Rattle.mav_text.proofs.SkipSteps.{kept_more, skips_next}
@@ -28,3 +28,14 @@ loop-byte-preserved c =
           ap (λ (n : ℕ). (c.append_enough.new.out.items ++ take c.in_ok-left.left c.put-behind.new.chunk) ++ skip_lines n (drop (i + 1) bytes) why) (sym further)
           ∙ (skips_next (l.out.items ++ take l.left l.chunk) _ (first + i) i bytes why inside next ∙ l.invariant.text);
     }
+
+pub returns-in_err-left-clause-front : goal.returns-in_err-left-clause-front
+returns-in_err-left-clause-front c =
+    let l = c.loop-byte in
+    kept_more c.args.out.now.items l.out.items c.append_enough.new.out.items (vec_len c.args.out.now) (vec_len l.out) c.args.out.now.ok.0 l.out.ok.0 l.invariant.kept c.in_err-left.ensures.front
+
+pub returns-clause-text : goal.returns-clause-text
+returns-clause-text c =
+    let l = c.loop-byte in let now = l.out.items ++ take l.left l.chunk in
+    sym (append-nil now)
+    ∙ (ap (λ (bytes : List ℕ). now ++ skip_lines (c.args.offset + l.byte-index) bytes c.args.why) (sym (drop_of_length-le c.args.bytes.now c.loop-byte-test.false)) ∙ l.invariant.text)

@@ -1,11 +1,11 @@
-use Rattle.std.proofs.Common.{refl}
+use Rattle.std.proofs.Common.{◌∙◌, refl, sym}
 use Rattle.std.specs.Result.{result_err}
-use Rattle.command_ends.proofs.Untolds.{ran_told}
+use Rattle.command_ends.proofs.Untolds.{ran_told, sound_told}
 use Rattle.command_ends.proofs.Ends.{promised}
 use Rattle.mav_profile.specs.Profile.{profile_definitions}
 use Rattle.dialect_command.specs.Script.{dialect_script, profile_script}
 use Rattle.dialect_command.proofs.Stays.{dialect_steady, telling_steady}
-use Rattle.station_cli.proofs.Usages.{words_told, halted_code}
+use Rattle.station_cli.proofs.Usages.{words_told, halted_code, usage_ended, five_only}
 use Rattle.station_cli.proofs.Decoded.{told_over, decodes_told}
 use Rattle.station_cli.proofs.Scenarios.{fleets_told, fleets_carry}
 use Rattle.station_cli.proofs.runs.run.Goals as goal
@@ -47,3 +47,18 @@ returns-clause-decode g c = λ asked asks is.
     rw c.code_of.ensures (decodes_told _ _ _ _ (told_over _ _ _ _ _ _ ended.result c.tell.result ended.ensures.sound c.tell.ensures.tells)
     (λ halted. halted_code _ _ _ _ ended.result c.tell.result halted c.tell.ensures.tells)
     _ _ _ _ _ (λ spent. spent.1) (λ spent. spent.1) (λ spent. spent.1) (ended.ensures.decode asked asks is))
+
+pub returns-clause-usage : goal.returns-clause-usage
+returns-clause-usage g c = λ two.
+    let ended = c.run_words-ended in
+    ended.ensures.usage (usage_ended _ _ _ _ ended.result c.tell.result c.tell.ensures.tells (sym c.code_of.ensures ∙ two))
+
+pub returns-clause-unread : goal.returns-clause-unread
+returns-clause-unread g c = λ nothing.
+    let ended = c.run_words-ended in
+    ((ended.ensures.untouched nothing).0, (ended.ensures.untouched nothing).1, (ended.ensures.untouched nothing).2)
+
+pub returns-clause-sound : goal.returns-clause-sound
+returns-clause-sound g c = λ other.
+    let ended = c.run_words-ended in
+    sound_told _ _ _ _ _ ended.result c.tell.result ended.ensures.sound c.tell.ensures.tells (five_only c.tell.result (λ five. other (c.code_of.ensures ∙ five)))

@@ -1,0 +1,37 @@
+use Rattle.std.proofs.Common.{inl, inr, [], refl}
+use Rattle.std.specs.Prelude.{map, string_bytes}
+use Rattle.command_line.specs.declared.commands.Command.TheVariants.{Fleet, Decode}
+use Rattle.decode_command.specs.Examples.{one_heartbeat, one_heartbeat_text}
+use Rattle.decode_command.proofs.Worked.{script as decoding, one_heartbeat_code, one_heartbeat_output}
+use Rattle.dialect_command.specs.Script.{profile_script}
+use Rattle.dialect_command.specs.Examples.{profile_layouts}
+use Rattle.dialect_command.proofs.Worked.{profile_output}
+use Rattle.fleet_command.specs.Examples.{one_item, one_item_installed}
+use Rattle.fleet_command.proofs.Worked.{script as playing, one_item_code, one_item_output}
+use Rattle.run_tests.proofs.Plainly.{asked, asked_dialect, asks_fleet, asks_decode, asks_dialect, sure_input, no_input, sure, awake, status_told, text_told, installed_told}
+use Rattle.run_tests.proofs.worked.run_one.Goals as goal
+
+pub returns-clause-status : goal.returns-clause-status
+returns-clause-status c = elim c.requires.one [
+  | inl fleet ↦ status_told playing one_item one_item_installed one_item_code one_item_output (sure_input c.args.inputs.now.main c.run.new.inputs.main) c.args.out.now c.run.new.out c.run.result fleet.1 sure awake (c.run.ensures.fleet (asked Fleet) (asks_fleet (map string_bytes c.args.words.now) fleet.0) refl)
+  | inr others ↦ elim others [
+    | inl decode ↦ status_told decoding one_heartbeat one_heartbeat_text one_heartbeat_code one_heartbeat_output (sure_input c.args.inputs.now.main c.run.new.inputs.main) c.args.out.now c.run.new.out c.run.result decode.1 sure awake (c.run.ensures.decode (asked Decode) (asks_decode (map string_bytes c.args.words.now) decode.0) refl)
+    | inr words ↦ status_told profile_script [] profile_layouts refl profile_output no_input c.args.out.now c.run.new.out c.run.result refl sure awake (c.run.ensures.profile asked_dialect (asks_dialect (map string_bytes c.args.words.now) words) refl refl)
+  ]
+]
+
+pub returns-clause-report : goal.returns-clause-report
+returns-clause-report c = λ words scenario.
+    text_told playing one_item one_item_installed one_item_code one_item_output (sure_input c.args.inputs.now.main c.run.new.inputs.main) c.args.out.now c.run.new.out c.run.result scenario sure awake (c.run.ensures.fleet (asked Fleet) (asks_fleet (map string_bytes c.args.words.now) words) refl) c.requires.empty
+
+pub returns-clause-installed : goal.returns-clause-installed
+returns-clause-installed c = λ words scenario zero.
+    installed_told c.args.inputs.now.main c.run.new.inputs.main c.args.out.now c.run.new.out c.run.result scenario zero (c.run.ensures.main_theorem (asked Fleet) (asks_fleet (map string_bytes c.args.words.now) words) refl)
+
+pub returns-clause-decoded : goal.returns-clause-decoded
+returns-clause-decoded c = λ words stream.
+    text_told decoding one_heartbeat one_heartbeat_text one_heartbeat_code one_heartbeat_output (sure_input c.args.inputs.now.main c.run.new.inputs.main) c.args.out.now c.run.new.out c.run.result stream sure awake (c.run.ensures.decode (asked Decode) (asks_decode (map string_bytes c.args.words.now) words) refl) c.requires.empty
+
+pub returns-clause-told : goal.returns-clause-told
+returns-clause-told c = λ words.
+    text_told profile_script [] profile_layouts refl profile_output no_input c.args.out.now c.run.new.out c.run.result refl sure awake (c.run.ensures.profile asked_dialect (asks_dialect (map string_bytes c.args.words.now) words) refl refl) c.requires.empty
