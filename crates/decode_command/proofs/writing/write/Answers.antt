@@ -1,8 +1,8 @@
-use Rattle.std.proofs.Common.{◌≡◌, List, ℕ, [], sym, ap, ◌∙◌, subst, refl, append-nil, Option}
+use Rattle.std.proofs.Common.{◌≡◌, ◌++◌, List, ℕ, [], sym, ap, ◌∙◌, subst, refl, append-nil, Option}
 use Rattle.std.specs.Io.KnownBytes.{append_known}
 use Rattle.std.proofs.lemmas.Result.{err_from_is_err_and}
 use Rattle.mav_ports.specs.Puts.{Sent}
-use Rattle.mav_ports.proofs.Known.{sent_step}
+use Rattle.mav_ports.proofs.Known.{sent_step, sent_in}
 use Rattle.decode_command.proofs.writing.write.Goals as goal
 
 -- all that was held is sent
@@ -35,3 +35,11 @@ pub returns-in_err-write_all-clause-moved : goal.returns-in_err-write_all-clause
 returns-in_err-write_all-clause-moved g c =
     let e = err_from_is_err_and c.from_residual.result c.from_residual.ensures.1 in
     rw e.1 tt
+
+pub returns-in_err-write_all-clause-front : goal.returns-in_err-write_all-clause-front
+returns-in_err-write_all-clause-front g c = λ before whole s.
+    let (more, f) = c.in_err-write_all.ensures.front in
+    (more ++ [],
+    sent_in before (g.K.Sink.sent c.args.out.now) (g.K.Sink.sent c.write_all.new.sink) whole c.args.text.now.items [] more
+    (subst (Sent before (g.K.Sink.sent c.args.out.now) whole) (sym (append-nil c.args.text.now.items)) s)
+    (subst (λ text. Sent (g.K.Sink.sent c.args.out.now) (g.K.Sink.sent c.write_all.new.sink) text more) c.deref.ensures.value f))
