@@ -1,6 +1,6 @@
 -- Lines of skipped bytes, one after another.
 use Rattle.std.proofs.Common.{◌≡◌, ℕ, suc, ◌+◌, ◌-◌, ◌*◌, ◌/◌, ◌%◌, ◌<◌, ◌≤◌, List, [], ◌∷◌, ◌++◌, codes, length, take, drop, get_or, set, sym, ap, ◌∙◌, arith, append_assoc, drop-cons, take-take, take-append-drop, length-take, length-append}
-use Rattle.std.proofs.lemmas.List.{take_all, length-drop}
+use Rattle.std.proofs.lemmas.List.{take_all, take-append-le, length-drop}
 use Rattle.std.proofs.Math.Seq.{take-append-add, take-append_seam, drop-append-add}
 use Rattle.std.specs.Fmt.{decimal}
 use Rattle.std.specs.List.{slice_range}
@@ -74,6 +74,13 @@ line_joined offset byte why template back =
     ∙ (sym (append_assoc (decimal offset) (codes " skip " ++ byte_hex byte) last)
     ∙ (ap (λ (t : List ℕ). t ++ last) (sym (append_assoc (decimal offset) (codes " skip ") (byte_hex byte)))
     ∙ sym (append_assoc (decimal offset ++ codes " skip " ++ byte_hex byte) (32 ∷ why_text why) (10 ∷ []))))
+
+-- nothing was appended, or a piece
+pub kept_same : (start after : List ℕ) (n : ℕ) → n ≡ length start → after ≡ start → take n after ≡ start
+kept_same start after n long is = ap (take n) is ∙ take_all n start (omega arith)
+
+pub kept_front : (start piece after : List ℕ) (n : ℕ) → n ≡ length start → after ≡ start ++ piece → take n after ≡ start
+kept_front start piece after n long is = ap (take n) is ∙ (take-append-le n start piece (omega arith) ∙ take_all n start (omega arith))
 
 -- what is kept of a front is kept
 pub kept_more : (start out after : List ℕ) (n m : ℕ) → n ≡ length start → m ≡ length out → take n out ≡ start → take m after ≡ out → take n after ≡ start

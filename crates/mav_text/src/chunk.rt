@@ -1,5 +1,7 @@
 // Texts that are put together in a fixed chunk of bytes, of which those up to a place count.
-ghost use Rattle.std.specs.Prelude.{◌≡◌, ◌+◌, ◌≤◌, ◌∷◌, [], ◌++◌, length, replicate, take, slice_index, slice_range, slice_set};
+ghost use Rattle.std.specs.Prelude.{◌≡◌, ◌+◌, ◌≤◌, ◌∷◌, [], ◌++◌, length, replicate, take, vec_len, slice_index, slice_range, slice_set, IfOk};
+
+use crate::NoMemory;
 
 /// How many bytes a chunk has.
 pub(crate) const CHUNK_BYTES: usize = 2048;
@@ -18,6 +20,26 @@ impl Chunk {
             bytes: [0; CHUNK_BYTES],
         }
     }
+}
+
+/// Appends the chunk's text if it has more than `most` bytes, and returns where the chunk's text now ends.
+#[inline(always)]
+pub(crate) fn append_enough(
+    chunk: &[u8; 2048],
+    end: usize,
+    most: usize,
+    out: &mut Vec<u8>,
+) -> Result<usize, NoMemory>
+    requires { end ≤ 2048 }
+    ensures room { IfOk result (λ left. left ≤ most) }
+    ensures text { IfOk result (λ left. out.new.items ++ take left chunk.now ≡ out.old.items ++ take end chunk.now) }
+    ensures front { take (vec_len out.old) out.new.items ≡ out.old.items }
+{
+    if end <= most {
+        return Ok(end);
+    }
+    out.extend_from_slice(&chunk[..end])?;
+    Ok(0)
 }
 
 /// Puts the first `len` bytes of a part at a place, and answers the place behind them. All of the part is copied, since

@@ -6,7 +6,7 @@ ghost use Rattle.field_layout.specs.Reading.{words_from};
 ghost use Rattle.mav_text.specs.FrameText.{block_text, field_text, fields_text, frame_text, words_in};
 
 use crate::NoMemory;
-use crate::chunk::{CHUNK_BYTES, put_part};
+use crate::chunk::{CHUNK_BYTES, append_enough, put_part};
 use crate::values::{put_block, put_byte, put_sender, put_value};
 use field_layout::{Field, Layout};
 use mav_frame::{Block, Frame};
@@ -38,21 +38,6 @@ fn put_name(
     Ok(0)
 }
 
-// Appends the chunk's text where it is enough, and answers where its text now ends.
-#[inline(always)]
-fn append_enough(chunk: &[u8; 2048], end: usize, out: &mut Vec<u8>) -> Result<usize, NoMemory>
-    requires { end ≤ 2048 }
-    ensures text { IfOk result (λ left. out.new.items ++ take left chunk.now ≡ out.old.items ++ take end chunk.now) }
-    ensures room { IfOk result (λ left. left ≤ 512) }
-    ensures front { take (vec_len out.old) out.new.items ≡ out.old.items }
-{
-    if end <= ENOUGH_BYTES {
-        return Ok(end);
-    }
-    out.extend_from_slice(&chunk[..end])?;
-    Ok(0)
-}
-
 // Puts a field, whose value begins at a place of the payload, and answers where the chunk's text now ends.
 fn put_field(
     chunk: &mut [u8; 2048],
@@ -73,7 +58,7 @@ fn put_field(
     let end = put_name(chunk, end, field.name.bytes(), out)?;
     let end = put_byte(chunk, end, b'=');
     let end = put_value(chunk, end, field.ty, field.len, payload, place);
-    append_enough(chunk, end, out)
+    append_enough(chunk, end, ENOUGH_BYTES, out)
 }
 
 // Puts the fields, and answers where the chunk's text now ends.

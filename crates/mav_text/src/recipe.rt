@@ -9,7 +9,7 @@ ghost use Rattle.mav_text.specs.FrameText.{block_text, sender_text};
 ghost use Rattle.mav_text.specs.RecipeText as spec;
 
 use crate::NoMemory;
-use crate::chunk::{put_part, put_short};
+use crate::chunk::{append_enough, put_part, put_short};
 use crate::decimals::put_number;
 use crate::values::{put_block, put_sender, put_value};
 use crate::words::{read_four, read_two};
@@ -170,21 +170,6 @@ fn steps_of(alloc: Global, layout: &Layout) -> Result<Option<Vec<Step>>, NoMemor
     Ok(Some(steps))
 }
 
-// Appends the chunk's text where it is enough, and answers where its text now ends.
-#[inline(always)]
-fn append_enough(chunk: &[u8; 2048], end: usize, out: &mut Vec<u8>) -> Result<usize, NoMemory>
-    requires { end ≤ 2048 }
-    ensures room { IfOk result (λ left. left ≤ 512) }
-    ensures text { IfOk result (λ left. out.new.items ++ take left chunk.now ≡ out.old.items ++ take end chunk.now) }
-    ensures front { take (vec_len out.old) out.new.items ≡ out.old.items }
-{
-    if end <= ENOUGH_BYTES {
-        return Ok(end);
-    }
-    out.extend_from_slice(&chunk[..end])?;
-    Ok(0)
-}
-
 // Puts the fields with the values that stand in a whole payload, and answers where the chunk's text now ends.
 fn put_steps(
     steps: &[Step],
@@ -203,7 +188,7 @@ fn put_steps(
     let mut left = at;
     for step in steps {
         let end = step.put(payload, chunk, left);
-        left = append_enough(chunk, end, out)?;
+        left = append_enough(chunk, end, ENOUGH_BYTES, out)?;
     }
     Ok(left)
 }

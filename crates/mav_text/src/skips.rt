@@ -4,7 +4,7 @@ ghost use Rattle.std.specs.Fmt.{decimal};
 ghost use Rattle.mav_text.specs.FrameText.{byte_hex, why_text, skip_line, skip_lines};
 
 use crate::NoMemory;
-use crate::chunk::{Chunk, put_part, put_two, set_two};
+use crate::chunk::{Chunk, append_enough, put_part, put_two, set_two};
 use crate::decimals::{put_middle, put_number};
 use crate::digits::{byte_digits, pair_digits};
 use mav_frame::Why;
@@ -160,21 +160,6 @@ fn put_behind<const N: usize>(
     end
 }
 
-// Appends the chunk's text where it is enough, and answers where its text now ends.
-#[inline(always)]
-fn append_enough(chunk: &[u8; 2048], end: usize, out: &mut Vec<u8>) -> Result<usize, NoMemory>
-    requires { end ≤ 2048 }
-    ensures room { IfOk result (λ left. left ≤ 1984) }
-    ensures text { IfOk result (λ left. out.new.items ++ take left chunk.now ≡ out.old.items ++ take end chunk.now) }
-    ensures front { take (vec_len out.old) out.new.items ≡ out.old.items }
-{
-    if end <= ENOUGH_BYTES {
-        return Ok(end);
-    }
-    out.extend_from_slice(&chunk[..end])?;
-    Ok(0)
-}
-
 // Puts the lines of bytes whose offsets have the same hundreds, and answers where the chunk's text now ends.
 fn append_run(
     offset: u64,
@@ -197,7 +182,7 @@ fn append_run(
     let mut pair = (offset % 100) as usize;
     for byte in bytes {
         let behind = blank.put(chunk, left, pair, *byte);
-        left = append_enough(chunk, behind, out)?;
+        left = append_enough(chunk, behind, ENOUGH_BYTES, out)?;
         pair += 1;
     }
     Ok(left)

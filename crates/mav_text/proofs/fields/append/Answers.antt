@@ -1,8 +1,10 @@
-use Rattle.std.proofs.Common.{◌≡◌, ℕ, List, [], ◌++◌, take, ap, ◌∙◌}
+use Rattle.std.proofs.Common.{◌≡◌, ℕ, List, [], ◌++◌, take, vec_len, ap, ◌∙◌}
 use Rattle.field_layout.specs.Definition.{all_fields}
 use Rattle.mav_frame.specs.Packet.{Packet}
 use Rattle.mav_text.specs.FrameText.{block_text, fields_text, frame_text, sender_text, words_in}
+use Rattle.std.proofs.lemmas.Result.{err_from_is_err_and}
 use Rattle.mav_text.proofs.FieldSteps.{frame_together}
+use Rattle.mav_text.proofs.SkipSteps.{kept_same, kept_more}
 use Rattle.mav_text.proofs.fields.append.Goals as goal
 
 pub returns-clause-ok : goal.returns-clause-ok
@@ -23,3 +25,37 @@ returns-clause-ok c =
     (ap (λ (t : List ℕ). out1 ++ t) sender)
     c.in_ok-end-2.ensures.text in
     c.in_ok-extend_from_slice.ensures.items ∙ whole
+
+pub returns-in_err-end-clause-ok : goal.returns-in_err-end-clause-ok
+returns-in_err-end-clause-ok c =
+    let e = err_from_is_err_and c.from_residual.result c.from_residual.ensures.1 in
+    rw e.1 tt
+
+pub returns-in_err-end-clause-err : goal.returns-in_err-end-clause-err
+returns-in_err-end-clause-err c =
+    let e = err_from_is_err_and c.from_residual.result c.from_residual.ensures.1 in
+    rw e.1 c.put_name.ensures.front
+
+pub returns-in_err-end-2-clause-ok : goal.returns-in_err-end-2-clause-ok
+returns-in_err-end-2-clause-ok c =
+    let e = err_from_is_err_and c.from_residual-in_err-end-2.result c.from_residual-in_err-end-2.ensures.1 in
+    rw e.1 tt
+
+pub returns-in_err-end-2-clause-err : goal.returns-in_err-end-2-clause-err
+returns-in_err-end-2-clause-err c =
+    let e = err_from_is_err_and c.from_residual-in_err-end-2.result c.from_residual-in_err-end-2.ensures.1 in
+    rw e.1 (kept_more c.args.out.now.items c.put_name.new.out.items c.put_fields_of.new.out.items (vec_len c.args.out.now) (vec_len c.put_name.new.out)
+    c.args.out.now.ok.0 c.put_name.new.out.ok.0 c.put_name.ensures.front c.put_fields_of.ensures.front)
+
+pub returns-in_err-extend_from_slice-clause-ok : goal.returns-in_err-extend_from_slice-clause-ok
+returns-in_err-extend_from_slice-clause-ok c =
+    let e = err_from_is_err_and c.from_residual-in_err-extend_from_slice.result c.from_residual-in_err-extend_from_slice.ensures.1 in
+    rw e.1 tt
+
+pub returns-in_err-extend_from_slice-clause-err : goal.returns-in_err-extend_from_slice-clause-err
+returns-in_err-extend_from_slice-clause-err c =
+    let e = err_from_is_err_and c.from_residual-in_err-extend_from_slice.result c.from_residual-in_err-extend_from_slice.ensures.1 in
+    let out = c.args.out.now in let out1 = c.put_name.new.out in let out2 = c.put_fields_of.new.out in
+    rw e.1 (kept_more out.items out2.items c.extend_from_slice.new.self.items (vec_len out) (vec_len out2) out.ok.0 out2.ok.0
+    (kept_more out.items out1.items out2.items (vec_len out) (vec_len out1) out.ok.0 out1.ok.0 c.put_name.ensures.front c.put_fields_of.ensures.front)
+    (kept_same out2.items c.extend_from_slice.new.self.items (vec_len out2) out2.ok.0 c.in_err-extend_from_slice.ensures.items))

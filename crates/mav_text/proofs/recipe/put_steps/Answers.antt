@@ -1,4 +1,5 @@
 use Rattle.std.proofs.Common.{List, ◌++◌, take, vec_len, sym, ap, ◌∙◌, append-nil, drop_of_length-le}
+use Rattle.std.proofs.lemmas.Result.{err_from_is_err_and}
 use Rattle.mav_text.specs.RecipeText.{Step, step_text, steps_text}
 use Rattle.mav_text.proofs.SkipSteps.{kept_more}
 use Rattle.mav_text.proofs.RecipeSteps.{steps_next, text_put}
@@ -24,3 +25,13 @@ returns-clause-text c =
     let l = c.loop-step in let now = l.out.items ++ take l.left l.chunk in
     sym (append-nil now)
     ∙ (ap (λ (steps : List Step). now ++ steps_text c.args.payload.now steps) (sym (drop_of_length-le c.args.steps.now c.loop-step-test.false)) ∙ l.invariant.text)
+
+pub returns-in_err-left-clause-room : goal.returns-in_err-left-clause-room
+returns-in_err-left-clause-room c =
+    let e = err_from_is_err_and c.from_residual.result c.from_residual.ensures.1 in
+    rw e.1 tt
+
+pub returns-in_err-left-clause-text : goal.returns-in_err-left-clause-text
+returns-in_err-left-clause-text c =
+    let e = err_from_is_err_and c.from_residual.result c.from_residual.ensures.1 in
+    rw e.1 tt

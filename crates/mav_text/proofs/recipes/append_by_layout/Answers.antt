@@ -1,18 +1,12 @@
-use Rattle.std.proofs.Common.{◌≡◌, ℕ, List, [], ◌∷◌, ◌++◌, length, take, ap, ◌∙◌, arith, append_assoc}
-use Rattle.std.proofs.lemmas.List.{take_all, take-append-le}
+use Rattle.std.proofs.Common.{◌≡◌, ℕ, List, [], ◌∷◌, ◌++◌, take, ap, ◌∙◌, append_assoc}
 use Rattle.std.proofs.lemmas.Result.{err_from_is_err_and}
 use Rattle.std.specs.Fmt.{decimal}
 use Rattle.mav_frame.specs.Packet.{Packet}
 use Rattle.mav_text.specs.FrameText.{frame_text}
+use Rattle.mav_text.proofs.SkipSteps.{kept_same, kept_front}
 use Rattle.mav_text.proofs.recipes.append_by_layout.Goals as goal
 
--- nothing, one piece or two were appended
-kept_same : (start after : List ℕ) (n : ℕ) → n ≡ length start → after ≡ start → take n after ≡ start
-kept_same start after n long is = ap (take n) is ∙ take_all n start (omega arith)
-
-kept_front : (start piece after : List ℕ) (n : ℕ) → n ≡ length start → after ≡ start ++ piece → take n after ≡ start
-kept_front start piece after n long is = ap (take n) is ∙ (take-append-le n start piece (omega arith) ∙ take_all n start (omega arith))
-
+-- three pieces were appended
 pieces : (out o1 o2 o3 number text ending : List ℕ) → o1 ≡ out ++ (number ++ 32 ∷ []) → o2 ≡ o1 ++ text → o3 ≡ o2 ++ ending → o3 ≡ out ++ ((number ++ 32 ∷ text) ++ ending)
 pieces out o1 o2 o3 number text ending first second third =
     third ∙ (ap (λ (t : List ℕ). t ++ ending) (second ∙ ap (λ (t : List ℕ). t ++ text) first) ∙ simp append_assoc)
