@@ -23,7 +23,10 @@ use Rattle.plan_upload.specs.Kinds.{clear_number}
 use Rattle.plan_upload.specs.Drone.{DroneState, drone_tick}
 use Rattle.plan_upload.specs.Station.{StationState, station_tick, station_cancel, begin_upload, begin_clear, begin_get}
 use Rattle.fleet_world.specs.Scene.{Node, Drone, Station, named}
+use Rattle.fleet_world.specs.declared.calls.Call.{Call}
+use Rattle.fleet_world.specs.declared.calls.Call.TheVariants.{Take, Noise, Heartbeat, Tick}
 use Rattle.fleet_world.specs.Steps.{as_drone, as_station, node_receives, node_beats, node_ticks}
+use Rattle.fleet_world.specs.Tellings.{node_called}
 
 -- where it is done, the link or the node has that stream
 abbrev LinkKeeps : Stream → Outcome Link → Type 0
@@ -115,6 +118,12 @@ beats_keep clock (Station n) = station-keeps n _ (with_core-keep n.link.me n.cor
 pub ticks_keep : (clock : ℕ) (node : Node) → KeepsName node (node_ticks clock node)
 ticks_keep clock (Drone n) = drone-keeps n _ (steps-keep clock n.link (drone_waits (drone_tick n.core)))
 ticks_keep clock (Station n) = station-keeps n _ (steps-keep clock n.link (station_does (station_tick n.core)))
+
+pub calls_keep : (call : Call) (datagram : List ℕ) (clock : ℕ) (node : Node) → KeepsName node (node_called call datagram clock node)
+calls_keep (Take number) datagram clock node = receives_keeps clock datagram node
+calls_keep (Noise bytes) datagram clock node = receives_keeps clock datagram node
+calls_keep Heartbeat datagram clock node = beats_keep clock node
+calls_keep Tick datagram clock node = ticks_keep clock node
 
 -- a station's step
 pub step_keeps : (clock : ℕ) (n : Side StationState) (step : CoreStep StationState) → KeepsName (Station n) (as_station (steps clock n.link step))

@@ -17,7 +17,7 @@ use Rattle.fleet_world.specs.declared.faults.Bound.TheVariants.{Frames}
 use Rattle.fleet_world.specs.declared.calls.Call.{Call}
 use Rattle.fleet_world.specs.declared.calls.Call.TheVariants.{Take, Noise, Heartbeat, Tick}
 use Rattle.fleet_world.specs.Scene.{Scene, Node}
-use Rattle.fleet_world.specs.Seen.{World, bytes_of}
+use Rattle.fleet_world.specs.Seen.{Kept, World, bytes_of}
 use Rattle.fleet_world.specs.Steps.{Step, Halt, At_limit, most_frames, packets_in, told_by, as_station, node_does, node_receives, node_beats, node_ticks}
 
 -- a report with the text of these events more
@@ -33,12 +33,23 @@ tells s name events =
     })
     else Err (At_limit Frames)
 
--- what a node does at a call
+-- what a node does at a call; `datagram` is what it is to take
+abbrev pub node_called : Call → List ℕ → ℕ → Node → Outcome Node
+node_called (Take number) datagram clock node = node_receives clock datagram node
+node_called (Noise bytes) datagram clock node = node_receives clock datagram node
+node_called Heartbeat datagram clock node = node_beats clock node
+node_called Tick datagram clock node = node_ticks clock node
+
+-- the datagram of a call, where these frames were sent
+abbrev pub datagram_of : List Kept → Call → List ℕ
+datagram_of sent (Take number) = bytes_of (slice_get sent number)
+datagram_of sent (Noise bytes) = bytes
+datagram_of sent Heartbeat = []
+datagram_of sent Tick = []
+
+-- what a node of a world does at a call
 abbrev pub called : World → Call → Node → Outcome Node
-called w (Take number) node = node_receives w.fleet.clock (bytes_of (slice_get w.sent number)) node
-called w (Noise bytes) node = node_receives w.fleet.clock bytes node
-called w Heartbeat node = node_beats w.fleet.clock node
-called w Tick node = node_ticks w.fleet.clock node
+called w call node = node_called call (datagram_of w.sent call) w.fleet.clock node
 
 -- the draft where the plan of a refused order is handed back
 abbrev pub handed_back : Scene → Option Plan → Scene

@@ -4,10 +4,11 @@ ghost use Rattle.mav_nodes.specs.News.{NodeEvent, shown, events_of};
 ghost use Rattle.fleet_world.specs.Scene.{Scene, Node as SceneNode};
 ghost use Rattle.fleet_world.specs.Seen.{IsFleet, IsScene};
 ghost use Rattle.fleet_world.specs.Steps.{most_frames, calls, calls_at, delivers};
-ghost use Rattle.fleet_world.specs.Tellings.{called, tells};
+ghost use Rattle.fleet_world.specs.Tellings.{called, datagram_of, tells};
 ghost use Rattle.fleet_world.specs.Promises.{FleetDid, IsSpent, WorldDid, IsHalt};
 
 use crate::calls::Call;
+use crate::sent::SentFrames;
 use crate::telling::{frames_in, tell_all};
 use crate::{Bound, World, WorldFault};
 use fleet_report::Report;
@@ -21,6 +22,17 @@ fn has_room(sent: usize, frames: usize) -> bool
     ensures { result ≡ nat_le (sent + frames) most_frames }
 {
     sent <= MOST_FRAMES && frames <= MOST_FRAMES - sent
+}
+
+// The datagram of a call.
+fn datagram_of<'a>(sent: &'a SentFrames, call: &'a Call) -> &'a [u8]
+    ensures { result.now ≡ datagram_of sent.now call.now }
+{
+    match call {
+        Call::Take(number) => sent.bytes(*number),
+        Call::Noise(bytes) => bytes.bytes(),
+        Call::Heartbeat | Call::Tick => &[],
+    }
 }
 
 impl World {
@@ -52,12 +64,8 @@ impl World {
             → fault ≡ NodeFault.StampsSpent → IsSpent (slice_get nodes place) (called self.old call.now)) }
         ensures kept { self.new ≡ record self.old { fleet = record self.old.fleet { nodes = self.new.fleet.nodes } } }
     {
-        match call {
-            Call::Take(number) => self.fleet.receive_at(place, self.sent.bytes(*number)),
-            Call::Noise(bytes) => self.fleet.receive_at(place, bytes.bytes()),
-            Call::Heartbeat => self.fleet.heartbeat_at(place),
-            Call::Tick => self.fleet.tick_at(place),
-        }
+        let datagram = datagram_of(&self.sent, call);
+        self.fleet.call_at(place, call, datagram)
     }
 
     // The node at a place is called.

@@ -5,11 +5,13 @@ ghost use Rattle.mav_nodes.specs.Nodes.{new_drone, new_station, order_refusal, s
 ghost use Rattle.plan_upload.specs.Station.{StationState};
 ghost use Rattle.fleet_world.specs.Scene.{Node as SceneNode, Drone as SceneDrone, Station as SceneStation, node_name, is_named, is_station_named, drones_in, stations_in, stream_of};
 ghost use Rattle.fleet_world.specs.Seen.{no_fleet, IsFleet};
-ghost use Rattle.fleet_world.specs.Steps.{node_receives, node_beats, node_ticks, as_station};
+ghost use Rattle.fleet_world.specs.Steps.{as_station};
+ghost use Rattle.fleet_world.specs.Tellings.{node_called};
 ghost use Rattle.fleet_world.specs.Promises.{FleetDid, Moved, IsSpent, Refuses};
 ghost use Rattle.fleet_world.specs.Counts.{is_seen_drone, counted};
 
 use crate::NoMemory;
+use crate::calls::Call;
 use crate::nodes::Node;
 use mav_nodes::{DroneNode, News, NodeFault, Order, OrderFault, StationNode};
 use mav_ports::{Name, Stream};
@@ -151,50 +153,21 @@ impl Fleet {
         }
     }
 
-    // The node at a place takes a datagram.
-    pub(crate) fn receive_at(
+    // The node at a place does what it is asked.
+    pub(crate) fn call_at(
         &mut self,
         place: usize,
+        call: &Call,
         datagram: &[u8],
     ) -> Result<Vec<News>, NodeFault>
         ensures done { IfOk result (λ news. (nodes : List SceneNode) → IsFleet nodes self.old
-            → FleetDid nodes place (slice_get nodes place) (node_receives self.old.clock datagram.now) self.new news.items) }
+            → FleetDid nodes place (slice_get nodes place) (node_called call.now datagram.now self.old.clock) self.new news.items) }
         ensures spent { IfErr result (λ fault. (nodes : List SceneNode) → IsFleet nodes self.old
-            → fault ≡ NodeFault.StampsSpent → IsSpent (slice_get nodes place) (node_receives self.old.clock datagram.now)) }
+            → fault ≡ NodeFault.StampsSpent → IsSpent (slice_get nodes place) (node_called call.now datagram.now self.old.clock)) }
         ensures kept { self.new ≡ record self.old { nodes = self.new.nodes } }
     {
         if place < self.nodes.len() {
-            self.nodes[place].receive(datagram, self.clock)
-        } else {
-            Ok(Vec::new(self.alloc))
-        }
-    }
-
-    // The node at a place sends HEARTBEAT.
-    pub(crate) fn heartbeat_at(&mut self, place: usize) -> Result<Vec<News>, NodeFault>
-        ensures done { IfOk result (λ news. (nodes : List SceneNode) → IsFleet nodes self.old
-            → FleetDid nodes place (slice_get nodes place) (node_beats self.old.clock) self.new news.items) }
-        ensures spent { IfErr result (λ fault. (nodes : List SceneNode) → IsFleet nodes self.old
-            → fault ≡ NodeFault.StampsSpent → IsSpent (slice_get nodes place) (node_beats self.old.clock)) }
-        ensures kept { self.new ≡ record self.old { nodes = self.new.nodes } }
-    {
-        if place < self.nodes.len() {
-            self.nodes[place].heartbeat(self.clock)
-        } else {
-            Ok(Vec::new(self.alloc))
-        }
-    }
-
-    // Time passes for the node at a place.
-    pub(crate) fn tick_at(&mut self, place: usize) -> Result<Vec<News>, NodeFault>
-        ensures done { IfOk result (λ news. (nodes : List SceneNode) → IsFleet nodes self.old
-            → FleetDid nodes place (slice_get nodes place) (node_ticks self.old.clock) self.new news.items) }
-        ensures spent { IfErr result (λ fault. (nodes : List SceneNode) → IsFleet nodes self.old
-            → fault ≡ NodeFault.StampsSpent → IsSpent (slice_get nodes place) (node_ticks self.old.clock)) }
-        ensures kept { self.new ≡ record self.old { nodes = self.new.nodes } }
-    {
-        if place < self.nodes.len() {
-            self.nodes[place].tick(self.clock)
+            self.nodes[place].call(call, datagram, self.clock)
         } else {
             Ok(Vec::new(self.alloc))
         }

@@ -5,9 +5,11 @@ ghost use Rattle.mav_nodes.specs.Nodes.{order_refusal, station_obeys};
 ghost use Rattle.plan_upload.specs.Station.{StationState};
 ghost use Rattle.fleet_world.specs.Scene.{Node as SceneNode, Station as SceneStation};
 ghost use Rattle.fleet_world.specs.Seen.{IsNode};
-ghost use Rattle.fleet_world.specs.Steps.{node_receives, node_beats, node_ticks, as_station};
+ghost use Rattle.fleet_world.specs.Steps.{as_station};
+ghost use Rattle.fleet_world.specs.Tellings.{node_called};
 ghost use Rattle.fleet_world.specs.Promises.{NodeDid, Refuses};
 
+use crate::calls::Call;
 use mav_nodes::{DroneNode, News, NodeFault, Order, OrderFault, StationNode};
 use std::alloc::Global;
 
@@ -18,42 +20,27 @@ pub enum Node {
 }
 
 impl Node {
-    /// Takes a datagram.
-    pub(crate) fn receive(&mut self, datagram: &[u8], clock: u64) -> Result<Vec<News>, NodeFault>
+    /// Does what it is asked: takes a datagram, sends HEARTBEAT, or lets time pass.
+    pub(crate) fn call(
+        &mut self,
+        call: &Call,
+        datagram: &[u8],
+        clock: u64,
+    ) -> Result<Vec<News>, NodeFault>
         ensures done { IfOk result (λ news. (node : SceneNode) → IsNode node self.old
-            → NodeDid (node_receives clock datagram.now node) self.new news.items) }
+            → NodeDid (node_called call.now datagram.now clock node) self.new news.items) }
         ensures spent { IfErr result (λ fault. (node : SceneNode) → IsNode node self.old
-            → fault ≡ NodeFault.StampsSpent → node_receives clock datagram.now node ≡ None) }
+            → fault ≡ NodeFault.StampsSpent → node_called call.now datagram.now clock node ≡ None) }
     {
-        match self {
-            Node::Drone(drone) => drone.receive(datagram, clock),
-            Node::Station(station) => station.receive(datagram, clock),
-        }
-    }
-
-    /// Sends HEARTBEAT.
-    pub(crate) fn heartbeat(&mut self, clock: u64) -> Result<Vec<News>, NodeFault>
-        ensures done { IfOk result (λ news. (node : SceneNode) → IsNode node self.old
-            → NodeDid (node_beats clock node) self.new news.items) }
-        ensures spent { IfErr result (λ fault. (node : SceneNode) → IsNode node self.old
-            → fault ≡ NodeFault.StampsSpent → node_beats clock node ≡ None) }
-    {
-        match self {
-            Node::Drone(drone) => drone.heartbeat(clock),
-            Node::Station(station) => station.heartbeat(clock),
-        }
-    }
-
-    /// Time passes.
-    pub(crate) fn tick(&mut self, clock: u64) -> Result<Vec<News>, NodeFault>
-        ensures done { IfOk result (λ news. (node : SceneNode) → IsNode node self.old
-            → NodeDid (node_ticks clock node) self.new news.items) }
-        ensures spent { IfErr result (λ fault. (node : SceneNode) → IsNode node self.old
-            → fault ≡ NodeFault.StampsSpent → node_ticks clock node ≡ None) }
-    {
-        match self {
-            Node::Drone(drone) => drone.tick(clock),
-            Node::Station(station) => station.tick(clock),
+        match (self, call) {
+            (Node::Drone(drone), Call::Take(_) | Call::Noise(_)) => drone.receive(datagram, clock),
+            (Node::Drone(drone), Call::Heartbeat) => drone.heartbeat(clock),
+            (Node::Drone(drone), Call::Tick) => drone.tick(clock),
+            (Node::Station(station), Call::Take(_) | Call::Noise(_)) => {
+                station.receive(datagram, clock)
+            }
+            (Node::Station(station), Call::Heartbeat) => station.heartbeat(clock),
+            (Node::Station(station), Call::Tick) => station.tick(clock),
         }
     }
 
