@@ -9,15 +9,17 @@ use Rattle.command_ends.specs.Endings.{code_of}
 use Rattle.command_ends.specs.Runs.{Outside, Ran}
 use Rattle.fleet_world.specs.Authentic.{Authentic}
 use Rattle.fleet_safety.proofs.Plays.{every_scenario}
-use Rattle.fleet_safety.proofs.ToldLines as lines
+use Rattle.fleet_safety.proofs.ToldLines.{every_line}
 use Rattle.fleet_liveness.proofs.Every as every
 use Rattle.fleet_command.specs.Script.{fleet_script}
 use Rattle.fleet_command.specs.Theorem.{MainTheorem, Carries}
 
 pub main_theorem : (key : List ℕ) (ended : Bool) (bytes : List ℕ) → Authentic key ended bytes → MainTheorem key ended bytes
-main_theorem key ended bytes authentic =
-    let safe = every_scenario key ended bytes authentic in
-    record { safe = safe; lines = record { outcomes = lines.outcome_is_true _ safe; installs = lines.install_is_true _ safe; once = lines.no_upload_twice _ safe }; uploads = every.uploads key ended bytes authentic }
+main_theorem key ended bytes authentic = record {
+  safe = every_scenario key ended bytes authentic;
+  lines = every_line key ended bytes authentic;
+  uploads = every.uploads key ended bytes authentic;
+}
 
 pub carried : (key : List ℕ) (frames : Bool) (o : Outside) (left_before left_after sent_before sent_after : Option (List ℕ)) (code : ℕ) → ((end : Option Halt) × (code ≡ code_of end) × Ran (fleet_script key frames) o left_before left_after sent_before sent_after end) → Carries key frames o left_before left_after sent_before sent_after code
 carried key frames o left_before left_after sent_before sent_after code run = record {

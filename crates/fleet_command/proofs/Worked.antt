@@ -1,5 +1,5 @@
 -- The upload of one item, computed from the definitions alone: checksums, signatures and all.
-use Rattle.std.proofs.Common.{◌≡◌, true, false, refl}
+use Rattle.std.proofs.Common.{◌≡◌, true, false, [], ◌∷◌, refl}
 use Rattle.std.specs.Fmt.{digits}
 use Rattle.hex.specs.Hex.{encode_with, decode_pairs}
 use Rattle.sha2.specs.Sha256.{first_words, schedule, rounds, compress, hash_after, digest_bytes, sha256}
@@ -7,7 +7,10 @@ use Rattle.x25_check.specs.Check as check
 use Rattle.plan_items.specs.Validation.{item_fault, whole_fault, plan_fault}
 use Rattle.command_ends.specs.Endings.{code_of}
 use Rattle.command_ends.specs.Runs.{Script, output_of, end_of}
+use Rattle.fleet_world.specs.Scene.{stream_of}
 use Rattle.fleet_world.specs.Authentic.{Authentic}
+use Rattle.fleet_safety.specs.Actions.{Accepts_upload, actions_of}
+use Rattle.fleet_safety.specs.Safe.{orders_of}
 use Rattle.fleet_command.specs.Script.{fleet_script}
 use Rattle.fleet_command.specs.Theorem.{MainTheorem}
 use Rattle.fleet_command.specs.Examples.{one_item, one_item_installed, the_key, the_drone, the_station, the_plan, IsInstalledOnce}
@@ -27,6 +30,11 @@ one_item_code = refl
 pub one_item_authentic : Authentic the_key true one_item
 unfolding item_fault whole_fault plan_fault decode_pairs
 one_item_authentic = record { lines = (tt, (tt, (tt, (tt, (tt, tt))))); last = tt }
+
+-- the one order that a station accepts in it: the upload of the item that was drafted
+pub one_item_orders : orders_of (actions_of the_key true one_item) ≡ Accepts_upload (stream_of the_station) (stream_of the_drone) 0 the_plan ∷ []
+unfolding item_fault whole_fault plan_fault decode_pairs first_words schedule rounds compress hash_after digest_bytes sha256 check.after_byte
+one_item_orders = refl
 
 -- what the theorem says of it: the eighth event of the report is the installation, the tenth its outcome
 pub installed_once : MainTheorem the_key true one_item → IsInstalledOnce

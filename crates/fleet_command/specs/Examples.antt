@@ -3,8 +3,10 @@ use Rattle.std.specs.Prelude.{ℕ, true, List, [], ◌∷◌, codes, pos}
 use Rattle.mav_ports.specs.declared.names.Name.{Name}
 use Rattle.plan_items.specs.declared.items.Item.{Item}
 use Rattle.plan_upload.specs.Station.{Told_installed}
+use Rattle.plan_safety.specs.World.{Nodes}
 use Rattle.fleet_world.specs.Scenario.{played}
-use Rattle.fleet_safety.specs.Safe.{history_of, Safe}
+use Rattle.fleet_safety.specs.Actions.{actions_of}
+use Rattle.fleet_safety.specs.Safe.{nodes_of, Safe}
 use Rattle.fleet_safety.specs.Meaning.{OutcomeIsTrue, InstallIsTrue}
 
 abbrev pub one_item : List ℕ
@@ -28,8 +30,12 @@ the_station = record { sys = 255; comp = 190 }
 abbrev pub the_plan : List Item
 the_plan = record { frame = 6; command = 16; current = 0; autocontinue = 1; p = 0 ∷ 0 ∷ 0 ∷ 0 ∷ []; x = pos 473977420; y = pos 85455940; z = 0 } ∷ []
 
+-- the nodes that it names
+abbrev pub one_fleet : Nodes
+one_fleet = nodes_of (played the_key true one_item).scene.nodes
+
 -- that plan was installed, once, from a fully transmitted upload of that station; and that it is told so is true
 pub record IsInstalledOnce : Type 0 where
-  pub safe : Safe (played the_key true one_item)
-  pub installed : InstallIsTrue (history_of (played the_key true one_item).scene.nodes safe.events) the_drone 0 the_plan the_station
-  pub told : OutcomeIsTrue (history_of (played the_key true one_item).scene.nodes safe.events) the_station Told_installed
+  pub safe : Safe the_key (played the_key true one_item) (actions_of the_key true one_item)
+  pub installed : InstallIsTrue one_fleet (actions_of the_key true one_item) 7 the_drone 0 the_plan the_station
+  pub told : OutcomeIsTrue one_fleet (actions_of the_key true one_item) 9 the_station Told_installed

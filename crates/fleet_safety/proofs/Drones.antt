@@ -12,6 +12,7 @@ use Rattle.plan_upload.specs.declared.changes.Change.TheVariants.{Same, Install,
 use Rattle.plan_upload.specs.Drone.{DroneState, DroneStep, DroneTick, drone_step, drone_tick}
 use Rattle.plan_safety.specs.Frames.{Frame}
 use Rattle.plan_safety.specs.Store.{StoreEvent, at}
+use Rattle.plan_safety.specs.History.{steps_of}
 use Rattle.plan_safety.specs.World as world
 use Rattle.plan_safety.specs.World.{Nodes, Distinct, World, DroneNode, Drone_waits, Drone_ticks, To_drone, Speaks, happens, quiet, frame_of, drone_news, drone_does}
 use Rattle.plan_safety.proofs.Keys.{by_test, at_same, at_apart}
@@ -23,6 +24,7 @@ use Rattle.plan_ranges.specs.Ranges.{StreamInRange, InRange, DroneInRange, Drone
 use Rattle.plan_ranges.proofs.MessageRanges.{carried}
 use Rattle.plan_ranges.proofs.DroneRanges as ranges
 use Rattle.mav_frame.specs.Packet.{Packet, SignatureBlock}
+use Rattle.mav_frame.specs.Encoding.{encoding}
 use Rattle.mav_messages.specs.declared.messages.Message.{Message}
 use Rattle.mav_messages.specs.Plans.{message_of_plan, plan_of}
 use Rattle.mav_sign.specs.declared.admission.Admit.{Admit}
@@ -38,10 +40,11 @@ use Rattle.mav_nodes.specs.Steps.{Side, answers, with_core, steps, takes, admits
 use Rattle.mav_nodes.specs.Nodes.{change_events, drone_core, drone_ticks, drone_heartbeat, drone_beats, tick_answer}
 use Rattle.fleet_world.specs.Scene.{Node, Drone}
 use Rattle.fleet_world.specs.Steps.{packets_in}
-use Rattle.fleet_invariants.specs.Kept.{IsAmong}
 use Rattle.fleet_safety.specs.Telling.{changes_told, ends_told, step_told, refused_told}
+use Rattle.fleet_safety.specs.Actions.{moves, ticks, comes_to, place_of, if_admitted, if_plan, if_sent, hearing}
 use Rattle.fleet_safety.proofs.Times.{KeepsTime, IsDue, Later, due_keeps, waits_due, dropped_keeps, admits_due, admits_keeps, sends_keeps, admitted_later}
-use Rattle.fleet_safety.proofs.Frames.{Found, SameFrame, SameNew, found, same_more, same_length}
+use Rattle.fleet_safety.proofs.Frames.{Found, SameFrame, SameNew, IsFirst, found, same_more, same_length}
+use Rattle.fleet_safety.proofs.Own.{IsTame, own_of, own_nothing, tame_nothing, tame_drone, orders_among, no_order_of_drone}
 use Rattle.fleet_safety.proofs.Reports.{Chain, chain_end, chain_on, silent_step, seen_by, packets_on, changes_are, no_ends}
 use Rattle.fleet_safety.proofs.Sendings.{packet_of, sent_frame, read_second, step_is, quiet_seen, sends_seen}
 use Rattle.fleet_safety.proofs.Fits.{Stands, Reached, Fits, reached_all, MovesTo, fits_on, Alike, Led, Leads}
@@ -79,6 +82,14 @@ answer_is (Some a) = refl
 
 abbrev pub stream_at : ℕ → ℕ → ℕ → Stream
 stream_at sys comp link = record { sys = sys; comp = comp; link = link }
+
+-- the place from the newest
+pub one_place : (place other index sent frames : ℕ) → place + (index + 1) ≡ sent → other + (index + 1) ≡ frames → sent ≡ frames → place ≡ other
+one_place place other index sent frames a b c = omega arith
+
+-- a frame without a signature isn't admitted
+pub unsigned : Unsigned ≡ Admitted → ⊥
+unsigned e = absurd (cc)
 
 pub frame_is : (f : Frame) (from : Stream) (stamp : ℕ) (m : Option PlanMsg) → f.from ≡ from → f.timestamp ≡ stamp → f.message ≡ m → f ≡ frame_of from stamp m
 frame_is f from stamp m a b c = λ i. record { from = a i; timestamp = b i; message = c i }
@@ -131,10 +142,10 @@ module _ (n : Nodes) (sound : Distinct n) (clock : ℕ) (nodes : List Node) (sen
   due = waits_due clock a.link.history (w.drone x).last (w.drone x).next stands.1
 
   -- nothing happens in the world
-  still_led : (b : Side DroneState) (es : List NodeEvent) → Alike (Drone a) (Drone b) → a.core ≡ b.core → KeepsTime clock b.link.history (w.drone x).last (w.drone x).next → packets_in es ≡ [] → seen_by (node_of x) (length sent) es ≡ [] → Led n clock nodes sent w k (Drone a) (record { node = Drone b; events = es })
+  still_led : (b : Side DroneState) (es : List NodeEvent) → Alike (Drone a) (Drone b) → a.core ≡ b.core → KeepsTime clock b.link.history (w.drone x).last (w.drone x).next → packets_in es ≡ [] → seen_by (node_of x) (length sent) es ≡ [] → Led n clock nodes sent w k (Drone a) (record { node = Drone b; events = es }) [] []
   still_led b es alike core time none tells = record {
-    events = [];
     report = tells;
+    own = own_nothing n w;
     alike = alike;
     fits = fits_on n clock nodes sent w w k (Drone a) (Drone b) fits there alike.role moves (packets_in es) (same_more sent (packets_in es) w.sent None fits.frames none) fits.reached;
   }
@@ -147,16 +158,17 @@ module _ (n : Nodes) (sound : Distinct n) (clock : ℕ) (nodes : List Node) (sen
       }
 
   -- the drone waits, and then an event
-  led : (b : Side DroneState) (es : List NodeEvent) (e : world.Event) (y : DroneNode) (f : Option Frame) (news : List StoreEvent) → happens n u e ≡ drone_after u x y f news → refused_told n u e ≡ [] → Alike (Drone a) (Drone b) → y.state ≡ b.core → DroneInRange b.core → KeepsTime clock b.link.history y.last y.next → SameNew (packets_in es) f → seen_by (node_of x) (length sent) es ≡ step_told u (drone_after u x y f news) → Led n clock nodes sent w k (Drone a) (record { node = Drone b; events = es })
-  led b es e y f news is none alike state range time new tells =
+  led : (b : Side DroneState) (es : List NodeEvent) (e : world.Event) (y : DroneNode) (f : Option Frame) (news : List StoreEvent) → IsTame news → orders_among news ≡ [] → happens n u e ≡ drone_after u x y f news → refused_told n u e ≡ [] → Alike (Drone a) (Drone b) → y.state ≡ b.core → DroneInRange b.core → KeepsTime clock b.link.history y.last y.next → SameNew (packets_in es) f → seen_by (node_of x) (length sent) es ≡ step_told u (drone_after u x y f news) → Led n clock nodes sent w k (Drone a) (record { node = Drone b; events = es }) (moves clock (Drone a) e) []
+  led b es e y f news tame idle is none alike state range time new tells =
       let v : World = drone_after u x y f news in
-      let chain : Chain n w v (step_told w u ++ (step_told u v ++ [])) = chain_on n w u v (Drone_waits x now) (step_told u v ++ []) is_u refl (chain_on n u v v e [] is none (chain_end n v)) in
+      let chain : Chain n w v (Drone_waits x now ∷ e ∷ []) (step_told w u ++ (step_told u v ++ [])) (λ h. steps_of v.sent v.news (steps_of u.sent u.news h)) =
+      chain_on n w u v (Drone_waits x now) (e ∷ []) (step_told u v ++ []) (λ h. steps_of v.sent v.news h) is_u refl (chain_on n u v v e [] [] (λ h. h) is none (chain_end n v)) in
       record {
-        events = chain.events;
+        own = own_of n w (Drone_waits x now ∷ e ∷ []) v.sent news [] (chain.steps []) tame idle;
         report = tells ∙ sym (append-nil (step_told u v)) ∙ ap (λ r. r ++ (step_told u v ++ [])) (sym (silent_step w u refl refl)) ∙ sym chain.tells;
         alike = alike;
         fits = subst (Fits n clock (slice_set nodes k (Drone b)) (sent ++ packets_in es)) (sym chain.ends)
-            (fits_on n clock nodes sent w v k (Drone a) (Drone b) fits there alike.role moves (packets_in es) (same_more sent (packets_in es) w.sent f fits.frames new) (subst (Reached n) chain.ends (reached_all n sound w chain.events fits.reached)));
+            (fits_on n clock nodes sent w v k (Drone a) (Drone b) fits there alike.role moves (packets_in es) (same_more sent (packets_in es) w.sent f fits.frames new) (subst (Reached n) chain.ends (reached_all n sound w (Drone_waits x now ∷ e ∷ []) fits.reached)));
       }
     where
       moves : MovesTo clock w (drone_after u x y f news) x (Drone b)
@@ -168,29 +180,29 @@ module _ (n : Nodes) (sound : Distinct n) (clock : ℕ) (nodes : List Node) (sen
       }
 
   -- a step of the core: nothing is sent, or a message in one frame
-  module _ (link : Link) (core : DroneState) (last : Stream → ℕ) (next : ℕ) (news : List StoreEvent) (first : List NodeEvent) (ready : IsDue clock link.history last next) (range : DroneInRange core) (me : x ≡ link.me) (key : a.link.key ≡ link.key) (none : packets_in first ≡ []) (changes : (before : ℕ) → seen_by (node_of x) before first ≡ changes_told news) (endless : ends_told news ≡ []) where
+  module _ (link : Link) (core : DroneState) (last : Stream → ℕ) (next : ℕ) (news : List StoreEvent) (first : List NodeEvent) (ready : IsDue clock link.history last next) (range : DroneInRange core) (me : x ≡ link.me) (key : a.link.key ≡ link.key) (none : packets_in first ≡ []) (changes : (before : ℕ) → seen_by (node_of x) before first ≡ changes_told news) (endless : ends_told news ≡ []) (tame : IsTame news) (idle : orders_among news ≡ []) where
     nothing_behind : (before : ℕ) → seen_by (node_of x) before [] ≡ ends_told news
     nothing_behind before = sym endless
 
-    says_nothing : (e : world.Event) → happens n u e ≡ drone_after u x (drone_node core last next) None news → refused_told n u e ≡ [] → Led n clock nodes sent w k (Drone a) (record { node = Drone (record { link = link; core = core }); events = first ++ [] })
+    says_nothing : (e : world.Event) → happens n u e ≡ drone_after u x (drone_node core last next) None news → refused_told n u e ≡ [] → Led n clock nodes sent w k (Drone a) (record { node = Drone (record { link = link; core = core }); events = first ++ [] }) (moves clock (Drone a) e) []
     says_nothing e is silent =
-        led (record { link = link; core = core }) (first ++ []) e (drone_node core last next) None news is silent (record { role = me; key = key }) refl range (due_keeps clock link.history last next ready)
+        led (record { link = link; core = core }) (first ++ []) e (drone_node core last next) None news tame idle is silent (record { role = me; key = key }) refl range (due_keeps clock link.history last next ready)
         (packets_on first [] ∙ append-nil (packets_in first) ∙ none)
         (quiet_seen x (length sent) (length w.sent) first [] news none changes nothing_behind many ∙ sym (step_is u (drone_after u x (drone_node core last next) None news) None refl))
 
-    says : (e : world.Event) (message : Message) (said : Option PlanMsg) → IfSome said InRange → plan_of message ≡ said → happens n u e ≡ drone_after u x (drone_node core last (next + 1)) (Some (frame_of x next said)) news → refused_told n u e ≡ [] → Leads n clock nodes sent w k (Drone a) Drone (behind first (with_core core [] (sends clock message link)))
+    says : (e : world.Event) (message : Message) (said : Option PlanMsg) → IfSome said InRange → plan_of message ≡ said → happens n u e ≡ drone_after u x (drone_node core last (next + 1)) (Some (frame_of x next said)) news → refused_told n u e ≡ [] → Leads n clock nodes sent w k (Drone a) Drone (behind first (with_core core [] (sends clock message link))) (moves clock (Drone a) e) []
     says e message said within carries is silent =
-        by_test (λ o. Leads n clock nodes sent w k (Drone a) Drone (behind first (with_core core [] o))) (nat_lt greatest_stamp (next_in link.history clock)) _ _ (λ _. tt)
+        by_test (λ o. Leads n clock nodes sent w k (Drone a) Drone (behind first (with_core core [] o)) (moves clock (Drone a) e) []) (nat_lt greatest_stamp (next_in link.history clock)) _ _ (λ _. tt)
         (λ _ reads.
         let q : Packet = packet_of link clock message in
         let f : Frame = frame_of x next said in
         let same : SameFrame q f = subst (λ s. SameFrame q (frame_of s next said)) (sym me) (sent_frame link clock next message said (subst (λ (s : Stream). s.link ≡ 0) me zero_link) (subst StreamInRange me stream) within ready.next ready.some carries (read_second first (Sends q message ∷ []) reads).0) in
-        led (record { link = links.sent_at (next_in link.history clock) link; core = core }) (first ++ Sends q message ∷ []) e (drone_node core last (next + 1)) (Some f) news is silent (record { role = me; key = key }) refl range (sends_keeps clock link.history last next ready)
+        led (record { link = links.sent_at (next_in link.history clock) link; core = core }) (first ++ Sends q message ∷ []) e (drone_node core last (next + 1)) (Some f) news tame idle is silent (record { role = me; key = key }) refl range (sends_keeps clock link.history last next ready)
         (q, packets_on first (Sends q message ∷ []) ∙ ap (λ ps. ps ++ q ∷ []) none, same)
         (sends_seen x (length sent) (length w.sent) first [] news none changes nothing_behind many q message said next (sym (ap node_of me)) carries ∙ sym (step_is u (drone_after u x (drone_node core last (next + 1)) (Some f) news) (Some f) refl)))
 
     -- by the answer
-    answers_lead : (o : Option PlanMsg) → IfSome o InRange → (e : world.Event) → happens n u e ≡ drone_after u x (says_node (drone_node core last next) o) (says_frame x next o) news → refused_told n u e ≡ [] → Leads n clock nodes sent w k (Drone a) Drone (behind first (with_core core [] (answers clock o link)))
+    answers_lead : (o : Option PlanMsg) → IfSome o InRange → (e : world.Event) → happens n u e ≡ drone_after u x (says_node (drone_node core last next) o) (says_frame x next o) news → refused_told n u e ≡ [] → Leads n clock nodes sent w k (Drone a) Drone (behind first (with_core core [] (answers clock o link))) (moves clock (Drone a) e) []
     answers_lead None within e is silent = λ _. says_nothing e is silent
     answers_lead (Some m) within e is silent = says e (message_of_plan m) (Some m) within (carried m within) is silent
 
@@ -204,13 +216,17 @@ module _ (n : Nodes) (sound : Distinct n) (clock : ℕ) (nodes : List Node) (sen
   unchanged p answer = record { role = refl; key = refl }
 
   -- a frame that isn't admitted
-  dropped : (p : Packet) (answer : Admit) → signed.admitted_by (tried p answer) ≡ None → Leads n clock nodes sent w k (Drone a) Drone (done (tried_with p answer) (Drops answer ∷ []))
+  dropped : (p : Packet) (answer : Admit) → signed.admitted_by (tried p answer) ≡ None → Leads n clock nodes sent w k (Drone a) Drone (done (tried_with p answer) (Drops answer ∷ [])) [] []
   dropped p answer none _ =
       still_led (tried_with p answer) (Drops answer ∷ []) (unchanged p answer) refl
       (dropped_keeps clock a.link.history (w.drone x).last (w.drone x).next (tried p answer) none refl stands.1) refl refl
 
+  -- what an admitted frame with a plan message is in the world
+  abbrev brought : Packet → List world.Event
+  brought p = if_sent (place_of (encoding p) sent) (λ place. moves clock (Drone a) (comes_to (Drone a) place))
+
   -- one that is admitted was sent
-  module _ (p : Packet) (block : SignatureBlock) (signs : p.block ≡ Some block) (later : Later a.link.key a.link.history p block) (place : ℕ) (is_sent : slice_get sent place ≡ Some p) where
+  module _ (p : Packet) (block : SignatureBlock) (signs : p.block ≡ Some block) (later : Later a.link.key a.link.history p block) (known : IsFirst sent p) where
     abbrev from : Stream
     from = signed.stream_of p block
 
@@ -220,8 +236,13 @@ module _ (n : Nodes) (sound : Distinct n) (clock : ℕ) (nodes : List Node) (sen
     entered : signed.admitted_by (tried p Admitted) ≡ Some (stamped p block)
     entered = ap (option_map (stamped p)) signs
 
-    its : Found p w.sent
-    its = found sent w.sent place p fits.frames is_sent
+    its : Found p known.index w.sent
+    its = found sent w.sent known.index p fits.frames known.found
+
+    brought_is : brought p ≡ moves clock (Drone a) (To_drone its.place x true)
+    brought_is =
+        ap (λ o. if_sent o (λ place. moves clock (Drone a) (comes_to (Drone a) place))) known.place_is
+        ∙ ap (λ place. moves clock (Drone a) (To_drone place x true)) (one_place known.place its.place known.index (length sent) (length w.sent) known.counts its.counts many)
 
     stream_from : its.frame.from ≡ from
     stream_from = its.same.from ∙ sym (ap (λ link. stream_at p.from.sys p.from.comp link) (its.same.block block signs).0)
@@ -230,7 +251,7 @@ module _ (n : Nodes) (sound : Distinct n) (clock : ℕ) (nodes : List Node) (sen
     stamp_is = sym (its.same.block block signs).1
 
     -- with another message
-    other : Leads n clock nodes sent w k (Drone a) Drone (done b [])
+    other : Leads n clock nodes sent w k (Drone a) Drone (done b []) [] []
     other _ =
         still_led b [] (unchanged p Admitted) refl
         (admits_keeps clock a.link.history (tried p Admitted) (stamped p block) entered refl (w.drone x).last (w.drone x).next stands.1) refl refl
@@ -269,37 +290,37 @@ module _ (n : Nodes) (sound : Distinct n) (clock : ℕ) (nodes : List Node) (sen
       ranged : DroneStepInRange r
       ranged = ranges.steps true from (subst StreamInRange stream_from its.same.stream) a.core m stands.2 (subst (λ o. IfSome o InRange) (its.same.message ∙ carries) its.same.range)
 
-      plan : Leads n clock nodes sent w k (Drone a) Drone (steps clock b.link (drone_core b.core from m))
+      plan : Leads n clock nodes sent w k (Drone a) Drone (steps clock b.link (drone_core b.core from m)) (brought p) []
       plan =
-          answers_lead b.link r.drone last next (drone_news x r.event) (change_events from r.drone.plans (change_by r.event)) ready ranged.drone refl refl
-          (no_packets from r.drone.plans (change_by r.event)) (changes_are n a.core x from r shaped) (no_ends x r.event) r.answer ranged.answer (To_drone its.place x true) is refl
+          subst (λ es. Leads n clock nodes sent w k (Drone a) Drone (steps clock b.link (drone_core b.core from m)) es []) (sym brought_is)
+          (answers_lead b.link r.drone last next (drone_news x r.event) (change_events from r.drone.plans (change_by r.event)) ready ranged.drone refl refl
+          (no_packets from r.drone.plans (change_by r.event)) (changes_are n a.core x from r shaped) (no_ends x r.event) (tame_drone x r.event) (no_order_of_drone x r.event) r.answer ranged.answer (To_drone its.place x true) is refl)
 
-    takes_lead : (o : Option PlanMsg) → plan_in p.id p.payload ≡ o → Leads n clock nodes sent w k (Drone a) Drone (takes drone_core clock b from o)
+    takes_lead : (o : Option PlanMsg) → plan_in p.id p.payload ≡ o → Leads n clock nodes sent w k (Drone a) Drone (takes drone_core clock b from o) (if_plan o (brought p)) []
     takes_lead None e = other
     takes_lead (Some m) e = plan m e
 
   -- by the answer
-  module _ (p : Packet) (known : Verifies a.link.key p p.block → IsAmong sent p) where
-    by_answer : (answer : Admit) (block : Option SignatureBlock) → answer_to a.link.key a.link.history p ≡ answer → p.block ≡ block → Leads n clock nodes sent w k (Drone a) Drone (admits drone_core clock (tried_with p answer) p answer block)
-    by_answer Admitted None e signs = dropped p Admitted (ap (option_map (stamped p)) signs)
+  module _ (p : Packet) (known : Verifies a.link.key p p.block → IsFirst sent p) where
+    by_answer : (answer : Admit) (block : Option SignatureBlock) → answer_to a.link.key a.link.history p ≡ answer → p.block ≡ block → Leads n clock nodes sent w k (Drone a) Drone (admits drone_core clock (tried_with p answer) p answer block) (if_admitted answer (if_plan (plan_in p.id p.payload) (brought p))) []
+    by_answer Admitted None e signs = absurd (unsigned (subst (λ o. block_answer a.link.key (λ stream stamp. stamp_answer stream stamp a.link.history) p o ≡ Admitted) signs e))
     by_answer Admitted (Some block) e signs =
         let later : Later a.link.key a.link.history p block =
         admitted_later a.link.key a.link.history p block (subst (λ o. block_answer a.link.key (λ stream stamp. stamp_answer stream stamp a.link.history) p o ≡ Admitted) signs e) in
-        let sent_as : IsAmong sent p = known (subst (Verifies a.link.key p) (sym signs) later.verifies) in
-        takes_lead p block signs later sent_as.place sent_as.found (plan_in p.id p.payload) refl
+        takes_lead p block signs later (known (subst (Verifies a.link.key p) (sym signs) later.verifies)) (plan_in p.id p.payload) refl
     by_answer Unsigned block e signs = dropped p Unsigned refl
     by_answer BadSignature block e signs = dropped p BadSignature refl
     by_answer (NotLater last) block e signs = dropped p (NotLater last) refl
     by_answer (TooOld local) block e signs = dropped p (TooOld local) refl
     by_answer TooManyStreams block e signs = dropped p TooManyStreams refl
 
-    pub frame_leads : Leads n clock nodes sent w k (Drone a) Drone (hears drone_core clock p a)
+    pub frame_leads : Leads n clock nodes sent w k (Drone a) Drone (hears drone_core clock p a) (hearing clock sent (Drone a) p) []
     frame_leads = by_answer (answer_to a.link.key a.link.history p) p.block refl refl
 
   -- ---- a tick, and a HEARTBEAT
-  pub ticks_lead : Leads n clock nodes sent w k (Drone a) Drone (drone_ticks clock a)
+  pub ticks_lead : Leads n clock nodes sent w k (Drone a) Drone (drone_ticks clock a) (moves clock (Drone a) (ticks (Drone a))) []
   ticks_lead =
-      answers_lead a.link t.drone waited.last waited.next [] [] due ranged.drone refl refl refl (λ before. refl) refl (tick_answer t.answer) (within t.answer ranged.answer) (Drone_ticks x) is refl
+      answers_lead a.link t.drone waited.last waited.next [] [] due ranged.drone refl refl refl (λ before. refl) refl tame_nothing refl (tick_answer t.answer) (within t.answer ranged.answer) (Drone_ticks x) is refl
     where
       t : DroneTick
       t = drone_tick a.core
@@ -316,12 +337,12 @@ module _ (n : Nodes) (sound : Distinct n) (clock : ℕ) (nodes : List Node) (sen
           drone_ticks_on n u x (drone_node a.core waited.last waited.next) here (own ∙ core_of_waited)
           ∙ ap (λ o. drone_after u x (says_node (drone_node (drone_tick a.core).drone waited.last waited.next) o) (says_frame x waited.next o) []) (answer_is (drone_tick a.core).answer)
 
-  pub beats_lead : Leads n clock nodes sent w k (Drone a) Drone (drone_beats clock a)
-  beats_lead = in_front (with_core a.core [] (sends clock drone_heartbeat a.link)) (says a.link a.core waited.last waited.next [] [] due stands.2 refl refl refl (λ before. refl) refl (Speaks x) drone_heartbeat None tt refl is refl)
+  pub beats_lead : Leads n clock nodes sent w k (Drone a) Drone (drone_beats clock a) (moves clock (Drone a) (Speaks x)) []
+  beats_lead = in_front (with_core a.core [] (sends clock drone_heartbeat a.link)) (says a.link a.core waited.last waited.next [] [] due stands.2 refl refl refl (λ before. refl) refl tame_nothing refl (Speaks x) drone_heartbeat None tt refl is refl)
     where
       is : happens n u (Speaks x) ≡ drone_after u x (drone_node a.core waited.last (waited.next + 1)) (Some (frame_of x waited.next None)) []
       is = drone_speaks_on n u x (drone_node a.core waited.last waited.next) here (own ∙ core_of_waited)
 
-      in_front : (o : Outcome (Side DroneState)) → Leads n clock nodes sent w k (Drone a) Drone (behind [] o) → Leads n clock nodes sent w k (Drone a) Drone o
+      in_front : (o : Outcome (Side DroneState)) → Leads n clock nodes sent w k (Drone a) Drone (behind [] o) (moves clock (Drone a) (Speaks x)) [] → Leads n clock nodes sent w k (Drone a) Drone o (moves clock (Drone a) (Speaks x)) []
       in_front None h = tt
       in_front (Some d) h = h

@@ -133,3 +133,25 @@ begun_tells s o =
     let ready : StationState = record s { outcome = None } in
     by_test Begun (is_synced s.synced o.drone) _ _ (λ _. (refl, refl))
     (λ _. by_test Begun (nat_lt s.pings last_ping) _ _ (λ _. (refl, refl)) (λ _. (refl, refl)))
+
+-- a cancel tells nothing
+abbrev IsSilent : StationStep → Type 0
+IsSilent a = a.told ≡ None
+
+silent_attempt : (s : StationState) (o : Operation) → IsSilent (resynchronises s o)
+silent_attempt s o = by_test IsSilent (nat_lt s.pings last_ping) _ _ (λ _. refl) (λ _. refl)
+
+pub cancel_is_silent : (s : StationState) → IsSilent (station_cancel s)
+cancel_is_silent s = of_operation s.operation
+  where
+    of_phase : (o : Operation) (phase : Phase) → IsSilent (phase_cancel s o phase)
+    of_phase o Pinging = refl
+    of_phase o Cancelling = refl
+    of_phase o Sending = silent_attempt s (record o { terminating = true })
+    of_phase o Clearing = silent_attempt s (record o { terminating = true })
+    of_phase o Listing_items = silent_attempt s (record o { terminating = true })
+    of_phase o Getting = silent_attempt s (record o { terminating = true })
+
+    of_operation : (o : Option Operation) → IsSilent (operation_cancel s o)
+    of_operation None = refl
+    of_operation (Some o) = by_test IsSilent o.terminating _ _ (λ _. refl) (λ _. of_phase o o.phase)

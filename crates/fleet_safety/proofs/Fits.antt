@@ -17,11 +17,13 @@ use Rattle.fleet_world.specs.Steps.{packets_in}
 use Rattle.fleet_invariants.specs.Sound.{link_of}
 use Rattle.fleet_invariants.specs.Kept.{AllRead}
 use Rattle.fleet_safety.specs.Telling.{told}
+use Rattle.fleet_safety.specs.Actions.{Order}
 use Rattle.fleet_safety.specs.Safe.{start}
 use Rattle.fleet_safety.proofs.Times.{KeepsTime, clock_keeps}
 use Rattle.fleet_safety.proofs.Frames.{SameFrames}
 use Rattle.fleet_safety.proofs.Names.{Named, Unnamed, Covers, SameRole, stream_in, name_in, named_in, was, set_named, set_covers, set_unnamed}
 use Rattle.fleet_safety.proofs.Reports.{seen_by}
+use Rattle.fleet_safety.proofs.Own.{Own}
 
 -- a node of the scene is the world's, and in its ranges; a station has told its outcomes
 abbrev pub Stands : ℕ → World → Node → Type 0
@@ -135,14 +137,14 @@ pub record Alike (a b : Node) : Type 0 where
   pub role : SameRole a b
   pub key : (link_of a).key ≡ (link_of b).key
 
--- what a node does, and events of the world that tell the same and lead to what fits
-pub record Led (n : Nodes) (clock : ℕ) (nodes : List Node) (sent : List Packet) (w : World) (k : ℕ) (old : Node) (d : Done Node) : Type 0 where
-  pub events : List world.Event
+-- what a node does; these events of the world tell the same, are this accepted order, and lead to what fits
+pub record Led (n : Nodes) (clock : ℕ) (nodes : List Node) (sent : List Packet) (w : World) (k : ℕ) (old : Node) (d : Done Node) (events : List world.Event) (orders : List Order) : Type 0 where
   pub report : seen_by (node_name old) (length sent) d.events ≡ told n w events
+  pub own : Own n w events orders
   pub alike : Alike old d.node
   pub fits : Fits n clock (slice_set nodes k d.node) (sent ++ packets_in d.events) (final n w events)
 
 -- where it is done, and what it sends reads back
-abbrev pub Leads : {A : Type 0} → Nodes → ℕ → List Node → List Packet → World → ℕ → Node → (A → Node) → Outcome A → Type 0
-Leads n clock nodes sent w k old node_of None = Unit {0}
-Leads n clock nodes sent w k old node_of (Some d) = AllRead d.events → Led n clock nodes sent w k old (record { node = node_of d.node; events = d.events })
+abbrev pub Leads : {A : Type 0} → Nodes → ℕ → List Node → List Packet → World → ℕ → Node → (A → Node) → Outcome A → List world.Event → List Order → Type 0
+Leads n clock nodes sent w k old node_of None events orders = Unit {0}
+Leads n clock nodes sent w k old node_of (Some d) events orders = AllRead d.events → Led n clock nodes sent w k old (record { node = node_of d.node; events = d.events }) events orders

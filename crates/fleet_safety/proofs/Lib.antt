@@ -5,7 +5,10 @@ pub mod Names
 pub mod Ends
 pub mod Reports
 pub mod StoreLines
+pub mod Own
 pub mod Fits
+pub mod Follows
+pub mod Begun
 pub mod Sendings
 pub mod Drones
 pub mod Stations
@@ -15,3 +18,4 @@ pub mod Orders
 pub mod Lines
 pub mod Plays
 pub mod ToldLines
+pub mod Caused

@@ -1,5 +1,5 @@
 -- Each scenario line does in the world of messages what it does in the scene.
-use Rattle.std.proofs.Common.{◌≡◌, ℕ, ◌+◌, ◌-◌, ◌<◌, inl, inr, Bool, true, false, nat_lt, [], ◌∷◌, ◌++◌, length, slice_get, None, refl, sym, ap, subst, arith}
+use Rattle.std.proofs.Common.{◌≡◌, ℕ, ◌+◌, ◌-◌, ◌<◌, inl, inr, Bool, true, false, nat_lt, List, [], ◌∷◌, ◌++◌, length, slice_get, None, refl, sym, ap, subst, arith}
 use Rattle.std.specs.declared.result.Result.{Result}
 use Rattle.plan_items.specs.Kinds.{number_of}
 use Rattle.plan_upload.specs.Kinds.{clear_number}
@@ -23,6 +23,7 @@ use Rattle.fleet_invariants.proofs.Restated.{sound_restated}
 use Rattle.fleet_invariants.specs.Sound.{Sound}
 use Rattle.fleet_invariants.specs.Kept.{LineFits}
 use Rattle.fleet_invariants.specs.Laws.{EveryCallKeeps, SentKnown, AuthenticKnown}
+use Rattle.fleet_safety.specs.Actions.{Action, at_node, ticked, beaten, datagram_heard, flow_actions, delivered, calls_of}
 use Rattle.fleet_safety.proofs.Lists.{at_end, more_there}
 use Rattle.fleet_safety.proofs.Names.{Named, Covers, Kept, kept, Proper, more_kept, more_named, unnamed}
 use Rattle.fleet_safety.proofs.Times.{KeepsTime, first_keeps}
@@ -41,16 +42,16 @@ no_reason : (b : Bool) (r : Reason) → against b r ≡ None → b ≡ false
 no_reason true r e = absurd (cc)
 no_reason false r e = refl
 
-module _ (n : Nodes) (distinct : Distinct n) (every_call : EveryCallKeeps) (sent_known : SentKnown) (authentic_known : AuthenticKnown) (s : Scene) (w : World) (sound : Sound s) (fits : Fits n s.clock s.nodes s.sent w) where
+module _ (number : ℕ) (n : Nodes) (distinct : Distinct n) (every_call : EveryCallKeeps) (sent_known : SentKnown) (authentic_known : AuthenticKnown) (s : Scene) (w : World) (sound : Sound s) (fits : Fits n s.clock s.nodes s.sent w) where
   gone : (t : Scene) (v : World) → Goes n s t v → Done n s t v
   gone t v h = record { kept = h.kept; named = h.fits.named; fits = λ _. h.fits }
 
   -- another draft, or another place of flows
-  unmoved : (t : Scene) → t.nodes ≡ s.nodes → Fits n t.clock t.nodes t.sent w → SceneLeads n w (Done n s) (rests t)
+  unmoved : (t : Scene) → t.nodes ≡ s.nodes → Fits n t.clock t.nodes t.sent w → SceneLeads n w (Done n s) (rests t) []
   unmoved t same h = scene_rests n w (Done n s) t (record { kept = subst (Kept s.nodes) (sym same) (kept s.nodes); named = h.named; fits = λ _. h })
 
   -- a node joins
-  joins_lead : (new : Node) → has_name (names_of s.nodes) (node_name new) ≡ false → Proper new → Stands s.clock w new → SceneLeads n w (Done n s) (joins s new)
+  joins_lead : (new : Node) → has_name (names_of s.nodes) (node_name new) ≡ false → Proper new → Stands s.clock w new → SceneLeads n w (Done n s) (joins s new) []
   joins_lead new none proper stands = scene_rests n w (Done n s) (record s { nodes = s.nodes ++ new ∷ [] }) (record { kept = more_kept s.nodes new; named = named; fits = fitting })
     where
       named : Named (s.nodes ++ new ∷ [])
@@ -66,13 +67,13 @@ module _ (n : Nodes) (distinct : Distinct n) (every_call : EveryCallKeeps) (sent
         reached = fits.reached;
       }
 
-  drone_joins : (sys : ℕ) → Is8 sys → has_name (names_of s.nodes) (record { sys = sys; comp = 1 }) ≡ false → SceneLeads n w (Done n s) (joins s (Drone (new_drone s.key sys)))
+  drone_joins : (sys : ℕ) → Is8 sys → has_name (names_of s.nodes) (record { sys = sys; comp = 1 }) ≡ false → SceneLeads n w (Done n s) (joins s (Drone (new_drone s.key sys))) []
   drone_joins sys small none =
       let fresh = (fits.unnamed (record { sys = sys; comp = 1 }) (unnamed s.nodes (record { sys = sys; comp = 1 }) none)).0 in
       joins_lead (Drone (new_drone s.key sys)) none (refl, refl, record { sys = small; comp = omega arith })
       (ap (λ (y : DroneNode). y.state) fresh, subst (λ (y : DroneNode). KeepsTime s.clock [] y.last y.next) (sym fresh) (first_keeps s.clock), drone_ranges.fresh sys small)
 
-  station_joins : (sys comp : ℕ) → Is8 sys → Is8 comp → 0 < comp → has_name (names_of s.nodes) (record { sys = sys; comp = comp }) ≡ false → SceneLeads n w (Done n s) (joins s (Station (new_station s.key (stream_of (record { sys = sys; comp = comp })) 0)))
+  station_joins : (sys comp : ℕ) → Is8 sys → Is8 comp → 0 < comp → has_name (names_of s.nodes) (record { sys = sys; comp = comp }) ≡ false → SceneLeads n w (Done n s) (joins s (Station (new_station s.key (stream_of (record { sys = sys; comp = comp })) 0))) []
   station_joins sys comp small small_comp some none =
       let fresh = (fits.unnamed (record { sys = sys; comp = comp }) (unnamed s.nodes (record { sys = sys; comp = comp }) none)).1 in
       joins_lead (Station (new_station s.key (stream_of (record { sys = sys; comp = comp })) 0)) none (refl, some, record { sys = small; comp = small_comp })
@@ -85,36 +86,37 @@ module _ (n : Nodes) (distinct : Distinct n) (every_call : EveryCallKeeps) (sent
   from_sound : Sound from
   from_sound = sound_restated s (length s.sent) s.draft s.clock sound (omega arith) sound.draft (omega arith) sound.clock
 
-  ordered : (r : Result Step Halt) → SceneLeads n w (Goes n from) r → SceneLeads n w (Done n s) r
-  ordered r h = scene_maps n w (Goes n from) (Done n s) r h (λ t v g. record { kept = g.kept; named = g.fits.named; fits = λ _. g.fits })
+  ordered : (r : Result Step Halt) (actions : List Action) → SceneLeads n w (Goes n from) r actions → SceneLeads n w (Done n s) r actions
+  ordered r actions h = scene_maps n w (Goes n from) (Done n s) r actions h (λ t v g. record { kept = g.kept; named = g.fits.named; fits = λ _. g.fits })
 
-  went : (r : Result Step Halt) → SceneLeads n w (Goes n s) r → SceneLeads n w (Done n s) r
-  went r h = scene_maps n w (Goes n s) (Done n s) r h gone
+  went : (r : Result Step Halt) (actions : List Action) → SceneLeads n w (Goes n s) r actions → SceneLeads n w (Done n s) r actions
+  went r actions h = scene_maps n w (Goes n s) (Done n s) r actions h gone
 
-  pub line_leads : (l : Line) → IsPermitted (standing_of s) l → LineFits l → AuthenticLine s l → SceneLeads n w (Done n s) (after_line s l)
+  pub line_leads : (l : Line) → IsPermitted (standing_of s) l → LineFits l → AuthenticLine s l → SceneLeads n w (Done n s) (after_line s l) (calls_of number s l)
   line_leads line.Blank p f a = unmoved s refl fits
   line_leads (line.Drone sys x y) p f a =
-      by_test (SceneLeads n w (Done n s)) (nat_lt (drones_in s.nodes) most_drones) _ _ (λ _. drone_joins sys f (no_reason _ Twice p.1)) (λ _. tt)
+      by_test (λ r. SceneLeads n w (Done n s) r []) (nat_lt (drones_in s.nodes) most_drones) _ _ (λ _. drone_joins sys f (no_reason _ Twice p.1)) (λ _. tt)
   line_leads (line.Station sys comp) p f a =
-      by_test (SceneLeads n w (Done n s)) (nat_lt (stations_in s.nodes) most_stations) _ _ (λ _. station_joins sys comp f.0 f.1 (let z = p.0.1 in omega arith) (no_reason _ Twice p.1)) (λ _. tt)
+      by_test (λ r. SceneLeads n w (Done n s) r []) (nat_lt (stations_in s.nodes) most_stations) _ _ (λ _. station_joins sys comp f.0 f.1 (let z = p.0.1 in omega arith) (no_reason _ Twice p.1)) (λ _. tt)
   line_leads (line.Item item) p f a = unmoved (record s { draft = s.draft ++ item ∷ [] }) refl fits
   line_leads (line.Items count first) p f a = unmoved (record s { draft = s.draft ++ items_from count first 0 }) refl fits
   line_leads line.Empty p f a = unmoved (record s { draft = [] }) refl fits
   line_leads (line.Begin station drone kind) p f a =
-      ordered (begins from station drone (number_of kind)) (begins_lead n distinct every_call from w from_sound fits drone p.0.1 station kind)
-  line_leads (line.Cancel station) p f a = ordered (cancels from station) (cancels_lead n distinct every_call from w from_sound fits station)
+      ordered (begins from station drone (number_of kind)) (calls_of number s (line.Begin station drone kind)) (begins_lead number n distinct every_call from w from_sound fits drone p.0.1 station kind)
+  line_leads (line.Cancel station) p f a =
+      ordered (cancels from station) (calls_of number s (line.Cancel station)) (cancels_lead number n distinct every_call from w from_sound fits station)
   line_leads (line.Clear station drone kind) p f a =
-      ordered (clears from station drone (clear_number kind)) (clears_lead n distinct every_call from w from_sound fits drone p.0.1 station kind)
+      ordered (clears from station drone (clear_number kind)) (calls_of number s (line.Clear station drone kind)) (clears_lead number n distinct every_call from w from_sound fits drone p.0.1 station kind)
   line_leads (line.Get station drone kind) p f a =
-      ordered (gets from station drone (number_of kind)) (gets_lead n distinct every_call from w from_sound fits drone p.0.1 station kind)
+      ordered (gets from station drone (number_of kind)) (calls_of number s (line.Get station drone kind)) (gets_lead number n distinct every_call from w from_sound fits drone p.0.1 station kind)
   line_leads (line.Heartbeat node) p f a =
-      went (calls s node (node_beats s.clock)) (calls_lead n distinct every_call sent_known s w sound fits node (node_beats s.clock) (beats_lead n distinct every_call s w sound fits))
-  line_leads (line.Deliver number node) p f a =
-      went (delivers s number node (slice_get s.sent (number - 1))) (delivers_lead n distinct every_call sent_known s w sound fits number node (number - 1) (slice_get s.sent (number - 1)) refl)
-  line_leads (line.Flow k) p f a = went (flows k s) (flows_lead n distinct every_call sent_known k s w sound fits)
+      went (calls s node (node_beats s.clock)) (at_node s node (beaten number)) (calls_lead number n distinct every_call sent_known s w sound fits node (node_beats s.clock) (beaten number) (beats_lead number n distinct every_call s w sound fits))
+  line_leads (line.Deliver which node) p f a =
+      went (delivers s which node (slice_get s.sent (which - 1))) (delivered number s which node (slice_get s.sent (which - 1))) (delivers_lead number n distinct every_call sent_known s w sound fits which node (which - 1) (slice_get s.sent (which - 1)) refl)
+  line_leads (line.Flow k) p f a = went (flows k s) (flow_actions number k s) (flows_lead number n distinct every_call sent_known k s w sound fits)
   line_leads (line.Noise node bytes) p f a =
-      went (calls s node (node_receives s.clock bytes))
-      (calls_lead n distinct every_call sent_known s w sound fits node (node_receives s.clock bytes) (bytes_lead n distinct every_call sent_known s w sound fits bytes (authentic_known s sound bytes f a)))
+      went (calls s node (node_receives s.clock bytes)) (at_node s node (datagram_heard number bytes))
+      (calls_lead number n distinct every_call sent_known s w sound fits node (node_receives s.clock bytes) (datagram_heard number bytes) (bytes_lead number n distinct every_call sent_known s w sound fits bytes (authentic_known s sound bytes f a)))
   line_leads (line.Tick node) p f a =
-      went (calls s node (node_ticks s.clock)) (calls_lead n distinct every_call sent_known s w sound fits node (node_ticks s.clock) (ticks_lead n distinct every_call s w sound fits))
+      went (calls s node (node_ticks s.clock)) (at_node s node (ticked number)) (calls_lead number n distinct every_call sent_known s w sound fits node (node_ticks s.clock) (ticked number) (ticks_lead number n distinct every_call s w sound fits))
   line_leads (line.Clock more) p f a = unmoved (record s { clock = s.clock + more }) refl (clock_fits n s.clock more s.nodes s.sent w fits)

@@ -1,11 +1,12 @@
 -- A whole scenario, line by line, up to where it stops.
 use Rattle.std.proofs.Common.{◌≡◌, ℕ, zero, suc, ◌+◌, Bool, true, false, if◌then◌else◌, nat_lt, List, [], ◌∷◌, ◌++◌, length, slice_get, Option, Some, None, Ok, Err, refl, sym, ap, subst, arith, ◌∙◌}
+use Rattle.std.specs.Prelude.{◌↔◌}
 use Rattle.std.specs.declared.result.Result.{Result}
+use Rattle.std.proofs.lemmas.List.{append_assoc, append-nil}
 use Rattle.plan_upload.specs.Plans.{plan_at}
 use Rattle.plan_upload.specs.Drone.{DroneState}
-use Rattle.plan_safety.specs.World as world
 use Rattle.plan_safety.specs.World.{Nodes, Distinct, World, first_world}
-use Rattle.plan_safety.specs.History.{IsHeld, final}
+use Rattle.plan_safety.specs.History.{IsHistory, IsHeld, Uploaded, final}
 use Rattle.plan_safety.proofs.Keys.{by_test}
 use Rattle.plan_safety.proofs.Induction as induction
 use Rattle.plan_safety.proofs.Histories as histories
@@ -15,7 +16,7 @@ use Rattle.scenario_lines.specs.declared.faults.Reason.TheVariants.{Long}
 use Rattle.scenario_lines.specs.declared.lines.Line.{Line}
 use Rattle.scenario_lines.specs.Grammar.{line_of, most_line_bytes}
 use Rattle.scenario_lines.specs.Reasons.{reason_against}
-use Rattle.fleet_world.specs.Scene.{Drone, empty_scene, standing_of}
+use Rattle.fleet_world.specs.Scene.{Scene, Drone, empty_scene, standing_of}
 use Rattle.fleet_world.specs.Steps.{Step, Halt, after_line}
 use Rattle.fleet_world.specs.Scenario.{Played, Stop, Bad, Too_many_lines, Halted, stopped, goes_on, judged, most_lines, line_played, unless_stopped, lines_played, at_start, last_played, part_played, rest_played, played, without_cr, whole_lines, unfinished}
 use Rattle.fleet_world.specs.Authentic.{AuthenticDone, line_read, line_done, UnlessStopped, AuthenticLines, AuthenticLast, Authentic}
@@ -26,104 +27,125 @@ use Rattle.fleet_invariants.proofs.Readings.{read_fits}
 use Rattle.fleet_invariants.specs.Sound.{Sound}
 use Rattle.fleet_invariants.specs.Kept.{KeepsLine}
 use Rattle.fleet_invariants.specs.Laws.{EveryCallKeeps, SentKnown, AuthenticKnown, EveryLineKeeps, EveryReadLineFits}
-use Rattle.fleet_safety.specs.Telling.{seen, told}
-use Rattle.fleet_safety.specs.Safe.{nodes_of, start, history_of, Safe}
+use Rattle.fleet_safety.specs.Telling.{seen, plan_lines, steps_told}
+use Rattle.fleet_safety.specs.Actions.{Action, calls_of, line_end, calls_done, line_actions, lines_actions, last_actions, actions_of, unless_stopped as unless_stopped_actions}
+use Rattle.fleet_safety.specs.Safe.{nodes_of, start, events_of, report_of, orders_of, scene_after, world_after, history_of, orders_in, IsTheUpload, IsSafe, Safe}
+use Rattle.fleet_safety.proofs.Lists.{by_both}
 use Rattle.fleet_safety.proofs.Names.{Named, Covers, covers_back, own_cover, own_distinct}
-use Rattle.fleet_safety.proofs.Reports.{told_on, final_on, seen_on}
+use Rattle.fleet_safety.proofs.StoreLines.{history_lines}
+use Rattle.fleet_safety.proofs.Own.{own_nothing}
+use Rattle.fleet_safety.proofs.Follows.{Acts, Follows, report_on, scene_on, final_after, follows_on, one_events, each_follows, all_told}
+use Rattle.fleet_safety.proofs.Begun.{orders_all, the_upload}
 use Rattle.fleet_safety.proofs.Fits.{Fits, nothing_named, first_fits}
 use Rattle.fleet_safety.proofs.Scenes.{SceneLeads}
 use Rattle.fleet_safety.proofs.Lines.{Done, line_leads}
 
--- what was played is an execution of a fleet
-pub record Ran (n : Nodes) (p : Played) : Type 0 where
-  pub events : List world.Event
-  pub report : seen p.events ≡ told n (first_world start) events
-  pub fits : Fits n p.scene.clock p.scene.nodes p.scene.sent (final n (first_world start) events)
+-- what was played, in these actions, is an execution of a fleet
+pub record Ran (n : Nodes) (p : Played) (actions : List Action) : Type 0 where
+  pub follows : Follows n (first_world start) actions
+  pub fits : Fits n p.scene.clock p.scene.nodes p.scene.sent (world_after n actions)
 
 -- of each fleet that has its nodes
-pub record Runs (p : Played) : Type 0 where
+pub record Runs (key : List ℕ) (p : Played) (actions : List Action) : Type 0 where
   pub sound : Sound p.scene
   pub named : Named p.scene.nodes
-  pub ran : (n : Nodes) → Distinct n → Covers n p.scene.nodes → Ran n p
+  pub report : report_of actions ≡ p.events
+  pub scene : scene_after (empty_scene key) actions ≡ p.scene
+  pub ran : (n : Nodes) → Distinct n → Covers n p.scene.nodes → Ran n p actions
+
+-- no action more
+nothing_more : (key : List ℕ) (p : Played) (actions : List Action) → Runs key p actions → Runs key p (actions ++ [])
+nothing_more key p actions h = subst (Runs key p) (sym (append-nil actions)) h
 
 -- a scenario that stops is what it was
-stops : (p : Played) (stop : Stop) → Runs p → Runs (stopped p stop)
-stops p stop h = record { sound = h.sound; named = h.named; ran = λ n distinct covers. let r = h.ran n distinct covers in record { events = r.events; report = r.report; fits = r.fits } }
+stops : (key : List ℕ) (p : Played) (actions : List Action) (stop : Stop) → Runs key p actions → Runs key (stopped p stop) actions
+stops key p actions stop h = record {
+  sound = h.sound;
+  named = h.named;
+  report = h.report;
+  scene = h.scene;
+  ran = λ n distinct covers. let r = h.ran n distinct covers in record { follows = r.follows; fits = r.fits };
+}
+
+-- the report of a line that is done, whose end tells nothing
+calls_report : (number : ℕ) (calls : List Action) (s : Scene) → report_of (calls ++ line_end number s ∷ []) ≡ report_of calls
+calls_report number calls s = report_on calls (line_end number s ∷ []) ∙ append-nil (report_of calls)
 
 -- one that goes on with a line
-goes : (p : Played) (line : Line) (r : Result Step Halt) → Runs p → KeepsLine p.scene line r → ((n : Nodes) → Distinct n → (w : World) → Fits n p.scene.clock p.scene.nodes p.scene.sent w → SceneLeads n w (Done n p.scene) r) → Runs (goes_on p r)
-goes p line (Err halt) h keeps lead = stops p (Halted halt) h
-goes p line (Ok t) h keeps lead =
+goes : (number : ℕ) (key : List ℕ) (p : Played) (actions calls : List Action) (line : Line) (r : Result Step Halt) → Runs key p actions → KeepsLine p.scene line r → ((n : Nodes) → Distinct n → (w : World) → Fits n p.scene.clock p.scene.nodes p.scene.sent w → SceneLeads n w (Done n p.scene) r calls) → Runs key (goes_on p r) (actions ++ calls_done number calls r)
+goes number key p actions calls line (Err halt) h keeps lead = nothing_more key (stopped p (Halted halt)) actions (stops key p actions (Halted halt) h)
+goes number key p actions calls line (Ok t) h keeps lead =
     let own : Nodes = nodes_of p.scene.nodes in
     let distinct : Distinct own = own_distinct p.scene.nodes h.named in
-    let first = (lead own distinct _ (h.ran own distinct (own_cover p.scene.nodes h.named)).fits).holds in
+    let first = lead own distinct _ (h.ran own distinct (own_cover p.scene.nodes h.named)).fits in
     record {
       sound = keeps.sound;
-      named = first.named;
+      named = first.holds.named;
+      report = report_on actions (calls ++ line_end number t.scene ∷ []) ∙ ap (λ es. es ++ report_of (calls ++ line_end number t.scene ∷ [])) h.report ∙ ap (λ es. p.events ++ es) (calls_report number calls t.scene ∙ first.report);
+      scene = scene_on (empty_scene key) actions (calls ++ line_end number t.scene ∷ []) ∙ scene_on (scene_after (empty_scene key) actions) calls (line_end number t.scene ∷ []);
       ran = λ n apart covers.
-          let r = h.ran n apart (covers_back n p.scene.nodes t.scene.nodes first.kept covers) in
-          let l = lead n apart (final n (first_world start) r.events) r.fits in
+          let r = h.ran n apart (covers_back n p.scene.nodes t.scene.nodes first.holds.kept covers) in
+          let l = lead n apart (world_after n actions) r.fits in
+          let fits : Fits n t.scene.clock t.scene.nodes t.scene.sent (final n (world_after n actions) (events_of calls)) = l.holds.fits covers in
           record {
-            events = r.events ++ l.events;
-            report = seen_on p.events t.events ∙ ap (λ es. es ++ seen t.events) r.report ∙ ap (λ es. told n (first_world start) r.events ++ es) l.report ∙ sym (told_on n (first_world start) r.events l.events);
-            fits = subst (Fits n t.scene.clock t.scene.nodes t.scene.sent) (sym (final_on n (first_world start) r.events l.events)) (l.holds.fits covers);
+            follows = follows_on n (first_world start) actions (calls ++ line_end number t.scene ∷ []) r.follows (follows_on n (world_after n actions) calls (line_end number t.scene ∷ []) l.follows
+                (record { report = refl; own = own_nothing n (final n (world_after n actions) (events_of calls)); drones = λ place d e. (fits.stands place (Drone d) e).0 }, tt));
+            fits = subst (Fits n t.scene.clock t.scene.nodes t.scene.sent) (sym (final_after n (first_world start) actions (calls ++ line_end number t.scene ∷ []) ∙ final_after n (world_after n actions) calls (line_end number t.scene ∷ []))) fits;
           };
     }
 
-unless : (o : Option Stop) (T : Type 0) (p q : Played) → Runs p → UnlessStopped o T → (T → Runs q) → Runs (unless_stopped o p q)
-unless None T p q h a k = k a
-unless (Some stop) T p q h a k = h
+unless : (key : List ℕ) (o : Option Stop) (T : Type 0) (p q : Played) (actions more : List Action) → Runs key p actions → UnlessStopped o T → (T → Runs key q (actions ++ more)) → Runs key (unless_stopped o p q) (actions ++ unless_stopped_actions o more)
+unless key None T p q actions more h a k = k a
+unless key (Some stop) T p q actions more h a k = nothing_more key p actions h
 
--- two choices by one test
-by_both : {A B : Type 0} (P : A → B → Type 0) (b : Bool) (x y : A) (u v : B) → P x u → (b ≡ false → P y v) → P (if b then x else y) (if b then u else v)
-by_both P true x y u v f g = f
-by_both P false x y u v f g = g refl
-
-module _ (every_call : EveryCallKeeps) (sent_known : SentKnown) (authentic_known : AuthenticKnown) (every_line : EveryLineKeeps) (every_reading : EveryReadLineFits) where
-  judges : (p : Played) (number : ℕ) (text : List ℕ) (reason : Option Reason) → reason_against (standing_of p.scene) text ≡ reason → Runs p → AuthenticDone p.scene (line_read text reason) → Runs (judged p number text reason)
-  judges p number text (Some reason) e h a = stops p (Bad number reason) h
-  judges p number text None e h a =
+module _ (every_call : EveryCallKeeps) (sent_known : SentKnown) (authentic_known : AuthenticKnown) (every_line : EveryLineKeeps) (every_reading : EveryReadLineFits) (key : List ℕ) where
+  judges : (p : Played) (actions : List Action) (number : ℕ) (text : List ℕ) (reason : Option Reason) → reason_against (standing_of p.scene) text ≡ reason → Runs key p actions → AuthenticDone p.scene (line_read text reason) → Runs key (judged p number text reason) (actions ++ line_actions number p.scene (line_read text reason))
+  judges p actions number text (Some reason) e h a = nothing_more key (stopped p (Bad number reason)) actions (stops key p actions (Bad number reason) h)
+  judges p actions number text None e h a =
       let reads = every_reading (standing_of p.scene) text e in
-      goes p (line_of text) (after_line p.scene (line_of text)) h (every_line p.scene h.sound (line_of text) reads.0 reads.1 a)
-      (λ n distinct w fits. line_leads n distinct every_call sent_known authentic_known p.scene w h.sound fits (line_of text) reads.0 reads.1 a)
+      goes number key p actions (calls_of number p.scene (line_of text)) (line_of text) (after_line p.scene (line_of text)) h (every_line p.scene h.sound (line_of text) reads.0 reads.1 a)
+      (λ n distinct w fits. line_leads number n distinct every_call sent_known authentic_known p.scene w h.sound fits (line_of text) reads.0 reads.1 a)
 
   -- a line that is done where it is not too long
-  abbrev Plays : Played → Played → Option Line → Type 0
-  Plays p q line = AuthenticDone p.scene line → Runs q
+  abbrev Plays : ℕ → Played → List Action → Played → Option Line → Type 0
+  Plays number p actions q line = AuthenticDone p.scene line → Runs key q (actions ++ line_actions number p.scene line)
 
-  whole_runs : (p : Played) (number : ℕ) (raw text : List ℕ) → Runs p
-      → Plays p (if nat_lt most_lines number then stopped p Too_many_lines else if nat_lt most_line_bytes (length raw) then stopped p (Bad number Long) else judged p number text (reason_against (standing_of p.scene) text)) (line_done p.scene number raw text)
-  whole_runs p number raw text h =
-      by_both (Plays p) (nat_lt most_lines number) _ _ _ _ (λ _. stops p Too_many_lines h) (λ _.
-      by_both (Plays p) (nat_lt most_line_bytes (length raw)) _ _ _ _ (λ _. stops p (Bad number Long) h)
-      (λ _. judges p number text (reason_against (standing_of p.scene) text) refl h))
+  whole_runs : (p : Played) (actions : List Action) (number : ℕ) (raw text : List ℕ) → Runs key p actions
+      → Plays number p actions (if nat_lt most_lines number then stopped p Too_many_lines else if nat_lt most_line_bytes (length raw) then stopped p (Bad number Long) else judged p number text (reason_against (standing_of p.scene) text)) (line_done p.scene number raw text)
+  whole_runs p actions number raw text h =
+      by_both (Plays number p actions) (nat_lt most_lines number) _ _ _ _ (λ _. nothing_more key (stopped p Too_many_lines) actions (stops key p actions Too_many_lines h))
+      (by_both (Plays number p actions) (nat_lt most_line_bytes (length raw)) _ _ _ _ (λ _. nothing_more key (stopped p (Bad number Long)) actions (stops key p actions (Bad number Long) h))
+      (judges p actions number text (reason_against (standing_of p.scene) text) refl h))
 
-  lines_run : (lines : List (List ℕ)) (p : Played) (number : ℕ) → Runs p → AuthenticLines p number lines → Runs (lines_played p number lines)
-  lines_run [] p number h a = h
-  lines_run (raw ∷ more) p number h a =
-      unless p.stop (AuthenticDone p.scene (line_done p.scene number raw (without_cr raw)) × AuthenticLines (line_played p number raw) (number + 1) more) p (lines_played (line_played p number raw) (number + 1) more) h a
-      (λ b. lines_run more (line_played p number raw) (number + 1) (whole_runs p number raw (without_cr raw) h b.0) b.1)
+  lines_run : (lines : List (List ℕ)) (p : Played) (actions : List Action) (number : ℕ) → Runs key p actions → AuthenticLines p number lines → Runs key (lines_played p number lines) (actions ++ lines_actions p number lines)
+  lines_run [] p actions number h a = nothing_more key p actions h
+  lines_run (raw ∷ more) p actions number h a =
+      let done : List Action = line_actions number p.scene (line_done p.scene number raw (without_cr raw)) in
+      let rest : List Action = lines_actions (line_played p number raw) (number + 1) more in
+      unless key p.stop (AuthenticDone p.scene (line_done p.scene number raw (without_cr raw)) × AuthenticLines (line_played p number raw) (number + 1) more) p (lines_played (line_played p number raw) (number + 1) more) actions (done ++ rest) h a
+      (λ b. subst (Runs key (lines_played (line_played p number raw) (number + 1) more)) (append_assoc actions done rest)
+      (lines_run more (line_played p number raw) (actions ++ done) (number + 1) (whole_runs p actions number raw (without_cr raw) h b.0) b.1))
 
-  part_runs : (p : Played) (number : ℕ) (part : List ℕ) → Runs p → Runs (part_played p number part)
-  part_runs p number part h =
-      by_test Runs (nat_lt most_line_bytes (length part)) _ _
-      (λ _. by_test Runs (nat_lt most_lines number) _ _ (λ _. stops p Too_many_lines h) (λ _. stops p (Bad number Long) h))
+  part_runs : (p : Played) (actions : List Action) (number : ℕ) (part : List ℕ) → Runs key p actions → Runs key (part_played p number part) actions
+  part_runs p actions number part h =
+      by_test (λ q. Runs key q actions) (nat_lt most_line_bytes (length part)) _ _
+      (λ _. by_test (λ q. Runs key q actions) (nat_lt most_lines number) _ _ (λ _. stops key p actions Too_many_lines h) (λ _. stops key p actions (Bad number Long) h))
       (λ _. h)
 
-  without : (o : Option Stop) (p q : Played) → Runs p → Runs q → Runs (unless_stopped o p q)
-  without None p q h k = k
-  without (Some stop) p q h k = h
+  without : (o : Option Stop) (p q : Played) (actions : List Action) → Runs key p actions → Runs key q actions → Runs key (unless_stopped o p q) actions
+  without None p q actions h k = k
+  without (Some stop) p q actions h k = h
 
-  rest_runs : (ended : Bool) (p : Played) (number : ℕ) (rest : List ℕ) → Runs p → AuthenticLast ended p number rest → Runs (unless_stopped p.stop p (rest_played ended p number rest))
-  rest_runs false p number rest h a = without p.stop p (part_played p number rest) h (part_runs p number rest h)
-  rest_runs true p number [] h a = without p.stop p p h h
-  rest_runs true p number (b ∷ bs) h a =
-      unless p.stop (AuthenticDone p.scene (line_done p.scene number (b ∷ bs) (b ∷ bs))) p (last_played p number (b ∷ bs)) h a (whole_runs p number (b ∷ bs) (b ∷ bs) h)
+  rest_runs : (ended : Bool) (p : Played) (actions : List Action) (number : ℕ) (rest : List ℕ) → Runs key p actions → AuthenticLast ended p number rest → Runs key (unless_stopped p.stop p (rest_played ended p number rest)) (actions ++ last_actions ended p number rest)
+  rest_runs false p actions number rest h a = nothing_more key _ actions (without p.stop p (part_played p number rest) actions h (part_runs p actions number rest h))
+  rest_runs true p actions number [] h a = nothing_more key _ actions (without p.stop p p actions h h)
+  rest_runs true p actions number (b ∷ bs) h a =
+      unless key p.stop (AuthenticDone p.scene (line_done p.scene number (b ∷ bs) (b ∷ bs))) p (last_played p number (b ∷ bs)) actions (line_actions number p.scene (line_done p.scene number (b ∷ bs) (b ∷ bs))) h a (whole_runs p actions number (b ∷ bs) (b ∷ bs) h)
 
-  all_run : (key : List ℕ) (ended : Bool) (bytes : List ℕ) → Runs (at_start key) → Authentic key ended bytes → Runs (played key ended bytes)
-  all_run key ended bytes h a =
+  all_run : (ended : Bool) (bytes : List ℕ) → Runs key (at_start key) [] → Authentic key ended bytes → Runs key (played key ended bytes) (actions_of key ended bytes)
+  all_run ended bytes h a =
       let lines : Played = lines_played (at_start key) 1 (whole_lines bytes) in
-      rest_runs ended lines (length (whole_lines bytes) + 1) (unfinished bytes) (lines_run (whole_lines bytes) (at_start key) 1 h a.lines) a.last
+      rest_runs ended lines (lines_actions (at_start key) 1 (whole_lines bytes)) (length (whole_lines bytes) + 1) (unfinished bytes) (lines_run (whole_lines bytes) (at_start key) [] 1 h a.lines) a.last
 
 -- at first
 nothing_at : {A : Type 0} (i : ℕ) (a : A) → slice_get [] i ≡ Some a → ⊥
@@ -144,30 +166,67 @@ first_sound key = record {
   clock = omega arith;
 }
 
-starts : (key : List ℕ) → Runs (at_start key)
+starts : (key : List ℕ) → Runs key (at_start key) []
 starts key = record {
   sound = first_sound key;
   named = nothing_named;
-  ran = λ n distinct _. record { events = []; report = refl; fits = first_fits n distinct 0 };
+  report = refl;
+  scene = refl;
+  ran = λ n distinct _. record { follows = tt; fits = first_fits n distinct 0 };
 }
 
 -- what runs is safe
-safe : (p : Played) → Runs p → Safe p
-safe p h =
-    let own : Nodes = nodes_of p.scene.nodes in
-    let distinct : Distinct own = own_distinct p.scene.nodes h.named in
-    let r : Ran own p = h.ran own distinct (own_cover p.scene.nodes h.named) in
-    let same : (place : ℕ) (d : Side DroneState) → slice_get p.scene.nodes place ≡ Some (Drone d) → ((final own (first_world start) r.events).drone d.link.me).state ≡ d.core = λ place d e. (r.fits.stands place (Drone d) e).0 in
-    record {
-      events = r.events;
-      report = r.report;
-      execution = induction.always own distinct start r.events;
-      valid = histories.histories own distinct start r.events;
-      plans = λ place d kind e l. ap (λ (x : DroneState). plan_at x.plans kind) (sym (same place d e)) ∙ histories.same_plans own distinct start r.events d.link.me kind l;
-      held = λ place d kind e l. subst (λ (x : DroneState). IsHeld (history_of p.scene.nodes r.events) d.link.me kind (plan_at x.plans kind)) (same place d e) (histories.held own distinct start r.events d.link.me kind l);
-    }
+module _ (key : List ℕ) (p : Played) (actions : List Action) (h : Runs key p actions) where
+  abbrev n : Nodes
+  n = nodes_of p.scene.nodes
+
+  distinct : Distinct n
+  distinct = own_distinct p.scene.nodes h.named
+
+  pub follows : Follows n (first_world start) actions
+  follows = (h.ran n distinct (own_cover p.scene.nodes h.named)).follows
+
+  pub valid : IsHistory (history_of n actions)
+  valid = histories.histories n distinct start (events_of actions)
+
+  each : (before : List Action) (a : Action) (later : List Action) → actions ≡ before ++ a ∷ later → IsSafe n before a
+  each before a later is =
+      let it : Acts n (world_after n before) a = each_follows n (first_world start) before a later (subst (Follows n (first_world start)) is follows) in
+      let there : world_after n (before ++ a ∷ []) ≡ final n (world_after n before) a.events = final_after n (first_world start) before (a ∷ []) ∙ ap (final n (world_after n before)) (one_events a) in
+      let state : (d : Side DroneState) → ((final n (world_after n before) a.events).drone d.link.me).state ≡ d.core → ((world_after n (before ++ a ∷ [])).drone d.link.me).state ≡ d.core = λ d same. ap (λ (v : World). (v.drone d.link.me).state) there ∙ same in
+      record {
+        report = it.report;
+        orders = it.own.orders_are;
+        plans = λ place d kind e l. ap (λ (x : DroneState). plan_at x.plans kind) (sym (state d (it.drones place d e))) ∙ histories.same_plans n distinct start (events_of (before ++ a ∷ [])) d.link.me kind l;
+        held = λ place d kind e l. subst (λ (x : DroneState). IsHeld (history_of n (before ++ a ∷ [])) d.link.me kind (plan_at x.plans kind)) (state d (it.drones place d e)) (histories.held n distinct start (events_of (before ++ a ∷ [])) d.link.me kind l);
+      }
+
+  pub safe : Safe key p actions
+  safe =
+      let orders_are : orders_in (history_of n actions) ≡ orders_of actions = orders_all n (first_world start) actions follows in
+      record {
+        report = h.report;
+        scene = h.scene;
+        each = each;
+        execution = induction.always n distinct start (events_of actions);
+        valid = valid;
+        orders = orders_are;
+        uploads = λ s number drone kind plan. subst (λ os. Uploaded (history_of n actions) s number drone kind plan ↔ IsTheUpload os s number drone kind plan) orders_are (the_upload (history_of n actions) s number drone kind plan);
+      }
 
 -- by what holds of the scenes of authentic scenarios
-pub every_scenario : (key : List ℕ) (ended : Bool) (bytes : List ℕ) → Authentic key ended bytes → Safe (played key ended bytes)
-every_scenario key ended bytes authentic =
-    safe (played key ended bytes) (all_run sound_does heard.sent_known heard.authentic_known sound_line read_fits key ended bytes (starts key) authentic)
+pub every_run : (key : List ℕ) (ended : Bool) (bytes : List ℕ) → Authentic key ended bytes → Runs key (played key ended bytes) (actions_of key ended bytes)
+every_run key ended bytes authentic = all_run sound_does heard.sent_known heard.authentic_known sound_line read_fits key ended bytes (starts key) authentic
+
+pub every_scenario : (key : List ℕ) (ended : Bool) (bytes : List ℕ) → Authentic key ended bytes → Safe key (played key ended bytes) (actions_of key ended bytes)
+every_scenario key ended bytes authentic = safe key (played key ended bytes) (actions_of key ended bytes) (every_run key ended bytes authentic)
+
+-- all that the report tells
+pub every_report : (key : List ℕ) (ended : Bool) (bytes : List ℕ) → Authentic key ended bytes → plan_lines (seen (played key ended bytes).events) ≡ steps_told (history_of (nodes_of (played key ended bytes).scene.nodes) (actions_of key ended bytes))
+every_report key ended bytes authentic =
+    let actions : List Action = actions_of key ended bytes in
+    let p : Played = played key ended bytes in
+    let run : Runs key p actions = every_run key ended bytes authentic in
+    ap (λ es. plan_lines (seen es)) (sym run.report)
+    ∙ ap plan_lines (all_told (nodes_of p.scene.nodes) (first_world start) actions (follows key p actions run))
+    ∙ sym (history_lines (nodes_of p.scene.nodes) (events_of actions) (first_world start) [])

@@ -13,7 +13,7 @@ use Rattle.plan_safety.specs.Frames.{Frame}
 use Rattle.plan_safety.specs.Store.{StoreEvent, with_plan}
 use Rattle.plan_safety.specs.World as world
 use Rattle.plan_safety.specs.World.{Nodes, World, happens, drone_news, told_news, frame_of, clears}
-use Rattle.plan_safety.specs.History.{final}
+use Rattle.plan_safety.specs.History.{Step, final, steps_of, history}
 use Rattle.plan_safety.proofs.Keys.{by_test, number_same}
 use Rattle.plan_safety.proofs.DroneShape.{Shape, EventOf, plans_after}
 use Rattle.plan_safety.proofs.FleetMoves.{plus}
@@ -78,7 +78,7 @@ packets_on (NodeEmpties kind ∷ es) fs = packets_on es fs
 packets_on (Drops answer ∷ es) fs = packets_on es fs
 packets_on (Ends told ∷ es) fs = packets_on es fs
 
-told_by_on : (name : Name) (before : ℕ) (es fs : List NodeEvent) → told_by name before (es ++ fs) ≡ told_by name before es ++ told_by name (before + length (packets_in es)) fs
+pub told_by_on : (name : Name) (before : ℕ) (es fs : List NodeEvent) → told_by name before (es ++ fs) ≡ told_by name before es ++ told_by name (before + length (packets_in es)) fs
 told_by_on name before [] fs = ap (λ k. told_by name k fs) (none before)
   where
     none : (k : ℕ) → k ≡ k + 0
@@ -98,21 +98,21 @@ seen_by_on name before es fs = ap seen (told_by_on name before es fs) ∙ seen_o
 
 -- ---- a chain of events
 
--- these events lead from one world to another, and tell this
-pub record Chain (n : Nodes) (w v : World) (ts : List ProtocolEvent) : Type 0 where
-  pub events : List world.Event
+-- these events lead from one world to another, tell this, and the store goes through this in them
+pub record Chain (n : Nodes) (w v : World) (events : List world.Event) (ts : List ProtocolEvent) (past : List Step → List Step) : Type 0 where
   pub ends : final n w events ≡ v
   pub tells : told n w events ≡ ts
+  pub steps : (h : List Step) → history n w h events ≡ past h
 
-pub chain_end : (n : Nodes) (w : World) → Chain n w w []
-chain_end n w = record { events = []; ends = refl; tells = refl }
+pub chain_end : (n : Nodes) (w : World) → Chain n w w [] [] (λ h. h)
+chain_end n w = record { ends = refl; tells = refl; steps = λ h. refl }
 
--- one event in front, which tells nothing of a refusal
-pub chain_on : (n : Nodes) (w u v : World) (e : world.Event) (ts : List ProtocolEvent) → happens n w e ≡ u → refused_told n w e ≡ [] → Chain n u v ts → Chain n w v (step_told w u ++ ts)
-chain_on n w u v e ts is none c = record {
-  events = e ∷ c.events;
-  ends = ap (λ x. final n x c.events) is ∙ c.ends;
-  tells = ap (λ r. (r ++ step_told w (happens n w e)) ++ told n (happens n w e) c.events) none ∙ ap (λ x. step_told w x ++ told n x c.events) is ∙ ap (λ r. step_told w u ++ r) c.tells;
+-- one event before them, which tells nothing of a refusal
+pub chain_on : (n : Nodes) (w u v : World) (e : world.Event) (es : List world.Event) (ts : List ProtocolEvent) (past : List Step → List Step) → happens n w e ≡ u → refused_told n w e ≡ [] → Chain n u v es ts past → Chain n w v (e ∷ es) (step_told w u ++ ts) (λ h. past (steps_of u.sent u.news h))
+chain_on n w u v e es ts past is none c = record {
+  ends = ap (λ x. final n x es) is ∙ c.ends;
+  tells = ap (λ r. (r ++ step_told w (happens n w e)) ++ told n (happens n w e) es) none ∙ ap (λ x. step_told w x ++ told n x es) is ∙ ap (λ r. step_told w u ++ r) c.tells;
+  steps = λ h. ap (λ (x : World). history n x (steps_of x.sent x.news h) es) is ∙ c.steps (steps_of u.sent u.news h);
 }
 
 -- an event that tells nothing and sends nothing

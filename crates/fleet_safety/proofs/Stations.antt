@@ -14,6 +14,7 @@ use Rattle.plan_upload.specs.Refusals.{upload_refusal, refusal}
 use Rattle.plan_upload.specs.Station.{StationState, StationStep, Operation, Told, Uploads, Clears as Clears_work, Gets as Gets_work, operation_of, station_step, station_tick, station_cancel, begin_upload, begin_clear, begin_get, untold}
 use Rattle.plan_safety.specs.Frames.{Frame}
 use Rattle.plan_safety.specs.Store.{StoreEvent, Upload_begun, Clear_begun, Get_begun, at}
+use Rattle.plan_safety.specs.History.{steps_of}
 use Rattle.plan_safety.specs.World as world
 use Rattle.plan_safety.specs.World.{Nodes, Distinct, World, StationNode, Station_waits, Station_ticks, To_station, Hands_out, Speaks, Begins, Clears, Gets, Cancels, happens, quiet, frame_of, told_news, cancel_news}
 use Rattle.plan_safety.proofs.Keys.{by_test, not_true, at_same, at_apart}
@@ -25,6 +26,7 @@ use Rattle.plan_ranges.specs.Ranges.{StreamInRange, InRange, ItemInRange, Is8, S
 use Rattle.plan_ranges.proofs.MessageRanges.{carried}
 use Rattle.plan_ranges.proofs.StationRanges as ranges
 use Rattle.mav_frame.specs.Packet.{Packet, SignatureBlock}
+use Rattle.mav_frame.specs.Encoding.{encoding}
 use Rattle.mav_messages.specs.declared.messages.Message.{Message}
 use Rattle.mav_messages.specs.Plans.{message_of_plan, plan_of}
 use Rattle.mav_sign.specs.declared.admission.Admit.{Admit}
@@ -40,15 +42,16 @@ use Rattle.mav_nodes.specs.Steps.{Side, answers, with_core, steps, takes, admits
 use Rattle.mav_nodes.specs.Nodes.{told_events, station_does, station_core, station_ticks, station_heartbeat, station_beats, station_begins, station_cancels, station_clears, station_gets}
 use Rattle.fleet_world.specs.Scene.{Node, Station}
 use Rattle.fleet_world.specs.Steps.{packets_in}
-use Rattle.fleet_invariants.specs.Kept.{IsAmong}
 use Rattle.fleet_safety.specs.Telling.{changes_told, ends_told, step_told, refused_told}
+use Rattle.fleet_safety.specs.Actions.{Order, Accepts_upload, Accepts_clear, Accepts_get, moves, ticks, comes_to, place_of, if_admitted, if_plan, if_sent, hearing, cancelled}
 use Rattle.fleet_safety.proofs.Times.{KeepsTime, IsDue, Later, due_keeps, waits_due, dropped_keeps, admits_due, admits_keeps, sends_keeps, admitted_later}
-use Rattle.fleet_safety.proofs.Frames.{Found, SameFrame, SameNew, found, same_more, same_length}
-use Rattle.fleet_safety.proofs.Ends.{step_tells, tick_tells, cancel_tells, begun_tells}
+use Rattle.fleet_safety.proofs.Frames.{Found, SameFrame, SameNew, IsFirst, found, same_more, same_length}
+use Rattle.fleet_safety.proofs.Ends.{step_tells, tick_tells, cancel_tells, cancel_is_silent, begun_tells}
+use Rattle.fleet_safety.proofs.Own.{IsTame, own_of, own_nothing, tame_nothing, tame_told, tame_begun, tame_cancel, orders_among, no_order_told, one_order, order_of_cancel}
 use Rattle.fleet_safety.proofs.Reports.{Chain, chain_end, chain_on, silent_step, seen_by, ends_are, no_changes}
 use Rattle.fleet_safety.proofs.Sendings.{packet_of, sent_frame, step_is, quiet_seen, sends_seen}
 use Rattle.fleet_safety.proofs.Fits.{Stands, Reached, Fits, reached_all, MovesTo, fits_on, Alike, Led, Leads}
-use Rattle.fleet_safety.proofs.Drones.{stream_at, frame_is}
+use Rattle.fleet_safety.proofs.Drones.{stream_at, one_place, unsigned, frame_is}
 
 -- the world after a step of a station
 abbrev pub station_after : World → Stream → StationNode → Option Frame → List StoreEvent → World
@@ -160,10 +163,10 @@ module _ (n : Nodes) (sound : Distinct n) (clock : ℕ) (nodes : List Node) (sen
   due = waits_due clock a.link.history (w.station y).last (w.station y).next stands.1
 
   -- nothing happens in the world
-  still_led : (b : Side StationState) (es : List NodeEvent) → Alike (Station a) (Station b) → a.core ≡ b.core → KeepsTime clock b.link.history (w.station y).last (w.station y).next → packets_in es ≡ [] → seen_by (node_of y) (length sent) es ≡ [] → Led n clock nodes sent w k (Station a) (record { node = Station b; events = es })
+  still_led : (b : Side StationState) (es : List NodeEvent) → Alike (Station a) (Station b) → a.core ≡ b.core → KeepsTime clock b.link.history (w.station y).last (w.station y).next → packets_in es ≡ [] → seen_by (node_of y) (length sent) es ≡ [] → Led n clock nodes sent w k (Station a) (record { node = Station b; events = es }) [] []
   still_led b es alike core time none tells = record {
-    events = [];
     report = tells;
+    own = own_nothing n w;
     alike = alike;
     fits = fits_on n clock nodes sent w w k (Station a) (Station b) fits there alike.role moves (packets_in es) (same_more sent (packets_in es) w.sent None fits.frames none) fits.reached;
   }
@@ -177,14 +180,16 @@ module _ (n : Nodes) (sound : Distinct n) (clock : ℕ) (nodes : List Node) (sen
       }
 
   -- the station waits, then an event, and then its outcome is handed out
-  led : (b : Side StationState) (es : List NodeEvent) (e : world.Event) (z : StationNode) (f : Option Frame) (news : List StoreEvent) → happens n u e ≡ station_after u y z f news → refused_told n u e ≡ [] → Alike (Station a) (Station b) → untold z.state ≡ b.core → StationInRange b.core → KeepsTime clock b.link.history z.last z.next → SameNew (packets_in es) f → seen_by (node_of y) (length sent) es ≡ step_told u (station_after u y z f news) → Led n clock nodes sent w k (Station a) (record { node = Station b; events = es })
-  led b es e z f news is none alike state range time new tells =
+  led : (b : Side StationState) (es : List NodeEvent) (e : world.Event) (os : List Order) (z : StationNode) (f : Option Frame) (news : List StoreEvent) → IsTame news → orders_among news ≡ os → happens n u e ≡ station_after u y z f news → refused_told n u e ≡ [] → Alike (Station a) (Station b) → untold z.state ≡ b.core → StationInRange b.core → KeepsTime clock b.link.history z.last z.next → SameNew (packets_in es) f → seen_by (node_of y) (length sent) es ≡ step_told u (station_after u y z f news) → Led n clock nodes sent w k (Station a) (record { node = Station b; events = es }) (moves clock (Station a) e) os
+  led b es e os z f news tame among is none alike state range time new tells =
       let v : World = station_after u y z f news in
       let last : World = after_hands v y z in
       let hands : happens n v (Hands_out y) ≡ last = hands_on n v y z here (at_same u.station y z) in
-      let chain : Chain n w last (step_told w u ++ (step_told u v ++ (step_told v last ++ []))) = chain_on n w u last (Station_waits y now) (step_told u v ++ (step_told v last ++ [])) is_u refl (chain_on n u v last e (step_told v last ++ []) is none (chain_on n v last last (Hands_out y) [] hands refl (chain_end n last))) in
+      let handed : Chain n v last (Hands_out y ∷ []) (step_told v last ++ []) (λ h. h) = chain_on n v last last (Hands_out y) [] [] (λ h. h) hands refl (chain_end n last) in
+      let chain : Chain n w last (Station_waits y now ∷ e ∷ Hands_out y ∷ []) (step_told w u ++ (step_told u v ++ (step_told v last ++ []))) (λ h. steps_of v.sent v.news (steps_of u.sent u.news h)) =
+      chain_on n w u last (Station_waits y now) (e ∷ Hands_out y ∷ []) (step_told u v ++ (step_told v last ++ [])) (λ h. steps_of v.sent v.news h) is_u refl (chain_on n u v last e (Hands_out y ∷ []) (step_told v last ++ []) (λ h. h) is none handed) in
       record {
-        events = chain.events;
+        own = own_of n w (Station_waits y now ∷ e ∷ Hands_out y ∷ []) v.sent news os (chain.steps []) tame among;
         report =
             tells ∙ sym (append-nil (step_told u v))
             ∙ ap (λ r. step_told u v ++ (r ++ [])) (sym (silent_step v last refl refl))
@@ -192,7 +197,7 @@ module _ (n : Nodes) (sound : Distinct n) (clock : ℕ) (nodes : List Node) (sen
             ∙ sym chain.tells;
         alike = alike;
         fits = subst (Fits n clock (slice_set nodes k (Station b)) (sent ++ packets_in es)) (sym chain.ends)
-            (fits_on n clock nodes sent w last k (Station a) (Station b) fits there alike.role moves (packets_in es) (same_more sent (packets_in es) w.sent f fits.frames new) (subst (Reached n) chain.ends (reached_all n sound w chain.events fits.reached)));
+            (fits_on n clock nodes sent w last k (Station a) (Station b) fits there alike.role moves (packets_in es) (same_more sent (packets_in es) w.sent f fits.frames new) (subst (Reached n) chain.ends (reached_all n sound w (Station_waits y now ∷ e ∷ Hands_out y ∷ []) fits.reached)));
       }
     where
       moves : MovesTo clock w (after_hands (station_after u y z f news) y z) y (Station b)
@@ -205,38 +210,38 @@ module _ (n : Nodes) (sound : Distinct n) (clock : ℕ) (nodes : List Node) (sen
       }
 
   -- a step of the core: nothing is sent, or a message in one frame, and then an outcome may be told
-  module _ (link : Link) (before core : StationState) (last : Stream → ℕ) (next : ℕ) (news : List StoreEvent) (ending : List NodeEvent) (handed : untold before ≡ core) (ready : IsDue clock link.history last next) (range : StationInRange core) (me : y ≡ link.me) (key : a.link.key ≡ link.key) (none : packets_in ending ≡ []) (changeless : changes_told news ≡ []) (ends : (k : ℕ) → seen_by (node_of y) k ending ≡ ends_told news) where
-    says_nothing : (e : world.Event) → happens n u e ≡ station_after u y (station_node before last next) None news → refused_told n u e ≡ [] → Led n clock nodes sent w k (Station a) (record { node = Station (record { link = link; core = core }); events = ending })
+  module _ (link : Link) (before core : StationState) (last : Stream → ℕ) (next : ℕ) (news : List StoreEvent) (ending : List NodeEvent) (handed : untold before ≡ core) (ready : IsDue clock link.history last next) (range : StationInRange core) (me : y ≡ link.me) (key : a.link.key ≡ link.key) (none : packets_in ending ≡ []) (changeless : changes_told news ≡ []) (ends : (k : ℕ) → seen_by (node_of y) k ending ≡ ends_told news) (os : List Order) (tame : IsTame news) (among : orders_among news ≡ os) where
+    says_nothing : (e : world.Event) → happens n u e ≡ station_after u y (station_node before last next) None news → refused_told n u e ≡ [] → Led n clock nodes sent w k (Station a) (record { node = Station (record { link = link; core = core }); events = ending }) (moves clock (Station a) e) os
     says_nothing e is silent =
-        led (record { link = link; core = core }) ending e (station_node before last next) None news is silent (record { role = me; key = key }) handed range (due_keeps clock link.history last next ready)
+        led (record { link = link; core = core }) ending e os (station_node before last next) None news tame among is silent (record { role = me; key = key }) handed range (due_keeps clock link.history last next ready)
         none
         (quiet_seen y (length sent) (length w.sent) [] ending news refl (λ k. sym changeless) ends many ∙ sym (step_is u (station_after u y (station_node before last next) None news) None refl))
 
-    says : (e : world.Event) (message : Message) (said : Option PlanMsg) → IfSome said InRange → plan_of message ≡ said → happens n u e ≡ station_after u y (station_node before last (next + 1)) (Some (frame_of y next said)) news → refused_told n u e ≡ [] → Leads n clock nodes sent w k (Station a) Station (with_core core ending (sends clock message link))
+    says : (e : world.Event) (message : Message) (said : Option PlanMsg) → IfSome said InRange → plan_of message ≡ said → happens n u e ≡ station_after u y (station_node before last (next + 1)) (Some (frame_of y next said)) news → refused_told n u e ≡ [] → Leads n clock nodes sent w k (Station a) Station (with_core core ending (sends clock message link)) (moves clock (Station a) e) os
     says e message said within carries is silent =
-        by_test (λ o. Leads n clock nodes sent w k (Station a) Station (with_core core ending o)) (nat_lt greatest_stamp (next_in link.history clock)) _ _ (λ _. tt)
+        by_test (λ o. Leads n clock nodes sent w k (Station a) Station (with_core core ending o) (moves clock (Station a) e) os) (nat_lt greatest_stamp (next_in link.history clock)) _ _ (λ _. tt)
         (λ _ reads.
         let q : Packet = packet_of link clock message in
         let f : Frame = frame_of y next said in
         let same : SameFrame q f = subst (λ s. SameFrame q (frame_of s next said)) (sym me) (sent_frame link clock next message said (subst (λ (s : Stream). s.link ≡ 0) me zero_link) (subst StreamInRange me stream) within ready.next ready.some carries reads.0) in
-        led (record { link = links.sent_at (next_in link.history clock) link; core = core }) (Sends q message ∷ ending) e (station_node before last (next + 1)) (Some f) news is silent (record { role = me; key = key }) handed range (sends_keeps clock link.history last next ready)
+        led (record { link = links.sent_at (next_in link.history clock) link; core = core }) (Sends q message ∷ ending) e os (station_node before last (next + 1)) (Some f) news tame among is silent (record { role = me; key = key }) handed range (sends_keeps clock link.history last next ready)
         (q, ap (λ ps. q ∷ ps) none, same)
         (sends_seen y (length sent) (length w.sent) [] ending news refl (λ k. sym changeless) ends many q message said next (sym (ap node_of me)) carries ∙ sym (step_is u (station_after u y (station_node before last (next + 1)) (Some f) news) (Some f) refl)))
 
-    in_front : (o : Outcome (Side StationState)) → Leads n clock nodes sent w k (Station a) Station o → Leads n clock nodes sent w k (Station a) Station (behind [] o)
-    in_front None h = tt
-    in_front (Some d) h = h
+    in_front : (o : Outcome (Side StationState)) (e : world.Event) → Leads n clock nodes sent w k (Station a) Station o (moves clock (Station a) e) os → Leads n clock nodes sent w k (Station a) Station (behind [] o) (moves clock (Station a) e) os
+    in_front None e h = tt
+    in_front (Some d) e h = h
 
     -- by the answer
-    answers_lead : (o : Option PlanMsg) → IfSome o InRange → (e : world.Event) → happens n u e ≡ station_after u y (says_node (station_node before last next) o) (says_frame y next o) news → refused_told n u e ≡ [] → Leads n clock nodes sent w k (Station a) Station (behind [] (with_core core ending (answers clock o link)))
+    answers_lead : (o : Option PlanMsg) → IfSome o InRange → (e : world.Event) → happens n u e ≡ station_after u y (says_node (station_node before last next) o) (says_frame y next o) news → refused_told n u e ≡ [] → Leads n clock nodes sent w k (Station a) Station (behind [] (with_core core ending (answers clock o link))) (moves clock (Station a) e) os
     answers_lead None within e is silent = λ _. says_nothing e is silent
-    answers_lead (Some m) within e is silent = in_front (with_core core ending (sends clock (message_of_plan m) link)) (says e (message_of_plan m) (Some m) within (carried m within) is silent)
+    answers_lead (Some m) within e is silent = in_front (with_core core ending (sends clock (message_of_plan m) link)) e (says e (message_of_plan m) (Some m) within (carried m within) is silent)
 
   -- a step of the core that tells what stands then as its outcome
-  step_leads : (link : Link) (act : StationStep) (last : Stream → ℕ) (next : ℕ) (news : List StoreEvent) (e : world.Event) → IsDue clock link.history last next → y ≡ link.me → a.link.key ≡ link.key → act.station.outcome ≡ act.told → StationStepInRange act → changes_told (news ++ told_news y act.told) ≡ [] → ends_told (news ++ told_news y act.told) ≡ ends_told (told_news y act.told) → happens n u e ≡ called u y waited last next act news → refused_told n u e ≡ [] → Leads n clock nodes sent w k (Station a) Station (steps clock link (station_does act))
-  step_leads link act last next news e ready me key tells range changeless endings is silent =
+  step_leads : (link : Link) (act : StationStep) (last : Stream → ℕ) (next : ℕ) (news : List StoreEvent) (e : world.Event) (os : List Order) → IsTame (news ++ told_news y act.told) → orders_among (news ++ told_news y act.told) ≡ os → IsDue clock link.history last next → y ≡ link.me → a.link.key ≡ link.key → act.station.outcome ≡ act.told → StationStepInRange act → changes_told (news ++ told_news y act.told) ≡ [] → ends_told (news ++ told_news y act.told) ≡ ends_told (told_news y act.told) → happens n u e ≡ called u y waited last next act news → refused_told n u e ≡ [] → Leads n clock nodes sent w k (Station a) Station (steps clock link (station_does act)) (moves clock (Station a) e) os
+  step_leads link act last next news e os tame among ready me key tells range changeless endings is silent =
       answers_lead link act.station (untold act.station) last next (news ++ told_news y act.told) (told_events act.station.outcome) refl ready (ranges.untells act.station range.station) me key (no_packets act.station.outcome) changeless
-      (λ k. subst (λ o. seen_by (node_of y) k (told_events o) ≡ ends_told (news ++ told_news y act.told)) (sym tells) (ends_are y act.told k ∙ sym endings))
+      (λ k. subst (λ o. seen_by (node_of y) k (told_events o) ≡ ends_told (news ++ told_news y act.told)) (sym tells) (ends_are y act.told k ∙ sym endings)) os tame among
       act.answer range.answer e is silent
 
   -- ---- a frame comes
@@ -249,13 +254,17 @@ module _ (n : Nodes) (sound : Distinct n) (clock : ℕ) (nodes : List Node) (sen
   unchanged p answer = record { role = refl; key = refl }
 
   -- a frame that isn't admitted
-  dropped : (p : Packet) (answer : Admit) → signed.admitted_by (tried p answer) ≡ None → Leads n clock nodes sent w k (Station a) Station (done (tried_with p answer) (Drops answer ∷ []))
+  dropped : (p : Packet) (answer : Admit) → signed.admitted_by (tried p answer) ≡ None → Leads n clock nodes sent w k (Station a) Station (done (tried_with p answer) (Drops answer ∷ [])) [] []
   dropped p answer none _ =
       still_led (tried_with p answer) (Drops answer ∷ []) (unchanged p answer) refl
       (dropped_keeps clock a.link.history (w.station y).last (w.station y).next (tried p answer) none refl stands.1) refl refl
 
+  -- what an admitted frame with a plan message is in the world
+  abbrev brought : Packet → List world.Event
+  brought p = if_sent (place_of (encoding p) sent) (λ place. moves clock (Station a) (comes_to (Station a) place))
+
   -- one that is admitted was sent
-  module _ (p : Packet) (block : SignatureBlock) (signs : p.block ≡ Some block) (later : Later a.link.key a.link.history p block) (place : ℕ) (is_sent : slice_get sent place ≡ Some p) where
+  module _ (p : Packet) (block : SignatureBlock) (signs : p.block ≡ Some block) (later : Later a.link.key a.link.history p block) (known : IsFirst sent p) where
     abbrev from : Stream
     from = signed.stream_of p block
 
@@ -265,8 +274,13 @@ module _ (n : Nodes) (sound : Distinct n) (clock : ℕ) (nodes : List Node) (sen
     entered : signed.admitted_by (tried p Admitted) ≡ Some (stamped p block)
     entered = ap (option_map (stamped p)) signs
 
-    its : Found p w.sent
-    its = found sent w.sent place p fits.frames is_sent
+    its : Found p known.index w.sent
+    its = found sent w.sent known.index p fits.frames known.found
+
+    brought_is : brought p ≡ moves clock (Station a) (To_station its.place y)
+    brought_is =
+        ap (λ o. if_sent o (λ place. moves clock (Station a) (comes_to (Station a) place))) known.place_is
+        ∙ ap (λ place. moves clock (Station a) (To_station place y)) (one_place known.place its.place known.index (length sent) (length w.sent) known.counts its.counts many)
 
     stream_from : its.frame.from ≡ from
     stream_from = its.same.from ∙ sym (ap (λ link. stream_at p.from.sys p.from.comp link) (its.same.block block signs).0)
@@ -275,7 +289,7 @@ module _ (n : Nodes) (sound : Distinct n) (clock : ℕ) (nodes : List Node) (sen
     stamp_is = sym (its.same.block block signs).1
 
     -- with another message
-    other : Leads n clock nodes sent w k (Station a) Station (done b [])
+    other : Leads n clock nodes sent w k (Station a) Station (done b []) [] []
     other _ =
         still_led b [] (unchanged p Admitted) refl
         (admits_keeps clock a.link.history (tried p Admitted) (stamped p block) entered refl (w.station y).last (w.station y).next stands.1) refl refl
@@ -300,44 +314,44 @@ module _ (n : Nodes) (sound : Distinct n) (clock : ℕ) (nodes : List Node) (sen
       ranged : StationStepInRange act
       ranged = ranges.steps a.core from m stands.3 (subst (λ o. IfSome o InRange) (its.same.message ∙ carries) its.same.range)
 
-      plan : Leads n clock nodes sent w k (Station a) Station (steps clock b.link (station_core b.core from m))
+      plan : Leads n clock nodes sent w k (Station a) Station (steps clock b.link (station_core b.core from m)) (brought p) []
       plan =
-          step_leads b.link act last next [] (To_station its.place y)
+          subst (λ es. Leads n clock nodes sent w k (Station a) Station (steps clock b.link (station_core b.core from m)) es []) (sym brought_is)
+          (step_leads b.link act last next [] (To_station its.place y) [] (tame_told y act.told) (no_order_told y act.told)
           (admits_due clock a.link.history (tried p Admitted) (stamped p block) entered refl waited.last waited.next due) refl refl
           (step_tells a.core stands.2 from m) ranged (no_changes y act.told) refl
-          (hears_on n u y waited here own its.place from block.stamp m lies late) refl
+          (hears_on n u y waited here own its.place from block.stamp m lies late) refl)
 
-    takes_lead : (o : Option PlanMsg) → plan_in p.id p.payload ≡ o → Leads n clock nodes sent w k (Station a) Station (takes station_core clock b from o)
+    takes_lead : (o : Option PlanMsg) → plan_in p.id p.payload ≡ o → Leads n clock nodes sent w k (Station a) Station (takes station_core clock b from o) (if_plan o (brought p)) []
     takes_lead None e = other
     takes_lead (Some m) e = plan m e
 
   -- by the answer
-  module _ (p : Packet) (known : Verifies a.link.key p p.block → IsAmong sent p) where
-    by_answer : (answer : Admit) (block : Option SignatureBlock) → answer_to a.link.key a.link.history p ≡ answer → p.block ≡ block → Leads n clock nodes sent w k (Station a) Station (admits station_core clock (tried_with p answer) p answer block)
-    by_answer Admitted None e signs = dropped p Admitted (ap (option_map (stamped p)) signs)
+  module _ (p : Packet) (known : Verifies a.link.key p p.block → IsFirst sent p) where
+    by_answer : (answer : Admit) (block : Option SignatureBlock) → answer_to a.link.key a.link.history p ≡ answer → p.block ≡ block → Leads n clock nodes sent w k (Station a) Station (admits station_core clock (tried_with p answer) p answer block) (if_admitted answer (if_plan (plan_in p.id p.payload) (brought p))) []
+    by_answer Admitted None e signs = absurd (unsigned (subst (λ o. block_answer a.link.key (λ stream stamp. stamp_answer stream stamp a.link.history) p o ≡ Admitted) signs e))
     by_answer Admitted (Some block) e signs =
         let later : Later a.link.key a.link.history p block =
         admitted_later a.link.key a.link.history p block (subst (λ o. block_answer a.link.key (λ stream stamp. stamp_answer stream stamp a.link.history) p o ≡ Admitted) signs e) in
-        let sent_as : IsAmong sent p = known (subst (Verifies a.link.key p) (sym signs) later.verifies) in
-        takes_lead p block signs later sent_as.place sent_as.found (plan_in p.id p.payload) refl
+        takes_lead p block signs later (known (subst (Verifies a.link.key p) (sym signs) later.verifies)) (plan_in p.id p.payload) refl
     by_answer Unsigned block e signs = dropped p Unsigned refl
     by_answer BadSignature block e signs = dropped p BadSignature refl
     by_answer (NotLater last) block e signs = dropped p (NotLater last) refl
     by_answer (TooOld local) block e signs = dropped p (TooOld local) refl
     by_answer TooManyStreams block e signs = dropped p TooManyStreams refl
 
-    pub frame_leads : Leads n clock nodes sent w k (Station a) Station (hears station_core clock p a)
+    pub frame_leads : Leads n clock nodes sent w k (Station a) Station (hears station_core clock p a) (hearing clock sent (Station a) p) []
     frame_leads = by_answer (answer_to a.link.key a.link.history p) p.block refl refl
 
   -- ---- a tick, a HEARTBEAT, and orders
-  pub ticks_lead : Leads n clock nodes sent w k (Station a) Station (station_ticks clock a)
+  pub ticks_lead : Leads n clock nodes sent w k (Station a) Station (station_ticks clock a) (moves clock (Station a) (ticks (Station a))) []
   ticks_lead =
-      step_leads a.link (station_tick a.core) waited.last waited.next [] (Station_ticks y) due refl refl (tick_tells a.core stands.2) (ranges.ticks a.core stands.3)
+      step_leads a.link (station_tick a.core) waited.last waited.next [] (Station_ticks y) [] (tame_told y (station_tick a.core).told) (no_order_told y (station_tick a.core).told) due refl refl (tick_tells a.core stands.2) (ranges.ticks a.core stands.3)
       (no_changes y (station_tick a.core).told) refl (ticks_on n u y waited here own) refl
 
-  pub beats_lead : Leads n clock nodes sent w k (Station a) Station (station_beats clock a)
+  pub beats_lead : Leads n clock nodes sent w k (Station a) Station (station_beats clock a) (moves clock (Station a) (Speaks y)) []
   beats_lead =
-      says a.link a.core a.core waited.last waited.next [] [] kept due stands.3 refl refl refl refl (λ k. refl) (Speaks y) station_heartbeat None tt refl
+      says a.link a.core a.core waited.last waited.next [] [] kept due stands.3 refl refl refl refl (λ k. refl) [] tame_nothing refl (Speaks y) station_heartbeat None tt refl
       (speaks_on n u y waited here own (not_true (n.is_drone y) (λ d. not_both n sound y y d here refl))) refl
     where
       kept : untold a.core ≡ a.core
@@ -347,11 +361,12 @@ module _ (n : Nodes) (sound : Distinct n) (clock : ℕ) (nodes : List Node) (sen
   cancels_quietly None told = (no_changes y told, refl)
   cancels_quietly (Some o) told = (no_changes y told, refl)
 
-  pub cancels_lead : Leads n clock nodes sent w k (Station a) Station (station_cancels clock a)
+  pub cancels_lead : Leads n clock nodes sent w k (Station a) Station (station_cancels clock a) (moves clock (Station a) (Cancels y)) (cancelled y a.core.operation)
   cancels_lead =
       let act : StationStep = station_cancel a.core in
       let quietly = cancels_quietly a.core.operation act.told in
-      step_leads a.link act waited.last waited.next (cancel_news y a.core.operation) (Cancels y) due refl refl (cancel_tells a.core stands.2) (ranges.cancels a.core stands.3)
+      step_leads a.link act waited.last waited.next (cancel_news y a.core.operation) (Cancels y) (cancelled y a.core.operation)
+      (tame_cancel y a.core.operation act.told (cancel_is_silent a.core)) (order_of_cancel y a.core.operation act.told) due refl refl (cancel_tells a.core stands.2) (ranges.cancels a.core stands.3)
       quietly.0 quietly.1 (cancels_on n u y waited here own) refl
 
   -- orders that aren't refused
@@ -361,11 +376,12 @@ module _ (n : Nodes) (sound : Distinct n) (clock : ℕ) (nodes : List Node) (sen
     small Fence = omega arith
     small Rally = omega arith
 
-    pub begins_lead : (kind : PlanKind) (plan : List Item) → All ItemInRange plan → upload_refusal a.core (number_of kind) plan ≡ None → Leads n clock nodes sent w k (Station a) Station (station_begins clock d (number_of kind) plan a)
+    pub begins_lead : (kind : PlanKind) (plan : List Item) → All ItemInRange plan → upload_refusal a.core (number_of kind) plan ≡ None → Leads n clock nodes sent w k (Station a) Station (station_begins clock d (number_of kind) plan a) (moves clock (Station a) (Begins y d kind plan)) (Accepts_upload y d (number_of kind) plan ∷ [])
     begins_lead kind plan items free =
         let act : StationStep = begin_upload a.core d (number_of kind) plan in
         let tells = begun_tells a.core (operation_of Uploads d (number_of kind) plan) in
-        step_leads a.link act waited.last waited.next (Upload_begun y d (number_of kind) plan waited.next (u.drone d).next ∷ []) (Begins y d kind plan) due refl refl (tells.0 ∙ sym tells.1)
+        step_leads a.link act waited.last waited.next (Upload_begun y d (number_of kind) plan waited.next (u.drone d).next ∷ []) (Begins y d kind plan) (Accepts_upload y d (number_of kind) plan ∷ [])
+        (tame_begun (Upload_begun y d (number_of kind) plan waited.next (u.drone d).next) y act.told tt tells.1) (one_order (Upload_begun y d (number_of kind) plan waited.next (u.drone d).next) y act.told) due refl refl (tells.0 ∙ sym tells.1)
         (ranges.uploads a.core d (number_of kind) plan stands.3 stream_d (small kind) items free) (no_changes y act.told) refl
         (begins_on n u y waited here own d is_drone kind plan free)
         (rw (here, is_drone, own, free) refl)
@@ -378,21 +394,23 @@ module _ (n : Nodes) (sound : Distinct n) (clock : ℕ) (nodes : List Node) (sen
     small_clear None = omega arith
     small_clear (Some kind) = small kind
 
-    pub clears_lead : (kind : Option PlanKind) → refusal a.core ≡ None → Leads n clock nodes sent w k (Station a) Station (station_clears clock d (clear_number kind) a)
+    pub clears_lead : (kind : Option PlanKind) → refusal a.core ≡ None → Leads n clock nodes sent w k (Station a) Station (station_clears clock d (clear_number kind) a) (moves clock (Station a) (Clears y d kind)) (Accepts_clear y d (world.clear_number kind) ∷ [])
     clears_lead kind free =
         let act : StationStep = begin_clear a.core d (world.clear_number kind) in
         let tells = begun_tells a.core (operation_of Clears_work d (world.clear_number kind) []) in
-        subst (λ c. Leads n clock nodes sent w k (Station a) Station (station_clears clock d c a)) (clear_is kind)
-        (step_leads a.link act waited.last waited.next (Clear_begun y d (world.clear_number kind) (u.drone d).next ∷ []) (Clears y d kind) due refl refl (tells.0 ∙ sym tells.1)
+        subst (λ c. Leads n clock nodes sent w k (Station a) Station (station_clears clock d c a) (moves clock (Station a) (Clears y d kind)) (Accepts_clear y d (world.clear_number kind) ∷ [])) (clear_is kind)
+        (step_leads a.link act waited.last waited.next (Clear_begun y d (world.clear_number kind) (u.drone d).next ∷ []) (Clears y d kind) (Accepts_clear y d (world.clear_number kind) ∷ [])
+        (tame_begun (Clear_begun y d (world.clear_number kind) (u.drone d).next) y act.told tt tells.1) (one_order (Clear_begun y d (world.clear_number kind) (u.drone d).next) y act.told) due refl refl (tells.0 ∙ sym tells.1)
         (ranges.clears a.core d (world.clear_number kind) stands.3 stream_d (small_clear kind)) (no_changes y act.told) refl
         (clears_on n u y waited here own d is_drone kind free)
         (rw (here, is_drone, own, free) refl))
 
-    pub gets_lead : (kind : PlanKind) → refusal a.core ≡ None → Leads n clock nodes sent w k (Station a) Station (station_gets clock d (number_of kind) a)
+    pub gets_lead : (kind : PlanKind) → refusal a.core ≡ None → Leads n clock nodes sent w k (Station a) Station (station_gets clock d (number_of kind) a) (moves clock (Station a) (Gets y d kind)) (Accepts_get y d (number_of kind) ∷ [])
     gets_lead kind free =
         let act : StationStep = begin_get a.core d (number_of kind) in
         let tells = begun_tells a.core (operation_of Gets_work d (number_of kind) []) in
-        step_leads a.link act waited.last waited.next (Get_begun y d (number_of kind) (u.drone d).next ∷ []) (Gets y d kind) due refl refl (tells.0 ∙ sym tells.1)
+        step_leads a.link act waited.last waited.next (Get_begun y d (number_of kind) (u.drone d).next ∷ []) (Gets y d kind) (Accepts_get y d (number_of kind) ∷ [])
+        (tame_begun (Get_begun y d (number_of kind) (u.drone d).next) y act.told tt tells.1) (one_order (Get_begun y d (number_of kind) (u.drone d).next) y act.told) due refl refl (tells.0 ∙ sym tells.1)
         (ranges.gets a.core d (number_of kind) stands.3 stream_d (small kind)) (no_changes y act.told) refl
         (gets_on n u y waited here own d is_drone kind free)
         (rw (here, is_drone, own, free) refl)

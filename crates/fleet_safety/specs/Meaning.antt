@@ -1,5 +1,5 @@
 -- What the lines of a report mean, in an operator's words: of what the abstract mission store went through.
-use Rattle.std.specs.Prelude.{ℕ, ◌≡◌, List, ◌∷◌, ◌++◌}
+use Rattle.std.specs.Prelude.{ℕ, ◌≡◌, ◌+◌, ◌<◌, ◌≤◌, List, [], ◌∷◌, ◌++◌, length, slice_get, Option, Some, None}
 use Rattle.mav_ports.specs.declared.names.Name.{Name}
 use Rattle.mav_ports.specs.declared.names.Stream.{Stream}
 use Rattle.plan_items.specs.declared.items.Item.{Item}
@@ -7,22 +7,19 @@ use Rattle.plan_upload.specs.Addresses.{node_of}
 use Rattle.plan_upload.specs.Station.{Told, Told_installed, Told_not_installed, Told_unknown, Told_cleared, Told_got, Told_ended}
 use Rattle.plan_safety.specs.Frames.{Frame}
 use Rattle.plan_safety.specs.Store.{StoreEvent, Installed, Ended, HasClear}
-use Rattle.plan_safety.specs.History.{Step, step, store_of, installs, uploads, tally, Installation, GotHeld, NotInstalledBy, UnknownBy, EndedBy}
-
--- this happened in a history, whose newest step comes first: with the frames sent by then, behind the earlier steps
-pub record Happened (whole : List Step) (event : StoreEvent) : Type 0 where
-  pub later : List Step
-  pub sent : List Frame
-  pub earlier : List Step
-  pub is : whole ≡ later ++ step sent event ∷ earlier
+use Rattle.plan_safety.specs.World.{Nodes}
+use Rattle.plan_safety.specs.History.{Step, step, store_of, installs as installs_upload, uploads, tally, Installation, GotHeld, NotInstalledBy, UnknownBy, EndedBy}
+use Rattle.fleet_report.specs.Events as report
+use Rattle.fleet_safety.specs.Actions.{Action}
+use Rattle.fleet_safety.specs.Safe.{Upload, upload, uploads_by, report_of, orders_of, history_of, steps_in}
 
 -- what an outcome says of the operation that ended with it
 abbrev pub Means : Told → List Step → List Step → List Frame → Stream → Type 0
 -- the station's latest upload was installed, and in the whole history once
-Means Told_installed whole earlier sent station = tally installs whole station (uploads earlier station) ≡ 1
+Means Told_installed whole earlier sent station = tally installs_upload whole station (uploads earlier station) ≡ 1
 -- it is never installed, before or after, and its code is 15 or one that the drone sent since it began
 Means (Told_not_installed code) whole earlier sent station =
-    (tally installs whole station (uploads earlier station) ≡ 0) × NotInstalledBy earlier sent station code
+    (tally installs_upload whole station (uploads earlier station) ≡ 0) × NotInstalledBy earlier sent station code
 -- the drone has started again since it began
 Means Told_unknown whole earlier sent station = UnknownBy earlier sent station
 -- a clear was open
@@ -32,20 +29,60 @@ Means (Told_got plan) whole earlier sent station = GotHeld earlier station plan
 -- the code is one that the drone sent since it began, or 15 after a cancel, or 4 for too long a plan
 Means (Told_ended code) whole earlier sent station = EndedBy earlier sent station code
 
--- a line `outcome` is true
-pub record OutcomeIsTrue (whole : List Step) (station : Name) (told : Told) : Type 0 where
+-- the action that tells what stands at a place of the report, and those before and after it
+pub record ToldBy (actions : List Action) (place : ℕ) : Type 0 where
+  pub before : List Action
+  pub action : Action
+  pub later : List Action
+  pub is : actions ≡ before ++ action ∷ later
+  pub offset : ℕ
+  pub place_is : place ≡ length (report_of before) + offset
+  pub within : offset < length action.report
+
+-- all that the store goes through in that action is this event, with these frames sent by then
+abbrev pub IsTheStep : Nodes → List Action → Action → List Frame → StoreEvent → Type 0
+IsTheStep n before action sent event = steps_in n before action ≡ step sent event ∷ []
+
+-- a line `outcome` is true: of what the store went through before the action that tells it
+pub record OutcomeIsTrue (n : Nodes) (actions : List Action) (place : ℕ) (station : Name) (told : Told) : Type 0 where
+  pub told_by : ToldBy actions place
   pub stream : Stream
   pub name_is : node_of stream ≡ station
-  pub ended : Happened whole (Ended stream told)
-  pub means : Means told whole ended.earlier ended.sent stream
+  pub sent : List Frame
+  pub ended : IsTheStep n told_by.before told_by.action sent (Ended stream told)
+  pub means : Means told (history_of n actions) (history_of n told_by.before) sent stream
+
+-- the newest of a station's uploads
+abbrev pub newest : List Upload → Option Upload
+newest [] = None
+newest (u ∷ []) = Some u
+newest (u ∷ v ∷ us) = newest (v ∷ us)
 
 -- a line `install` is true: the plan is that of the station's latest upload, which was fully transmitted, and is installed
 -- once in the whole history
-pub record InstallIsTrue (whole : List Step) (drone : Name) (kind : ℕ) (plan : List Item) (by : Name) : Type 0 where
-  pub place : Stream
-  pub place_is : node_of place ≡ drone
+pub record InstallIsTrue (n : Nodes) (actions : List Action) (place : ℕ) (drone : Name) (kind : ℕ) (plan : List Item) (by : Name) : Type 0 where
+  pub told_by : ToldBy actions place
+  pub stream : Stream
+  pub drone_is : node_of stream ≡ drone
   pub station : Stream
   pub station_is : node_of station ≡ by
-  pub installed : Happened whole (Installed place kind plan station)
-  pub means : Installation installed.earlier installed.sent station place kind plan
-  pub once : tally installs whole station (uploads installed.earlier station) ≡ 1
+  pub sent : List Frame
+  pub installed : IsTheStep n told_by.before told_by.action sent (Installed stream kind plan station)
+  pub means : Installation (history_of n told_by.before) sent station stream kind plan
+  -- it is the draft of the latest `begin` line that the station had accepted
+  pub drafted : newest (uploads_by station (orders_of told_by.before)) ≡ Some (upload stream kind plan)
+  pub once : tally installs_upload (history_of n actions) station (uploads (history_of n told_by.before) station) ≡ 1
+
+-- what an operator may take from the lines of a report, where `n` are the nodes of the scenario
+pub record LinesAreTrue (n : Nodes) (events : List report.Event) (actions : List Action) : Type 0 where
+  -- each line `outcome` is true: what is told installed was installed, and in the whole history once; what is told not
+  -- installed never is, before or after; a plan that was got is one that the drone held since the download began
+  pub outcomes : (place : ℕ) (station : Name) (told : Told) → slice_get events place ≡ Some (report.Ended station told)
+      → OutcomeIsTrue n actions place station told
+  -- and none tells that the outcome is unknown
+  pub known : (place : ℕ) (station : Name) → slice_get events place ≡ Some (report.Ended station Told_unknown) → ⊥
+  -- each line `install` is: the plan is the draft of the station's latest accepted `begin` line, which it has fully transmitted
+  pub installs : (place : ℕ) (drone : Name) (kind : ℕ) (plan : List Item) (by : Name) → slice_get events place ≡ Some (report.Installed drone kind plan by)
+      → InstallIsTrue n actions place drone kind plan by
+  -- no upload is installed twice
+  pub once : (station : Stream) (number : ℕ) → tally installs_upload (history_of n actions) station number ≤ 1

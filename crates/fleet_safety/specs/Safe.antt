@@ -1,18 +1,23 @@
--- The main theorem over scenarios: what a scenario leads to is an execution of the world of messages, and so one
--- of the abstract mission store.
-use Rattle.std.specs.Prelude.{ℕ, ◌≡◌, ◌<◌, ◌==◌, ◌&&◌, List, [], Some, slice_get}
-use Rattle.plan_upload.specs.Addresses.{node_of}
+-- The main theorem over scenarios: the actions of a scenario are an execution of the world of messages, and so one of the
+-- abstract mission store.
+use Rattle.std.specs.Prelude.{ℕ, ◌≡◌, ◌<◌, ◌+◌, ◌==◌, ◌&&◌, ◌↔◌, if◌then◌else◌, List, [], ◌∷◌, ◌++◌, Some, slice_get}
+use Rattle.mav_ports.specs.declared.names.Stream.{Stream}
+use Rattle.plan_items.specs.declared.items.Item.{Item}
+use Rattle.plan_upload.specs.Addresses.{node_of, same_stream}
 use Rattle.plan_upload.specs.Plans.{plan_at}
 use Rattle.plan_upload.specs.Drone.{DroneState}
-use Rattle.plan_safety.specs.World.{Nodes, Start, Event, first_world}
-use Rattle.plan_safety.specs.Store.{first_store}
+use Rattle.plan_safety.specs.World as world
+use Rattle.plan_safety.specs.World.{Nodes, Start, World, first_world}
+use Rattle.plan_safety.specs.Store.{StoreEvent, first_store, Upload_begun, Installed, Clear_begun, Cleared, Get_begun, Shown, Cancelled, Ended, Restarted}
 use Rattle.plan_safety.specs.Safety.{IsExecution}
-use Rattle.plan_safety.specs.History.{Step, store_of, IsHistory, IsHeld, history}
+use Rattle.plan_safety.specs.History.{Step, store_of, IsHistory, IsHeld, Uploaded, final, history}
 use Rattle.mav_nodes.specs.Steps.{Side}
 use Rattle.scenario_lines.specs.Standing.{has_drone, has_station}
-use Rattle.fleet_world.specs.Scene.{Node, Drone, names_of}
+use Rattle.fleet_report.specs.Events.{Event}
+use Rattle.fleet_world.specs.Scene.{Node, Drone, Scene, empty_scene, names_of}
 use Rattle.fleet_world.specs.Scenario.{Played}
 use Rattle.fleet_safety.specs.Telling.{seen, told}
+use Rattle.fleet_safety.specs.Actions.{Action, Order, Accepts_upload, Accepts_clear, Accepts_get, Accepts_cancel}
 
 -- the nodes that were named, each with its stream: all sign on link 0
 abbrev pub nodes_of : List Node → Nodes
@@ -25,22 +30,107 @@ nodes_of nodes = record {
 abbrev pub start : Start
 start = record { boot = λ s. 0; pings = λ s. 0 }
 
--- what the abstract mission store goes through in an execution of these nodes, the newest first
-abbrev pub history_of : List Node → List Event → List Step
-history_of nodes events = history (nodes_of nodes) (first_world start) [] events
+-- ---- actions, one after another
 
--- What a scenario leads to is safe: there is an execution of its nodes, over messages alone,
-pub record Safe (p : Played) : Type 0 where
-  pub events : List Event
-  -- of which the report shows exactly what it tells;
-  pub report : seen p.events ≡ told (nodes_of p.scene.nodes) (first_world start) events
-  -- which is event by event an execution of the abstract mission store, with the same plans after each;
-  pub execution : IsExecution (nodes_of p.scene.nodes) (first_world start) first_store events
-  -- so what the store goes through is one of its histories;
-  pub valid : IsHistory (history_of p.scene.nodes events)
-  -- the plans that the drones have in the end are the store's;
-  pub plans : (place : ℕ) (d : Side DroneState) (kind : ℕ) → slice_get p.scene.nodes place ≡ Some (Drone d) → kind < 3
-      → plan_at d.core.plans kind ≡ (store_of (history_of p.scene.nodes events)).plan d.link.me kind
+-- their events, what the report tells of them, the orders that they are, and the scene after them
+abbrev pub events_of : List Action → List world.Event
+events_of [] = []
+events_of (a ∷ actions) = a.events ++ events_of actions
+
+abbrev pub report_of : List Action → List Event
+report_of [] = []
+report_of (a ∷ actions) = a.report ++ report_of actions
+
+abbrev pub orders_of : List Action → List Order
+orders_of [] = []
+orders_of (a ∷ actions) = a.orders ++ orders_of actions
+
+abbrev pub scene_after : Scene → List Action → Scene
+scene_after s [] = s
+scene_after s (a ∷ actions) = scene_after a.scene actions
+
+-- what these actions lead to in the world of messages, and what the abstract mission store goes through in them, the newest first
+abbrev pub world_after : Nodes → List Action → World
+world_after n actions = final n (first_world start) (events_of actions)
+
+abbrev pub history_of : Nodes → List Action → List Step
+history_of n actions = history n (first_world start) [] (events_of actions)
+
+-- what it goes through in one action after others
+abbrev pub steps_in : Nodes → List Action → Action → List Step
+steps_in n before a = history n (world_after n before) [] a.events
+
+-- ---- orders in the history of the store
+
+-- the accepted order that an event of the store is, if it is one
+abbrev pub order_of : StoreEvent → List Order
+order_of (Upload_begun station drone kind plan since drone_since) = Accepts_upload station drone kind plan ∷ []
+order_of (Installed drone kind plan station) = []
+order_of (Clear_begun station drone kind drone_since) = Accepts_clear station drone kind ∷ []
+order_of (Cleared drone kind station) = []
+order_of (Get_begun station drone kind drone_since) = Accepts_get station drone kind ∷ []
+order_of (Shown drone kind plan station) = []
+order_of (Cancelled station) = Accepts_cancel station ∷ []
+order_of (Ended station told) = []
+order_of (Restarted drone) = []
+
+-- those of a history, the first first
+abbrev pub orders_in : List Step → List Order
+orders_in [] = []
+orders_in (x ∷ h) = orders_in h ++ order_of x.event
+
+-- an upload of a station: to this drone, of this kind, with this plan
+pub record Upload : Type 0 where
+  pub drone : Stream
+  pub kind : ℕ
+  pub plan : List Item
+
+abbrev pub upload : Stream → ℕ → List Item → Upload
+upload drone kind plan = record { drone = drone; kind = kind; plan = plan }
+
+-- the uploads among accepted orders that are a station's, in their order
+abbrev pub uploads_by : Stream → List Order → List Upload
+uploads_by s [] = []
+uploads_by s (Accepts_upload station drone kind plan ∷ os) =
+    if same_stream station s then upload drone kind plan ∷ uploads_by s os else uploads_by s os
+uploads_by s (Accepts_clear station drone kind ∷ os) = uploads_by s os
+uploads_by s (Accepts_get station drone kind ∷ os) = uploads_by s os
+uploads_by s (Accepts_cancel station ∷ os) = uploads_by s os
+
+-- the station's upload with this number among orders, counted from 1
+pub record IsTheUpload (os : List Order) (s : Stream) (number : ℕ) (drone : Stream) (kind : ℕ) (plan : List Item) : Type 0 where
+  pub index : ℕ
+  pub number_is : number ≡ index + 1
+  pub is : slice_get (uploads_by s os) index ≡ Some (upload drone kind plan)
+
+-- ---- the theorem
+
+-- what holds of an action, after those before it
+pub record IsSafe (n : Nodes) (before : List Action) (a : Action) : Type 0 where
+  -- the report shows of it exactly what its events tell;
+  pub report : seen a.report ≡ told n (world_after n before) a.events
+  -- what the store begins or cancels in it is the order that a station accepts there, if any;
+  pub orders : orders_in (steps_in n before a) ≡ a.orders
+  -- the plans that the drones of the scene have after it are the store's;
+  pub plans : (place : ℕ) (d : Side DroneState) (kind : ℕ) → slice_get a.scene.nodes place ≡ Some (Drone d) → kind < 3
+      → plan_at d.core.plans kind ≡ (store_of (history_of n (before ++ a ∷ []))).plan d.link.me kind
   -- and each is empty, or exactly the plan of one upload for that drone and kind, which was installed
-  pub held : (place : ℕ) (d : Side DroneState) (kind : ℕ) → slice_get p.scene.nodes place ≡ Some (Drone d) → kind < 3
-      → IsHeld (history_of p.scene.nodes events) d.link.me kind (plan_at d.core.plans kind)
+  pub held : (place : ℕ) (d : Side DroneState) (kind : ℕ) → slice_get a.scene.nodes place ≡ Some (Drone d) → kind < 3
+      → IsHeld (history_of n (before ++ a ∷ [])) d.link.me kind (plan_at d.core.plans kind)
+
+-- What a scenario leads to under a key is safe, and these are its actions:
+pub record Safe (key : List ℕ) (p : Played) (actions : List Action) : Type 0 where
+  -- the report and the scene are what they lead to;
+  pub report : report_of actions ≡ p.events
+  pub scene : scene_after (empty_scene key) actions ≡ p.scene
+  -- each of them is safe;
+  pub each : (before : List Action) (a : Action) (later : List Action) → actions ≡ before ++ a ∷ later → IsSafe (nodes_of p.scene.nodes) before a
+  -- their events are, one by one, an execution of the abstract mission store, with the same plans after each;
+  pub execution : IsExecution (nodes_of p.scene.nodes) (first_world start) first_store (events_of actions)
+  -- so what the store goes through is one of its histories;
+  pub valid : IsHistory (history_of (nodes_of p.scene.nodes) actions)
+  -- what it begins and cancels are the orders that the stations accepted;
+  pub orders : orders_in (history_of (nodes_of p.scene.nodes) actions) ≡ orders_of actions
+  -- and the number-th upload of a station is that of the number-th `begin` line that it accepted, with the draft there
+  pub uploads : (s : Stream) (number : ℕ) (drone : Stream) (kind : ℕ) (plan : List Item)
+      → Uploaded (history_of (nodes_of p.scene.nodes) actions) s number drone kind plan ↔ IsTheUpload (orders_of actions) s number drone kind plan

@@ -1,0 +1,384 @@
+-- The calls of each line are the events that it causes, and no others.
+use Rattle.std.proofs.Common.{◌≡◌, ℕ, zero, suc, ◌+◌, ◌-◌, ◌⊎◌, inl, inr, Bool, true, not, cond, nat_lt, List, [], ◌∷◌, ◌++◌, length, position, slice_get, Option, Some, None, Ok, Err, refl, sym, ap, subst, arith, ◌∙◌}
+use Rattle.std.specs.List.{position_or_len}
+use Rattle.std.specs.declared.result.Result.{Result}
+use Rattle.std.proofs.lemmas.List.{append-nil}
+use Rattle.mav_ports.specs.declared.names.Name.{Name}
+use Rattle.mav_ports.specs.declared.names.Stream.{Stream}
+use Rattle.mav_frame.specs.Packet.{Packet, SignatureBlock}
+use Rattle.mav_frame.specs.Encoding.{encoding}
+use Rattle.mav_frame.specs.FinalParse.{final_parse}
+use Rattle.mav_sign.specs.declared.admission.Admit.{Admit}
+use Rattle.mav_sign.specs.declared.admission.Admit.TheVariants.{Admitted, Unsigned, BadSignature, NotLater, TooOld, TooManyStreams}
+use Rattle.mav_sign.specs.History.{next_in, answer_to, stream_of as signed_stream, greatest_stamp}
+use Rattle.mav_sign.specs.Endpoints.{frames_of}
+use Rattle.plan_items.specs.declared.messages.PlanMsg.{PlanMsg}
+use Rattle.plan_items.specs.Kinds.{number_of}
+use Rattle.plan_upload.specs.declared.faults.OpFault.{OpFault}
+use Rattle.plan_upload.specs.Addresses.{node_of, same_name}
+use Rattle.plan_upload.specs.Kinds.{clear_number}
+use Rattle.plan_upload.specs.Refusals.{upload_refusal, refusal}
+use Rattle.plan_upload.specs.Drone.{DroneState}
+use Rattle.plan_upload.specs.Station.{StationState}
+use Rattle.plan_safety.specs.World as world
+use Rattle.plan_safety.specs.World.{Begins, Clears, Gets, Cancels, Drone_ticks, Station_ticks, To_drone, To_station, Speaks}
+use Rattle.plan_safety.proofs.Keys.{by_test, bool_split, name_eq}
+use Rattle.mav_nodes.specs.News.{NodeEvent}
+use Rattle.mav_nodes.specs.Links.{Link, Outcome, behind, tries}
+use Rattle.mav_nodes.specs.Payloads.{plan_in}
+use Rattle.mav_nodes.specs.Steps.{Side, CoreStep, answers, with_core, takes, admits, hears}
+use Rattle.mav_nodes.specs.Nodes.{drone_core, station_core, station_cancels, station_clears, station_gets}
+use Rattle.scenario_lines.specs.declared.lines.Line.{Line}
+use Rattle.scenario_lines.specs.declared.lines.Line.TheVariants as line
+use Rattle.fleet_world.specs.Scene.{Scene, Node, Drone, Station, node_name, stream_of, is_named, is_station_named}
+use Rattle.fleet_world.specs.Steps.{Step, Halt, as_drone, as_station, given_to, given_to_all, node_does, node_beats, node_ticks, station_line, orders, upload_begins}
+use Rattle.fleet_invariants.specs.Sound.{link_of, Sound}
+use Rattle.fleet_invariants.proofs.Heard.{heard_is}
+use Rattle.fleet_safety.specs.Actions.{Action, Order, Accepts_upload, Accepts_clear, Accepts_get, moves, ticks, comes_to, accepted, cancelled, ticked, beaten, upload_at, clear_at, get_at, cancel_at, if_admitted, if_plan, if_sent, hearing, place_of, ordering, node_hears, scene_with, at_place, if_placed, at_node, and_next, at_station, if_ordered, to_station, acts, hears_then, frames_heard, datagram_heard, frame_given, row_given, flown, flow_actions, delivered, calls_of}
+use Rattle.fleet_safety.specs.Safe.{events_of}
+use Rattle.fleet_safety.specs.Causes.{without_waits, AtMostOne, EachEvent, Of, Gives, Causes}
+use Rattle.fleet_safety.proofs.Lists.{some_is}
+use Rattle.fleet_safety.proofs.Follows.{events_on}
+
+-- ---- the node at the place of a name has that name
+
+passes_there : {A : Type 0} (p : A → Bool) (xs : List A) (x : A) → slice_get xs (position_or_len p xs) ≡ Some x → p x ≡ true
+passes_there p [] x e = nowhere (position_or_len p []) e
+  where
+    nowhere : (i : ℕ) → slice_get [] i ≡ Some x → p x ≡ true
+    nowhere zero e = absurd (cc)
+    nowhere (suc i) e = absurd (cc)
+passes_there p (y ∷ ys) x e = elim (bool_split (p y)) [
+  | inl t ↦ (let z : slice_get (y ∷ ys) (cond (not true) (1 + position_or_len p ys) 0) ≡ Some x = subst (λ b. slice_get (y ∷ ys) (cond (not b) (1 + position_or_len p ys) 0) ≡ Some x) t e in subst (λ v. p v ≡ true) (some_is z) t)
+  | inr f ↦ (let z : slice_get (y ∷ ys) (1 + position_or_len p ys) ≡ Some x = subst (λ b. slice_get (y ∷ ys) (cond (not b) (1 + position_or_len p ys) 0) ≡ Some x) f e in
+      passes_there p ys x (sym (ap (slice_get (y ∷ ys)) (one_more (position_or_len p ys))) ∙ z))
+]
+  where
+    one_more : (k : ℕ) → 1 + k ≡ suc k
+    one_more k = omega arith
+
+pub passes_at : {A : Type 0} (p : A → Bool) (xs : List A) (k : ℕ) (x : A) → position p xs ≡ Some k → slice_get xs k ≡ Some x → p x ≡ true
+passes_at p xs k x is e =
+    by_test (λ (o : Option ℕ). o ≡ Some k → p x ≡ true) (nat_lt (position_or_len p xs) (length xs)) (Some (position_or_len p xs)) None
+    (λ _ same. passes_there p xs x (ap (slice_get xs) (some_is same) ∙ e)) (λ _ same. absurd (cc)) is
+
+-- ---- what is shown of the actions of a line
+
+-- their events, without the waits
+abbrev main : List Action → List world.Event
+main actions = without_waits (events_of actions)
+
+waits_on : (es fs : List world.Event) → without_waits (es ++ fs) ≡ without_waits es ++ without_waits fs
+waits_on [] fs = refl
+waits_on (Begins s d kind plan ∷ es) fs = ap (λ r. Begins s d kind plan ∷ r) (waits_on es fs)
+waits_on (Clears s d kind ∷ es) fs = ap (λ r. Clears s d kind ∷ r) (waits_on es fs)
+waits_on (Gets s d kind ∷ es) fs = ap (λ r. Gets s d kind ∷ r) (waits_on es fs)
+waits_on (Cancels s ∷ es) fs = ap (λ r. Cancels s ∷ r) (waits_on es fs)
+waits_on (world.Hands_out s ∷ es) fs = waits_on es fs
+waits_on (Drone_ticks d ∷ es) fs = ap (λ r. Drone_ticks d ∷ r) (waits_on es fs)
+waits_on (Station_ticks s ∷ es) fs = ap (λ r. Station_ticks s ∷ r) (waits_on es fs)
+waits_on (To_drone place d keeps ∷ es) fs = ap (λ r. To_drone place d keeps ∷ r) (waits_on es fs)
+waits_on (To_station place s ∷ es) fs = ap (λ r. To_station place s ∷ r) (waits_on es fs)
+waits_on (Speaks node ∷ es) fs = ap (λ r. Speaks node ∷ r) (waits_on es fs)
+waits_on (world.Drone_waits d t ∷ es) fs = waits_on es fs
+waits_on (world.Station_waits s t ∷ es) fs = waits_on es fs
+waits_on (world.Restarts d low ∷ es) fs = ap (λ r. world.Restarts d low ∷ r) (waits_on es fs)
+
+each_on : (P : world.Event → Type 0) (es fs : List world.Event) → EachEvent P es → EachEvent P fs → EachEvent P (es ++ fs)
+each_on P [] fs a b = b
+each_on P (e ∷ es) fs a b = (a.0, each_on P es fs a.1 b)
+
+each_maps : (P Q : world.Event → Type 0) → ((e : world.Event) → P e → Q e) → (es : List world.Event) → EachEvent P es → EachEvent Q es
+each_maps P Q f [] h = tt
+each_maps P Q f (e ∷ es) h = (f e h.0, each_maps P Q f es h.1)
+
+-- one list of actions and then another
+main_on : (P : world.Event → Type 0) (actions more : List Action) → EachEvent P (main actions) → EachEvent P (main more) → EachEvent P (main (actions ++ more))
+main_on P actions more a b =
+    subst (EachEvent P) (sym (ap without_waits (events_on actions more) ∙ waits_on (events_of actions) (events_of more)))
+    (each_on P (main actions) (main more) a b)
+
+-- one event at most
+one : (P : world.Event → Type 0) (e : world.Event) → P e → AtMostOne P (e ∷ [])
+one P e h = inr (e, refl, h)
+
+acts_one : (P : List world.Event → Type 0) (number : ℕ) (es : List world.Event) (os : List Order) (r : Result Step Halt) → P [] → P (without_waits es) → P (main (acts number es os r))
+acts_one P number es os (Ok t) none h = subst (λ fs. P (without_waits fs)) (sym (append-nil es)) h
+acts_one P number es os (Err halt) none h = none
+
+ordering_one : (P : List world.Event → Type 0) (clock : ℕ) (a : Side StationState) (why : Option OpFault) (e : world.Event) → P (without_waits (e ∷ [])) → P (without_waits (moves clock (Station a) e)) → P (without_waits (ordering clock a why e))
+ordering_one P clock a (Some why) e h k = h
+ordering_one P clock a None e h k = k
+
+-- at the node of a name, if there is one
+node_named : (name : Name) (a : Node) → is_named name a ≡ true → node_of (link_of a).me ≡ name
+node_named name (Drone a) t = name_eq (node_of a.link.me) name t
+node_named name (Station a) t = name_eq (node_of a.link.me) name t
+
+at_placed_node : (P : List world.Event → Type 0) (s : Scene) (name : Name) (call : Scene → ℕ → Node → List Action) → P [] → ((k : ℕ) (a : Node) → slice_get s.nodes k ≡ Some a → node_of (link_of a).me ≡ name → P (main (call s k a))) → P (main (at_node s name call))
+at_placed_node P s name call none h = by_place (position (is_named name) s.nodes) refl
+  where
+    by_node : (k : ℕ) (o : Option Node) → position (is_named name) s.nodes ≡ Some k → slice_get s.nodes k ≡ o → P (main (at_place s k o call))
+    by_node k None is e = none
+    by_node k (Some a) is e = h k a e (node_named name a (passes_at (is_named name) s.nodes k a is e))
+
+    by_place : (o : Option ℕ) → position (is_named name) s.nodes ≡ o → P (main (if_placed s o call))
+    by_place None is = none
+    by_place (Some k) is = by_node k (slice_get s.nodes k) is refl
+
+at_node_has : (P : List world.Event → Type 0) (s : Scene) (name : Name) (call : Scene → ℕ → Node → List Action) → P [] → ((k : ℕ) (a : Node) → node_of (link_of a).me ≡ name → P (main (call s k a))) → P (main (at_node s name call))
+at_node_has P s name call none h = at_placed_node P s name call none (λ k a there is. h k a is)
+
+to_station_has : (P : List world.Event → Type 0) (s : Scene) (name : Name) (order : ℕ → Side StationState → List Action) → P [] → ((k : ℕ) (a : Side StationState) → node_of a.link.me ≡ name → P (main (order k a))) → P (main (to_station s name order))
+to_station_has P s name order none h = by_place (position (is_station_named name) s.nodes) refl
+  where
+    by_node : (k : ℕ) (o : Option Node) → position (is_station_named name) s.nodes ≡ Some k → slice_get s.nodes k ≡ o → P (main (at_station k o order))
+    by_node k None is e = none
+    by_node k (Some (Drone a)) is e = none
+    by_node k (Some (Station a)) is e = h k a (name_eq (node_of a.link.me) name (passes_at (is_station_named name) s.nodes k (Station a) is e))
+
+    by_place : (o : Option ℕ) → position (is_station_named name) s.nodes ≡ o → P (main (if_ordered s o order))
+    by_place None is = none
+    by_place (Some k) is = by_node k (slice_get s.nodes k) is refl
+
+-- ---- a node that hears a frame signs as before
+
+module _ (Core : Type 0) (me : Stream) where
+  abbrev Keeps : Outcome (Side Core) → Type 0
+  Keeps None = Unit {0}
+  Keeps (Some d) = d.node.link.me ≡ me
+
+  abbrev LinkKeeps : Outcome Link → Type 0
+  LinkKeeps None = Unit {0}
+  LinkKeeps (Some d) = d.node.me ≡ me
+
+  answers_keep : (clock : ℕ) (o : Option PlanMsg) (link : Link) → link.me ≡ me → LinkKeeps (answers clock o link)
+  answers_keep clock None link h = h
+  answers_keep clock (Some m) link h = by_test LinkKeeps (nat_lt greatest_stamp (next_in link.history clock)) _ _ (λ _. tt) (λ _. h)
+
+  steps_keep : (first last : List NodeEvent) (core : Core) (o : Outcome Link) → LinkKeeps o → Keeps (behind first (with_core core last o))
+  steps_keep first last core None h = tt
+  steps_keep first last core (Some d) h = h
+
+  module _ (step : Core → Stream → PlanMsg → CoreStep Core) (clock : ℕ) where
+    takes_keep : (a : Side Core) (from : Stream) (o : Option PlanMsg) → a.link.me ≡ me → Keeps (takes step clock a from o)
+    takes_keep a from None h = h
+    takes_keep a from (Some m) h =
+        let done : CoreStep Core = step a.core from m in
+        steps_keep done.first done.last done.core (answers clock done.answer a.link) (answers_keep clock done.answer a.link h)
+
+    admits_keep : (a : Side Core) (p : Packet) (answer : Admit) (block : Option SignatureBlock) → a.link.me ≡ me → Keeps (admits step clock a p answer block)
+    admits_keep a p Admitted None h = h
+    admits_keep a p Admitted (Some block) h = takes_keep a (signed_stream p block) (plan_in p.id p.payload) h
+    admits_keep a p Unsigned block h = h
+    admits_keep a p BadSignature block h = h
+    admits_keep a p (NotLater last) block h = h
+    admits_keep a p (TooOld local) block h = h
+    admits_keep a p TooManyStreams block h = h
+
+    hears_keep : (p : Packet) (a : Side Core) → a.link.me ≡ me → Keeps (hears step clock p a)
+    hears_keep p a h = admits_keep (record a { link = tries p a.link }) p (answer_to a.link.key a.link.history p) p.block h
+
+abbrev NodeKeeps : Stream → Outcome Node → Type 0
+NodeKeeps me None = Unit {0}
+NodeKeeps me (Some d) = (link_of d.node).me ≡ me
+
+node_keeps : (clock : ℕ) (p : Packet) (a : Node) (me : Stream) → (link_of a).me ≡ me → NodeKeeps me (node_hears clock p a)
+node_keeps clock p (Drone a) me h = of_drone (hears drone_core clock p a) (hears_keep DroneState me drone_core clock p a h)
+  where
+    of_drone : (o : Outcome (Side DroneState)) → Keeps DroneState me o → NodeKeeps me (as_drone o)
+    of_drone None k = tt
+    of_drone (Some d) k = k
+node_keeps clock p (Station a) me h = of_station (hears station_core clock p a) (hears_keep StationState me station_core clock p a h)
+  where
+    of_station : (o : Outcome (Side StationState)) → Keeps StationState me o → NodeKeeps me (as_station o)
+    of_station None k = tt
+    of_station (Some d) k = k
+
+-- ---- frames at a node
+
+given_to_node : (clock : ℕ) (a : Node) (me : Stream) (place : ℕ) → (link_of a).me ≡ me → EachEvent (Gives me) (without_waits (moves clock a (comes_to a place)))
+given_to_node clock (Drone a) me place h = ((place, inl (ap (λ x. To_drone place x true) h)), tt)
+given_to_node clock (Station a) me place h = ((place, inr (ap (λ x. To_station place x) h)), tt)
+
+hearing_gives : (clock : ℕ) (sent : List Packet) (a : Node) (p : Packet) (me : Stream) → (link_of a).me ≡ me → EachEvent (Gives me) (without_waits (hearing clock sent a p))
+hearing_gives clock sent a p me h = by_answer (answer_to (link_of a).key (link_of a).history p)
+  where
+    by_place : (o : Option ℕ) → EachEvent (Gives me) (without_waits (if_sent o (λ place. moves clock a (comes_to a place))))
+    by_place None = tt
+    by_place (Some place) = given_to_node clock a me place h
+
+    by_plan : (o : Option PlanMsg) → EachEvent (Gives me) (without_waits (if_plan o (if_sent (place_of (encoding p) sent) (λ place. moves clock a (comes_to a place)))))
+    by_plan None = tt
+    by_plan (Some m) = by_place (place_of (encoding p) sent)
+
+    by_answer : (answer : Admit) → EachEvent (Gives me) (without_waits (if_admitted answer (if_plan (plan_in p.id p.payload) (if_sent (place_of (encoding p) sent) (λ place. moves clock a (comes_to a place))))))
+    by_answer Admitted = by_plan (plan_in p.id p.payload)
+    by_answer Unsigned = tt
+    by_answer BadSignature = tt
+    by_answer (NotLater last) = tt
+    by_answer (TooOld local) = tt
+    by_answer TooManyStreams = tt
+
+module _ (number : ℕ) where
+  hears_then_gives : (k : ℕ) (s : Scene) (a : Node) (p : Packet) (me : Stream) → (link_of a).me ≡ me → (next : Scene → Node → List Action) → ((t : Scene) (b : Node) → (link_of b).me ≡ me → EachEvent (Gives me) (main (next t b))) → (o : Outcome Node) → NodeKeeps me o → EachEvent (Gives me) (main (hears_then number s k a p o next))
+  hears_then_gives k s a p me h next rest None keeps = tt
+  hears_then_gives k s a p me h next rest (Some d) keeps =
+      subst (EachEvent (Gives me)) (sym (waits_on (hearing s.clock s.sent a p) (events_of (next (scene_with s k d) d.node))))
+      (each_on (Gives me) (without_waits (hearing s.clock s.sent a p)) (main (next (scene_with s k d) d.node)) (hearing_gives s.clock s.sent a p me h) (rest (scene_with s k d) d.node keeps))
+
+  frames_give : (k : ℕ) (ps : List Packet) (me : Stream) (s : Scene) (a : Node) → (link_of a).me ≡ me → EachEvent (Gives me) (main (frames_heard number k ps s a))
+  frames_give k [] me s a h = tt
+  frames_give k (p ∷ ps) me s a h =
+      hears_then_gives k s a p me h (frames_heard number k ps) (λ t b same. frames_give k ps me t b same) (node_hears s.clock p a) (node_keeps s.clock p a me h)
+
+  datagram_gives : (bytes : List ℕ) (s : Scene) (k : ℕ) (a : Node) → EachEvent (Gives (link_of a).me) (main (datagram_heard number bytes s k a))
+  datagram_gives bytes s k a = frames_give k (frames_of (final_parse (link_of a).extras bytes)) (link_of a).me s a refl
+
+  datagram_of : (bytes : List ℕ) (s : Scene) (name : Name) (k : ℕ) (a : Node) → node_of (link_of a).me ≡ name → EachEvent (Of name Gives) (main (datagram_heard number bytes s k a))
+  datagram_of bytes s name k a is =
+      each_maps (Gives (link_of a).me) (Of name Gives) (λ e h. record { stream = (link_of a).me; name_is = is; is = h }) (main (datagram_heard number bytes s k a)) (datagram_gives bytes s k a)
+
+  -- ---- flows
+
+  abbrev Any : world.Event → Type 0
+  Any e = (me : Stream) × Gives me e
+
+  next_give : (r : Result Step Halt) (actions : List Action) (next : Scene → List Action) → EachEvent Any (main actions) → ((t : Scene) → EachEvent Any (main (next t))) → EachEvent Any (main (and_next r actions next))
+  next_give (Ok t) actions next a b = main_on Any actions (next t.scene) a (b t.scene)
+  next_give (Err halt) actions next a b = tt
+
+  frame_gives : (s : Scene) (k : ℕ) (p : Packet) (o : Option Node) → EachEvent Any (main (frame_given number s k p o))
+  frame_gives s k p None = tt
+  frame_gives s k p (Some a) =
+      by_test (λ actions. EachEvent Any (main actions)) (same_name (node_name a) p.from) _ _ (λ _. tt)
+      (λ _. each_maps (Gives (link_of a).me) Any (λ e h. ((link_of a).me, h)) (main (datagram_heard number (encoding p) s k a)) (datagram_gives (encoding p) s k a))
+
+  row_gives : (s : Scene) (k count : ℕ) (p : Packet) → EachEvent Any (main (row_given number s k count p))
+  row_gives s k zero p = tt
+  row_gives s k (suc count) p =
+      next_give (given_to s k p (slice_get s.nodes k)) (frame_given number s k p (slice_get s.nodes k)) (λ t. row_given number t (k + 1) count p)
+      (frame_gives s k p (slice_get s.nodes k)) (λ t. row_gives t (k + 1) count p)
+
+  flown_gives : (s : Scene) (o : Option Packet) (next : Scene → List Action) → ((t : Scene) → EachEvent Any (main (next t))) → EachEvent Any (main (flown number s o next))
+  flown_gives s None next h = tt
+  flown_gives s (Some p) next h =
+      let s1 : Scene = record s { given = s.given + 1 } in
+      next_give (given_to_all s1 p) (row_given number s1 0 (length s.nodes) p) next (row_gives s1 0 (length s.nodes) p) h
+
+  flow_gives : (k : ℕ) (s : Scene) → EachEvent Any (main (flow_actions number k s))
+  flow_gives zero s = tt
+  flow_gives (suc k) s = flown_gives s (slice_get s.sent s.given) (flow_actions number k) (λ t. flow_gives k t)
+
+  delivered_gives : (s : Scene) (which : ℕ) (name : Name) (o : Option Packet) → EachEvent (Of name Gives) (main (delivered number s which name o))
+  delivered_gives s which name None = tt
+  delivered_gives s which name (Some p) = at_node_has (EachEvent (Of name Gives)) s name (datagram_heard number (encoding p)) tt (λ k a is. datagram_of (encoding p) s name k a is)
+
+  -- ---- each line
+
+  pub every_cause : (s : Scene) (l : Line) → Causes s l (main (calls_of number s l))
+  every_cause s line.Blank = refl
+  every_cause s (line.Drone sys x y) = refl
+  every_cause s (line.Station sys comp) = refl
+  every_cause s (line.Item item) = refl
+  every_cause s (line.Items count first) = refl
+  every_cause s line.Empty = refl
+  every_cause s (line.Begin station drone kind) =
+      let P : world.Event → Type 0 = Of station (λ me e. e ≡ Begins me (stream_of drone) kind s.draft) in
+      let from : Scene = station_line s in
+      to_station_has (AtMostOne P) from station (λ k a. upload_at number from drone kind (upload_refusal a.core (number_of kind) s.draft) k a) (inl refl)
+      (λ k a is.
+      let why : Option OpFault = upload_refusal a.core (number_of kind) s.draft in
+      let e : world.Event = Begins a.link.me (stream_of drone) kind s.draft in
+      let h : AtMostOne P (e ∷ []) = one P e (record { stream = a.link.me; name_is = is; is = refl }) in
+      acts_one (AtMostOne P) number (ordering s.clock a why e) (accepted why (Accepts_upload a.link.me (stream_of drone) (number_of kind) s.draft)) (upload_begins from k a drone (number_of kind) why) (inl refl)
+      (ordering_one (AtMostOne P) s.clock a why e h h))
+  every_cause s (line.Cancel station) =
+      let P : world.Event → Type 0 = Of station (λ me e. e ≡ Cancels me) in
+      let from : Scene = station_line s in
+      to_station_has (AtMostOne P) from station (cancel_at number from) (inl refl)
+      (λ k a is.
+      acts_one (AtMostOne P) number (moves s.clock (Station a) (Cancels a.link.me)) (cancelled a.link.me a.core.operation) (orders from k a None (station_cancels s.clock a)) (inl refl)
+      (one P (Cancels a.link.me) (record { stream = a.link.me; name_is = is; is = refl })))
+  every_cause s (line.Clear station drone kind) =
+      let P : world.Event → Type 0 = Of station (λ me e. e ≡ Clears me (stream_of drone) kind) in
+      let from : Scene = station_line s in
+      to_station_has (AtMostOne P) from station (λ k a. clear_at number from drone kind (refusal a.core) k a) (inl refl)
+      (λ k a is.
+      let e : world.Event = Clears a.link.me (stream_of drone) kind in
+      let h : AtMostOne P (e ∷ []) = one P e (record { stream = a.link.me; name_is = is; is = refl }) in
+      acts_one (AtMostOne P) number (ordering s.clock a (refusal a.core) e) (accepted (refusal a.core) (Accepts_clear a.link.me (stream_of drone) (world.clear_number kind))) (orders from k a (refusal a.core) (station_clears s.clock (stream_of drone) (clear_number kind) a)) (inl refl)
+      (ordering_one (AtMostOne P) s.clock a (refusal a.core) e h h))
+  every_cause s (line.Get station drone kind) =
+      let P : world.Event → Type 0 = Of station (λ me e. e ≡ Gets me (stream_of drone) kind) in
+      let from : Scene = station_line s in
+      to_station_has (AtMostOne P) from station (λ k a. get_at number from drone kind (refusal a.core) k a) (inl refl)
+      (λ k a is.
+      let e : world.Event = Gets a.link.me (stream_of drone) kind in
+      let h : AtMostOne P (e ∷ []) = one P e (record { stream = a.link.me; name_is = is; is = refl }) in
+      acts_one (AtMostOne P) number (ordering s.clock a (refusal a.core) e) (accepted (refusal a.core) (Accepts_get a.link.me (stream_of drone) (number_of kind))) (orders from k a (refusal a.core) (station_gets s.clock (stream_of drone) (number_of kind) a)) (inl refl)
+      (ordering_one (AtMostOne P) s.clock a (refusal a.core) e h h))
+  every_cause s (line.Heartbeat node) =
+      let P : world.Event → Type 0 = Of node (λ me e. e ≡ Speaks me) in
+      at_node_has (AtMostOne P) s node (beaten number) (inl refl)
+      (λ k a is.
+      acts_one (AtMostOne P) number (moves s.clock a (Speaks (link_of a).me)) [] (node_does s k (node_name a) (node_beats s.clock a)) (inl refl)
+      (beats P a (record { stream = (link_of a).me; name_is = is; is = refl })))
+    where
+      beats : (P : world.Event → Type 0) (a : Node) → P (Speaks (link_of a).me) → AtMostOne P (without_waits (moves s.clock a (Speaks (link_of a).me)))
+      beats P (Drone a) h = one P (Speaks a.link.me) h
+      beats P (Station a) h = one P (Speaks a.link.me) h
+  every_cause s (line.Deliver which node) = delivered_gives s which node (slice_get s.sent (which - 1))
+  every_cause s (line.Flow k) = flow_gives k s
+  every_cause s (line.Noise node bytes) = at_node_has (EachEvent (Of node Gives)) s node (datagram_heard number bytes) tt (λ k a is. datagram_of bytes s node k a is)
+  every_cause s (line.Tick node) =
+      let P : world.Event → Type 0 = Of node (λ me e. (e ≡ Drone_ticks me) ⊎ (e ≡ Station_ticks me)) in
+      at_node_has (AtMostOne P) s node (ticked number) (inl refl)
+      (λ k a is. acts_one (AtMostOne P) number (moves s.clock a (ticks a)) [] (node_does s k (node_name a) (node_ticks s.clock a)) (inl refl) (ticking a is))
+    where
+      ticking : (a : Node) → node_of (link_of a).me ≡ node → AtMostOne (Of node (λ me e. (e ≡ Drone_ticks me) ⊎ (e ≡ Station_ticks me))) (without_waits (moves s.clock a (ticks a)))
+      ticking (Drone a) is = inr (Drone_ticks a.link.me, refl, record { stream = a.link.me; name_is = is; is = inl refl })
+      ticking (Station a) is = inr (Station_ticks a.link.me, refl, record { stream = a.link.me; name_is = is; is = inr refl })
+  every_cause s (line.Clock n) = refl
+
+  -- ---- a sent frame is heard alone, so that it comes once
+
+  hearing_one : (clock : ℕ) (sent : List Packet) (a : Node) (p : Packet) (name : Name) → node_of (link_of a).me ≡ name → AtMostOne (Of name Gives) (without_waits (hearing clock sent a p))
+  hearing_one clock sent a p name is = by_answer (answer_to (link_of a).key (link_of a).history p)
+    where
+      comes : (b : Node) (place : ℕ) → node_of (link_of b).me ≡ name → AtMostOne (Of name Gives) (without_waits (moves clock b (comes_to b place)))
+      comes (Drone b) place h = one (Of name Gives) (To_drone place b.link.me true) (record { stream = b.link.me; name_is = h; is = (place, inl refl) })
+      comes (Station b) place h = one (Of name Gives) (To_station place b.link.me) (record { stream = b.link.me; name_is = h; is = (place, inr refl) })
+
+      by_place : (o : Option ℕ) → AtMostOne (Of name Gives) (without_waits (if_sent o (λ place. moves clock a (comes_to a place))))
+      by_place None = inl refl
+      by_place (Some place) = comes a place is
+
+      by_plan : (o : Option PlanMsg) → AtMostOne (Of name Gives) (without_waits (if_plan o (if_sent (place_of (encoding p) sent) (λ place. moves clock a (comes_to a place)))))
+      by_plan None = inl refl
+      by_plan (Some m) = by_place (place_of (encoding p) sent)
+
+      by_answer : (answer : Admit) → AtMostOne (Of name Gives) (without_waits (if_admitted answer (if_plan (plan_in p.id p.payload) (if_sent (place_of (encoding p) sent) (λ place. moves clock a (comes_to a place))))))
+      by_answer Admitted = by_plan (plan_in p.id p.payload)
+      by_answer Unsigned = inl refl
+      by_answer BadSignature = inl refl
+      by_answer (NotLater last) = inl refl
+      by_answer (TooOld local) = inl refl
+      by_answer TooManyStreams = inl refl
+
+  one_heard : (k : ℕ) (s : Scene) (a : Node) (p : Packet) (name : Name) → node_of (link_of a).me ≡ name → (o : Outcome Node) → AtMostOne (Of name Gives) (main (hears_then number s k a p o (λ t b. [])))
+  one_heard k s a p name is None = inl refl
+  one_heard k s a p name is (Some d) = subst (λ es. AtMostOne (Of name Gives) (without_waits es)) (sym (append-nil (hearing s.clock s.sent a p))) (hearing_one s.clock s.sent a p name is)
+
+  module _ (s : Scene) (sound : Sound s) where
+    delivered_one : (which : ℕ) (name : Name) (i : ℕ) (o : Option Packet) → slice_get s.sent i ≡ o → AtMostOne (Of name Gives) (main (delivered number s which name o))
+    delivered_one which name i None e = inl refl
+    delivered_one which name i (Some p) e =
+        at_placed_node (AtMostOne (Of name Gives)) s name (datagram_heard number (encoding p)) (inl refl)
+        (λ k a there is.
+        let alone : frames_of (final_parse (link_of a).extras (encoding p)) ≡ p ∷ [] =
+        ap (λ extras. frames_of (final_parse extras (encoding p))) (sound.links k a there).extras ∙ (heard_is s sound p (sound.sent i p e)).frames in
+        subst (λ ps. AtMostOne (Of name Gives) (main (frames_heard number k ps s a))) (sym alone) (one_heard k s a p name is (node_hears s.clock p a)))
+
+    pub every_delivery : (which : ℕ) (node : Name) → AtMostOne (Of node Gives) (main (calls_of number s (line.Deliver which node)))
+    every_delivery which node = delivered_one which node (which - 1) (slice_get s.sent (which - 1)) refl

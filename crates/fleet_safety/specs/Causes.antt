@@ -1,0 +1,68 @@
+-- Which events each line of a scenario is in the world of messages, and that its calls are no others.
+use Rattle.std.specs.Prelude.{ℕ, ◌≡◌, ◌⊎◌, true, List, [], ◌∷◌}
+use Rattle.mav_ports.specs.declared.names.Name.{Name}
+use Rattle.mav_ports.specs.declared.names.Stream.{Stream}
+use Rattle.plan_upload.specs.Addresses.{node_of}
+use Rattle.plan_safety.specs.World.{Event, Begins, Clears, Gets, Cancels, Hands_out, Drone_ticks, Station_ticks, To_drone, To_station, Speaks, Drone_waits, Station_waits, Restarts}
+use Rattle.scenario_lines.specs.declared.lines.Line.{Line}
+use Rattle.scenario_lines.specs.declared.lines.Line.TheVariants as line
+use Rattle.fleet_world.specs.Scene.{Scene, stream_of}
+
+-- events without those that go with each call: a node waits until its next timestamp, a station hands out its outcome
+abbrev pub without_waits : List Event → List Event
+without_waits [] = []
+without_waits (Begins s d kind plan ∷ es) = Begins s d kind plan ∷ without_waits es
+without_waits (Clears s d kind ∷ es) = Clears s d kind ∷ without_waits es
+without_waits (Gets s d kind ∷ es) = Gets s d kind ∷ without_waits es
+without_waits (Cancels s ∷ es) = Cancels s ∷ without_waits es
+without_waits (Hands_out s ∷ es) = without_waits es
+without_waits (Drone_ticks d ∷ es) = Drone_ticks d ∷ without_waits es
+without_waits (Station_ticks s ∷ es) = Station_ticks s ∷ without_waits es
+without_waits (To_drone place d keeps ∷ es) = To_drone place d keeps ∷ without_waits es
+without_waits (To_station place s ∷ es) = To_station place s ∷ without_waits es
+without_waits (Speaks node ∷ es) = Speaks node ∷ without_waits es
+without_waits (Drone_waits d t ∷ es) = without_waits es
+without_waits (Station_waits s t ∷ es) = without_waits es
+without_waits (Restarts d low ∷ es) = Restarts d low ∷ without_waits es
+
+-- one event, or none
+abbrev pub AtMostOne : (Event → Type 0) → List Event → Type 0
+AtMostOne P es = (es ≡ []) ⊎ ((e : Event) × (es ≡ e ∷ []) × P e)
+
+-- each event
+abbrev pub EachEvent : (Event → Type 0) → List Event → Type 0
+EachEvent P [] = Unit {0}
+EachEvent P (e ∷ es) = P e × EachEvent P es
+
+-- of a node with this name
+pub record Of (name : Name) (P : Stream → Event → Type 0) (e : Event) : Type 0 where
+  pub stream : Stream
+  pub name_is : node_of stream ≡ name
+  pub is : P stream e
+
+-- a sent frame comes to the node that signs this stream; a drone keeps what it installs
+abbrev pub Gives : Stream → Event → Type 0
+Gives me e = (place : ℕ) × ((e ≡ To_drone place me true) ⊎ (e ≡ To_station place me))
+
+-- the events of a line in a scene
+abbrev pub Causes : Scene → Line → List Event → Type 0
+-- an order: that one, once, and for an upload of the draft
+Causes s (line.Begin station drone kind) es = AtMostOne (Of station (λ me e. e ≡ Begins me (stream_of drone) kind s.draft)) es
+Causes s (line.Cancel station) es = AtMostOne (Of station (λ me e. e ≡ Cancels me)) es
+Causes s (line.Clear station drone kind) es = AtMostOne (Of station (λ me e. e ≡ Clears me (stream_of drone) kind)) es
+Causes s (line.Get station drone kind) es = AtMostOne (Of station (λ me e. e ≡ Gets me (stream_of drone) kind)) es
+-- one tick, and one HEARTBEAT
+Causes s (line.Tick node) es = AtMostOne (Of node (λ me e. (e ≡ Drone_ticks me) ⊎ (e ≡ Station_ticks me))) es
+Causes s (line.Heartbeat node) es = AtMostOne (Of node (λ me e. e ≡ Speaks me)) es
+-- sent frames come to the node, and in a flow to any nodes
+Causes s (line.Deliver number node) es = EachEvent (Of node Gives) es
+Causes s (line.Noise node bytes) es = EachEvent (Of node Gives) es
+Causes s (line.Flow k) es = EachEvent (λ e. (me : Stream) × Gives me e) es
+-- nothing
+Causes s line.Blank es = es ≡ []
+Causes s (line.Drone sys x y) es = es ≡ []
+Causes s (line.Station sys comp) es = es ≡ []
+Causes s (line.Item item) es = es ≡ []
+Causes s (line.Items n first) es = es ≡ []
+Causes s line.Empty es = es ≡ []
+Causes s (line.Clock n) es = es ≡ []
