@@ -10,7 +10,7 @@ use Rattle.command_ends.specs.declared.halts.Halt.{Halt}
 use Rattle.command_ends.specs.declared.halts.Halt.TheVariants.{Usage, Stopped, ReadFault, WriteFault, NoMemory, TurnsSpent}
 use Rattle.command_ends.specs.declared.stops.Stop.{Stop}
 use Rattle.command_ends.specs.Runs.{outside, text_so_far, Untold}
-use Rattle.dialect_command.specs.Script.{refusal_of, text_of, dialect_script, telling}
+use Rattle.dialect_command.specs.Script.{refusal_of, text_of, reading, dialect_script, telling}
 use Rattle.dialect_command.specs.Reads.{of_input, Holds, Halts}
 use Rattle.dialect_command.specs.Ends.{Told}
 use Rattle.dialect_command.specs.Writes.{WroteText}
@@ -24,13 +24,13 @@ nothing_front : (sb sa : Option (List ℕ)) (text : List ℕ) → sa ≡ sb → 
 nothing_front sb sa text same = subst (λ known. SentFront sb known text) (sym same) (text, sent_start sb text)
 
 -- the reading halted, so nothing was written
-pub untold_unread : (spent : Type 0) (fb fa ib ia rb ra : ℕ) (lb la sb sa : Option (List ℕ)) (halt : Halt) → sa ≡ sb → Halts (of_input spent fb fa ib ia) lb la halt → Untold dialect_script (outside spent fb fa ib ia rb ra) lb la sb sa (Some halt)
-untold_unread spent fb fa ib ia rb ra lb la sb sa Usage same h = absurd h.cause
-untold_unread spent fb fa ib ia rb ra lb la sb sa (Stopped stop) same h = record { taken = h.taken; ended = h.ended; took = h.took; at_end = h.at_end; cause = h.cause; wrote = nothing_sent sb sa same }
-untold_unread spent fb fa ib ia rb ra lb la sb sa ReadFault same h = record { taken = h.taken; ended = h.ended; took = h.took; at_end = h.at_end; cause = h.cause; wrote = nothing_sent sb sa same }
-untold_unread spent fb fa ib ia rb ra lb la sb sa WriteFault same h = absurd h.cause
-untold_unread spent fb fa ib ia rb ra lb la sb sa NoMemory same h = record { taken = h.taken; ended = h.ended; took = h.took; at_end = h.at_end; cause = tt; wrote = nothing_front sb sa (text_so_far dialect_script h.ended h.taken) same }
-untold_unread spent fb fa ib ia rb ra lb la sb sa TurnsSpent same h = record { taken = h.taken; ended = h.ended; took = h.took; at_end = h.at_end; cause = h.cause; wrote = nothing_sent sb sa same }
+pub untold_unread : (closing : List ℕ → List ℕ) (spent : Type 0) (fb fa ib ia rb ra : ℕ) (lb la sb sa : Option (List ℕ)) (halt : Halt) → sa ≡ sb → Halts (of_input spent fb fa ib ia) lb la halt → Untold (reading closing) (outside spent fb fa ib ia rb ra) lb la sb sa (Some halt)
+untold_unread closing spent fb fa ib ia rb ra lb la sb sa Usage same h = absurd h.cause
+untold_unread closing spent fb fa ib ia rb ra lb la sb sa (Stopped stop) same h = record { taken = h.taken; ended = h.ended; took = h.took; at_end = h.at_end; cause = h.cause; wrote = nothing_sent sb sa same }
+untold_unread closing spent fb fa ib ia rb ra lb la sb sa ReadFault same h = record { taken = h.taken; ended = h.ended; took = h.took; at_end = h.at_end; cause = h.cause; wrote = nothing_sent sb sa same }
+untold_unread closing spent fb fa ib ia rb ra lb la sb sa WriteFault same h = absurd h.cause
+untold_unread closing spent fb fa ib ia rb ra lb la sb sa NoMemory same h = record { taken = h.taken; ended = h.ended; took = h.took; at_end = h.at_end; cause = tt; wrote = nothing_front sb sa (text_so_far (reading closing) h.ended h.taken) same }
+untold_unread closing spent fb fa ib ia rb ra lb la sb sa TurnsSpent same h = record { taken = h.taken; ended = h.ended; took = h.took; at_end = h.at_end; cause = h.cause; wrote = nothing_sent sb sa same }
 
 -- the definitions were read, and their text was written, or a front of it
 module _ (spent : Type 0) (fb fa ib ia rb ra : ℕ) (lb la sb sa : Option (List ℕ)) (defs : List Definition) (h : Holds spent lb la defs) where

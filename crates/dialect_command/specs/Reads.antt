@@ -11,7 +11,7 @@ use Rattle.command_ends.specs.declared.stops.Stop.TheVariants.{Bad}
 use Rattle.dialect.specs.declared.faults.DialectFault.{DialectFault}
 use Rattle.dialect.specs.declared.faults.DialectFault.TheVariants.{NoMemory as NoMemoryToRead}
 use Rattle.command_ends.specs.Runs.{Outside, Cause}
-use Rattle.dialect_command.specs.Script.{told_reason, dialect_script, most_definition_bytes}
+use Rattle.dialect_command.specs.Script.{told_reason, definitions_script, most_definition_bytes}
 
 -- what stands of the outside where only an input is called
 abbrev pub of_input : Type 0 → ℕ → ℕ → ℕ → ℕ → Outside
@@ -36,7 +36,7 @@ pub record Halts (o : Outside) (left_before left_after : Option (List ℕ)) (hal
   pub ended : Bool
   pub took : left_before ≡ prepend_known taken left_after
   pub at_end : IsTrue ended → o.spent
-  pub cause : Cause dialect_script (Some halt) o ended taken
+  pub cause : Cause definitions_script (Some halt) o ended taken
 
 -- the halt by a fault of the definitions
 abbrev pub told : DialectFault → Halt

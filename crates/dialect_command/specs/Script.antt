@@ -1,4 +1,4 @@
--- What `dialect` does with the bytes of definitions, and without definitions.
+-- What is done with the bytes of definitions, by `dialect` and by other commands, and what `dialect` tells without any.
 use Rattle.std.specs.Prelude.{ℕ, nat_lt, Bool, true, false, if◌then◌else◌, List, [], length, Option, Some, None, Ok, Err}
 use Rattle.std.specs.declared.result.Result.{Result}
 use Rattle.field_layout.specs.Definition.{Definition}
@@ -46,13 +46,21 @@ abbrev pub stop_at : Bool → List ℕ → Option Stop
 stop_at true bytes = refusal_of (definitions_of bytes)
 stop_at false bytes = None
 
--- the layouts are told at the end, in the order read
-abbrev pub dialect_script : Script
-dialect_script = record {
+-- definitions are read, and this is told after them
+abbrev pub reading : (List ℕ → List ℕ) → Script
+reading closing = record {
   stop = λ ended bytes. if nat_lt most_definition_bytes (length bytes) then Some (AtLimit DefinitionBytes) else stop_at ended bytes;
   report = λ ended bytes. [];
-  closing = λ bytes. text_of (definitions_of bytes);
+  closing = closing;
 }
+
+-- the layouts are told at the end, in the order read
+abbrev pub dialect_script : Script
+dialect_script = reading (λ bytes. text_of (definitions_of bytes))
+
+-- nothing is told of definitions that are read for another command
+abbrev pub definitions_script : Script
+definitions_script = reading (λ bytes. [])
 
 -- without definitions those of the profile are told, and nothing is read
 abbrev pub telling : List Definition → Script

@@ -5,3 +5,5 @@ pub mod Stays
 pub mod Endings
 pub mod Worked
 pub mod Theorem
+pub mod Completeness
+pub mod Playable

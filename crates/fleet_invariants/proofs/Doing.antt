@@ -42,7 +42,7 @@ behind_none : {Core : Type 0} (o : Outcome (Side Core)) → behind [] o ≡ o
 behind_none None = refl
 behind_none (Some d) = refl
 
-known_frames : (s : Scene) (bytes : List ℕ) (extras : List (ℕ × ℕ)) → extras ≡ extras_of profile_definitions → Known s bytes → KnownFrames s (frames_of (final_parse extras bytes))
+pub known_frames : (s : Scene) (bytes : List ℕ) (extras : List (ℕ × ℕ)) → extras ≡ extras_of profile_definitions → Known s bytes → KnownFrames s (frames_of (final_parse extras bytes))
 known_frames s bytes extras same known = subst (λ (x : List (ℕ × ℕ)). KnownFrames s (frames_of (final_parse x bytes))) (sym same) known
 
 ticks_say : (o : Option (Stream × PlanMsg)) → IfSome o (λ (sent : Stream × PlanMsg). StreamInRange sent.0 × InRange sent.1) → IfSome (tick_answer o) InRange

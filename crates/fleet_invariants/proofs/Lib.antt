@@ -22,3 +22,6 @@ pub mod Lines
 pub mod Readings
 pub mod Plays
 pub mod Quiet
+pub mod Counts
+pub mod Timestamps
+pub mod Unspent

@@ -36,11 +36,11 @@ judging p g number text None e authentic =
     went_on p (line_of text) (after_line p.scene (line_of text)) g (sound_line p.scene g (line_of text) read.0 read.1 authentic)
 
 -- what is done at a line, if it isn't one too many or too long
-choosing : {A : Type 0} (P : Played → Type 0) (Q : A → Type 0) (b : Bool) (x y : Played) (u v : A) → (Q u → P x) → (Q v → P y) → Q (if b then u else v) → P (if b then x else y)
+pub choosing : {A : Type 0} (P : Played → Type 0) (Q : A → Type 0) (b : Bool) (x y : Played) (u v : A) → (Q u → P x) → (Q v → P y) → Q (if b then u else v) → P (if b then x else y)
 choosing P Q true x y u v f g h = f h
 choosing P Q false x y u v f g h = g h
 
-one_line : (p : Played) → Sound p.scene → (number : ℕ) (raw text : List ℕ) → AuthenticDone p.scene (line_done p.scene number raw text)
+pub one_line : (p : Played) → Sound p.scene → (number : ℕ) (raw text : List ℕ) → AuthenticDone p.scene (line_done p.scene number raw text)
     → IsSound (if nat_lt most_lines number then stopped p Too_many_lines else if nat_lt most_line_bytes (length raw) then stopped p (Bad number Long) else judged p number text (reason_against (standing_of p.scene) text))
 one_line p g number raw text authentic =
     choosing IsSound (AuthenticDone p.scene) (nat_lt most_lines number) (stopped p Too_many_lines) _ None _ (λ _. g)

@@ -1,5 +1,5 @@
 -- The laws of sound scenes.
-use Rattle.std.specs.Prelude.{ℕ, ◌≡◌, Bool, false, List, [], slice_get, codes, All, Some, None}
+use Rattle.std.specs.Prelude.{ℕ, ◌≡◌, ◌≢◌, Bool, false, List, [], slice_get, codes, All, Some, None}
 use Rattle.std.specs.Str.{bytes_eq}
 use Rattle.mav_ports.specs.declared.names.Name.{Name}
 use Rattle.mav_profile.specs.Messages.{extras_of}
@@ -20,8 +20,8 @@ use Rattle.scenario_lines.specs.Grammar.{line_of}
 use Rattle.scenario_lines.specs.Reasons.{reason_against}
 use Rattle.scenario_lines.specs.Permits.{IsPermitted}
 use Rattle.fleet_world.specs.Scene.{Scene, Node, Station, stream_of, standing_of}
-use Rattle.fleet_world.specs.Steps.{node_receives, node_beats, node_ticks, node_does, as_station, given_to, given_from, given_to_all, flows, calls, after_line}
-use Rattle.fleet_world.specs.Scenario.{Played, played, lines_played, whole_lines, unfinished, without_cr}
+use Rattle.fleet_world.specs.Steps.{node_receives, node_beats, node_ticks, node_does, as_station, given_to, given_from, given_to_all, flows, calls, after_line, Stamps_spent}
+use Rattle.fleet_world.specs.Scenario.{Played, Halted, played, lines_played, whole_lines, unfinished, without_cr}
 use Rattle.fleet_world.specs.Authentic.{AuthenticBytes, AuthenticLine, AuthenticLines, Authentic}
 use Rattle.fleet_invariants.specs.Sound.{IsSent, Sound}
 use Rattle.fleet_invariants.specs.Kept.{Known, Heard, OutcomeReads, Keeps, KeepsLine, LineFits}
@@ -108,6 +108,10 @@ EveryLinesSound =
 
 abbrev pub EverySceneSound : Type 0
 EverySceneSound = (key : List ℕ) (ended : Bool) (bytes : List ℕ) → Authentic key ended bytes → Sound (played key ended bytes).scene
+
+-- an authentic scenario never stops for want of a timestamp
+abbrev pub NoneSpent : Type 0
+NoneSpent = (key : List ℕ) (ended : Bool) (bytes : List ℕ) → Authentic key ended bytes → (played key ended bytes).stop ≢ Some (Halted Stamps_spent)
 
 -- the first word of a line is `noise`
 abbrev pub is_noise : List ℕ → Bool

@@ -17,8 +17,9 @@ use Rattle.key_input.specs.KeyText.{default_key}
 use Rattle.fleet_command.specs.Examples.{one_item, the_key, IsInstalledOnce}
 use Rattle.fleet_command.proofs.Theorem.{theorem_of}
 use Rattle.fleet_command.proofs.Worked.{one_item_authentic, installed_once}
+use Rattle.fleet_command.proofs.Playable.{one_item_playable}
 use Rattle.station_cli.specs.Seen.{Input, Output, input_of, output_of, around, promised_over}
-use Rattle.station_cli.specs.Fleets.{CarriesOver}
+use Rattle.station_cli.specs.Fleets.{CarriesOver, FleetsComplete}
 
 never : false ≡ true → ⊥
 never same = cc
@@ -105,3 +106,14 @@ module _ (s : Script) (bytes text : List ℕ) (done : code_of (end_of (s.stop tr
 pub installed_told : (old new : SureReads) (before after : SureWrites) (code : ℕ) → Some old.left ≡ Some one_item → code ≡ 0 → CarriesOver default_key false (sure_output before after) code (sure_input old new) → IsInstalledOnce
 installed_told old new before after code scenario zero carries =
     installed_once (theorem_of the_key false (around (sure_input old new) (sure_output before after)) one_item (Some old.left) (Some new.left) (Some before.sent) (Some after.sent) code carries zero scenario (λ spent. spent.1) one_item_authentic)
+
+-- and what completeness says of it
+not_refused : (before after : ℕ) → before ≡ 0 → after ≡ 0 → Rose before after → ⊥
+not_refused before after none still rose = omega (arith, none, still, rose)
+
+pub completed_told : (old new : SureReads) (key_old key_new : SureReads) (before after : SureWrites) (code : ℕ) → Some old.left ≡ Some one_item → before.faults ≡ 0 → after.faults ≡ 0 → FleetsComplete false false (sure_output before after) code (sure_input key_old key_new) (sure_input old new) → (code ≡ 0) ⊎ (code ≡ 7)
+completed_told old new key_old key_new before after code scenario none still complete =
+    elim (complete default_key refl one_item scenario one_item_playable one_item_authentic (record { reads = sure; gives = awake; writes = not_refused before.faults after.faults none still })) [
+      | inl done ↦ inl done.0
+      | inr memory ↦ inr memory
+    ]

@@ -20,6 +20,7 @@ const STREAM: &[u8] = &[
 
 // The three runs, from what their contracts say alone: what is written is a text that the
 // definitions compute, checksums, CRC_EXTRA bytes and signatures under the bytes 0 to 31 and all.
+// By completeness the first is done where the output refuses nothing, unless memory runs out.
 // And in the history of the abstract mission store of the first the plan was installed, once, and
 // what its outcome tells is true.
 fn run_one(
@@ -41,6 +42,10 @@ fn run_one(
     ensures installed { map string_bytes words.now ≡ codes "fleet" ∷ codes "file" ∷ []
         → ⟦<SureSource as Source>⟧.left inputs.old.main ≡ Some one_item
         → result ≡ 0 → IsInstalledOnce }
+    ensures completed { map string_bytes words.now ≡ codes "fleet" ∷ codes "file" ∷ []
+        → ⟦<SureSource as Source>⟧.left inputs.old.main ≡ Some one_item
+        → ⟦<SureSink as Sink>⟧.faults out.old ≡ 0 → ⟦<SureSink as Sink>⟧.faults out.new ≡ 0
+        → (result ≡ 0) ⊎ (result ≡ 7) }
     ensures decoded { map string_bytes words.now ≡ codes "decode" ∷ codes "file" ∷ []
         → ⟦<SureSource as Source>⟧.left inputs.old.main ≡ Some one_heartbeat
         → result ≡ 0 → ⟦<SureSink as Sink>⟧.sent out.new ≡ Some one_heartbeat_text }

@@ -13,8 +13,8 @@ use Rattle.command_ends.proofs.Untolds.{untold_nothing, ran_told}
 use Rattle.command_ends.proofs.Ends.{promised}
 use Rattle.key_input.specs.Script.{key_script, TookAtMost}
 use Rattle.key_input.proofs.Stays.{key_steady}
-use Rattle.dialect_command.specs.Script.{dialect_script}
-use Rattle.dialect_command.proofs.Stays.{dialect_steady}
+use Rattle.dialect_command.specs.Script.{definitions_script}
+use Rattle.dialect_command.proofs.Stays.{reading_steady}
 use Rattle.decode_command.specs.Script.{decode_script}
 use Rattle.decode_command.proofs.Stays.{decode_steady}
 use Rattle.station_cli.specs.Seen.{Input, input_of, around, untold_over, promised_over}
@@ -47,7 +47,7 @@ module _ (first second : Script → Input → Type 0) (halted stopped : Type 0) 
   with_told : (key : Option (List ℕ)) (named : Bool) (defs main : Input) → (defs.spent → IsSpent defs.left_after) → (main.spent → IsSpent main.left_after) → DecodesWith key named first halted defs main → DecodesWith key named second stopped defs main
   with_told key false defs main ds ms d =
       on (decode_script (record { dialect = profile_definitions; key = key })) (decode_steady (record { dialect = profile_definitions; key = key })) main ms d
-  with_told key true defs main ds ms (inl (run, h, unread)) = inl (on dialect_script dialect_steady defs ds run, ends h, unread)
+  with_told key true defs main ds ms (inl (run, h, unread)) = inl (on definitions_script (reading_steady definitions_script.closing) defs ds run, ends h, unread)
   with_told key true defs main ds ms (inr (known, holds, run)) =
       inr (known, holds, on (decode_script (record { dialect = known; key = key })) (decode_steady (record { dialect = known; key = key })) main ms run)
 
@@ -73,5 +73,5 @@ module _ {A : Type 0} (has_ended : A → Type 0) (faults idles : A → ℕ) (lef
 
   pub decodes_unread : (halted : Type 0) → halted → (named_key named_defs : Bool) → Decodes named_key named_defs (untold_over (record { refusals_before = refusals; refusals_after = refusals; sent_before = sent; sent_after = sent }) (Some NoMemory)) halted (input_of has_ended faults idles left key key) (input_of has_ended faults idles left defs defs) (input_of has_ended faults idles left main main)
   decodes_unread halted h false false = unmade (decode_script (record { dialect = profile_definitions; key = None })) main
-  decodes_unread halted h false true = inl (unmade dialect_script defs, h, refl)
+  decodes_unread halted h false true = inl (unmade definitions_script defs, h, refl)
   decodes_unread halted h true n = inl (unmade key_script key, h, took_nothing (left key), (refl, refl))

@@ -2,3 +2,4 @@ pub mod Usages
 pub mod Same
 pub mod Decoded
 pub mod Scenarios
+pub mod Completes

@@ -6,7 +6,7 @@ use Rattle.mav_profile.specs.Profile.{profile_definitions}
 use Rattle.command_ends.specs.Runs.{Script}
 use Rattle.key_input.specs.Script.{key_script, HoldsKey, TookAtMost}
 use Rattle.dialect_command.specs.Reads.{Holds}
-use Rattle.dialect_command.specs.Script.{dialect_script}
+use Rattle.dialect_command.specs.Script.{definitions_script}
 use Rattle.decode_command.specs.Script.{decode_script}
 use Rattle.station_cli.specs.Seen.{Input}
 
@@ -18,11 +18,12 @@ WithKey true runs halted others key next =
     (runs key_script key × halted × TookAtMost 67 key.left_before key.left_after × others)
     ⊎ ((bytes : List ℕ) × HoldsKey key.spent key.left_before key.left_after bytes × next (Some bytes))
 
--- then definitions that are named, as `dialect` reads them; without them the profile is used
+-- then definitions that are named: the run halts at them, nothing is told of them, and the main input isn't read; or it
+-- goes on with them; without them the profile is used
 abbrev pub WithDefinitions : Bool → (Script → Input → Type 0) → (halted others : Type 0) → Input → (List Definition → Type 0) → Type 0
 WithDefinitions false runs halted others defs next = next profile_definitions
 WithDefinitions true runs halted others defs next =
-    (runs dialect_script defs × halted × others)
+    (runs definitions_script defs × halted × others)
     ⊎ ((ds : List Definition) × Holds defs.spent defs.left_before defs.left_after ds × next ds)
 
 -- and then the main input is decoded by these

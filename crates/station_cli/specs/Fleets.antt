@@ -1,10 +1,11 @@
--- What is read of the inputs that a line of `fleet` names, and what holds of that run.
-use Rattle.std.specs.Prelude.{◌≢◌, ℕ, Bool, List, None, Some}
+-- What is read of the inputs that a line of `fleet` names, what holds of that run, and when it is done.
+use Rattle.std.specs.Prelude.{◌≡◌, ◌≢◌, ℕ, Bool, true, false, List, None, Some}
 use Rattle.std.specs.declared.option.Option.{Option}
-use Rattle.key_input.specs.KeyText.{default_key}
+use Rattle.key_input.specs.KeyText.{default_key, key_or_default}
 use Rattle.command_ends.specs.Runs.{Script}
 use Rattle.fleet_command.specs.Script.{fleet_script}
 use Rattle.fleet_command.specs.Theorem.{Carries}
+use Rattle.fleet_command.specs.Completeness.{NoFault, Completes}
 use Rattle.station_cli.specs.Seen.{Input, Output, around, promised_over}
 use Rattle.station_cli.specs.Decoding.{WithKey}
 
@@ -26,3 +27,13 @@ CarriesOver key frames out code main = Carries key frames (around main out) main
 abbrev pub FleetsCarry : (named_key frames : Bool) → Output → ℕ → (key main : Input) → Type 0
 FleetsCarry named_key frames out code key main =
     WithKey named_key (promised_over out code) (code ≢ 0) main.unread key (λ k. CarriesOver (or_default k) frames out code main)
+
+-- the key that the inputs give: that of the input that is named, whose port doesn't fail, or the default
+abbrev pub GivesKey : Bool → Output → Input → List ℕ → Type 0
+GivesKey false out key k = k ≡ default_key
+GivesKey true out key k = (bytes : List ℕ) × (key.left_before ≡ Some bytes) × (key_or_default bytes ≡ Some k) × NoFault (around key out)
+
+-- completeness, under that key
+abbrev pub FleetsComplete : (named_key frames : Bool) → Output → ℕ → (key main : Input) → Type 0
+FleetsComplete named_key frames out code key main =
+    (k : List ℕ) → GivesKey named_key out key k → Completes k frames (around main out) main.left_before out.sent_before out.sent_after code

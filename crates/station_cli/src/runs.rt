@@ -10,7 +10,7 @@ ghost use Rattle.command_line.specs.Grammar.{Asked, Asks, AskNothing};
 ghost use Rattle.command_line.specs.Lines.{given_of};
 ghost use Rattle.dialect_command.specs.Script.{dialect_script, profile_script};
 ghost use Rattle.station_cli.specs.Decoding.{Decodes};
-ghost use Rattle.station_cli.specs.Fleets.{Fleets, FleetsCarry};
+ghost use Rattle.station_cli.specs.Fleets.{Fleets, FleetsCarry, FleetsComplete};
 ghost use Rattle.station_cli.specs.Seen.{input_of, output_of, untold_over, promised_over};
 ghost use Rattle.station_cli.specs.Usage.{UsageTold};
 
@@ -189,6 +189,15 @@ pub fn run<S: Source, K: Sink, C: Clock>(
         (output_of K.faults K.sent out.old out.new) result
         (input_of S.has_ended S.faults S.idles S.left inputs.old.key inputs.new.key)
         (input_of S.has_ended S.faults S.idles S.left inputs.old.main inputs.new.main) }
+    // Completeness: where no port fails, an authentic scenario of the grammar that keeps to the limits
+    // is played to its end under the key that the inputs give. The status is 0 and its whole report
+    // was written, or memory ran out.
+    ensures completeness { (asked : Asked) → Asks built (map string_bytes words.now) asked
+        → asked.command ≡ Command.Fleet → FleetsComplete
+        (has_given OptionName.Key asked.settings) (has_given OptionName.Frames asked.settings)
+        (output_of K.faults K.sent out.old out.new) result
+        (input_of S.has_ended S.faults S.idles S.left inputs.old.key inputs.new.key)
+        (input_of S.has_ended S.faults S.idles S.left inputs.old.main inputs.new.main) }
     // `dialect --defs F`, over the definitions
     ensures dialect { (asked : Asked) → Asks built (map string_bytes words.now) asked
         → asked.command ≡ Command.Dialect → has_given OptionName.Defs asked.settings ≡ true
@@ -204,8 +213,8 @@ pub fn run<S: Source, K: Sink, C: Clock>(
         → Promises profile_script (outside ⊤ 0 0 0 0 (K.faults out.old) (K.faults out.new))
         (Some []) (Some []) (K.sent out.old) (K.sent out.new) result }
     // `decode [--defs F] [--key F] FILE`: the run halts at the key, and no other input is read; or at
-    // the definitions, as `dialect` would, and the main input isn't read; or they are read, where the
-    // words name them, and the main input is decoded by them
+    // the definitions, where `dialect` would, with nothing told of them and the main input unread; or
+    // they are read, where the words name them, and the main input is decoded by them
     ensures decode { (asked : Asked) → Asks built (map string_bytes words.now) asked
         → asked.command ≡ Command.Decode → Decodes
         (has_given OptionName.Key asked.settings) (has_given OptionName.Defs asked.settings)

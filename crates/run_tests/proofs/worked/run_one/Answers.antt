@@ -8,7 +8,7 @@ use Rattle.dialect_command.specs.Examples.{profile_layouts}
 use Rattle.dialect_command.proofs.Worked.{profile_output}
 use Rattle.fleet_command.specs.Examples.{one_item, one_item_installed}
 use Rattle.fleet_command.proofs.Worked.{script as playing, one_item_code, one_item_output}
-use Rattle.run_tests.proofs.Plainly.{asked, asked_dialect, asks_fleet, asks_decode, asks_dialect, sure_input, no_input, sure, awake, status_told, text_told, installed_told}
+use Rattle.run_tests.proofs.Plainly.{asked, asked_dialect, asks_fleet, asks_decode, asks_dialect, sure_input, no_input, sure, awake, status_told, text_told, installed_told, completed_told}
 use Rattle.run_tests.proofs.worked.run_one.Goals as goal
 
 pub returns-clause-status : goal.returns-clause-status
@@ -27,6 +27,10 @@ returns-clause-report c = λ words scenario.
 pub returns-clause-installed : goal.returns-clause-installed
 returns-clause-installed c = λ words scenario zero.
     installed_told c.args.inputs.now.main c.run.new.inputs.main c.args.out.now c.run.new.out c.run.result scenario zero (c.run.ensures.main_theorem (asked Fleet) (asks_fleet (map string_bytes c.args.words.now) words) refl)
+
+pub returns-clause-completed : goal.returns-clause-completed
+returns-clause-completed c = λ words scenario none still.
+    completed_told c.args.inputs.now.main c.run.new.inputs.main c.args.inputs.now.key c.run.new.inputs.key c.args.out.now c.run.new.out c.run.result scenario none still (c.run.ensures.completeness (asked Fleet) (asks_fleet (map string_bytes c.args.words.now) words) refl)
 
 pub returns-clause-decoded : goal.returns-clause-decoded
 returns-clause-decoded c = λ words stream.

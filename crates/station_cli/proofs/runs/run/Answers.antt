@@ -4,10 +4,11 @@ use Rattle.command_ends.proofs.Untolds.{ran_told, sound_told}
 use Rattle.command_ends.proofs.Ends.{promised}
 use Rattle.mav_profile.specs.Profile.{profile_definitions}
 use Rattle.dialect_command.specs.Script.{dialect_script, profile_script}
-use Rattle.dialect_command.proofs.Stays.{dialect_steady, telling_steady}
+use Rattle.dialect_command.proofs.Stays.{reading_steady, telling_steady}
 use Rattle.station_cli.proofs.Usages.{words_told, halted_code, usage_ended, five_only}
 use Rattle.station_cli.proofs.Decoded.{told_over, decodes_told}
 use Rattle.station_cli.proofs.Scenarios.{fleets_told, fleets_carry}
+use Rattle.station_cli.proofs.Completes.{fleets_complete}
 use Rattle.station_cli.proofs.runs.run.Goals as goal
 
 pub returns-clause-fleet : goal.returns-clause-fleet
@@ -24,10 +25,17 @@ returns-clause-main_theorem g c = λ asked asks is.
     (λ halted. halted_code _ _ _ _ ended.result c.tell.result halted c.tell.ensures.tells)
     _ _ _ _ (λ spent. spent.1) (λ spent. spent.1) (ended.ensures.fleet asked asks is)))
 
+pub returns-clause-completeness : goal.returns-clause-completeness
+returns-clause-completeness g c = λ asked asks is.
+    let ended = c.run_words-ended in
+    rw c.code_of.ensures (fleets_complete _ _ _ _ _ _ (λ spent. spent.1) (fleets_told _ _ _ _ (told_over _ _ _ _ _ _ ended.result c.tell.result ended.ensures.sound c.tell.ensures.tells)
+    (λ halted. halted_code _ _ _ _ ended.result c.tell.result halted c.tell.ensures.tells)
+    _ _ _ _ (λ spent. spent.1) (λ spent. spent.1) (ended.ensures.fleet asked asks is)))
+
 pub returns-clause-dialect : goal.returns-clause-dialect
 returns-clause-dialect g c = λ asked asks is named.
     let ended = c.run_words-ended in
-    rw c.code_of.ensures (promised dialect_script dialect_steady _ _ _ _ _ (result_err c.tell.result) (λ spent. spent.1)
+    rw c.code_of.ensures (promised dialect_script (reading_steady dialect_script.closing) _ _ _ _ _ (result_err c.tell.result) (λ spent. spent.1)
     (ran_told dialect_script _ _ _ _ _ _ _ _ _ _ _ _ _ ended.result c.tell.result (ended.ensures.dialect asked asks is named) ended.ensures.sound c.tell.ensures.tells))
 
 pub returns-clause-profile : goal.returns-clause-profile

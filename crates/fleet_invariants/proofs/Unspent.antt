@@ -1,0 +1,325 @@
+-- No authentic scenario stops for want of a timestamp.
+use Rattle.std.proofs.Common.{◌≡◌, ◌≢◌, ℕ, zero, suc, ◌+◌, ◌-◌, ◌≤◌, Bool, true, false, if◌then◌else◌, nat_lt, List, [], ◌∷◌, length, slice_get, Option, Some, None, Ok, Err, refl, sym, subst, arith}
+use Rattle.std.specs.Prelude.{nat_le, position}
+use Rattle.std.specs.declared.result.Result.{Result}
+use Rattle.mav_ports.specs.declared.names.Name.{Name}
+use Rattle.mav_ports.specs.declared.names.Stream.{Stream}
+use Rattle.plan_items.specs.declared.messages.PlanMsg.{PlanMsg}
+use Rattle.plan_items.specs.Kinds.{number_of}
+use Rattle.plan_upload.specs.declared.faults.OpFault.{OpFault}
+use Rattle.plan_upload.specs.Addresses.{node_of, same_name}
+use Rattle.plan_upload.specs.Drone.{DroneState, drone_tick}
+use Rattle.plan_upload.specs.Kinds.{clear_number}
+use Rattle.plan_upload.specs.Refusals.{upload_refusal, refusal}
+use Rattle.plan_upload.specs.Station.{StationState, StationStep, station_tick, station_cancel, begin_upload, begin_clear, begin_get}
+use Rattle.mav_profile.specs.Messages.{extras_of}
+use Rattle.mav_profile.specs.Profile.{profile_definitions}
+use Rattle.mav_frame.specs.Packet.{Packet}
+use Rattle.mav_frame.specs.Encoding.{encoding}
+use Rattle.mav_frame.specs.FinalParse.{final_parse}
+use Rattle.mav_messages.specs.declared.messages.Message.{Message}
+use Rattle.mav_sign.specs.Endpoints.{frames_of}
+use Rattle.mav_sign.specs.History.{greatest_stamp}
+use Rattle.mav_nodes.specs.Links.{Link, Outcome, sends}
+use Rattle.mav_nodes.specs.Steps.{Side, CoreStep, with_core, steps, receives}
+use Rattle.mav_nodes.specs.Nodes.{drone_core, drone_waits, drone_heartbeat, drone_receives, drone_ticks, drone_beats, station_core, station_does, station_heartbeat, station_receives, station_ticks, station_beats, station_begins, station_cancels, station_clears, station_gets}
+use Rattle.scenario_lines.specs.declared.faults.Reason.{Reason}
+use Rattle.scenario_lines.specs.declared.faults.Reason.TheVariants.{Long}
+use Rattle.scenario_lines.specs.declared.lines.Line.{Line}
+use Rattle.scenario_lines.specs.declared.lines.Line.TheVariants.{Blank, Drone as DroneLine, Station as StationLine, Item as OneItem, Items, Empty, Begin, Cancel, Clear, Get, Heartbeat, Deliver, Flow, Noise, Tick, Clock}
+use Rattle.scenario_lines.specs.Grammar.{line_of, most_line_bytes}
+use Rattle.scenario_lines.specs.Reasons.{reason_against}
+use Rattle.fleet_report.specs.Events.{Event}
+use Rattle.fleet_world.specs.Scene.{Scene, Node, Drone, Station, node_name, is_named, is_station_named, stream_of, standing_of, drones_in, stations_in}
+use Rattle.fleet_world.specs.Steps.{Step, Halt, At_limit, Stamps_spent, most_frames, most_drones, most_stations, behind, and_then, packets_in, as_drone, as_station, node_receives, node_beats, node_ticks, node_does, calls_at, calls_placed, calls, given_to, given_from, given_to_all, flow_next, flows, delivers, station_line, orders, upload_begins, orders_at, orders_placed, orders_to, begins, cancels, clears, gets, after_line}
+use Rattle.fleet_world.specs.Scenario.{Stop, Bad, Too_many_lines, Halted, Played, most_lines, whole_lines, unfinished, without_cr, stopped, goes_on, judged, line_played, unless_stopped, lines_played, at_start, last_played, rest_played, played}
+use Rattle.fleet_world.specs.Authentic.{AuthenticLine, line_read, line_done, AuthenticDone, UnlessStopped, AuthenticLines, AuthenticLast}
+use Rattle.fleet_invariants.specs.Sound.{link_of, Sound}
+use Rattle.fleet_invariants.specs.Kept.{Known, StepKeeps, Keeps, LineFits}
+use Rattle.fleet_invariants.specs.Laws.{NoneSpent}
+use Rattle.fleet_invariants.proofs.Lists.{within}
+use Rattle.fleet_invariants.proofs.Tests.{by_test}
+use Rattle.fleet_invariants.proofs.Growth.{at_most_on}
+use Rattle.fleet_invariants.proofs.Moves.{steady_of}
+use Rattle.fleet_invariants.proofs.Links.{block_is, stamp_near}
+use Rattle.fleet_invariants.proofs.Hearing.{KnownFrames}
+use Rattle.fleet_invariants.proofs.Doing.{known_frames}
+use Rattle.fleet_invariants.proofs.Restated.{restated, sound_restated}
+use Rattle.fleet_invariants.proofs.Heard.{heard_is, sent_known, authentic_known}
+use Rattle.fleet_invariants.proofs.Gives.{sound_gives}
+use Rattle.fleet_invariants.proofs.Readings.{read_fits}
+use Rattle.fleet_invariants.proofs.Plays.{choosing, one_line, sound_start, sound_lines}
+use Rattle.fleet_invariants.proofs.Counts.{few_frames, IsShort, line_short}
+use Rattle.fleet_invariants.proofs.Timestamps.{IsDone, Near, near_done, beats_near, steps_near, NearFrame, all_done}
+
+-- ---- what a node does
+
+drone_done : (o : Outcome (Side DroneState)) → IsDone o → IsDone (as_drone o)
+drone_done None h = h
+drone_done (Some d) h = tt
+
+station_done : (o : Outcome (Side StationState)) → IsDone o → IsDone (as_station o)
+station_done None h = h
+station_done (Some d) h = tt
+
+-- a datagram with no more frames than a line has bytes
+abbrev HasFew : List ℕ → Type 0
+HasFew bytes = length (frames_of (final_parse (extras_of profile_definitions) bytes)) ≤ 4096
+
+module _ (s : Scene) (g : Sound s) where
+  abbrev NearNow : Link → Type 0
+  NearNow link = Near s.clock s.key (length s.sent) link
+
+  near_at : (k : ℕ) (a : Node) → slice_get s.nodes k ≡ Some a → NearNow (link_of a)
+  near_at k a found = let l = g.links k a found in record { key_is = l.key; local = l.local }
+
+  near_known : (packets : List Packet) → KnownFrames s packets → (place : ℕ) (p : Packet) → slice_get packets place ≡ Some p → NearFrame s.clock s.key (length s.sent) p
+  near_known packets known place p e v block signed =
+      let at = known place p e v in
+      let q = g.sent at.place p at.found in
+      subst (λ n. n ≤ s.clock + length s.sent) (sym (block_is s p q block signed).stamp_is) (stamp_near s (steady_of s g) p q)
+
+  room : s.clock + (length s.sent + 1) ≤ greatest_stamp
+  room = let clock = g.clock in let frames = g.frames in omega arith
+
+  steps_done : {Core : Type 0} (link : Link) (step : CoreStep Core) → NearNow link → IsDone (steps s.clock link step)
+  steps_done link step h = near_done s.clock s.key (length s.sent + 1) (steps s.clock link step) (steps_near s.clock s.key (length s.sent) link step h room)
+
+  beats_done : {Core : Type 0} (link : Link) (core : Core) (message : Message) → NearNow link → IsDone (with_core core [] (sends s.clock message link))
+  beats_done link core message h = near_done s.clock s.key (length s.sent + 1) (with_core core [] (sends s.clock message link)) (beats_near s.clock s.key (length s.sent) link core message h room)
+
+  room_for : (n : ℕ) → n ≤ 4096 → s.clock + (length s.sent + n) ≤ greatest_stamp
+  room_for n few = let clock = g.clock in let frames = g.frames in omega arith
+
+  datagram_done : {Core : Type 0} (step : Core → Stream → PlanMsg → CoreStep Core) (node : Side Core) (bytes : List ℕ) → node.link.extras ≡ extras_of profile_definitions → NearNow node.link → Known s bytes → HasFew bytes → IsDone (receives step s.clock bytes node)
+  datagram_done step node bytes extras h known few =
+      let packets = frames_of (final_parse node.link.extras bytes) in
+      all_done step s.clock s.key packets (length s.sent) (length s.sent) node (omega arith) h (near_known packets (known_frames s bytes node.link.extras extras known))
+      (room_for (length packets) (subst (λ (x : List (ℕ × ℕ)). length (frames_of (final_parse x bytes)) ≤ 4096) (sym extras) few))
+
+  -- ---- calls
+
+  abbrev EachDone : (Node → Outcome Node) → Type 0
+  EachDone call = (k : ℕ) (a : Node) → slice_get s.nodes k ≡ Some a → IsDone (call a)
+
+  ticks_done : EachDone (node_ticks s.clock)
+  ticks_done k (Drone n) found = drone_done (drone_ticks s.clock n) (steps_done n.link (drone_waits (drone_tick n.core)) (near_at k (Drone n) found))
+  ticks_done k (Station n) found = station_done (station_ticks s.clock n) (steps_done n.link (station_does (station_tick n.core)) (near_at k (Station n) found))
+
+  heartbeats_done : EachDone (node_beats s.clock)
+  heartbeats_done k (Drone n) found = drone_done (drone_beats s.clock n) (beats_done n.link n.core drone_heartbeat (near_at k (Drone n) found))
+  heartbeats_done k (Station n) found = station_done (station_beats s.clock n) (beats_done n.link n.core station_heartbeat (near_at k (Station n) found))
+
+  receives_done : (bytes : List ℕ) → Known s bytes → HasFew bytes → EachDone (node_receives s.clock bytes)
+  receives_done bytes known few k (Drone n) found =
+      drone_done (drone_receives s.clock bytes n) (datagram_done drone_core n bytes (g.links k (Drone n) found).extras (near_at k (Drone n) found) known few)
+  receives_done bytes known few k (Station n) found =
+      station_done (station_receives s.clock bytes n) (datagram_done station_core n bytes (g.links k (Station n) found).extras (near_at k (Station n) found) known few)
+
+  sent_few : (i : ℕ) (p : Packet) → slice_get s.sent i ≡ Some p → HasFew (encoding p)
+  sent_few i p found = subst (λ (ps : List Packet). length ps ≤ 4096) (sym (heard_is s g p (g.sent i p found)).frames) (omega arith)
+
+  sent_done : (i : ℕ) (p : Packet) → slice_get s.sent i ≡ Some p → EachDone (node_receives s.clock (encoding p))
+  sent_done i p found = receives_done (encoding p) (sent_known s g i p found) (sent_few i p found)
+
+-- ---- steps
+
+-- if a step isn't done, it isn't for want of a timestamp
+abbrev Unspent : Result Step Halt → Type 0
+Unspent (Ok t) = Unit {0}
+Unspent (Err (At_limit limit)) = Unit {0}
+Unspent (Err Stamps_spent) = ⊥
+
+behind_unspent : (events : List Event) (r : Result Step Halt) → Unspent r → Unspent (behind events r)
+behind_unspent events (Ok t) h = tt
+behind_unspent events (Err (At_limit limit)) h = tt
+behind_unspent events (Err Stamps_spent) h = h
+
+then_unspent : (s : Scene) (r : Result Step Halt) (next : Scene → Result Step Halt) → Keeps s r → Unspent r → ((t : Scene) → StepKeeps s t → Unspent (next t)) → Unspent (and_then r next)
+then_unspent s (Ok t) next keeps h each = behind_unspent t.events (next t.scene) (each t.scene keeps)
+then_unspent s (Err (At_limit limit)) next keeps h each = tt
+then_unspent s (Err Stamps_spent) next keeps h each = h
+
+does : (s : Scene) (k : ℕ) (name : Name) (o : Outcome Node) → IsDone o → Unspent (node_does s k name o)
+does s k name None h = h
+does s k name (Some d) h = by_test Unspent (nat_le (length s.sent + length (packets_in d.events)) most_frames) _ _ (λ _. tt) (λ _. tt)
+
+module _ (s : Scene) (g : Sound s) where
+  at_place : (call : Node → Outcome Node) → EachDone s g call → (k : ℕ) (o : Option Node) → slice_get s.nodes k ≡ o → Unspent (calls_at s k o call)
+  at_place call each k None found = tt
+  at_place call each k (Some node) found = does s k (node_name node) (call node) (each k node found)
+
+  placed : (call : Node → Outcome Node) → EachDone s g call → (k : Option ℕ) → Unspent (calls_placed s k call)
+  placed call each None = tt
+  placed call each (Some k) = at_place call each k (slice_get s.nodes k) refl
+
+  calls_unspent : (name : Name) (call : Node → Outcome Node) → EachDone s g call → Unspent (calls s name call)
+  calls_unspent name call each = placed call each (position (is_named name) s.nodes)
+
+  given_one : (i : ℕ) (p : Packet) → slice_get s.sent i ≡ Some p → (k : ℕ) (o : Option Node) → slice_get s.nodes k ≡ o → Unspent (given_to s k p o)
+  given_one i p sent k None found = tt
+  given_one i p sent k (Some node) found =
+      by_test Unspent (same_name (node_name node) p.from) _ _ (λ _. tt) (λ _. does s k (node_name node) (node_receives s.clock (encoding p) node) (sent_done s g i p sent k node found))
+
+  delivered : (number : ℕ) (name : Name) (o : Option Packet) → slice_get s.sent (number - 1) ≡ o → Unspent (delivers s number name o)
+  delivered number name None found = tt
+  delivered number name (Some p) found = calls_unspent name (node_receives s.clock (encoding p)) (sent_done s g (number - 1) p found)
+
+given_some : (n : ℕ) (s : Scene) → Sound s → (i : ℕ) (p : Packet) → slice_get s.sent i ≡ Some p → (k : ℕ) → Unspent (given_from s k n p)
+given_some zero s g i p sent k = tt
+given_some (suc n) s g i p sent k =
+    then_unspent s (given_to s k p (slice_get s.nodes k)) (λ t. given_from t (k + 1) n p) ((sound_gives s g).one i p sent k) (given_one s g i p sent k (slice_get s.nodes k) refl) (λ t h. given_some n t h.sound i p (h.kept.sent i p sent) (k + 1))
+
+flow_unspent : (s : Scene) → Sound s → (o : Option Packet) → slice_get s.sent s.given ≡ o → (next : Scene → Result Step Halt) → ((t : Scene) → Sound t → Unspent (next t)) → Unspent (flow_next s o next)
+flow_unspent s g None e next each = tt
+flow_unspent s g (Some p) e next each =
+    let inside = within s.sent s.given p e in
+    let t = restated s (s.given + 1) s.draft s.clock in
+    let sound = sound_restated s (s.given + 1) s.draft s.clock g (omega arith) g.draft (omega arith) g.clock in
+    then_unspent t (given_to_all t p) next ((sound_gives t sound).all s.given p e) (given_some (length s.nodes) t sound s.given p e 0) (λ u h. each u h.sound)
+
+flows_unspent : (k : ℕ) (s : Scene) → Sound s → Unspent (flows k s)
+flows_unspent zero s g = tt
+flows_unspent (suc k) s g = flow_unspent s g (slice_get s.sent s.given) refl (flows k) (λ t h. flows_unspent k t h)
+
+-- ---- orders
+
+module _ (s : Scene) (g : Sound s) where
+  abbrev EachOrder : (ℕ → Side StationState → Result Step Halt) → Type 0
+  EachOrder order = (k : ℕ) (node : Side StationState) → slice_get s.nodes k ≡ Some (Station node) → Unspent (order k node)
+
+  order_at : (order : ℕ → Side StationState → Result Step Halt) → EachOrder order → (k : ℕ) (o : Option Node) → slice_get s.nodes k ≡ o → Unspent (orders_at s k o order)
+  order_at order each k None found = tt
+  order_at order each k (Some (Drone n)) found = tt
+  order_at order each k (Some (Station n)) found = each k n found
+
+  order_placed : (order : ℕ → Side StationState → Result Step Halt) → EachOrder order → (k : Option ℕ) → Unspent (orders_placed s k order)
+  order_placed order each None = tt
+  order_placed order each (Some k) = order_at order each k (slice_get s.nodes k) refl
+
+  order_unspent : (order : ℕ → Side StationState → Result Step Halt) → EachOrder order → (name : Name) → Unspent (orders_to s name order)
+  order_unspent order each name = order_placed order each (position (is_station_named name) s.nodes)
+
+  -- a station's step is done
+  step_done : (k : ℕ) (node : Side StationState) → slice_get s.nodes k ≡ Some (Station node) → (step : StationStep) → IsDone (as_station (steps s.clock node.link (station_does step)))
+  step_done k node found step = station_done (steps s.clock node.link (station_does step)) (steps_done s g node.link (station_does step) (near_at s g k (Station node) found))
+
+  refused_or : (k : ℕ) (node : Side StationState) (why : Option OpFault) (outcome : Outcome (Side StationState)) → IsDone (as_station outcome) → Unspent (orders s k node why outcome)
+  refused_or k node (Some why) outcome h = tt
+  refused_or k node None outcome h = does s k (node_of node.link.me) (as_station outcome) h
+
+  begun_or : (k : ℕ) (node : Side StationState) → slice_get s.nodes k ≡ Some (Station node) → (drone : Name) (kind : ℕ) (why : Option OpFault) → Unspent (upload_begins s k node drone kind why)
+  begun_or k node found drone kind (Some why) = tt
+  begun_or k node found drone kind None =
+      does (record s { draft = [] }) k (node_of node.link.me) (as_station (station_begins s.clock (stream_of drone) kind s.draft node)) (step_done k node found (begin_upload node.core (stream_of drone) kind s.draft))
+
+  begins_unspent : (station drone : Name) (kind : ℕ) → Unspent (begins s station drone kind)
+  begins_unspent station drone kind =
+      order_unspent (λ k node. upload_begins s k node drone kind (upload_refusal node.core kind s.draft)) (λ k node found. begun_or k node found drone kind (upload_refusal node.core kind s.draft)) station
+
+  cancels_unspent : (station : Name) → Unspent (cancels s station)
+  cancels_unspent station =
+      order_unspent (λ k node. orders s k node None (station_cancels s.clock node)) (λ k node found. refused_or k node None (station_cancels s.clock node) (step_done k node found (station_cancel node.core))) station
+
+  clears_unspent : (station drone : Name) (kind : ℕ) → Unspent (clears s station drone kind)
+  clears_unspent station drone kind =
+      order_unspent (λ k node. orders s k node (refusal node.core) (station_clears s.clock (stream_of drone) kind node))
+      (λ k node found. refused_or k node (refusal node.core) (station_clears s.clock (stream_of drone) kind node) (step_done k node found (begin_clear node.core (stream_of drone) kind))) station
+
+  gets_unspent : (station drone : Name) (kind : ℕ) → Unspent (gets s station drone kind)
+  gets_unspent station drone kind =
+      order_unspent (λ k node. orders s k node (refusal node.core) (station_gets s.clock (stream_of drone) kind node))
+      (λ k node found. refused_or k node (refusal node.core) (station_gets s.clock (stream_of drone) kind node) (step_done k node found (begin_get node.core (stream_of drone) kind))) station
+
+-- ---- lines
+
+at_line : (s : Scene) → Sound s → Sound (station_line s)
+at_line s g = sound_restated s (length s.sent) s.draft s.clock g (omega arith) g.draft (omega arith) g.clock
+
+line_unspent : (s : Scene) → Sound s → (line : Line) → LineFits line → AuthenticLine s line → IsShort line → Unspent (after_line s line)
+line_unspent s g Blank fits authentic short = tt
+line_unspent s g (DroneLine sys x y) fits authentic short = by_test Unspent (nat_lt (drones_in s.nodes) most_drones) _ _ (λ _. tt) (λ _. tt)
+line_unspent s g (StationLine sys comp) fits authentic short = by_test Unspent (nat_lt (stations_in s.nodes) most_stations) _ _ (λ _. tt) (λ _. tt)
+line_unspent s g (OneItem item) fits authentic short = tt
+line_unspent s g (Items n first) fits authentic short = tt
+line_unspent s g Empty fits authentic short = tt
+line_unspent s g (Begin station drone kind) fits authentic short = begins_unspent (station_line s) (at_line s g) station drone (number_of kind)
+line_unspent s g (Cancel station) fits authentic short = cancels_unspent (station_line s) (at_line s g) station
+line_unspent s g (Clear station drone kind) fits authentic short = clears_unspent (station_line s) (at_line s g) station drone (clear_number kind)
+line_unspent s g (Get station drone kind) fits authentic short = gets_unspent (station_line s) (at_line s g) station drone (number_of kind)
+line_unspent s g (Heartbeat node) fits authentic short = calls_unspent s g node (node_beats s.clock) (heartbeats_done s g)
+line_unspent s g (Deliver number node) fits authentic short = delivered s g number node (slice_get s.sent (number - 1)) refl
+line_unspent s g (Flow k) fits authentic short = flows_unspent k s g
+line_unspent s g (Noise node bytes) fits authentic short =
+    let few = at_most_on _ _ _ (few_frames (extras_of profile_definitions) bytes) short in
+    calls_unspent s g node (node_receives s.clock bytes) (receives_done s g bytes (authentic_known s g bytes fits authentic) few)
+line_unspent s g (Tick node) fits authentic short = calls_unspent s g node (node_ticks s.clock) (ticks_done s g)
+line_unspent s g (Clock n) fits authentic short = tt
+
+-- ---- a scenario
+
+-- it isn't for want of a timestamp that it stopped, if it did
+abbrev HasNext : Option Stop → Type 0
+HasNext None = Unit {0}
+HasNext (Some (Bad line reason)) = Unit {0}
+HasNext (Some Too_many_lines) = Unit {0}
+HasNext (Some (Halted (At_limit limit))) = Unit {0}
+HasNext (Some (Halted Stamps_spent)) = ⊥
+
+abbrev Goes : Played → Type 0
+Goes p = HasNext p.stop
+
+went_on : (p : Played) (r : Result Step Halt) → Unspent r → Goes (goes_on p r)
+went_on p (Ok t) h = tt
+went_on p (Err (At_limit limit)) h = tt
+went_on p (Err Stamps_spent) h = h
+
+judging : (p : Played) → Sound p.scene → (number : ℕ) (text : List ℕ) (reason : Option Reason) → reason_against (standing_of p.scene) text ≡ reason → AuthenticDone p.scene (line_read text reason) → Goes (judged p number text reason)
+judging p g number text (Some reason) e authentic = tt
+judging p g number text None e authentic =
+    went_on p (after_line p.scene (line_of text)) (line_unspent p.scene g (line_of text) (read_fits (standing_of p.scene) text e).1 authentic (line_short (standing_of p.scene) text e))
+
+line_goes : (p : Played) → Sound p.scene → (number : ℕ) (raw text : List ℕ) → AuthenticDone p.scene (line_done p.scene number raw text)
+    → Goes (if nat_lt most_lines number then stopped p Too_many_lines else if nat_lt most_line_bytes (length raw) then stopped p (Bad number Long) else judged p number text (reason_against (standing_of p.scene) text))
+line_goes p g number raw text authentic =
+    choosing Goes (AuthenticDone p.scene) (nat_lt most_lines number) (stopped p Too_many_lines) _ None _ (λ _. tt)
+    (choosing Goes (AuthenticDone p.scene) (nat_lt most_line_bytes (length raw)) (stopped p (Bad number Long)) _ None _ (λ _. tt)
+    (judging p g number text (reason_against (standing_of p.scene) text) refl))
+    authentic
+
+unless : (o : Option Stop) (p next : Played) (T : Type 0) → Goes p → UnlessStopped o T → (T → Goes next) → Goes (unless_stopped o p next)
+unless None p next T h each on = on each
+unless (Some stop) p next T h each on = h
+
+lines_go : (lines : List (List ℕ)) (p : Played) → Sound p.scene → Goes p → (number : ℕ) → AuthenticLines p number lines → Goes (lines_played p number lines)
+lines_go [] p g h number authentic = h
+lines_go (raw ∷ more) p g h number authentic =
+    unless p.stop p (lines_played (line_played p number raw) (number + 1) more) _ h authentic (λ each.
+    lines_go more (line_played p number raw) (one_line p g number raw (without_cr raw) each.0) (line_goes p g number raw (without_cr raw) each.0) (number + 1) each.1)
+
+last_goes : (p : Played) → Sound p.scene → Goes p → (number : ℕ) (rest : List ℕ) → p.stop ≡ None → AuthenticLast true p number rest → Goes (last_played p number rest)
+last_goes p g h number [] e authentic = h
+last_goes p g h number (b ∷ bs) e authentic =
+    line_goes p g number (b ∷ bs) (b ∷ bs) (subst (λ (o : Option Stop). UnlessStopped o (AuthenticDone p.scene (line_done p.scene number (b ∷ bs) (b ∷ bs)))) e authentic)
+
+rest_goes : (ended : Bool) (p : Played) → Sound p.scene → Goes p → (number : ℕ) (rest : List ℕ) → p.stop ≡ None → AuthenticLast ended p number rest → Goes (rest_played ended p number rest)
+rest_goes true p g h number rest e authentic = last_goes p g h number rest e authentic
+rest_goes false p g h number rest e authentic =
+    by_test Goes (nat_lt most_line_bytes (length rest)) _ p
+    (λ _. by_test Goes (nat_lt most_lines number) _ _ (λ _. tt) (λ _. tt)) (λ _. h)
+
+finished : (o : Option Stop) (p next : Played) → Goes p → p.stop ≡ o → (p.stop ≡ None → Goes next) → Goes (unless_stopped o p next)
+finished None p next h e each = each e
+finished (Some stop) p next h e each = h
+
+not_spent : (o : Option Stop) → HasNext o → o ≢ Some (Halted Stamps_spent)
+not_spent o h e = subst HasNext e h
+
+pub none_spent : NoneSpent
+none_spent key ended bytes authentic =
+    let lines = lines_played (at_start key) 1 (whole_lines bytes) in
+    let g : Sound lines.scene = sound_lines (at_start key) (sound_start key) 1 (whole_lines bytes) authentic.lines in
+    let h : Goes lines = lines_go (whole_lines bytes) (at_start key) (sound_start key) tt 1 authentic.lines in
+    not_spent (played key ended bytes).stop
+    (finished lines.stop lines (rest_played ended lines (length (whole_lines bytes) + 1) (unfinished bytes)) h refl (λ e.
+    rest_goes ended lines g h (length (whole_lines bytes) + 1) (unfinished bytes) e authentic.last))
