@@ -144,7 +144,7 @@ pub record Led (n : Nodes) (clock : ℕ) (nodes : List Node) (sent : List Packet
   pub alike : Alike old d.node
   pub fits : Fits n clock (slice_set nodes k d.node) (sent ++ packets_in d.events) (final n w events)
 
--- where it is done, and what it sends reads back
+-- if it is done, and what it sends reads back
 abbrev pub Leads : {A : Type 0} → Nodes → ℕ → List Node → List Packet → World → ℕ → Node → (A → Node) → Outcome A → List world.Event → List Order → Type 0
 Leads n clock nodes sent w k old node_of None events orders = Unit {0}
 Leads n clock nodes sent w k old node_of (Some d) events orders = AllRead d.events → Led n clock nodes sent w k old (record { node = node_of d.node; events = d.events }) events orders

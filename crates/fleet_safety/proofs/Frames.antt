@@ -100,7 +100,7 @@ first_more sent more p h = record {
     grown : (place index more sent both : ℕ) → place + (index + 1) ≡ sent → both ≡ sent + more → place + more + (index + 1) ≡ both
     grown place index more sent both e f = omega arith
 
--- where packets with the same bytes are the same
+-- if packets with the same bytes are the same
 pub sent_first : (sent : List Packet) (p : Packet) (i : ℕ) → slice_get sent i ≡ Some p → ((j : ℕ) (q : Packet) → slice_get sent j ≡ Some q → encoding q ≡ encoding p → q ≡ p) → IsFirst sent p
 sent_first [] p i e same = absurd (nowhere i e)
   where

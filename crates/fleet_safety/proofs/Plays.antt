@@ -106,7 +106,7 @@ module _ (every_call : EveryCallKeeps) (sent_known : SentKnown) (authentic_known
       goes number key p actions (calls_of number p.scene (line_of text)) (line_of text) (after_line p.scene (line_of text)) h (every_line p.scene h.sound (line_of text) reads.0 reads.1 a)
       (λ n distinct w fits. line_leads number n distinct every_call sent_known authentic_known p.scene w h.sound fits (line_of text) reads.0 reads.1 a)
 
-  -- a line that is done where it is not too long
+  -- a line that is done if it is not too long
   abbrev Plays : ℕ → Played → List Action → Played → Option Line → Type 0
   Plays number p actions q line = AuthenticDone p.scene line → Runs key q (actions ++ line_actions number p.scene line)
 

@@ -63,7 +63,7 @@ abbrev pub ticks : Node → world.Event
 ticks (Drone a) = Drone_ticks a.link.me
 ticks (Station a) = Station_ticks a.link.me
 
--- the sent frame with this place comes to it, where the newest has the place 0; drones keep what they install
+-- the sent frame with this place comes to it (the newest has the place 0); drones keep what they install
 abbrev pub comes_to : Node → ℕ → world.Event
 comes_to (Drone a) place = To_drone place a.link.me true
 comes_to (Station a) place = To_station place a.link.me
@@ -73,7 +73,7 @@ abbrev pub place_of : List ℕ → List Packet → Option ℕ
 place_of bytes [] = None
 place_of bytes (q ∷ qs) = if bytes_eq (encoding q) bytes then Some (length qs) else place_of bytes qs
 
--- only a frame that is admitted, that carries a message of the mission protocol, and that was sent is an event
+-- a frame is an event only if it is admitted,
 abbrev pub if_admitted : Admit → List world.Event → List world.Event
 if_admitted Admitted events = events
 if_admitted Unsigned events = []
@@ -82,15 +82,17 @@ if_admitted (NotLater last) events = []
 if_admitted (TooOld local) events = []
 if_admitted TooManyStreams events = []
 
+-- carries a message of the mission protocol,
 abbrev pub if_plan : Option PlanMsg → List world.Event → List world.Event
 if_plan None events = []
 if_plan (Some message) events = events
 
+-- and was sent
 abbrev pub if_sent : Option ℕ → (ℕ → List world.Event) → List world.Event
 if_sent None events = []
 if_sent (Some place) events = events place
 
--- a frame at a node, where these frames were sent before
+-- a frame at a node, after these frames were sent
 abbrev pub hearing : ℕ → List Packet → Node → Packet → List world.Event
 hearing clock sent a p =
     if_admitted (answer_to (link_of a).key (link_of a).history p)
@@ -101,12 +103,12 @@ abbrev pub ordering : ℕ → Side StationState → Option OpFault → world.Eve
 ordering clock a (Some why) e = e ∷ []
 ordering clock a None e = moves clock (Station a) e
 
--- it is accepted where there is no cause to refuse it
+-- it is accepted if there is no cause to refuse it
 abbrev pub accepted : Option OpFault → Order → List Order
 accepted (Some why) order = []
 accepted None order = order ∷ []
 
--- a cancel is accepted where an operation is open
+-- a cancel is accepted if an operation is open
 abbrev pub cancelled : Stream → Option Operation → List Order
 cancelled station None = []
 cancelled station (Some operation) = Accepts_cancel station ∷ []
@@ -122,7 +124,7 @@ node_hears clock p (Station a) = as_station (hears station_core clock p a)
 abbrev pub scene_with : Scene → ℕ → Done Node → Scene
 scene_with s k d = record s { nodes = slice_set s.nodes k d.node; sent = s.sent ++ packets_in d.events }
 
--- the node at a place, and the one of a name, where there is one
+-- the node at a place, and the one of a name, if there is one
 abbrev pub at_place : Scene → ℕ → Option Node → (Scene → ℕ → Node → List Action) → List Action
 at_place s k None call = []
 at_place s k (Some a) call = call s k a
@@ -139,7 +141,7 @@ abbrev pub and_next : Result Step Halt → List Action → (Scene → List Actio
 and_next (Ok t) actions next = actions ++ next t.scene
 and_next (Err halt) actions next = []
 
--- the station at a place, and the one of a name, where there is one
+-- the station at a place, and the one of a name, if there is one
 abbrev pub at_station : ℕ → Option Node → (ℕ → Side StationState → List Action) → List Action
 at_station k None order = []
 at_station k (Some (Drone a)) order = []
@@ -161,7 +163,7 @@ module _ (number : ℕ) where
   acts events orders (Ok t) = record { number = number; events = events; orders = orders; report = t.events; scene = t.scene } ∷ []
   acts events orders (Err halt) = []
 
-  -- it hears a frame, and then what follows
+  -- the node at place `k` hears a frame, and then what follows
   abbrev pub hears_then : Scene → ℕ → Node → Packet → Outcome Node → (Scene → Node → List Action) → List Action
   hears_then s k a p None next = []
   hears_then s k a p (Some d) next = record {
@@ -200,7 +202,7 @@ module _ (number : ℕ) where
   row_given s k zero p = []
   row_given s k (suc n) p = and_next (given_to s k p (slice_get s.nodes k)) (frame_given s k p (slice_get s.nodes k)) (λ t. row_given t (k + 1) n p)
 
-  -- the next frame of a flow, where there is one, to all nodes; and then what follows
+  -- the next frame of a flow, if there is one, to all nodes; and then what follows
   abbrev pub flown : Scene → Option Packet → (Scene → List Action) → List Action
   flown s None next = []
   flown s (Some p) next =

@@ -73,7 +73,7 @@ pub record InstallIsTrue (n : Nodes) (actions : List Action) (place : ℕ) (dron
   pub drafted : newest (uploads_by station (orders_of told_by.before)) ≡ Some (upload stream kind plan)
   pub once : tally installs_upload (history_of n actions) station (uploads (history_of n told_by.before) station) ≡ 1
 
--- what an operator may take from the lines of a report, where `n` are the nodes of the scenario
+-- what an operator may take from the lines of a report; `n` are the nodes of the scenario
 pub record LinesAreTrue (n : Nodes) (events : List report.Event) (actions : List Action) : Type 0 where
   -- each line `outcome` is true: what is told installed was installed, and in the whole history once; what is told not
   -- installed never is, before or after; a plan that was got is one that the drone held since the download began

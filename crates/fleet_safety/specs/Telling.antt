@@ -28,7 +28,7 @@ pub data ProtocolEvent : Type 0 where
   Refused : (station : Name) (why : OpFault) → ProtocolEvent
   Ended : (station : Name) (told : Told) → ProtocolEvent
 
--- a frame that was sent, where its message is one of the protocol
+-- a frame that was sent, if its message is one of the protocol
 abbrev pub sent_seen : ℕ → Name → Option PlanMsg → List ProtocolEvent
 sent_seen number from None = []
 sent_seen number from (Some m) = Sent number from m ∷ []
@@ -79,12 +79,12 @@ abbrev pub ends_told : List StoreEvent → List ProtocolEvent
 ends_told [] = []
 ends_told (e ∷ es) = end_told e ++ ends_told es
 
--- the frame with this number, where it has a message of the mission protocol
+-- the frame with this number, if it has a message of the mission protocol
 abbrev pub frame_told : ℕ → Stream → Option PlanMsg → List ProtocolEvent
 frame_told number from None = []
 frame_told number from (Some m) = Sent number (node_of from) m ∷ []
 
--- the frames behind the first `before`; the newest comes first in the list, and they are numbered from 1
+-- the frames after the first `before`; the newest comes first in the list, and they are numbered from 1
 abbrev pub frames_told : ℕ → List Frame → List ProtocolEvent
 frames_told before [] = []
 frames_told before (f ∷ fs) =
