@@ -1,11 +1,13 @@
 -- Keys that stand beside what they are the keys of.
-use Rattle.std.proofs.Common.{◌≡◌, ℕ, ◌+◌, ◌<◌, ◌≤◌, Bool, true, false, not, ◌||◌, if◌then◌else◌, cond, ltb, List, [], ◌∷◌, ◌++◌, length, get_or, take, map, slice_get, position, find, Option, Some, None, refl, sym, ap, subst, ◌∙◌, arith}
+use Rattle.std.proofs.Common.{◌≡◌, ℕ, ◌+◌, ◌<◌, ◌≤◌, Bool, true, false, not, ◌||◌, if◌then◌else◌, cond, ltb, List, [], ◌∷◌, ◌++◌, length, get_or, take, map, slice_get, position, find, Option, Some, None, Ok, Err, OnOk, refl, sym, ap, subst, ◌∙◌, arith}
 use Rattle.std.proofs.lemmas.Bool.Decides.{nat_tests}
-use Rattle.std.proofs.lemmas.List.{map-append, append-nil, length-map, take_more}
+use Rattle.std.proofs.lemmas.List.{map-append, append-nil, length-map, take_at, take_more}
 use Rattle.std.proofs.lemmas.List.Elements.{filter_map-append}
 use Rattle.std.proofs.lemmas.List.Folds.{find_at}
 use Rattle.std.proofs.lemmas.Option.{none-some, slice_get_past}
 use Rattle.std.specs.Global.{Vec}
+use Rattle.std.specs.Result.{is_err, OnErr}
+use Rattle.std.specs.declared.result.Result.{Result}
 use Rattle.std.specs.List.{list_any, filter_map, position_or_len}
 use Rattle.std.specs.Str.{bytes_eq}
 use Rattle.indexmap.specs.IndexSet.{insert_key}
@@ -75,3 +77,29 @@ module _ {X Y : Type 0} (h : X → Option Y) (xs : List X) (i : ℕ) (x : X) (wi
   -- and where nothing is given, nothing more stands there
   pub filter_map-no_more : h x ≡ None → filter_map h (take (i + 1) xs) ≡ filter_map h (take i xs)
   filter_map-no_more none = ap (filter_map h) one-more ∙ filter_map-append h (take i xs) (x ∷ []) ∙ rw none (append-nil _)
+
+-- what holds where a call fails, or where it doesn't
+when_err : {Fault P : Type 0} (r : Result Unit Fault) → true ≡ is_err r → OnErr r P → P
+when_err (Ok _) failed h = absurd (cc)
+when_err (Err _) failed h = h
+
+when_ok : {Fault P : Type 0} (r : Result Unit Fault) → false ≡ is_err r → OnOk r P → P
+when_ok (Ok _) well h = h
+when_ok (Err _) well h = absurd (cc)
+
+-- a name that was added goes off again, or its message is added too
+module _ {Fault : Type 0} {X : Type 0} (key : X → List ℕ) (names added : List (List ℕ)) (name : List ℕ) (old new : List X) (r : Result Unit Fault)
+    (more : added ≡ names ++ name ∷ []) (were : names ≡ map key old) where
+  pub names-cut : (cut : List (List ℕ)) (count : ℕ) → cut ≡ take count added → count ≡ length old
+      → true ≡ is_err r → OnErr r (new ≡ old) → cut ≡ map key new
+  names-cut cut count taken counted failed unchanged =
+      let kept : take count (map key old ++ name ∷ []) ≡ map key old =
+      take_at (map key old) (name ∷ []) count (length-map old key ∙ sym counted) in
+      taken ∙ ap (take count) (more ∙ ap (λ names. names ++ name ∷ []) were) ∙ kept ∙ ap (map key) (sym (when_err r failed unchanged))
+
+  pub names-added : (x : X) → name ≡ key x → false ≡ is_err r → OnOk r (new ≡ old ++ x ∷ []) → added ≡ map key new
+  names-added x is well kept =
+      more
+      ∙ ap (λ names. names ++ name ∷ []) were
+      ∙ ap (λ name. map key old ++ name ∷ []) is
+      ∙ sym (ap (map key) (when_ok r well kept) ∙ map-append key old (x ∷ []))

@@ -2,4 +2,6 @@ pub mod Elements
 pub mod Keys
 pub mod ManyFields
 pub mod Faultless
+pub mod OneMessage
+pub mod Wholes
 pub mod Rows

@@ -1,8 +1,23 @@
 -- The lines of items, one item more.
 use Rattle.std.proofs.Common.{◌≡◌, ℕ, ◌+◌, ◌<◌, List, [], ◌∷◌, ◌++◌, length, get_or, take, sym, ap, ◌∙◌, arith, add-zero, append-nil, append_assoc}
 use Rattle.std.proofs.lemmas.List.{take_more, length-take-le}
+use Rattle.std.specs.Fmt.{decimal}
 use Rattle.plan_items.specs.declared.items.Item.{Item}
-use Rattle.fleet_report.specs.Texts.{item_text, items_text}
+use Rattle.fleet_report.specs.Parts.{place_text}
+use Rattle.fleet_report.specs.Texts.{space, newline, item_text, items_text}
+
+-- what the holes of a line write one after another, joined from the left
+parts_joined : (a b c d e p x y z : List ℕ)
+    → a ++ (space ++ (b ++ (space ++ (c ++ (space ++ (d ++ (space ++ (e ++ (space ++ (p ++ x ++ space ++ y ++ space ++ z ++ newline))))))))))
+    ≡ a ++ space ++ b ++ space ++ c ++ space ++ d ++ space ++ e ++ space ++ p ++ x ++ space ++ y ++ space ++ z ++ newline
+parts_joined a b c d e p x y z = simp append_assoc
+
+-- the line of an item
+pub item_text-parts : (seq : ℕ) (item : Item)
+    → decimal seq ++ (space ++ (decimal item.frame ++ (space ++ (decimal item.command ++ (space ++ (decimal item.current
+    ++ (space ++ (decimal item.autocontinue ++ (space ++ place_text item)))))))))
+    ≡ item_text seq item
+item_text-parts seq item = parts_joined _ _ _ _ _ _ _ _ _
 
 pub items_text-push : (seq : ℕ) (items : List Item) (item : Item)
     → items_text seq (items ++ item ∷ []) ≡ items_text seq items ++ item_text (seq + length items) item

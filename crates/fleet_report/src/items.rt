@@ -1,6 +1,7 @@
 // How the lines of items are written.
 ghost use Rattle.std.specs.Prelude.{◌≡◌, ◌++◌, string_bytes, Some, OnOk};
 ghost use Rattle.plan_items.specs.Plans.{items_of};
+ghost use Rattle.fleet_report.specs.Parts.{place_text};
 ghost use Rattle.fleet_report.specs.Texts.{word_text, words_text, item_text, items_text};
 
 use crate::NoMemory;
@@ -41,6 +42,26 @@ impl fmt::Display for ParamsText {
     }
 }
 
+/// The end of an item's line: its params and its place.
+#[derive(Drop)]
+struct PlaceText(Item);
+
+impl fmt::Display for PlaceText {
+    ghost output = { λ text. Some (place_text text.0) };
+
+    fn fmt<W: fmt::Write>(&self, f: &mut fmt::Formatter<W>) -> fmt::Result {
+        let item = self.0;
+        writeln!(
+            f,
+            "{}{} {} {}",
+            ParamsText(item.p),
+            item.x,
+            item.y,
+            WordText(item.z)
+        )
+    }
+}
+
 /// The line of an item, with its number in the plan from 0.
 #[derive(Drop)]
 struct ItemText {
@@ -53,17 +74,14 @@ impl fmt::Display for ItemText {
 
     fn fmt<W: fmt::Write>(&self, f: &mut fmt::Formatter<W>) -> fmt::Result {
         let (seq, item) = (self.seq, self.item);
-        writeln!(
+        write!(
             f,
-            "{seq} {} {} {} {} {}{} {} {}",
+            "{seq} {} {} {} {} {}",
             item.frame,
             item.command,
             item.current,
             item.autocontinue,
-            ParamsText(item.p),
-            item.x,
-            item.y,
-            WordText(item.z)
+            PlaceText(item)
         )
     }
 }

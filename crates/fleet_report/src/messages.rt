@@ -1,6 +1,7 @@
 // How messages are written.
 ghost use Rattle.std.specs.Prelude.{◌≡◌, Some};
 ghost use Rattle.mav_messages.specs.Messages.{definition_of};
+ghost use Rattle.fleet_report.specs.Parts.{word, numbers_text};
 ghost use Rattle.fleet_report.specs.Texts.{said, addressee, target_field, target_text, message_text};
 
 use crate::texts::{KindText, NameText};
@@ -8,6 +9,52 @@ use mav_messages::Message;
 use mav_ports::Name;
 use plan_items::PlanMsg;
 use std::fmt;
+
+// The name that a message of the mission protocol is printed by.
+fn word_of(message: &PlanMsg) -> &'static str
+    ensures { result.now ≡ word message.now }
+{
+    match *message {
+        PlanMsg::Ping { .. } => "PING",
+        PlanMsg::Count { .. } => "COUNT",
+        PlanMsg::Request { .. } => "REQUEST",
+        PlanMsg::Item { .. } => "ITEM",
+        PlanMsg::Ack { .. } => "ACK",
+        PlanMsg::List { .. } => "LIST",
+        PlanMsg::Clear { .. } => "CLEAR",
+    }
+}
+
+/// The numbers of a message of the mission protocol.
+#[derive(Drop)]
+struct NumbersText(PlanMsg);
+
+impl fmt::Display for NumbersText {
+    ghost output = { λ text. Some (numbers_text text.0) };
+
+    fn fmt<W: fmt::Write>(&self, f: &mut fmt::Formatter<W>) -> fmt::Result {
+        match self.0 {
+            PlanMsg::Ping { seq, .. } => write!(f, "{seq}"),
+            PlanMsg::Count {
+                count: number,
+                kind,
+                ..
+            }
+            | PlanMsg::Request {
+                seq: number,
+                kind,
+                ..
+            }
+            | PlanMsg::Item {
+                seq: number,
+                kind,
+                ..
+            } => write!(f, "{} {number}", KindText(kind)),
+            PlanMsg::Ack { code, kind, .. } => write!(f, "{code} {}", KindText(kind)),
+            PlanMsg::List { kind, .. } | PlanMsg::Clear { kind, .. } => KindText(kind).fmt(f),
+        }
+    }
+}
 
 /// A message of the mission protocol by its name and numbers.
 #[derive(Drop)]
@@ -17,15 +64,7 @@ impl fmt::Display for SaidText {
     ghost output = { λ text. Some (said text.0) };
 
     fn fmt<W: fmt::Write>(&self, f: &mut fmt::Formatter<W>) -> fmt::Result {
-        match self.0 {
-            PlanMsg::Ping { seq, .. } => write!(f, "PING {seq}"),
-            PlanMsg::Count { count, kind, .. } => write!(f, "COUNT {} {count}", KindText(kind)),
-            PlanMsg::Request { seq, kind, .. } => write!(f, "REQUEST {} {seq}", KindText(kind)),
-            PlanMsg::Item { seq, kind, .. } => write!(f, "ITEM {} {seq}", KindText(kind)),
-            PlanMsg::Ack { code, kind, .. } => write!(f, "ACK {code} {}", KindText(kind)),
-            PlanMsg::List { kind, .. } => write!(f, "LIST {}", KindText(kind)),
-            PlanMsg::Clear { kind, .. } => write!(f, "CLEAR {}", KindText(kind)),
-        }
+        write!(f, "{} {}", word_of(&self.0), NumbersText(self.0))
     }
 }
 

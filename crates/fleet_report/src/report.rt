@@ -1,11 +1,13 @@
 // The text of what happens.
-ghost use Rattle.std.specs.Prelude.{◌≡◌, List, [], length, string_bytes, OnOk, IfOk};
+ghost use Rattle.std.specs.Prelude.{◌≡◌, ◌++◌, List, [], length, string_bytes, OnOk, IfOk};
 ghost use Rattle.plan_items.specs.declared.items.Item.{Item};
 ghost use Rattle.plan_items.specs.Kinds.{number_of};
 ghost use Rattle.plan_items.specs.Plans.{items_of};
 ghost use Rattle.plan_upload.specs.Outcomes.{told_of};
 ghost use Rattle.mav_frame.specs.Encoding.{encoding};
 ghost use Rattle.hex.specs.Hex.{encode_lower};
+ghost use Rattle.std.specs.Fmt.{decimal};
+ghost use Rattle.fleet_report.specs.Texts.{newline};
 ghost use Rattle.fleet_report.specs.Events.{Sent, Installed, Emptied, Dropped, Missing, Refused, Ended, plan_text, frame_text};
 ghost use Rattle.fleet_report.specs.Reports.{told, with_text};
 
@@ -140,16 +142,23 @@ impl Report {
     {
         write!(self.text, "outcome {} ", NameText(station))?;
         match outcome {
-            Outcome::Installed => writeln!(self.text, "installed"),
-            Outcome::NotInstalled(code) => writeln!(self.text, "not installed {code}"),
-            Outcome::Unknown => writeln!(self.text, "unknown"),
-            Outcome::Cleared => writeln!(self.text, "cleared"),
+            Outcome::Installed => self.text.push_str("installed\n"),
+            Outcome::NotInstalled(code) => self.numbered("not installed ", usize::from(*code)),
+            Outcome::Unknown => self.text.push_str("unknown\n"),
+            Outcome::Cleared => self.text.push_str("cleared\n"),
             Outcome::Got(plan) => {
-                writeln!(self.text, "got {}", plan.len())?;
+                self.numbered("got ", plan.len())?;
                 put_items(&mut self.text, plan)
             }
-            Outcome::Ended(code) => writeln!(self.text, "ended {code}"),
+            Outcome::Ended(code) => self.numbered("ended ", usize::from(*code)),
         }
+    }
+
+    // The end of a line: some words, and a number after them.
+    fn numbered(&mut self, words: &str, number: usize) -> Result<(), NoMemory>
+        ensures { OnOk result (self.new ≡ with_text self.old (words.now ++ decimal number ++ newline)) }
+    {
+        writeln!(self.text, "{words}{number}")
     }
 
     /// A plan of a drone as it stands at the end of a scenario.

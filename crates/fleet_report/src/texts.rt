@@ -29,10 +29,10 @@ impl fmt::Display for KindText {
 
     fn fmt<W: fmt::Write>(&self, f: &mut fmt::Formatter<W>) -> fmt::Result {
         match PlanKind::of(self.0) {
-            Some(PlanKind::Mission) => write!(f, "mission"),
-            Some(PlanKind::Fence) => write!(f, "fence"),
-            Some(PlanKind::Rally) => write!(f, "rally"),
-            None if self.0 == PlanKind::ALL => write!(f, "all"),
+            Some(PlanKind::Mission) => f.write_str("mission"),
+            Some(PlanKind::Fence) => f.write_str("fence"),
+            Some(PlanKind::Rally) => f.write_str("rally"),
+            None if self.0 == PlanKind::ALL => f.write_str("all"),
             None => write!(f, "{}", self.0),
         }
     }
@@ -48,8 +48,8 @@ impl fmt::Display for RefusalText {
     fn fmt<W: fmt::Write>(&self, f: &mut fmt::Formatter<W>) -> fmt::Result {
         match self.0 {
             OpFault::Busy { phase } => write!(f, "busy {phase}"),
-            OpFault::EmptyPlan => write!(f, "empty"),
-            OpFault::PingsSpent => write!(f, "pings spent"),
+            OpFault::EmptyPlan => f.write_str("empty"),
+            OpFault::PingsSpent => f.write_str("pings spent"),
             OpFault::NotFit { limit } => write!(f, "not fit {limit}"),
             OpFault::NoMemory => Ok(()),
         }

@@ -1,5 +1,6 @@
 -- The ids of a sorted map ascend.
 use Rattle.std.proofs.Common.{◌≡◌, rules, subst, sym}
+use Rattle.std.proofs.lemmas.Result.{err_from_is_err_and}
 use Rattle.std.specs.List.Sorted.{IsStrictlyIncreasing}
 use Rattle.std.proofs.lemmas.Map.Keys.{IsStrictlyIncreasing-from_sorted}
 use Rattle.x25_check.specs.Extras.{ids}
@@ -10,3 +11,22 @@ new-requires c =
     let collected : c.in_ok-collect.field-0.items ≡ c.loop-layout.by_id.entries = search rules in
     subst (λ pairs. IsStrictlyIncreasing (ids pairs)) (sym collected)
     (IsStrictlyIncreasing-from_sorted (ids c.loop-layout.by_id.entries) c.into_iter.ensures.into_iter_gives.5)
+
+pub returns-in_err-insert : goal.returns-in_err-insert
+returns-in_err-insert c =
+    let e = err_from_is_err_and c.from_residual.result c.from_residual.ensures.1 in
+    rw e.1 tt
+
+pub collect-requires-clause-can : goal.collect-requires-clause-can
+collect-requires-clause-can c = tt
+
+pub collect-requires-clause-finite : goal.collect-requires-clause-finite
+collect-requires-clause-finite c = tt
+
+pub collect-requires-clause-can_collect : goal.collect-requires-clause-can_collect
+collect-requires-clause-can_collect c = λ _ _ _. tt
+
+pub returns-in_err-collect : goal.returns-in_err-collect
+returns-in_err-collect c =
+    let e = err_from_is_err_and c.from_residual-in_err-collect.result c.from_residual-in_err-collect.ensures.1 in
+    rw e.1 tt
