@@ -1,5 +1,5 @@
 -- The drone, at a Count, a cancel and a Clear of the station that it has admitted.
-use Rattle.std.proofs.Common.{◌≡◌, ◌≢◌, ℕ, ◌<◌, ◌≤◌, ◌⊎◌, inl, inr, Bool, true, false, if◌then◌else◌, ◌==◌, ◌&&◌, nat_lt, List, [], ◌∷◌, length, Option, Some, None, refl, sym, arith, ◌∙◌}
+use Rattle.std.proofs.Common.{◌≡◌, ◌≢◌, ℕ, ◌<◌, ◌≤◌, ◌⊎◌, inl, inr, Bool, true, false, if◌then◌else◌, ◌==◌, ◌&&◌, nat_lt, List, [], ◌∷◌, length, Option, Some, None, refl, sym, ap, arith, ◌∙◌}
 use Rattle.std.specs.Prelude.{not}
 use Rattle.mav_ports.specs.declared.names.Stream.{Stream}
 use Rattle.plan_items.specs.declared.items.Item.{Item}
@@ -11,7 +11,8 @@ use Rattle.plan_upload.specs.Drone.{Download, UploadResult, DroneStep, Empties, 
 use Rattle.plan_safety.proofs.Keys.{by_test, same, apart, stream_eq, flag_true, flag_false, zero_or}
 use Rattle.plan_safety.proofs.Pair.{Pair, Facts, SentByDrone, speaks, acks, opens, opens_first, closes, an_ack, a_request}
 use Rattle.plan_safety.proofs.DroneSide as side
-use Rattle.plan_safety.proofs.Part.{Shows, Copies, IsClear, kind_of, shown_of, Part, Moments, pair_of, Gathers, Inv, Keeps, result_number}
+use Rattle.plan_safety.specs.Store.{RefusesCount}
+use Rattle.plan_safety.proofs.Part.{Shows, Copies, IsClear, Answers, kind_of, shown_of, Part, Moments, pair_of, Gathers, Inv, Keeps, result_number, answered_opened, subject}
 use Rattle.plan_safety.proofs.Leaf.{Own, said_part, drone_said}
 
 -- results
@@ -91,37 +92,37 @@ acked g t z = record g { last_ack = t; last_verdict = z }
 
 module _ (d s : Stream) (ne : d ≢ s) where
   -- an answer that changes nothing and is no Ack, or Ack 13
-  pub on_answer : (p : Part) (g : Moments) (a : PlanMsg) → Inv d s p g → SentByDrone (speaks (pair_of s p g)) p.drone_next (Some a) → Shows (speaks (pair_of s p g)) (kind_of p.opening) (shown_of p.opening) p.drone_next (Some a) → Inv d s (said_part d p p.drone a) g
-  on_answer p g a i n sh =
+  pub on_answer : (p : Part) (g : Moments) (a : PlanMsg) → Inv d s p g → SentByDrone (speaks (pair_of s p g)) p.drone_next (Some a) → Shows (speaks (pair_of s p g)) (kind_of p.opening) (shown_of p.opening) p.drone_next (Some a) → ((pair_of s p g).phase ≡ 3 → Answers d s p.transaction g.counted g.first_open p.drone_next p.sent (Some a)) → Inv d s (said_part d p p.drone a) g
+  on_answer p g a i n sh new =
       let q : Pair = pair_of s p g in
       drone_said d s ne p g g p.drone a (speaks q) i refl (side.speaks_facts q i.facts)
       (record { drone_next = omega arith; station_next = omega arith; shows = λ a b. (a, refl); drone = λ u x. side.speaks_drone q u x i.facts; station = λ ck k t l u x. side.speaks_station q ck k t l u x i.facts })
-      (λ _. n) (omega arith) i.upload refl (λ _. sh) (λ k l z. z)
+      (λ _. n) (omega arith) i.upload refl (λ _. sh) (λ k l z. z) (λ x. ((i.asked x).0, inr (i.asked x).1)) i.answers (λ ph _. new ph)
 
   -- an Ack, where at most the own download is closed
-  pub on_ack : (p : Part) (g : Moments) (w : Option Download) (c k z : ℕ) → ((k : ℕ) (x : List Item) → Copies s k x p.drone.download → Copies s k x w) → Inv d s p g → CanAck (pair_of s p g) z → SentByDrone (acks (pair_of s p g) z) p.drone_next (an_ack c k) → Inv d s (said_part d p (record p.drone { download = w }) (ack s c k)) (acked g p.drone_next z)
-  on_ack p g w c k z cp i h n = let q : Pair = pair_of s p g in drone_said d s ne p g (acked g p.drone_next z) (record p.drone { download = w }) (ack s c k) (acks q z) i refl (acks_ok q z i.facts h) (keeps_acks q z i.facts h) (λ _. n) (omega arith) i.upload refl (λ _. tt) cp
+  pub on_ack : (p : Part) (g : Moments) (w : Option Download) (c k z : ℕ) → ((k : ℕ) (x : List Item) → Copies s k x p.drone.download → Copies s k x w) → Inv d s p g → CanAck (pair_of s p g) z → SentByDrone (acks (pair_of s p g) z) p.drone_next (an_ack c k) → ((pair_of s p g).phase ≡ 3 → Answers d s p.transaction g.counted g.first_open p.drone_next p.sent (Some (ack s c k))) → Inv d s (said_part d p (record p.drone { download = w }) (ack s c k)) (acked g p.drone_next z)
+  on_ack p g w c k z cp i h n new = let q : Pair = pair_of s p g in drone_said d s ne p g (acked g p.drone_next z) (record p.drone { download = w }) (ack s c k) (acks q z) i refl (acks_ok q z i.facts h) (keeps_acks q z i.facts h) (λ _. n) (omega arith) i.upload refl (λ _. tt) cp (λ x. ((i.asked x).0, inr (i.asked x).1)) i.answers (λ ph _. new ph)
 
   -- the own upload is closed
-  pub on_close : (p : Part) (g : Moments) (w : Option Download) (c k z : ℕ) → ((k : ℕ) (x : List Item) → Copies s k x p.drone.download → Copies s k x w) → Inv d s p g → 0 < (pair_of s p g).has_open → g.last_verdict ≤ z → z ≤ p.drone_next → (0 < g.first_reply → z ≡ g.last_verdict) → SentByDrone (closes (pair_of s p g) z) p.drone_next (an_ack c k) → Inv d s (said_part d p (record p.drone { upload = None; results = with_result p.drone.results s false; download = w }) (ack s c k)) (acked g p.drone_next z)
-  on_close p g w c k z cp i h a b x n =
+  pub on_close : (p : Part) (g : Moments) (w : Option Download) (c k z : ℕ) → ((k : ℕ) (x : List Item) → Copies s k x p.drone.download → Copies s k x w) → Inv d s p g → 0 < (pair_of s p g).has_open → g.last_verdict ≤ z → z ≤ p.drone_next → (0 < g.first_reply → z ≡ g.last_verdict) → SentByDrone (closes (pair_of s p g) z) p.drone_next (an_ack c k) → ((pair_of s p g).phase ≡ 3 → Answers d s p.transaction g.counted g.first_open p.drone_next p.sent (Some (ack s c k))) → Inv d s (said_part d p (record p.drone { upload = None; results = with_result p.drone.results s false; download = w }) (ack s c k)) (acked g p.drone_next z)
+  on_close p g w c k z cp i h a b x n new =
       let q : Pair = pair_of s p g in
-      drone_said d s ne p g (acked g p.drone_next z) (record p.drone { upload = None; results = with_result p.drone.results s false; download = w }) (ack s c k) (closes q z) i (rw (result_same p.drone.results s false) refl) (side.closes_facts q z i.facts h a b x) (keeps_closes q z i.facts h a b x) (λ _. n) (omega arith) tt refl (λ _. tt) cp
+      drone_said d s ne p g (acked g p.drone_next z) (record p.drone { upload = None; results = with_result p.drone.results s false; download = w }) (ack s c k) (closes q z) i (rw (result_same p.drone.results s false) refl) (side.closes_facts q z i.facts h a b x) (keeps_closes q z i.facts h a b x) (λ _. n) (omega arith) tt refl (λ _. tt) cp (λ x. ((i.asked x).0, inr (i.asked x).1)) i.answers (λ ph _. new ph)
 
   -- the own upload is closed with a refusal
-  pub on_refusal : (p : Part) (g : Moments) (c k : ℕ) → Inv d s p g → IsRefusal c → CanRefuse (pair_of s p g) → Own d s p (answers (closed p.drone s) (ack s c k))
-  on_refusal p g c k i r h =
+  pub on_refusal : (p : Part) (g : Moments) (c k : ℕ) → Inv d s p g → IsRefusal c → CanRefuse (pair_of s p g) → ((pair_of s p g).phase ≡ 3 → Answers d s p.transaction g.counted g.first_open p.drone_next p.sent (Some (ack s c k))) → Own d s p (answers (closed p.drone s) (ack s c k))
+  on_refusal p g c k i r h new =
       let q : Pair = pair_of s p g in
       let l : q.last_verdict ≤ q.drone_next = (let z = i.facts.last_verdict_sent in omega arith) in
       by_test (λ e. Own d s p (answers e (ack s c k))) (is_own p.drone.upload s) _ _
-      (λ own. record { needs = tt; moments = acked g p.drone_next p.drone_next; inv = on_close p g p.drone.download c k p.drone_next (λ k l z. z) i (let z : q.has_open ≡ 1 = flag_true _ own in omega arith) l (omega arith) (λ x. absurd (let z = h.attempt in omega arith)) (closes_refused q c k r i.facts h) })
-      (λ other. record { needs = tt; moments = acked g p.drone_next p.drone_next; inv = on_ack p g p.drone.download c k p.drone_next (λ k l z. z) i (refuse_ack q i.facts h) (refused q c k r i.facts h) })
+      (λ own. record { needs = tt; moments = acked g p.drone_next p.drone_next; inv = on_close p g p.drone.download c k p.drone_next (λ k l z. z) i (let z : q.has_open ≡ 1 = flag_true _ own in omega arith) l (omega arith) (λ x. absurd (let z = h.attempt in omega arith)) (closes_refused q c k r i.facts h) new })
+      (λ other. record { needs = tt; moments = acked g p.drone_next p.drone_next; inv = on_ack p g p.drone.download c k p.drone_next (λ k l z. z) i (refuse_ack q i.facts h) (refused q c k r i.facts h) new })
 
   -- a refusal that changes nothing
-  pub on_denial : (p : Part) (g : Moments) (c k : ℕ) → Inv d s p g → IsRefusal c → CanRefuse (pair_of s p g) → Own d s p (answers p.drone (ack s c k))
-  on_denial p g c k i r h =
+  pub on_denial : (p : Part) (g : Moments) (c k : ℕ) → Inv d s p g → IsRefusal c → CanRefuse (pair_of s p g) → ((pair_of s p g).phase ≡ 3 → Answers d s p.transaction g.counted g.first_open p.drone_next p.sent (Some (ack s c k))) → Own d s p (answers p.drone (ack s c k))
+  on_denial p g c k i r h new =
       let q : Pair = pair_of s p g in
-      record { needs = tt; moments = acked g p.drone_next p.drone_next; inv = on_ack p g p.drone.download c k p.drone_next (λ k l z. z) i (refuse_ack q i.facts h) (refused q c k r i.facts h) }
+      record { needs = tt; moments = acked g p.drone_next p.drone_next; inv = on_ack p g p.drone.download c k p.drone_next (λ k l z. z) i (refuse_ack q i.facts h) (refused q c k r i.facts h) new }
 
 -- what is known of a cancel that was admitted
 pub record Cancelled (p : Pair) : Type 0 where
@@ -191,6 +192,21 @@ opens_new p k f h = grind arith
 opens_first_new : (p : Pair) (k : ℕ) → Facts p → SentByDrone (opens_first p) p.drone_next (a_request 0 k)
 opens_first_new p k f = grind arith
 
+-- the codes that refuse a Count
+pub refuses_only : (c : ℕ) → RefusesCount c → (c ≢ 0) × (c ≢ 1) × (c ≢ 13) × (c ≢ 15)
+refuses_only c r = grind arith
+
+-- in phase 3 no Clear or List is admitted, and no cancel since the upload was opened
+pub no_clear : (p : Pair) → Facts p → Clearing p → p.phase ≡ 3 → ⊥
+no_clear p f h ph = grind arith
+
+no_cancel : (p : Pair) → Facts p → Cancelled p → p.phase ≡ 3 → 0 < p.first_open → ⊥
+no_cancel p f h ph some = grind arith
+
+-- the answer to a cancel refuses no Count
+cancel_only : (kept c : ℕ) → CodeOf kept c → RefusesCount c → ⊥
+cancel_only kept c h r = grind arith
+
 -- the codes of refusals
 pub three : IsRefusal 3
 three = (λ e. absurd (omega arith), λ e. absurd (omega arith))
@@ -219,7 +235,7 @@ module _ (d s : Stream) (ne : d ≢ s) where
   on_cancel p g k i x =
       let q : Pair = pair_of s p g in
       by_test (λ e. Own d s p (answers e (ack s (cancel_code (result_of e.results s)) k))) (is_own p.drone.upload s) _ _
-      (λ own. record { needs = tt; moments = acked g p.drone_next g.last_verdict; inv = rw (result_same p.drone.results s false) (on_close d s ne p g (download_without p.drone.download s) 15 k g.last_verdict (λ k x z. left_copies s k x p.drone.download z) i (let z : q.has_open ≡ 1 = flag_true _ own in omega arith) (omega arith) (let z = i.facts.last_verdict_sent in omega arith) (λ _. refl) (cancel_own q k i.facts (let z : q.has_open ≡ 1 = flag_true _ own in omega arith))) })
+      (λ own. record { needs = tt; moments = acked g p.drone_next g.last_verdict; inv = rw (result_same p.drone.results s false) (on_close d s ne p g (download_without p.drone.download s) 15 k g.last_verdict (λ k x z. left_copies s k x p.drone.download z) i (let z : q.has_open ≡ 1 = flag_true _ own in omega arith) (omega arith) (let z = i.facts.last_verdict_sent in omega arith) (λ _. refl) (cancel_own q k i.facts (let z : q.has_open ≡ 1 = flag_true _ own in omega arith)) (λ ph. (λ _ r. absurd ((refuses_only 15 r).3 refl), λ some _ _. absurd (no_cancel q i.facts x ph some)))) })
       (λ other.
       let c = cancel_code (result_of p.drone.results s) in
       let z : ℕ = if c == 0 then p.drone_next else g.last_verdict in
@@ -228,7 +244,8 @@ module _ (d s : Stream) (ne : d ≢ s) where
         moments = acked g p.drone_next z;
         inv = on_ack d s ne p g (download_without p.drone.download s) c k z (λ k x z. left_copies s k x p.drone.download z) i
             (cancel_can q c z i.facts x (cancel_code_of (result_of p.drone.results s)) (latest_zero c p.drone_next g.last_verdict) (latest_other c p.drone_next g.last_verdict))
-            (cancel_other q k c z i.facts x (flag_false _ other) (cancel_code_of (result_of p.drone.results s)) (latest_zero c p.drone_next g.last_verdict) (latest_other c p.drone_next g.last_verdict));
+            (cancel_other q k c z i.facts x (flag_false _ other) (cancel_code_of (result_of p.drone.results s)) (latest_zero c p.drone_next g.last_verdict) (latest_other c p.drone_next g.last_verdict))
+            (λ ph. (λ _ r. absurd (cancel_only q.result c (cancel_code_of (result_of p.drone.results s)) r), λ some _ _. absurd (no_cancel q i.facts x ph some)));
       })
 
   -- an upload that is opened has gathered nothing
@@ -248,7 +265,8 @@ module _ (d s : Stream) (ne : d ≢ s) where
               drone_said d s ne p g (record g { first_open = p.drone_next; last_request = p.drone_next }) (opened p.drone s k n) (ask s k 0) (opens_first q) i (rw (same s, result_same p.drone.results s false) refl)
               (side.opens_first_facts q i.facts b.count b.counted b.own none)
               (record { drone_next = omega arith; station_next = omega arith; shows = λ a b. (a, refl); drone = λ v x. side.opens_first_drone q v x i.facts b.count b.counted b.own none; station = λ ck kk t l v x. side.opens_first_station q ck kk t l v x i.facts b.count b.counted b.own none })
-              (λ _. opens_first_new q k i.facts) (omega arith) u refl (λ _. tt) (λ k l z. z);
+              (λ _. opens_first_new q k i.facts) (omega arith) u refl (λ _. tt) (λ k l z. z)
+              (λ _. (0, inl (refl, ap (λ y. Some (ask s y 0)) ek, i.count b.counted))) (λ ph. answered_opened d s p.transaction g.counted g.first_open p.drone_next q (subject p.transaction p.opening) p.sent (omega arith) i.truths (i.answers ph)) (λ _ _. tt);
         }
         | inr ever ↦ record {
           needs = tt;
@@ -257,7 +275,7 @@ module _ (d s : Stream) (ne : d ≢ s) where
               drone_said d s ne p g (record g { last_request = p.drone_next }) (opened p.drone s k n) (ask s k 0) (opens q) i (rw (same s, result_same p.drone.results s false) refl)
               (side.opens_facts q i.facts b.count b.own ever)
               (record { drone_next = omega arith; station_next = omega arith; shows = λ a b. (a, refl); drone = λ v x. side.opens_drone q v x i.facts b.count b.own ever; station = λ ck kk t l v x. side.opens_station q ck kk t l v x i.facts b.count b.own ever })
-              (λ _. opens_new q k i.facts ever) (omega arith) u refl (λ _. tt) (λ k l z. z);
+              (λ _. opens_new q k i.facts ever) (omega arith) u refl (λ _. tt) (λ k l z. z) (λ x. ((i.asked x).0, inr (i.asked x).1)) i.answers (λ _ _. tt);
         }
       ]
 
@@ -266,12 +284,15 @@ module _ (d s : Stream) (ne : d ≢ s) where
   on_count p g k n i b ek en =
       let P : DroneStep → Type 0 = Own d s p in
       let can = count_refuses (pair_of s p g) i.facts b in
-      by_test P (nat_lt 2 k) _ _ (λ _. on_refusal d s ne p g 3 k i three can) (λ _.
-      by_test P (is_other p.drone.upload s) _ _ (λ _. on_denial d s ne p g 14 k i denied can) (λ _.
-      by_test P (n == 0) _ _ (λ _. on_refusal d s ne p g 5 k i five can) (λ some.
-      by_test P (nat_lt (limit_of k) n) _ _ (λ _. on_refusal d s ne p g 4 k i four can) (λ _.
-      by_test P (has_no_room p.drone s) _ _ (λ _. on_denial d s ne p g 14 k i denied can) (λ _.
+      by_test P (nat_lt 2 k) _ _ (λ _. on_refusal d s ne p g 3 k i three can (new 3 (inl refl))) (λ _.
+      by_test P (is_other p.drone.upload s) _ _ (λ _. on_denial d s ne p g 14 k i denied can (new 14 (inr (inr (inr refl))))) (λ _.
+      by_test P (n == 0) _ _ (λ _. on_refusal d s ne p g 5 k i five can (new 5 (inr (inr (inl refl))))) (λ some.
+      by_test P (nat_lt (limit_of k) n) _ _ (λ _. on_refusal d s ne p g 4 k i four can (new 4 (inr (inl refl)))) (λ _.
+      by_test P (has_no_room p.drone s) _ _ (λ _. on_denial d s ne p g 14 k i denied can (new 14 (inr (inr (inr refl))))) (λ _.
       on_open p g k n i b ek en (eq_zero n some))))))
+    where
+      new : (c : ℕ) → RefusesCount c → (pair_of s p g).phase ≡ 3 → Answers d s p.transaction g.counted g.first_open p.drone_next p.sent (Some (ack s c k))
+      new c r ph = (λ _ _. (ek, i.count b.counted), λ some _ _. (ek, i.asked some, inl r))
 
   -- MISSION_CLEAR_ALL
   pub on_clear : (keeps : Bool) (p : Part) (g : Moments) (k : ℕ) → Inv d s p g → Clearing (pair_of s p g) → IsClear k p.opening → Own d s p (clear_comes keeps p.drone s k)
@@ -279,8 +300,8 @@ module _ (d s : Stream) (ne : d ≢ s) where
       let P : DroneStep → Type 0 = Own d s p in
       let q : Pair = pair_of s p g in
       let can = clear_refuses q i.facts b in
-      by_test P (nat_lt 2 k && not (k == every_kind)) _ _ (λ _. on_denial d s ne p g 3 k i three can) (λ _.
-      by_test P (is_other p.drone.upload s) _ _ (λ _. on_denial d s ne p g 14 k i denied can) (λ _.
+      by_test P (nat_lt 2 k && not (k == every_kind)) _ _ (λ _. on_denial d s ne p g 3 k i three can (λ ph. absurd (no_clear q i.facts b ph))) (λ _.
+      by_test P (is_other p.drone.upload s) _ _ (λ _. on_denial d s ne p g 14 k i denied can (λ ph. absurd (no_clear q i.facts b ph))) (λ _.
       by_test P keeps _ _ (λ _.
       by_test (λ x. Own d s p (record { drone = record x { plans = without_plan p.drone.plans k }; answer = Some (ack s 0 k); event = Empties s k })) (is_own p.drone.upload s) _ _
       (λ own. absurd (shut q i.facts b (flag_true _ own)))
@@ -290,9 +311,9 @@ module _ (d s : Stream) (ne : d ≢ s) where
         inv =
             drone_said d s ne p g (acked g p.drone_next p.drone_next) (record p.drone { plans = without_plan p.drone.plans k }) (ack s 0 k) (acks q p.drone_next) i refl
             (acks_ok q p.drone_next i.facts (refuse_ack q i.facts can)) (keeps_acks q p.drone_next i.facts (refuse_ack q i.facts can))
-            (λ _. clear_new q k i.facts b) (omega arith) i.upload refl (λ _. tt) (λ k l z. z);
+            (λ _. clear_new q k i.facts b) (omega arith) i.upload refl (λ _. tt) (λ k l z. z) (λ x. ((i.asked x).0, inr (i.asked x).1)) i.answers (λ ph _. absurd (no_clear q i.facts b ph));
       }))
-      (λ _. on_denial d s ne p g 14 k i denied can)))
+      (λ _. on_denial d s ne p g 14 k i denied can (λ ph. absurd (no_clear q i.facts b ph)))))
     where
       shut : (p : Pair) → Facts p → Clearing p → p.has_open ≡ 1 → ⊥
       shut p f h o = grind arith

@@ -14,9 +14,9 @@ use Rattle.plan_safety.specs.Store.{Transaction, A_get}
 use Rattle.plan_safety.proofs.Keys.{by_test, eq_true, number_same, stream_eq, both_true}
 use Rattle.plan_safety.proofs.Pair.{Pair, Facts, SentByDrone, speaks, lists, a_count, an_ack}
 use Rattle.plan_safety.proofs.DroneSide as side
-use Rattle.plan_safety.proofs.Part.{Seen, Shows, Copies, GathersIn, Means, Operates, shown_of, Part, Moments, pair_of, subject, Inv, truths_keep, number_in, work_number, gathers_more, coded_more, final_more, cancel_more}
+use Rattle.plan_safety.proofs.Part.{Seen, Shows, Copies, GathersIn, Means, Operates, shown_of, Part, Moments, pair_of, subject, Inv, truths_keep, number_in, work_number, gathers_more, coded_more, final_more, cancel_more, Answers}
 use Rattle.plan_safety.proofs.Leaf.{Own, drone_said}
-use Rattle.plan_safety.proofs.DroneCases.{Clearing as Listed, clear_refuses, on_denial, on_answer, three, denied, left_copies}
+use Rattle.plan_safety.proofs.DroneCases.{Clearing as Listed, clear_refuses, on_denial, on_answer, three, denied, left_copies, refuses_only, no_clear}
 
 -- what is known of a List that was admitted, beside what is known of a Clear
 pub record Listing_comes (p : Pair) : Type 0 where
@@ -31,6 +31,10 @@ lists_new p k n = (omega arith, omega arith, λ _ _ _. refl)
 
 thirteen_new : (p : Pair) (k : ℕ) → Facts p → SentByDrone (speaks p) p.drone_next (an_ack 13 k)
 thirteen_new p k f = grind arith
+
+-- since the upload was opened no Request of an earlier operation is admitted
+no_request : (p : Pair) → Facts p → (0 < p.first_count → p.drone_last < p.first_count) → 0 < p.first_open → ⊥
+no_request p f early some = grind arith
 
 -- the copy is of the plan
 copy_copies : (s : Stream) (k : ℕ) (x : List Item) → Copies s k x (copy_of s k x)
@@ -72,7 +76,7 @@ get_again d s sent f t k n x y cancelled pings None e l h = tt
 get_again d s sent f t k n x y cancelled pings (Some o) e l h = record {
   means = means_again t k n x y o.work o.kind o.plan e h.means;
   numbered = h.numbered;
-  coded = coded_more d s sent f t.drone_since o.code h.coded;
+  coded = coded_more d s sent f t o.code h.coded;
   terminates = h.terminates;
   gathers = gathers_free (shown_of (getting k y n)) o.phase o.got o.total l;
   final = λ z. final_more d s sent f t (h.final z);
@@ -98,16 +102,22 @@ module _ (d s : Stream) (ne : d ≢ s) where
     since_count = i.since_count;
     count = i.count;
     download = λ a b. let o = i.download a b in (o.0, cp _ _ o.1);
+    asked = i.asked;
+    answers = i.answers;
   }
 
   -- the own download is closed
   pub on_undownloaded : (p : Part) (g : Moments) → Inv d s p g → Own d s p (rests (undownloaded p.drone s))
   on_undownloaded p g i = record { needs = tt; moments = g; inv = on_download p g (download_without p.drone.download s) (λ k x z. left_copies s k x p.drone.download z) i }
 
+  -- what is true of the acknowledgement that denies it
+  denied_request : (p : Part) (g : Moments) (kind : ℕ) → Inv d s p g → (0 < g.first_count → p.drone_last < g.first_count) → Answers d s p.transaction g.counted g.first_open p.drone_next p.sent (Some (ack s 13 kind))
+  denied_request p g kind i early = (λ _ r. absurd ((refuses_only 13 r).2 refl), λ some _ _. absurd (no_request (pair_of s p g) i.facts early some))
+
   -- the item that is asked for, of the copy
-  on_give : (p : Part) (g : Moments) (c : Download) (seq kind : ℕ) (x : Option Item) → Inv d s (with_download p (Some c)) g → slice_get c.items seq ≡ x → c.stream ≡ s → c.kind ≡ kind → Own d s (with_download p (Some c)) (give_item (with_download p (Some c)).drone s c seq kind x)
-  on_give p g c seq kind None i e own ek = record { needs = tt; moments = g; inv = on_answer d s ne (with_download p (Some c)) g (ack s 13 kind) i (thirteen_new (pair_of s (with_download p (Some c)) g) kind i.facts) tt }
-  on_give p g c seq kind (Some x) i e own ek =
+  on_give : (p : Part) (g : Moments) (c : Download) (seq kind : ℕ) (x : Option Item) → Inv d s (with_download p (Some c)) g → (0 < g.first_count → p.drone_last < g.first_count) → slice_get c.items seq ≡ x → c.stream ≡ s → c.kind ≡ kind → Own d s (with_download p (Some c)) (give_item (with_download p (Some c)).drone s c seq kind x)
+  on_give p g c seq kind None i early e own ek = record { needs = tt; moments = g; inv = on_answer d s ne (with_download p (Some c)) g (ack s 13 kind) i (thirteen_new (pair_of s (with_download p (Some c)) g) kind i.facts) tt (λ _. denied_request (with_download p (Some c)) g kind i early) }
+  on_give p g c seq kind (Some x) i early e own ek =
       let v = with_download p (Some c) in
       let q : Pair = pair_of s v g in
       record {
@@ -118,17 +128,17 @@ module _ (d s : Stream) (ne : d ≢ s) where
             (record { drone_next = omega arith; station_next = omega arith; shows = λ a b. (a, refl); drone = λ u x. side.speaks_drone q u x i.facts; station = λ ck k t l u x. side.speaks_station q ck k t l u x i.facts })
             (λ _. (let z : q.drone_next < q.drone_next + 1 = omega arith in z)) (omega arith) i.upload refl
             (λ _. λ a b _. let o = (i.download a b).1 own in (sym ek ∙ o.0, subst (λ (y : List Item). slice_get y seq ≡ Some x) o.1 e))
-            (λ k x z. z);
+            (λ k x z. z) (λ y. ((i.asked y).0, inr (i.asked y).1)) i.answers (λ _ _. tt);
       }
 
   -- MISSION_REQUEST_INT
-  pub on_request : (p : Part) (g : Moments) (w : Option Download) (seq kind : ℕ) → Inv d s (with_download p w) g → Own d s (with_download p w) (request_comes (with_download p w).drone s w seq kind)
-  on_request p g None seq kind i = record { needs = tt; moments = g; inv = on_answer d s ne (with_download p None) g (ack s 13 kind) i (thirteen_new (pair_of s (with_download p None) g) kind i.facts) tt }
-  on_request p g (Some c) seq kind i =
+  pub on_request : (p : Part) (g : Moments) (w : Option Download) (seq kind : ℕ) → Inv d s (with_download p w) g → (0 < g.first_count → p.drone_last < g.first_count) → Own d s (with_download p w) (request_comes (with_download p w).drone s w seq kind)
+  on_request p g None seq kind i early = record { needs = tt; moments = g; inv = on_answer d s ne (with_download p None) g (ack s 13 kind) i (thirteen_new (pair_of s (with_download p None) g) kind i.facts) tt (λ _. denied_request (with_download p None) g kind i early) }
+  on_request p g (Some c) seq kind i early =
       let v = with_download p (Some c) in
       by_test (Own d s v) (same_stream c.stream s && (c.kind == kind)) _ _
-      (λ e. let b = both_true _ _ e in on_give p g c seq kind (slice_get c.items seq) i refl (stream_eq _ _ b.0) (eq_true _ _ b.1))
-      (λ _. record { needs = tt; moments = g; inv = on_answer d s ne v g (ack s 13 kind) i (thirteen_new (pair_of s v g) kind i.facts) tt })
+      (λ e. let b = both_true _ _ e in on_give p g c seq kind (slice_get c.items seq) i early refl (stream_eq _ _ b.0) (eq_true _ _ b.1))
+      (λ _. record { needs = tt; moments = g; inv = on_answer d s ne v g (ack s 13 kind) i (thirteen_new (pair_of s v g) kind i.facts) tt (λ _. denied_request v g kind i early) })
 
   -- it shows its plan
   on_shown : (p : Part) (g : Moments) (k n : ℕ) (x : Option (List Item)) → (let v = with_opening p (getting k x n) in Inv d s v g → Listed (pair_of s v g) → Listing_comes (pair_of s v g) → Own d s v (record { drone = record p.drone { download = copy_of s k (plan_at p.drone.plans k) }; answer = Some (Count (node_of s) (length (plan_at p.drone.plans k)) k); event = Showing s k (plan_at p.drone.plans k) }))
@@ -161,6 +171,8 @@ module _ (d s : Stream) (ne : d ≢ s) where
           since_count = i.since_count;
           count = λ y. inr (i.count y);
           download = λ _ _. (tt, copy_copies s k plan);
+          asked = λ y. ((i.asked y).0, inr (i.asked y).1);
+          answers = λ ph. (λ _ _. tt, i.answers ph);
         });
       }
 
@@ -169,6 +181,6 @@ module _ (d s : Stream) (ne : d ≢ s) where
   on_list p g k n x i a b =
       let v = with_opening p (getting k x n) in
       let can = clear_refuses (pair_of s v g) i.facts a in
-      by_test (Own d s v) (nat_lt 2 k) _ _ (λ _. on_denial d s ne v g 3 k i three can) (λ _.
-      by_test (Own d s v) (is_downloading p.drone.download s) _ _ (λ _. on_denial d s ne v g 14 k i denied can) (λ _.
+      by_test (Own d s v) (nat_lt 2 k) _ _ (λ _. on_denial d s ne v g 3 k i three can (λ ph. absurd (no_clear (pair_of s v g) i.facts a ph))) (λ _.
+      by_test (Own d s v) (is_downloading p.drone.download s) _ _ (λ _. on_denial d s ne v g 14 k i denied can (λ ph. absurd (no_clear (pair_of s v g) i.facts a ph))) (λ _.
       on_shown p g k n x i a b))

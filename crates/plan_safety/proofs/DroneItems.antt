@@ -11,14 +11,14 @@ use Rattle.plan_upload.specs.Addresses.{same_stream, node_of}
 use Rattle.std.proofs.lemmas.List.{take_all}
 use Rattle.plan_upload.specs.Drone.{DroneState, Upload, DroneStep, Installs, answers, ack, ask, is_own, installed, last_item, item_fits, item_comes}
 use Rattle.plan_safety.specs.Frames.{Frame, Said}
-use Rattle.plan_safety.specs.Store.{Transaction, In_place}
+use Rattle.plan_safety.specs.Store.{RefusesUpload, Transaction, In_place}
 use Rattle.plan_safety.proofs.Keys.{by_test, eq_true, stream_eq, less, not_less, both_true, not_is_false, flag_true}
 use Rattle.plan_safety.proofs.Lists.{in_range, next_front}
 use Rattle.plan_safety.proofs.Pair.{Pair, Facts, SentByDrone, asks, installs, an_ack, a_request}
 use Rattle.plan_safety.proofs.DroneSide as side
-use Rattle.plan_safety.proofs.Part.{Part, Moments, pair_of, Truths, subject, Gathers, Gathering, Inv, Keeps, keeps_truth, truths_keep, operates_more, operates_else, fresh}
+use Rattle.plan_safety.proofs.Part.{Part, Moments, pair_of, Truths, subject, Answers, Gathers, Gathering, Inv, Keeps, keeps_truth, truths_keep, operates_more, operates_else, answered_else, fresh}
 use Rattle.plan_safety.proofs.Leaf.{Own, own_part, drone_said}
-use Rattle.plan_safety.proofs.DroneCases.{IsRefusal, CanRefuse, acked, on_refusal, result_same}
+use Rattle.plan_safety.proofs.DroneCases.{IsRefusal, CanRefuse, acked, on_refusal, result_same, refuses_only}
 
 -- the code of each fault is a refusal
 fault_refused : (fault : PlanFault) → IsRefusal (code_of fault)
@@ -116,7 +116,8 @@ module _ (d s : Stream) (ne : d ≢ s) where
         moments = record g { last_request = p.drone_next };
         inv =
             drone_said d s ne p g (record g { last_request = p.drone_next }) (record p.drone { upload = Some u }) (ask s k i) (asks q) inv (rw (← e) refl)
-            (side.asks_facts q inv.facts h) (keeps_asks q inv.facts h) (λ _. asks_new q k i inv.facts h) (omega arith) gathers refl (λ _. tt) (λ k l z. z);
+            (side.asks_facts q inv.facts h) (keeps_asks q inv.facts h) (λ _. asks_new q k i inv.facts h) (omega arith) gathers refl (λ _. tt) (λ k l z. z)
+            (λ x. ((inv.asked x).0, inr (inv.asked x).1)) inv.answers (λ _ _. tt);
       }
 
   -- the installation
@@ -142,8 +143,14 @@ module _ (d s : Stream) (ne : d ≢ s) where
           since_count = i.since_count;
           count = λ x. inr (i.count x);
           download = i.download;
+          asked = λ x. ((i.asked x).0, inr (i.asked x).1);
+          answers = λ ph. (λ _ _. (λ _ r. absurd ((refuses_only 0 r).0 refl), λ _ _ z. absurd (z refl)), answered_else d s p.transaction In_place p.transaction.lost g.counted g.first_open p.sent (i.answers ph));
         };
       }
+
+  -- what is true of an acknowledgement that refuses an item
+  item_answers : (p : Part) (g : Moments) (u : Upload) (c : ℕ) → Inv d s (with_upload p (Some u)) g → Gathering d s p.sent p.transaction u → 0 < g.first_count → RefusesUpload c → Answers d s p.transaction g.counted g.first_open p.drone_next p.sent (Some (ack s c u.kind))
+  item_answers p g u c i gat counted r = (λ _ _. (gat.kind, i.count counted), λ some _ _. (gat.kind, i.asked some, r))
 
   on_last : (keeps : Bool) (p : Part) (g : Moments) (u : Upload) (item : Item) → Inv d s (with_upload p (Some u)) g → 0 < (pair_of s (with_upload p (Some u)) g).has_open → Gathering d s p.sent p.transaction u → Delivered d s (with_upload p (Some u)) (pair_of s (with_upload p (Some u)) g) u.kind (length u.items) item → Said p.sent s p.transaction.since (Give (node_of d) (length u.items) p.transaction.kind item) → u.total ≤ length u.items + 1 → Own d s (with_upload p (Some u)) (last_item keeps (with_upload p (Some u)).drone s u.kind (u.items ++ item ∷ []))
   on_last keeps p g u item i h gat x said long =
@@ -154,18 +161,18 @@ module _ (d s : Stream) (ne : d ≢ s) where
       let len : length items ≡ length u.items + 1 = length-append u.items (item ∷ []) in
       let can = item_refuses q i.facts h x.attempt in
       let t = gat.total in
-      by_test P (is_some (plan_fault u.kind items)) _ _ (λ _. on_refusal d s ne v g 5 u.kind i five can) (λ _.
+      by_test P (is_some (plan_fault u.kind items)) _ _ (λ _. on_refusal d s ne v g 5 u.kind i five can (λ _. item_answers p g u 5 i gat x.counted (inr (inl (Invalid, refl))))) (λ _.
       by_test P keeps _ _
       (λ _. on_install v g u items i h (x.late, x.last (omega (arith, x.within)), x.attempt) gat.kind
       (whole_plan p.sent p.transaction u item gat x.item_is (omega arith)) (i.count x.counted)
       (all_said p.sent p.transaction u item gat x.item_is said (omega arith)))
-      (λ _. on_refusal d s ne v g 1 u.kind i unkept can))
+      (λ _. on_refusal d s ne v g 1 u.kind i unkept can (λ _. item_answers p g u 1 i gat x.counted (inr (inr (inl refl))))))
 
   -- an item of the kind and number that was asked for
   on_fit : (keeps : Bool) (p : Part) (g : Moments) (u : Upload) (item : Item) (fault : Option PlanFault) → Inv d s (with_upload p (Some u)) g → 0 < (pair_of s (with_upload p (Some u)) g).has_open → Gathering d s p.sent p.transaction u → Delivered d s (with_upload p (Some u)) (pair_of s (with_upload p (Some u)) g) u.kind (length u.items) item → Own d s (with_upload p (Some u)) (item_fits keeps (with_upload p (Some u)).drone s u item fault)
   on_fit keeps p g u item (Some fault) i h gat x =
       let v = with_upload p (Some u) in
-      on_refusal d s ne v g (code_of fault) u.kind i (fault_refused fault) (item_refuses (pair_of s v g) i.facts h x.attempt)
+      on_refusal d s ne v g (code_of fault) u.kind i (fault_refused fault) (item_refuses (pair_of s v g) i.facts h x.attempt) (λ _. item_answers p g u (code_of fault) i gat x.counted (inr (inl (fault, refl))))
   on_fit keeps p g u item None i h gat x =
       let v = with_upload p (Some u) in
       let items = u.items ++ item ∷ [] in

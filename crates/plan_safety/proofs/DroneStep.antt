@@ -109,6 +109,8 @@ module _ (d s : Stream) (ne : d ≢ s) where
         since_count = i.since_count;
         count = i.count;
         download = i.download;
+        asked = i.asked;
+        answers = i.answers;
       }
 
   -- PING
@@ -124,9 +126,10 @@ module _ (d s : Stream) (ne : d ≢ s) where
                   drone_said d s ne p g (record g { first_reply = p.drone_next }) p.drone (Ping (node_of s) usec n) (replies q) i refl
                   (side.replies_facts q i.facts c.0 c.1 late)
                   (record { drone_next = omega arith; station_next = omega arith; shows = λ a b. (a, refl); drone = λ v x. side.replies_drone q v x i.facts c.0 c.1 late; station = λ ck k t l v x. side.replies_station q ck k t l v x i.facts c.0 c.1 late })
-                  (λ _. replies_new q n i.facts known) (omega arith) i.upload refl (λ _. tt) (λ k l z. z);
+                  (λ _. replies_new q n i.facts known) (omega arith) i.upload refl (λ _. tt) (λ k l z. z)
+                  (λ x. ((i.asked x).0, inr (i.asked x).1)) i.answers (λ _ _. tt);
             }
-        | inr c ↦ record { needs = tt; moments = g; inv = on_answer d s ne p g (Ping (node_of s) usec n) i (answers_new q n i.facts known c) tt }
+        | inr c ↦ record { needs = tt; moments = g; inv = on_answer d s ne p g (Ping (node_of s) usec n) i (answers_new q n i.facts known c) tt (λ _. tt) }
       ]
 
   -- a message of the station that comes late enough
@@ -157,7 +160,7 @@ module _ (d s : Stream) (ne : d ≢ s) where
   on_message keeps p g t n (Request to seq k) me i late known more truth named said =
       let v = admitted p t n in let j = inv_admitted p g t n i late known more in
       by_test (Own d s v) (is_for_drone p.drone.sys to) _ _
-      (λ _. on_request d s ne v g p.drone.download seq k j)
+      (λ z. let h = truth (inl (subst (λ y. is_for_drone y to ≡ true) me z)) in on_request d s ne v g p.drone.download seq k j h.1)
       (λ _. record { needs = tt; moments = g; inv = j })
   on_message keeps p g t n (Ack to c k) me i late known more truth named said =
       let v = admitted p t n in let j = inv_admitted p g t n i late known more in

@@ -11,9 +11,9 @@ use Rattle.plan_safety.specs.Store.{Closed}
 use Rattle.plan_safety.proofs.Keys.{by_test, same, split, flag, flag_true, flag_false}
 use Rattle.plan_safety.proofs.Pair.{Pair, Facts, speaks, later_drone, asks, restarts}
 use Rattle.plan_safety.proofs.DroneSide as side
-use Rattle.plan_safety.proofs.Part.{stage_number, result_number, Part, Moments, pair_of, subject, Inv, truths_keep, keeps_truth, Truths, operates_else}
+use Rattle.plan_safety.proofs.Part.{stage_number, result_number, Part, Moments, pair_of, subject, Inv, truths_keep, keeps_truth, Truths, operates_else, answered_else}
 use Rattle.plan_safety.proofs.Leaf.{part_says, said_part, drone_said}
-use Rattle.plan_safety.proofs.DroneCases.{acked, on_close, cancel_own}
+use Rattle.plan_safety.proofs.DroneCases.{acked, on_close, cancel_own, refuses_only}
 use Rattle.plan_safety.proofs.DroneItems.{with_upload, asks_new, keeps_asks}
 use Rattle.plan_safety.proofs.DroneOther.{Unmoved, closed_unmoved}
 
@@ -39,6 +39,8 @@ module _ (d s : Stream) (ne : d ≢ s) where
         since_count = i.since_count;
         count = i.count;
         download = λ a b. let o = i.download (subst (λ (x : Pair). 4 < x.phase) is a) b in (o.0, u.copies _ _ o.1);
+        asked = i.asked;
+        answers = i.answers;
       }
 
   -- it says something to another stream
@@ -47,7 +49,7 @@ module _ (d s : Stream) (ne : d ≢ s) where
       let q : Pair = pair_of s p g in
       drone_said d s ne p g g p.drone a (speaks q) i refl (side.speaks_facts q i.facts)
       (record { drone_next = omega arith; station_next = omega arith; shows = λ a b. (a, refl); drone = λ u x. side.speaks_drone q u x i.facts; station = λ ck k t l u x. side.speaks_station q ck k t l u x i.facts })
-      (λ e. absurd (h e)) (omega arith) i.upload refl (λ e. absurd (h e)) (λ k l z. z)
+      (λ e. absurd (h e)) (omega arith) i.upload refl (λ e. absurd (h e)) (λ k l z. z) (λ x. ((i.asked x).0, inr (i.asked x).1)) i.answers (λ _ e. absurd (h e))
 
   -- an aging upload is as it was
   aged : (p : Part) (u : Upload) → Unmoved s (record p.drone { upload = Some u }) (record p.drone { upload = Some (record u { idle = u.idle + 1 }) })
@@ -67,7 +69,8 @@ module _ (d s : Stream) (ne : d ≢ s) where
             let h : 0 < q.has_open = (let z : q.has_open ≡ 1 = flag_true _ (own_true u.stream own) in omega arith) in (
               record g { last_request = p.drone_next },
               drone_said d s ne v g (record g { last_request = p.drone_next }) e (ask u.stream u.kind (length u.items)) (asks q) i refl
-                  (side.asks_facts q i.facts h) (keeps_asks q i.facts h) (λ _. asks_new q u.kind (length u.items) i.facts h) (omega arith) ((aged p u).gathers d p.sent p.transaction i.upload) refl (λ _. tt) (λ k l z. z),
+                  (side.asks_facts q i.facts h) (keeps_asks q i.facts h) (λ _. asks_new q u.kind (length u.items) i.facts h) (omega arith) ((aged p u).gathers d p.sent p.transaction i.upload) refl (λ _. tt) (λ k l z. z)
+                  (λ x. ((i.asked x).0, inr (i.asked x).1)) i.answers (λ _ _. tt),
             )
         | inr not ↦ (g, on_said (record p { drone = e }) g (ask u.stream u.kind (length u.items)) (on_later v g e p.drone_next i (aged p u) (omega arith)) (far not))
       ])
@@ -76,7 +79,11 @@ module _ (d s : Stream) (ne : d ≢ s) where
             let h : 0 < q.has_open = (let z : q.has_open ≡ 1 = flag_true _ (own_true u.stream own) in omega arith) in
             subst (λ x. (h : Moments) × Inv d s (part_says d (record p { drone = closed v.drone x }) (Some (ack x 15 u.kind))) h) (sym own)
             (by_test (λ x. (h : Moments) × Inv d s (part_says d (record p { drone = x }) (Some (ack s 15 u.kind))) h) (is_own v.drone.upload s) _ _
-            (λ _. (acked g p.drone_next g.last_verdict, on_close d s ne v g v.drone.download 15 u.kind g.last_verdict (λ k l z. z) i h (omega arith) (let z = i.facts.last_verdict_sent in omega arith) (λ _. refl) (cancel_own q u.kind i.facts h)))
+            (λ _. (
+              acked g p.drone_next g.last_verdict,
+              on_close d s ne v g v.drone.download 15 u.kind g.last_verdict (λ k l z. z) i h (omega arith) (let z = i.facts.last_verdict_sent in omega arith) (λ _. refl) (cancel_own q u.kind i.facts h)
+                  (λ _. (λ _ r. absurd ((refuses_only 15 r).3 refl), λ some _ _. ((i.upload own).kind, i.asked some, inr (inr (inr refl))))),
+            ))
             (λ other. absurd (let z : q.has_open ≡ 0 = flag_false _ other in omega arith)))
         | inr not ↦ (g, on_said (record p { drone = closed v.drone u.stream }) g (ack u.stream 15 u.kind) (on_later v g (closed v.drone u.stream) p.drone_next i (closed_unmoved p.drone s u.stream (Some u) not) (omega arith)) (far not))
       ])
@@ -101,6 +108,8 @@ module _ (d s : Stream) (ne : d ≢ s) where
         since_count = i.since_count;
         count = i.count;
         download = λ a b. let o = i.download a b in (o.0, tt);
+        asked = i.asked;
+        answers = λ ph. answered_else d s p.transaction p.transaction.stage lost g.counted g.first_open p.sent (i.answers ph);
       }
     where
       not_closed : (p : Pair) → Facts p → 0 < p.first_open → p.stage ≡ 0 → ⊥

@@ -139,6 +139,8 @@ on_foreign d s p g f i a b = record {
   since_count = i.since_count;
   count = λ x. inr (i.count x);
   download = i.download;
+  asked = λ x. ((i.asked x).0, inr (i.asked x).1);
+  answers = λ ph. (λ e _. absurd (a e), i.answers ph);
 }
 
 -- views

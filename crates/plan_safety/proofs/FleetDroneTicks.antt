@@ -65,6 +65,8 @@ on_spoken d s ne p g i =
       since_count = i.since_count;
       count = λ x. inr (i.count x);
       download = i.download;
+      asked = λ x. ((i.asked x).0, inr (i.asked x).1);
+      answers = λ ph. (λ _ h. absurd h, i.answers ph);
     }
 
 module _ (nodes : Nodes) (sound : Distinct nodes) (w : World) (m : Store) (n : Stream) (all : All nodes w m) (drone : nodes.is_drone n ≡ true) where

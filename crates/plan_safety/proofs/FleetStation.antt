@@ -176,6 +176,8 @@ module _ (nodes : Nodes) (sound : Distinct nodes) (w : World) (m m' : Store) (s 
         since_count = j.since_count;
         count = λ x. inr (j.count x);
         download = j.download;
+        asked = λ x. ((j.asked x).0, inr (j.asked x).1);
+        answers = λ ph. (λ x _. absurd (ne (sym x)), j.answers ph);
       }
 
   far_pair : (d : Stream) (g : Moments) (b : Option PlanMsg) → d ≢ e → Inv d s (record (far_part d) { station_next = (says_node node b).next; sent = plus (says_frame s next b) w.sent }) g → Inv d s (part_of d s (w.drone d) (says_node node b) (m'.transaction s) (m'.opening s) (m'.cancelled s) (plus (says_frame s next b) w.sent)) g

@@ -9,7 +9,7 @@ use Rattle.plan_upload.specs.Addresses.{same_stream, node_of}
 use Rattle.plan_upload.specs.Station.{StationState, Operation, Told, Told_installed, Told_not_installed, Told_unknown, Told_cleared, Told_got, Told_ended}
 use Rattle.plan_safety.specs.Frames.{Frame, Said}
 use Rattle.plan_safety.specs.World.{Nodes, Distinct, World, station_sends}
-use Rattle.plan_safety.specs.Store.{Store, StoreEvent, Upload_begun, Clear_begun, Get_begun, Cancelled, Ended, Job, A_clear, A_get, Transaction, Opening, Stage, Fresh, In_place, Closed, Acked, FinalSent, CancelSent, EndCause, HasClear, HasGot, at, begun, opened, staged, unless_placed, given_up, Meets, follows, does}
+use Rattle.plan_safety.specs.Store.{Store, StoreEvent, Upload_begun, Clear_begun, Get_begun, Cancelled, Ended, Job, A_clear, A_get, Transaction, Opening, Stage, Fresh, In_place, Closed, Acked, RefusedWith, FinalSent, CancelSent, EndCause, HasClear, HasGot, at, begun, opened, staged, unless_placed, given_up, Meets, follows, does}
 use Rattle.plan_safety.proofs.Keys.{by_test, same, apart, stream_eq, at_same, at_apart}
 use Rattle.plan_safety.proofs.Pair.{Pair, Facts}
 use Rattle.plan_safety.proofs.Part.{Seen, pair_of, stage_number, job_number, work_number, number_in}
@@ -255,13 +255,13 @@ module _ (nodes : Nodes) (sound : Distinct nodes) (w : World) (m : Store) (s e :
       let news : List StoreEvent = Ended s (Told_not_installed code) ∷ [] in
       let view = view_fresh e o h.needs.0 in
       let more = sent_more news b (Told_not_installed code) h.needs in
-      as_told news (subst (λ (y : Transaction). (y.stage ≡ Fresh) × ((code ≡ 15) ⊎ Acked (after news).sent y.drone s y.drone_since code)) view.0 (more.0, to_drone (after news).sent (view_transaction e o) code (ap (λ (y : Transaction). y.drone) view.0 ∙ view.1) more.1), tt)
+      as_told news (subst (λ (y : Transaction). (y.stage ≡ Fresh) × ((code ≡ 15) ⊎ RefusedWith (after news).sent y.drone s y code)) view.0 (more.0, to_drone (after news).sent (view_transaction e o) code (ap (λ (y : Transaction). y.drone) view.0 ∙ view.1) more.1), tt)
       (keeps x news (record m { transaction = at m.transaction s (staged o Closed) }) h
       (transaction_views x (staged o Closed) m.cancelled (view_staged e o) (λ c. refl) (λ d far. closed_not_fresh d o) (λ l. l) (λ f. absurd (cc)) refl (λ u far. refl)))
     where
-      to_drone : (sent : List Frame) (v : Transaction) (code : ℕ) → v.drone ≡ e → (code ≡ 15) ⊎ Acked sent e s v.drone_since code → (code ≡ 15) ⊎ Acked sent v.drone s v.drone_since code
+      to_drone : (sent : List Frame) (v : Transaction) (code : ℕ) → v.drone ≡ e → (code ≡ 15) ⊎ RefusedWith sent e s v code → (code ≡ 15) ⊎ RefusedWith sent v.drone s v code
       to_drone sent v code is (inl h) = inl h
-      to_drone sent v code is (inr h) = inr (subst (λ d. Acked sent d s v.drone_since code) (sym is) h)
+      to_drone sent v code is (inr h) = inr (subst (λ d. RefusedWith sent d s v code) (sym is) h)
   told_goes Told_unknown h =
       let o : Transaction = m.transaction s in
       let x : StationNews = Tells Told_unknown in

@@ -1,9 +1,11 @@
 -- A frame that comes to a station, its calls, its tick and its clock, in the whole world.
 use Rattle.std.proofs.Common.{◌≡◌, ◌≢◌, ℕ, ◌+◌, ◌<◌, ◌≤◌, inl, inr, Bool, true, false, if◌then◌else◌, ◌&&◌, nat_lt, List, [], ◌∷◌, Option, Some, None, refl, sym, ap, subst, arith, ◌∙◌}
 use Rattle.std.specs.Prelude.{slice_get, max}
+use Rattle.mav_ports.specs.declared.names.Name.{Name}
 use Rattle.mav_ports.specs.declared.names.Stream.{Stream}
 use Rattle.plan_items.specs.declared.items.Item.{Item}
 use Rattle.plan_items.specs.declared.messages.PlanMsg.{PlanMsg}
+use Rattle.plan_items.specs.declared.messages.PlanMsg.TheVariants.{Ack}
 use Rattle.plan_upload.specs.Addresses.{same_stream, same_name, node_of}
 use Rattle.plan_items.specs.declared.kinds.PlanKind.{PlanKind}
 use Rattle.plan_items.specs.Kinds.{number_of}
@@ -13,11 +15,11 @@ use Rattle.plan_upload.specs.Refusals.{busy_with, first_of, spent, empty_plan, u
 use Rattle.plan_upload.specs.Station.{StationState, StationStep, Operation, Uploads, Clears, Gets, Phase, Pinging, Cancelling, Sending, Clearing, Listing_items, Getting, Told, last_ping, stays, untold, addressee, phase_step, operation_step, operation_tick, station_tick, operation_cancel, phase_cancel, station_cancel, begins, operation_of, begin_upload, begin_clear, begin_get, is_synced}
 use Rattle.plan_safety.specs.Frames.{Frame, Said}
 use Rattle.plan_safety.specs.World.{Nodes, Distinct, World, StationNode, frame_of, quiet, station_sends, station_does, station_calls, told_news, cancel_news, clear_number, unless_refused, station_takes, station_steps, station_admits, to_station, station_speaks}
-use Rattle.plan_safety.specs.Store.{Store, StoreEvent, Upload_begun, Clear_begun, Get_begun, Cancelled, at}
+use Rattle.plan_safety.specs.Store.{Store, StoreEvent, Upload_begun, Clear_begun, Get_begun, Cancelled, RefusedWith, at}
 use Rattle.plan_safety.proofs.Keys.{by_test, name_eq, stream_eq, less, both_true, split, at_same, at_apart}
 use Rattle.plan_safety.proofs.Pair.{Pair, Facts, SentByDrone, IsVerdict, hears, later_station, a_count, an_ack}
 use Rattle.plan_safety.proofs.StationSide as side
-use Rattle.plan_safety.proofs.Part.{Shows, shows_again, kind_of, shown_of, IsTo, Part, Moments, Inv, subject, pair_of, truth_at, said_at, truths_keep, keeps_truth, gathers_more, operates_more}
+use Rattle.plan_safety.proofs.Part.{Shows, shows_again, kind_of, shown_of, IsTo, Part, Moments, Inv, subject, pair_of, truth_at, said_at, truths_keep, keeps_truth, gathers_more, operates_more, IsAbout, answered_at}
 use Rattle.plan_safety.proofs.StationNews.{StationNews, Begins_upload, Begins_clear, Begins_get, Cancels, news_of, Acted, Heeds, with_station, OfDrone}
 use Rattle.plan_safety.proofs.StationCases.{with_operation, attempt_told}
 use Rattle.plan_safety.proofs.StationStep.{Heard, inv_heard, on_hears, on_cancel, on_tick}
@@ -46,6 +48,8 @@ on_later d s p g n i more =
       since_count = i.since_count;
       count = i.count;
       download = i.download;
+      asked = i.asked;
+      answers = i.answers;
     }
 
 -- the station sends a message of another service
@@ -62,6 +66,8 @@ on_spoken d s ne p g i =
       since_count = j.since_count;
       count = λ x. inr (j.count x);
       download = j.download;
+      asked = λ x. ((j.asked x).0, inr (j.asked x).1);
+      answers = λ ph. (λ e _. absurd (ne (sym e)), j.answers ph);
     }
 
 -- a verdict that comes shows that nothing was shown
@@ -77,6 +83,7 @@ heard_facts q t n x f late known more before =
       reply = λ ph. let l = f.phase_after ph in omega arith;
       request = λ to i k e. (subst (SentByDrone q t) e before).2 late;
       verdict = λ to c k e ph v. (subst (SentByDrone q t) e before).11 ph late v;
+      counted = λ to c k e ph v. (subst (SentByDrone q t) e before).12 ph late v;
       job = λ to c k e ph v. job_one q t c k f late ph v (subst (SentByDrone q t) e before);
       count = λ to n k e ph. count_one q t k n f late ph (subst (SentByDrone q t) e before);
       item = λ ph. let l = f.getting_later ph in omega arith;
@@ -228,10 +235,10 @@ module _ (nodes : Nodes) (sound : Distinct nodes) (w : World) (m : Store) (s : S
   own_part e q g t o a b c i = own_move (λ z. Inv e s z g) e q t o a b c i
 
   -- a message, a cancel and a tick with the operation's drone
-  hears_own : (e : Stream) (hd : nodes.is_drone e ≡ true) (p : Part) (g : Moments) (t : StationState) (o : Operation) (x : PlanMsg) → o.drone ≡ e → Inv e s (with_station e p (with_operation t (Some o))) g → Heard (pair_of s (with_station e p (with_operation t (Some o))) g) (Some x) → Shows (pair_of s (with_station e p (with_operation t (Some o))) g) (kind_of p.opening) (shown_of p.opening) p.station_last (Some x) → addressee x ≡ node_of s → ((since : ℕ) → since ≤ p.station_last → Said p.sent e since x) → Heeds e s (with_operation t (Some o)) (with_station e p (with_operation t (Some o))) (phase_step (with_operation t (Some o)) o o.phase x)
-  hears_own e hd p g t o x is i h sh to said =
+  hears_own : (e : Stream) (hd : nodes.is_drone e ≡ true) (p : Part) (g : Moments) (t : StationState) (o : Operation) (x : PlanMsg) → o.drone ≡ e → Inv e s (with_station e p (with_operation t (Some o))) g → Heard (pair_of s (with_station e p (with_operation t (Some o))) g) (Some x) → Shows (pair_of s (with_station e p (with_operation t (Some o))) g) (kind_of p.opening) (shown_of p.opening) p.station_last (Some x) → addressee x ≡ node_of s → ((since : ℕ) → since ≤ p.station_last → Said p.sent e since x) → ((to : Name) (c k : ℕ) → x ≡ Ack to c k → (pair_of s (with_station e p (with_operation t (Some o))) g).phase ≡ 3 → IsAbout g.counted g.first_open p.station_last c → RefusedWith p.sent e s p.transaction c) → Heeds e s (with_operation t (Some o)) (with_station e p (with_operation t (Some o))) (phase_step (with_operation t (Some o)) o o.phase x)
+  hears_own e hd p g t o x is i h sh to said by =
       subst (λ d. (let u = with_operation t (Some (record o { drone = d })) in Inv e s (with_station e p u) g → Heard (pair_of s (with_station e p u) g) (Some x) → Shows (pair_of s (with_station e p u) g) (kind_of p.opening) (shown_of p.opening) p.station_last (Some x) → Heeds e s u (with_station e p u) (phase_step u (record o { drone = d }) o.phase x))) (sym is)
-      (λ i h sh. on_hears e s (not_here e hd) p g t o o.work o.phase x i h sh to said) i h sh
+      (λ i h sh. on_hears e s (not_here e hd) p g t o o.work o.phase x i h sh to said by) i h sh
 
   cancels_own : (e : Stream) (hd : nodes.is_drone e ≡ true) (p : Part) (g : Moments) (t : StationState) (o : Operation) → o.drone ≡ e → Inv e s (with_station e p (with_operation t (Some o))) g → Acted e s (with_operation t (Some o)) (with_station e p (with_operation t (Some o))) (operation_cancel (with_operation t (Some o)) (Some o)) Cancels
   cancels_own e hd p g t o is =
@@ -343,18 +350,19 @@ module _ (nodes : Nodes) (sound : Distinct nodes) (w : World) (m : Store) (s : S
         let before : SentByDrone (pair_of s q p.0) f.timestamp (Some x) = subst (SentByDrone (pair_of s q p.0) f.timestamp) is_x (t.drone own for_me) in
         let shows : Shows (pair_of s q p.0) (kind_of q.opening) (shown_of q.opening) f.timestamp (Some x) = subst (Shows (pair_of s q p.0) (kind_of q.opening) (shown_of q.opening) f.timestamp) is_x (t.shows own for_me) in
         let at_last : f.timestamp ≡ last e = sym (ap last (sym own) ∙ at_same (w.station s).last f.from f.timestamp) in
-        let P : Part → Type 0 = λ z. Inv e s z p.0 × Heard (pair_of s z p.0) (Some x) × Shows (pair_of s z p.0) (kind_of z.opening) (shown_of z.opening) z.station_last (Some x) × ((since : ℕ) → since ≤ z.station_last → Said z.sent e since x) in
+        let P : Part → Type 0 = λ z. Inv e s z p.0 × Heard (pair_of s z p.0) (Some x) × Shows (pair_of s z p.0) (kind_of z.opening) (shown_of z.opening) z.station_last (Some x) × ((since : ℕ) → since ≤ z.station_last → Said z.sent e since x) × ((u : Name) (c kind : ℕ) → x ≡ Ack u c kind → (pair_of s z p.0).phase ≡ 3 → IsAbout p.0.counted p.0.first_open z.station_last c → RefusedWith z.sent e s z.transaction c) in
         let now : P (record q { station_last = f.timestamp; station_next = next }) = (
           inv_heard e s (not_here e hd) q p.0 f.timestamp next p.1 l known (max_more _ _),
           heard_facts (pair_of s q p.0) f.timestamp next (Some x) p.1.facts l known (max_more _ _) before,
           shows_again (pair_of s q p.0) (pair_of s (record q { station_last = f.timestamp; station_next = next }) p.0) (kind_of q.opening) (shown_of q.opening) f.timestamp (Some x) (λ a b. (a, refl)) shows,
           λ since h. said_at w.sent k f e since x is own h is_x,
+          λ u c kind ack ph about. answered_at e s q.transaction p.0.counted p.0.first_open w.sent k f c kind is own (is_x ∙ ap Some ack ∙ ap (λ (n : Name). Some (Ack n c kind)) (subst (λ y. addressee y ≡ node_of s) ack to)) about (p.1.answers ph),
         ) in
         let v : Part = record q { station_last = last e; station_next = next } in
         let there : P v = subst (λ z. P (record q { station_last = z; station_next = next })) at_last now in
         let own_there : P (with_station e v (with_operation st (Some o))) = own_move P e v (with_operation st (Some o)) refl (ap (view_operation e) is_op) refl refl there in
         acts e next last (phase_step st o o.phase x) hd (λ d far. at_apart (w.station s).last f.from d f.timestamp (λ z. far (z ∙ own))) (max_more _ _) (subst (OfDrone e) (sym is_op) refl)
-        (subst (λ z. Heeds e s (with_operation st z) (with_station e v (with_operation st z)) (phase_step (with_operation st z) o o.phase x)) (sym is_op) (hears_own e hd v p.0 st o x refl own_there.0 own_there.1 own_there.2 to own_there.3))
+        (subst (λ z. Heeds e s (with_operation st z) (with_station e v (with_operation st z)) (phase_step (with_operation st z) o o.phase x)) (sym is_op) (hears_own e hd v p.0 st o x refl own_there.0 own_there.1 own_there.2 to own_there.3 own_there.4))
 
     by_operation : (x : PlanMsg) (z : Option Operation) → f.message ≡ Some x → st.operation ≡ z → Goes nodes (station_steps w s (record { state = st; last = last; next = next }) (operation_step st z f.from x)) m
     by_operation x None is_x is_op = unheeded

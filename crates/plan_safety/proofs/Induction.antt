@@ -19,7 +19,7 @@ use Rattle.plan_safety.proofs.FleetStationEvents as station
 
 -- no moment yet
 abbrev never : Moments
-never = record { first_count = 0; last_count = 0; last_request = 0; first_open = 0; first_ping = 0; first_reply = 0; first_job = 0; last_job = 0; last_cancel = 0; last_ack = 0; last_verdict = 0; last_shown = 0; now_shown = 0 }
+never = record { first_count = 0; last_count = 0; last_request = 0; first_open = 0; first_ping = 0; first_reply = 0; first_job = 0; last_job = 0; last_cancel = 0; last_ack = 0; last_verdict = 0; last_shown = 0; now_shown = 0; counted = 0 }
 
 -- no plans
 no_plan : (k : ℕ) → plan_at no_plans k ≡ []
@@ -65,8 +65,8 @@ module _ (nodes : Nodes) (sound : Distinct nodes) where
   first : (start : Start) (d s : Stream) → Inv d s (part (first_world start) first_store d s) never
   first start d s =
       by_test (λ t. Inv d s (record (part (first_world start) first_store d s) { transaction = t }) never) (same_stream s d) (nothing s) (hidden (nothing s))
-      (λ _. record { facts = grind arith; truths = tt; upload = tt; operation = tt; for_drone = λ x. absurd (omega arith); since = omega arith; since_count = λ x. absurd (omega arith); count = λ x. absurd (omega arith); download = λ a b. absurd (omega arith) })
-      (λ _. record { facts = grind arith; truths = tt; upload = tt; operation = tt; for_drone = λ x. absurd (omega arith); since = omega arith; since_count = λ x. absurd (omega arith); count = λ x. absurd (omega arith); download = λ a b. absurd (omega arith) })
+      (λ _. record { facts = grind arith; truths = tt; upload = tt; operation = tt; for_drone = λ x. absurd (omega arith); since = omega arith; since_count = λ x. absurd (omega arith); count = λ x. absurd (omega arith); download = λ a b. absurd (omega arith); asked = λ x. absurd (omega arith); answers = λ ph. absurd (omega arith) })
+      (λ _. record { facts = grind arith; truths = tt; upload = tt; operation = tt; for_drone = λ x. absurd (omega arith); since = omega arith; since_count = λ x. absurd (omega arith); count = λ x. absurd (omega arith); download = λ a b. absurd (omega arith); asked = λ x. absurd (omega arith); answers = λ ph. absurd (omega arith) })
 
   -- and all that holds of the world
   pub begins : (start : Start) → All nodes (first_world start) first_store

@@ -10,9 +10,9 @@ use Rattle.plan_upload.specs.Drone.{DroneState, DroneStep, PlanEvent, Quiet, Ins
 use Rattle.plan_upload.specs.Station.{addressee}
 use Rattle.plan_safety.specs.Frames.{Frame, Said}
 use Rattle.plan_safety.specs.World.{frame_of}
-use Rattle.plan_safety.specs.Store.{Transaction, Fresh, In_place, staged, saw}
+use Rattle.plan_safety.specs.Store.{Transaction, Fresh, In_place, ItemAsked, staged, saw}
 use Rattle.plan_safety.proofs.Pair.{Pair, Facts, SentByDrone}
-use Rattle.plan_safety.proofs.Part.{Seen, Shows, Copies, IsClear, kind_of, shown_of, Part, Moments, pair_of, Truths, subject, Gathers, Inv, Keeps, keeps_truth, truths_keep, gathers_more, operates_more}
+use Rattle.plan_safety.proofs.Part.{Seen, Shows, Copies, IsClear, Answers, Answered, kind_of, shown_of, Part, Moments, pair_of, Truths, subject, Gathers, Inv, Keeps, keeps_truth, truths_keep, gathers_more, operates_more}
 
 -- what an installation needs of the pair
 pub record CanInstall (d s : Stream) (sent : List Frame) (kind : ℕ) (plan : List Item) (t : Transaction) : Type 0 where
@@ -66,8 +66,8 @@ abbrev pub said_part : Stream → Part → DroneState → PlanMsg → Part
 said_part d p e a = part_says d (record p { drone = e }) (Some a)
 
 -- q is the pair after it, however it is spelled
-pub drone_said : (d s : Stream) → d ≢ s → (p : Part) (g h : Moments) (e : DroneState) (a : PlanMsg) (q : Pair) → Inv d s p g → pair_of s (said_part d p e a) h ≡ q → Facts q → Keeps (pair_of s p g) q → (addressee a ≡ node_of s → SentByDrone q p.drone_next (Some a)) → p.drone_next < q.drone_next → Gathers d s p.sent p.transaction e.upload → h.first_count ≡ g.first_count → (addressee a ≡ node_of s → Shows q (kind_of p.opening) (shown_of p.opening) p.drone_next (Some a)) → ((k : ℕ) (x : List Item) → Copies s k x p.drone.download → Copies s k x e.download) → Inv d s (said_part d p e a) h
-drone_said d s ne p g h e a q i is f k n l u c sh cp = record {
+pub drone_said : (d s : Stream) → d ≢ s → (p : Part) (g h : Moments) (e : DroneState) (a : PlanMsg) (q : Pair) → Inv d s p g → pair_of s (said_part d p e a) h ≡ q → Facts q → Keeps (pair_of s p g) q → (addressee a ≡ node_of s → SentByDrone q p.drone_next (Some a)) → p.drone_next < q.drone_next → Gathers d s p.sent p.transaction e.upload → h.first_count ≡ g.first_count → (addressee a ≡ node_of s → Shows q (kind_of p.opening) (shown_of p.opening) p.drone_next (Some a)) → ((k : ℕ) (x : List Item) → Copies s k x p.drone.download → Copies s k x e.download) → (0 < h.first_open → ItemAsked (said_part d p e a).sent d s p.transaction) → ((pair_of s p g).phase ≡ 3 → Answered d s p.transaction h.counted h.first_open p.sent) → ((pair_of s p g).phase ≡ 3 → addressee a ≡ node_of s → Answers d s p.transaction h.counted h.first_open p.drone_next p.sent (Some a)) → Inv d s (said_part d p e a) h
+drone_said d s ne p g h e a q i is f k n l u c sh cp ask old new = record {
   facts = subst Facts (sym is) f;
   truths = subst (λ x. Truths d s x (subject p.transaction p.opening) (said_part d p e a).sent) (sym is) (
     record { drone = λ _ y. n y; shows = λ _ y. sh y; station = λ x _. absurd (ne x); named = λ x _. absurd (ne x); by_drone = λ _. l; by_station = λ x. absurd (ne x) },
@@ -80,4 +80,6 @@ drone_said d s ne p g h e a q i is f k n l u c sh cp = record {
   since_count = λ x. rw c (i.since_count (rw (← c) x));
   count = λ x. inr (i.count (rw (← c) x));
   download = λ a b. let e = k.shows (subst (λ x. 4 < x.phase) is a) (subst (λ x. 0 < x.now_shown) is b) in let w : 0 < g.now_shown = (let z = e.1 in let y : h.now_shown ≡ q.now_shown = ap (λ x. x.now_shown) is in omega arith) in let o = i.download e.0 w in (o.0, cp _ _ o.1);
+  asked = ask;
+  answers = λ ph. (λ _ y. new ph y, old ph);
 }

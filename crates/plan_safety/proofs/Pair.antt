@@ -57,6 +57,8 @@ pub record Pair : Type 0 where
   -- The drone's latest Count ever, and its Count for the latest List.
   pub last_shown : ℕ
   pub now_shown : ℕ
+  -- The drone's next timestamp when the first Count of the upload was sent.
+  pub counted : ℕ
 
 pub record Facts (p : Pair) : Type 0 where
   -- What was sent was sent before the next timestamp.
@@ -156,6 +158,7 @@ pub record Facts (p : Pair) : Type 0 where
   pub began_opened : 0 < p.first_open → p.began ≤ p.first_open
   pub began_replied : 0 < p.first_reply → p.began ≤ p.first_reply
   pub began_shown : 4 < p.phase → 0 < p.now_shown → p.began ≤ p.now_shown
+  pub counted_sent : p.counted ≤ p.drone_next
 
 -- what is true of a message that the station sent to the drone at t: `kind`, `total` and `plan` are the latest
 -- upload transaction's, `jkind` is the kind of the clear or download that is open
@@ -165,7 +168,7 @@ SentByStation p jkind kind total plan t (Some (Count to n k)) = (t < p.station_n
 SentByStation p jkind kind total plan t (Some (Give to i k x)) =
     (t < p.station_next) × (0 < p.first_ping → t < p.first_ping)
     × (0 < p.first_count → p.first_count ≤ t → (p.asked ≡ 1) × (p.last_count < t) × (k ≡ kind) × (i < total) × (plan i ≡ Some x) × (i + 1 ≡ total → p.final_sent ≡ 1))
-SentByStation p jkind kind total plan t (Some (Request to i k)) = t < p.station_next
+SentByStation p jkind kind total plan t (Some (Request to i k)) = (t < p.station_next) × (0 < p.first_count → t < p.first_count)
 SentByStation p jkind kind total plan t (Some (Ack to c k)) = (t < p.station_next) × (c ≡ 15 → t ≤ p.last_cancel) × (c ≡ 15 → 0 < p.first_ping → p.first_ping ≤ t → t ≡ p.last_cancel)
 SentByStation p jkind kind total plan t (Some (Clear to k)) = (t < p.station_next) × (t ≤ p.last_job) × (p.drone_last < t → (0 < p.first_job) × (p.first_job ≤ t)) × (0 < p.first_job → p.first_job ≤ t → k ≡ jkind) × (3 < p.phase → p.drone_last < t → t ≡ p.last_job) × (0 < p.first_job → p.first_job ≤ t → p.work ≡ 2)
 SentByStation p jkind kind total plan t (Some (Listing to k)) = (t < p.station_next) × (t ≤ p.last_job) × (p.drone_last < t → (0 < p.first_job) × (p.first_job ≤ t)) × (0 < p.first_job → p.first_job ≤ t → k ≡ jkind) × (3 < p.phase → p.drone_last < t → t ≡ p.last_job) × (0 < p.first_job → p.first_job ≤ t → p.work ≡ 3)
@@ -198,6 +201,7 @@ SentByDrone p t (Some (Ack to c k)) =
     × (IsVerdict c → t ≤ p.last_verdict)
     × (0 < p.first_reply → p.first_reply < t → AnswersCancel c → p.first_reply < p.last_verdict → t ≡ p.last_verdict)
     × (2 < p.phase → p.station_last < t → IsVerdict c → p.began ≤ t)
+    × (p.phase ≡ 3 → p.station_last < t → IsVerdict c → p.counted ≤ t)
 SentByDrone p t (Some (Clear to k)) = t < p.drone_next
 SentByDrone p t (Some (Listing to k)) = t < p.drone_next
 SentByDrone p t None = t < p.drone_next
@@ -260,7 +264,7 @@ cancels p = record p { phase = 2; station_next = p.station_next + 1; last_cancel
 
 -- a synchronised upload starts
 abbrev pub starts_count : Pair → Pair
-starts_count p = record p { phase = 3; synced = 1; number = p.next_ping; station_next = p.station_next + 1; first_count = p.station_next; last_count = p.station_next; first_ping = 0; first_reply = 0 }
+starts_count p = record p { phase = 3; synced = 1; number = p.next_ping; station_next = p.station_next + 1; first_count = p.station_next; last_count = p.station_next; counted = p.drone_next; first_ping = 0; first_reply = 0 }
 
 -- a download starts
 abbrev pub starts_listing : Pair → ℕ → Pair
@@ -291,7 +295,7 @@ abbrev pub begins_attempt : Pair → ℕ → Pair
 begins_attempt p began = record p { work = 1; stage = 1; lost = 0; phase = 1; terminating = 0; asked = 0; final_sent = 0; began = began; number = p.next_ping; next_ping = p.next_ping + 1; first_ping = p.station_next; first_reply = 0; first_count = 0; first_open = 0; station_next = p.station_next + 1 }
 
 abbrev pub begins_count : Pair → ℕ → Pair
-begins_count p began = record p { work = 1; stage = 1; lost = 0; phase = 3; terminating = 0; asked = 0; final_sent = 0; began = began; number = p.next_ping; first_ping = 0; first_reply = 0; first_count = p.station_next; last_count = p.station_next; first_open = 0; station_next = p.station_next + 1 }
+begins_count p began = record p { work = 1; stage = 1; lost = 0; phase = 3; terminating = 0; asked = 0; final_sent = 0; began = began; number = p.next_ping; first_ping = 0; first_reply = 0; first_count = p.station_next; last_count = p.station_next; counted = p.drone_next; first_open = 0; station_next = p.station_next + 1 }
 
 -- a clear begins
 abbrev pub begins_clear_attempt : Pair → ℕ → Pair

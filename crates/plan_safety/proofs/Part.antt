@@ -1,5 +1,5 @@
 -- The part of the world and the store that a drone d and a station s have, and what holds of it.
-use Rattle.std.proofs.Common.{◌≡◌, ℕ, suc, zero, ◌+◌, ◌<◌, ◌≤◌, ◌⊎◌, inl, inr, Bool, true, false, List, [], ◌∷◌, length, take, Option, Some, None, refl, subst, arith}
+use Rattle.std.proofs.Common.{◌≡◌, ◌≢◌, ℕ, suc, zero, ◌+◌, ◌<◌, ◌≤◌, ◌⊎◌, inl, inr, Bool, true, false, List, [], ◌∷◌, length, take, Option, Some, None, refl, sym, ap, subst, arith, ◌∙◌}
 use Rattle.std.specs.Prelude.{slice_get}
 use Rattle.mav_ports.specs.declared.names.Name.{Name}
 use Rattle.mav_ports.specs.declared.names.Stream.{Stream}
@@ -10,7 +10,7 @@ use Rattle.plan_upload.specs.Addresses.{node_of, everyone, is_for_drone}
 use Rattle.plan_upload.specs.Drone.{DroneState, Upload, Download, is_own, result_of}
 use Rattle.plan_upload.specs.Station.{Operation, Work, Uploads, Clears, Gets, Phase, Pinging, Cancelling, Sending, Clearing, Listing_items, Getting, phase_number, addressee}
 use Rattle.plan_safety.specs.Frames.{Frame, Said}
-use Rattle.plan_safety.specs.Store.{Job, A_clear, A_get, Transaction, Stage, Fresh, In_place, Closed, Acked, staged}
+use Rattle.plan_safety.specs.Store.{Job, A_clear, A_get, Transaction, Stage, Fresh, In_place, Closed, CountSent, ItemAsked, RefusesCount, RefusesUpload, RefusedWith, staged}
 use Rattle.plan_safety.proofs.Keys.{flag}
 use Rattle.plan_safety.proofs.Pair.{Pair, Facts, SentByStation, SentByDrone}
 
@@ -49,6 +49,7 @@ pub record Moments : Type 0 where
   pub last_verdict : ℕ
   pub last_shown : ℕ
   pub now_shown : ℕ
+  pub counted : ℕ
 
 abbrev pub result_number : Option Bool → ℕ
 result_number None = 0
@@ -120,6 +121,7 @@ pair_of s p g = record {
   last_verdict = g.last_verdict;
   last_shown = g.last_shown;
   now_shown = g.now_shown;
+  counted = g.counted;
 }
 
 -- the plan that a download was shown
@@ -193,10 +195,10 @@ abbrev pub Numbered : ℕ → Option ℕ → Type 0
 Numbered pings None = Unit {0}
 Numbered pings (Some number) = number ≤ pings
 
--- a kept code is one that the drone sent since the upload began
-abbrev pub Coded : List Frame → Stream → Stream → ℕ → Option ℕ → Type 0
-Coded sent d s since None = Unit {0}
-Coded sent d s since (Some code) = Acked sent d s since code
+-- a kept code is one that the drone refused the upload with
+abbrev pub Coded : List Frame → Stream → Stream → Transaction → Option ℕ → Type 0
+Coded sent d s t None = Unit {0}
+Coded sent d s t (Some code) = RefusedWith sent d s t code
 
 -- a clear or a download terminates only where it was cancelled
 abbrev pub Terminates : Bool → Work → Bool → Type 0
@@ -221,7 +223,7 @@ CancelSaid sent d s since kind Getting = Unit {0}
 pub record Operating (d s : Stream) (sent : List Frame) (t : Transaction) (c : Option Seen) (cancelled : Bool) (pings : ℕ) (o : Operation) : Type 0 where
   pub means : Means t c o.work o.kind o.plan
   pub numbered : Numbered pings o.number
-  pub coded : Coded sent d s t.drone_since o.code
+  pub coded : Coded sent d s t o.code
   pub terminates : Terminates cancelled o.work o.terminating
   pub gathers : GathersIn (shown_of c) o.phase o.got o.total
   pub final : o.final_sent ≡ true → Final sent d s t
@@ -287,6 +289,26 @@ abbrev pub Gathers : Stream → Stream → List Frame → Transaction → Option
 Gathers d s sent t None = Unit {0}
 Gathers d s sent t (Some u) = u.stream ≡ s → Gathering d s sent t u
 
+-- what is true of an acknowledgement of the drone at this time, where `earlier` are the frames before it: it refuses the
+-- upload, where it refuses a Count since the first one was sent, or anything since the upload was opened
+abbrev pub Answers : Stream → Stream → Transaction → ℕ → ℕ → ℕ → List Frame → Option PlanMsg → Type 0
+Answers d s t counted opened time earlier (Some (Ping to usec n)) = Unit {0}
+Answers d s t counted opened time earlier (Some (Count to n k)) = Unit {0}
+Answers d s t counted opened time earlier (Some (Give to i k x)) = Unit {0}
+Answers d s t counted opened time earlier (Some (Request to i k)) = Unit {0}
+Answers d s t counted opened time earlier (Some (Ack to c k)) =
+    (counted ≤ time → RefusesCount c → (k ≡ t.kind) × CountSent earlier d s t)
+    × (0 < opened → opened ≤ time → c ≢ 0 → (k ≡ t.kind) × ItemAsked earlier d s t × RefusesUpload c)
+Answers d s t counted opened time earlier (Some (Clear to k)) = Unit {0}
+Answers d s t counted opened time earlier (Some (Listing to k)) = Unit {0}
+Answers d s t counted opened time earlier None = Unit {0}
+
+-- what is true of each of the drone's to the station
+abbrev pub Answered : Stream → Stream → Transaction → ℕ → ℕ → List Frame → Type 0
+Answered d s t counted opened [] = Unit {0}
+Answered d s t counted opened (f ∷ fs) =
+    (f.from ≡ d → IsTo (node_of s) f.message → Answers d s t counted opened f.timestamp fs f.message) × Answered d s t counted opened fs
+
 pub record Inv (d s : Stream) (p : Part) (g : Moments) : Type 0 where
   pub facts : Facts (pair_of s p g)
   pub truths : Truths d s (pair_of s p g) (subject p.transaction p.opening) p.sent
@@ -297,6 +319,8 @@ pub record Inv (d s : Stream) (p : Part) (g : Moments) : Type 0 where
   pub since_count : 0 < g.first_count → p.transaction.since ≤ g.first_count
   pub count : 0 < g.first_count → Said p.sent s p.transaction.since (Count (node_of d) (length p.transaction.plan) p.transaction.kind)
   pub download : 4 < (pair_of s p g).phase → 0 < g.now_shown → HasShown p.opening × Copies s (kind_of p.opening) (shown_of p.opening) p.drone.download
+  pub asked : 0 < g.first_open → ItemAsked p.sent d s p.transaction
+  pub answers : (pair_of s p g).phase ≡ 3 → Answered d s p.transaction g.counted g.first_open p.sent
 
 -- frames
 pub truths_keep : (d s : Stream) (p q : Pair) (j k : Subject) → ((f : Frame) → Truth d s p j f → Truth d s q k f) → (fs : List Frame) → Truths d s p j fs → Truths d s q k fs
@@ -325,9 +349,9 @@ gathers_at d s sent t stage None h = tt
 gathers_at d s sent t stage (Some u) h = λ e. let g = h e in record { kind = g.kind; total = g.total; short = g.short; same = g.same; said = g.said }
 
 -- the operation, once more is sent
-pub coded_more : (d s : Stream) (sent : List Frame) (f : Frame) (since : ℕ) (code : Option ℕ) → Coded sent d s since code → Coded (f ∷ sent) d s since code
-coded_more d s sent f since None h = tt
-coded_more d s sent f since (Some code) h = (h.0, inr h.1)
+pub coded_more : (d s : Stream) (sent : List Frame) (f : Frame) (t : Transaction) (code : Option ℕ) → Coded sent d s t code → Coded (f ∷ sent) d s t code
+coded_more d s sent f t None h = tt
+coded_more d s sent f t (Some code) h = inr h
 
 pub final_more : (d s : Stream) (sent : List Frame) (f : Frame) (t : Transaction) → Final sent d s t → Final (f ∷ sent) d s t
 final_more d s sent f t h = (h.0, h.1, h.2, h.3, inr h.4)
@@ -344,7 +368,7 @@ pub operating_more : (d s : Stream) (sent : List Frame) (f : Frame) (t : Transac
 operating_more d s sent f t c cancelled pings o h = record {
   means = h.means;
   numbered = h.numbered;
-  coded = coded_more d s sent f t.drone_since o.code h.coded;
+  coded = coded_more d s sent f t o.code h.coded;
   terminates = h.terminates;
   gathers = h.gathers;
   final = λ e. final_more d s sent f t (h.final e);
@@ -361,12 +385,16 @@ means_else t stage lost c Uploads kind plan h = h
 means_else t stage lost c Clears kind plan h = h
 means_else t stage lost c Gets kind plan h = h
 
+coded_else : (d s : Stream) (sent : List Frame) (t : Transaction) (stage : Stage) (lost : Bool) (code : Option ℕ) → Coded sent d s t code → Coded sent d s (record t { stage = stage; lost = lost }) code
+coded_else d s sent t stage lost None h = tt
+coded_else d s sent t stage lost (Some code) h = h
+
 pub operates_else : (d s : Stream) (sent : List Frame) (t : Transaction) (stage : Stage) (lost : Bool) (c : Option Seen) (cancelled : Bool) (pings : ℕ) (o : Option Operation) → Operates d s sent t c cancelled pings o → Operates d s sent (record t { stage = stage; lost = lost }) c cancelled pings o
 operates_else d s sent t stage lost c cancelled pings None h = tt
 operates_else d s sent t stage lost c cancelled pings (Some o) h = record {
   means = means_else t stage lost c o.work o.kind o.plan h.means;
   numbered = h.numbered;
-  coded = h.coded;
+  coded = coded_else d s sent t stage lost o.code h.coded;
   terminates = h.terminates;
   gathers = h.gathers;
   final = h.final;
@@ -413,3 +441,71 @@ pub in_place : (s : Stage) → stage_number s ≡ 2 → s ≡ In_place
 in_place Fresh e = absurd (omega arith)
 in_place In_place e = refl
 in_place Closed e = absurd (omega arith)
+
+-- an acknowledgement from before the upload was opened, and from before its first Count
+opened_later : (d s : Stream) (t : Transaction) (counted old opened time : ℕ) (earlier : List Frame) (m : Option PlanMsg) → time < opened → Answers d s t counted old time earlier m → Answers d s t counted opened time earlier m
+opened_later d s t counted old opened time earlier (Some (Ping to usec n)) l h = tt
+opened_later d s t counted old opened time earlier (Some (Count to n k)) l h = tt
+opened_later d s t counted old opened time earlier (Some (Give to i k x)) l h = tt
+opened_later d s t counted old opened time earlier (Some (Request to i k)) l h = tt
+opened_later d s t counted old opened time earlier (Some (Ack to c k)) l h = (h.0, λ _ late _. absurd (omega arith))
+opened_later d s t counted old opened time earlier (Some (Clear to k)) l h = tt
+opened_later d s t counted old opened time earlier (Some (Listing to k)) l h = tt
+opened_later d s t counted old opened time earlier None l h = tt
+
+counted_later : (d s : Stream) (t : Transaction) (counted opened time : ℕ) (earlier : List Frame) (m : Option PlanMsg) → opened ≡ 0 → time < counted → Answers d s t counted opened time earlier m
+counted_later d s t counted opened time earlier (Some (Ping to usec n)) z l = tt
+counted_later d s t counted opened time earlier (Some (Count to n k)) z l = tt
+counted_later d s t counted opened time earlier (Some (Give to i k x)) z l = tt
+counted_later d s t counted opened time earlier (Some (Request to i k)) z l = tt
+counted_later d s t counted opened time earlier (Some (Ack to c k)) z l = (λ late _. absurd (omega arith), λ some _ _. absurd (omega arith))
+counted_later d s t counted opened time earlier (Some (Clear to k)) z l = tt
+counted_later d s t counted opened time earlier (Some (Listing to k)) z l = tt
+counted_later d s t counted opened time earlier None z l = tt
+
+-- the same of all that the drone has sent
+pub answered_opened : (d s : Stream) (t : Transaction) (counted old opened : ℕ) (p : Pair) (j : Subject) (fs : List Frame) → p.drone_next ≤ opened → Truths d s p j fs → Answered d s t counted old fs → Answered d s t counted opened fs
+answered_opened d s t counted old opened p j [] l h a = tt
+answered_opened d s t counted old opened p j (f ∷ fs) l h a =
+    (λ e to. opened_later d s t counted old opened f.timestamp fs f.message (let z = h.0.by_drone e in omega arith) (a.0 e to), answered_opened d s t counted old opened p j fs l h.1 a.1)
+
+pub answered_counted : (d s : Stream) (t : Transaction) (counted opened : ℕ) (p : Pair) (j : Subject) (fs : List Frame) → opened ≡ 0 → p.drone_next ≤ counted → Truths d s p j fs → Answered d s t counted opened fs
+answered_counted d s t counted opened p j [] z l h = tt
+answered_counted d s t counted opened p j (f ∷ fs) z l h =
+    (λ e _. counted_later d s t counted opened f.timestamp fs f.message z (let y = h.0.by_drone e in omega arith), answered_counted d s t counted opened p j fs z l h.1)
+
+-- it does not speak of the transaction's stage, nor of whether it is lost
+answers_else : (d s : Stream) (t : Transaction) (stage : Stage) (lost : Bool) (counted opened time : ℕ) (earlier : List Frame) (m : Option PlanMsg) → Answers d s t counted opened time earlier m → Answers d s (record t { stage = stage; lost = lost }) counted opened time earlier m
+answers_else d s t stage lost counted opened time earlier (Some (Ping to usec n)) h = tt
+answers_else d s t stage lost counted opened time earlier (Some (Count to n k)) h = tt
+answers_else d s t stage lost counted opened time earlier (Some (Give to i k x)) h = tt
+answers_else d s t stage lost counted opened time earlier (Some (Request to i k)) h = tt
+answers_else d s t stage lost counted opened time earlier (Some (Ack to c k)) h = h
+answers_else d s t stage lost counted opened time earlier (Some (Clear to k)) h = tt
+answers_else d s t stage lost counted opened time earlier (Some (Listing to k)) h = tt
+answers_else d s t stage lost counted opened time earlier None h = tt
+
+pub answered_else : (d s : Stream) (t : Transaction) (stage : Stage) (lost : Bool) (counted opened : ℕ) (fs : List Frame) → Answered d s t counted opened fs → Answered d s (record t { stage = stage; lost = lost }) counted opened fs
+answered_else d s t stage lost counted opened [] a = tt
+answered_else d s t stage lost counted opened (f ∷ fs) a =
+    (λ e to. answers_else d s t stage lost counted opened f.timestamp fs f.message (a.0 e to), answered_else d s t stage lost counted opened fs a.1)
+
+-- when an acknowledgement with this code at this time is about the upload
+abbrev pub IsAbout : ℕ → ℕ → ℕ → ℕ → Type 0
+IsAbout counted opened time c = ((counted ≤ time) × RefusesCount c) ⊎ ((0 < opened) × (opened ≤ time) × (c ≢ 0))
+
+answered_here : (d s : Stream) (t : Transaction) (counted opened : ℕ) (f : Frame) (fs : List Frame) (c k : ℕ) → f.from ≡ d → f.message ≡ Some (Ack (node_of s) c k) → IsAbout counted opened f.timestamp c → (f.from ≡ d → IsTo (node_of s) f.message → Answers d s t counted opened f.timestamp fs f.message) → RefusedWith (f ∷ fs) d s t c
+answered_here d s t counted opened f fs c k from is about h =
+    let a : Answers d s t counted opened f.timestamp fs (Some (Ack (node_of s) c k)) = subst (Answers d s t counted opened f.timestamp fs) is (h from (subst (IsTo (node_of s)) (sym is) refl)) in
+    elim about [
+      | inl b ↦ let x = a.0 b.0 b.1 in inl (from, is ∙ ap (λ n. Some (Ack (node_of s) c n)) x.0, inl (x.1, b.1))
+      | inr b ↦ let x = a.1 b.0 b.1 b.2 in inl (from, is ∙ ap (λ n. Some (Ack (node_of s) c n)) x.0, inr (x.1, x.2))
+    ]
+
+-- such an acknowledgement of the drone, in its place, refused the upload
+pub answered_at : (d s : Stream) (t : Transaction) (counted opened : ℕ) (fs : List Frame) (place : ℕ) (f : Frame) (c k : ℕ) → slice_get fs place ≡ Some f → f.from ≡ d → f.message ≡ Some (Ack (node_of s) c k) → IsAbout counted opened f.timestamp c → Answered d s t counted opened fs → RefusedWith fs d s t c
+answered_at d s t counted opened [] place f c k e from is about a = absurd (cc)
+answered_at d s t counted opened (g ∷ fs) zero f c k e from is about a =
+    let same : f ≡ g = cc in
+    answered_here d s t counted opened g fs c k (subst (λ (x : Frame). x.from ≡ d) same from) (subst (λ (x : Frame). x.message ≡ Some (Ack (node_of s) c k)) same is) (subst (λ (x : Frame). IsAbout counted opened x.timestamp c) same about) a.0
+answered_at d s t counted opened (g ∷ fs) (suc place) f c k e from is about a = inr (answered_at d s t counted opened fs place f c k e from is about a.1)

@@ -13,7 +13,7 @@ use Rattle.plan_safety.specs.Store.{Job, A_clear, A_get, Transaction, begun}
 use Rattle.plan_safety.proofs.Keys.{by_test, same, flag, flag_true, differ}
 use Rattle.plan_safety.proofs.Pair.{Pair, Facts, SentByStation, SentByDrone, elsewhere, begins_attempt, begins_count, begins_clear, begins_clear_attempt, begins_get, begins_get_attempt, a_ping, a_count, a_clear, a_list}
 use Rattle.plan_safety.proofs.StationSide as side
-use Rattle.plan_safety.proofs.Part.{Seen, Shows, job_number, Part, Moments, pair_of, Subject, subject, Truth, Gathers, Inv, truths_keep, stage_number, gathers_more, number_in}
+use Rattle.plan_safety.proofs.Part.{Seen, Shows, job_number, Part, Moments, pair_of, Subject, subject, Truth, Gathers, Inv, truths_keep, stage_number, gathers_more, number_in, answered_counted}
 use Rattle.plan_safety.proofs.StationNews.{Begins_upload, Begins_clear, Begins_get, Acted, with_station, seen}
 use Rattle.plan_safety.proofs.StationCases.{with_operation, shows_low}
 
@@ -97,7 +97,7 @@ module _ (d s : Stream) (ne : d ≢ s) where
       let P : StationStep → Type 0 = λ a. Acted d s u v a (Begins_upload kind plan) in
       by_test P (is_synced t.synced d) (starts ready o) (resynchronises ready o)
       (λ e. let b : q.synced ≡ 1 = flag_true _ e in
-      let m : Moments = record g { first_count = p.station_next; last_count = p.station_next; first_open = 0; first_ping = 0; first_reply = 0 } in
+      let m : Moments = record g { first_count = p.station_next; last_count = p.station_next; counted = p.drone_next; first_open = 0; first_ping = 0; first_reply = 0 } in
       record {
         needs = λ x. idle q i.facts refl (ap stage_number x);
         moments = m;
@@ -119,6 +119,8 @@ module _ (d s : Stream) (ne : d ≢ s) where
           since_count = λ _. omega arith;
           count = λ _. inl (refl, omega arith, refl);
           download = λ a b. absurd (omega arith);
+          asked = λ x. absurd (omega arith);
+          answers = λ _. (λ x _. absurd (ne (sym x)), answered_counted d s n p.drone_next 0 q j p.sent refl (omega arith) i.truths);
         };
       })
       (λ _. let m : Moments = record g { first_count = 0; first_open = 0; first_ping = p.station_next; first_reply = 0 } in
@@ -144,6 +146,8 @@ module _ (d s : Stream) (ne : d ≢ s) where
           since_count = λ x. absurd (omega arith);
           count = λ x. absurd (omega arith);
           download = λ a b. absurd (omega arith);
+          asked = λ x. absurd (omega arith);
+          answers = λ ph. absurd (omega arith);
         };
       })
       (λ e. absurd (differ _ left e)))
@@ -183,6 +187,8 @@ module _ (d s : Stream) (ne : d ≢ s) where
           since_count = i.since_count;
           count = λ x. inr (i.count x);
           download = λ a b. absurd (omega arith);
+          asked = λ x. ((i.asked x).0, inr (i.asked x).1);
+          answers = λ ph. absurd (omega arith);
         };
       })
       (λ _. let m : Moments = record g { first_ping = p.station_next; first_reply = 0; first_job = 0 } in
@@ -208,6 +214,8 @@ module _ (d s : Stream) (ne : d ≢ s) where
           since_count = i.since_count;
           count = λ x. inr (i.count x);
           download = λ a b. absurd (omega arith);
+          asked = λ x. ((i.asked x).0, inr (i.asked x).1);
+          answers = λ ph. absurd (omega arith);
         };
       })
       (λ e. absurd (differ _ left e)))
@@ -247,6 +255,8 @@ module _ (d s : Stream) (ne : d ≢ s) where
           since_count = i.since_count;
           count = λ x. inr (i.count x);
           download = λ a b. absurd (omega arith);
+          asked = λ x. ((i.asked x).0, inr (i.asked x).1);
+          answers = λ ph. absurd (omega arith);
         };
       })
       (λ _. let m : Moments = record g { first_ping = p.station_next; first_reply = 0; first_job = 0 } in
@@ -272,6 +282,8 @@ module _ (d s : Stream) (ne : d ≢ s) where
           since_count = i.since_count;
           count = λ x. inr (i.count x);
           download = λ a b. absurd (omega arith);
+          asked = λ x. ((i.asked x).0, inr (i.asked x).1);
+          answers = λ ph. absurd (omega arith);
         };
       })
       (λ e. absurd (differ _ left e)))
@@ -285,6 +297,9 @@ module _ (d s : Stream) (ne : d ≢ s) where
     where
       not_counted : (p : Pair) → Facts p → p.work ≡ 0 → 0 < p.first_count → ⊥
       not_counted p f on c = grind arith
+
+      not_opened : (p : Pair) → Facts p → p.work ≡ 0 → 0 < p.first_open → ⊥
+      not_opened p f on c = grind arith
 
       after : Inv d s (record p { operation = None }) g → p.pings ≤ pings → p.station_next ≤ next → (stage_number o.stage ≢ 1) → stage_number o.stage ≤ 2 → o.since ≤ next → flag set ≤ flag p.synced → Inv d s (record p { operation = None; pings = pings; station_next = next; transaction = o; synced = set; cancelled = cancelled }) g
       after i a b c e f less =
@@ -305,4 +320,6 @@ module _ (d s : Stream) (ne : d ≢ s) where
             since_count = λ y. absurd (not_counted q i.facts refl y);
             count = λ y. absurd (not_counted q i.facts refl y);
             download = λ a b. absurd (omega arith);
+            asked = λ y. absurd (not_opened q i.facts refl y);
+            answers = λ ph. absurd (omega arith);
           }

@@ -8,12 +8,12 @@ use Rattle.plan_items.specs.declared.messages.PlanMsg.TheVariants.{Count, Reques
 use Rattle.plan_upload.specs.Addresses.{same_stream, node_of, everyone}
 use Rattle.plan_upload.specs.Station.{StationState, StationStep, Operation, Work, Uploads, Clears, Gets, Phase, Pinging, Cancelling, Sending, Clearing, Listing_items, Getting, Told, Told_installed, Told_not_installed, Told_unknown, Told_cleared, Told_got, Told_ended, phase_number, last_ping, sends, becomes, pinging, resynchronises, starts, is_synced, synced_too, synchronised, ends, ends_with, given_code, synchronises}
 use Rattle.plan_safety.specs.Frames.{Frame, Said}
-use Rattle.plan_safety.specs.Store.{Transaction, Stage, Fresh, In_place, Closed, Acked, staged, unless_placed}
+use Rattle.plan_safety.specs.Store.{Transaction, Stage, Fresh, In_place, Closed, Acked, RefusedWith, staged, unless_placed}
 use Rattle.plan_safety.proofs.Keys.{by_test, eq_true, eq_false, same, apart, both_true, bool_split, flag, flag_true, flag_false, is_flagged, zero_or}
 use Rattle.plan_safety.proofs.Pair as pair
 use Rattle.plan_safety.proofs.Pair.{Pair, Facts, SentByStation, SentByDrone, AnswersCancel, attempts, attempts_spent, starts_count, starts_clear, starts_listing, pings, a_ping, a_count, a_clear, a_list, an_ack}
 use Rattle.plan_safety.proofs.StationSide as side
-use Rattle.plan_safety.proofs.Part.{Seen, Shows, kind_of, shown_of, stage_number, Part, Moments, pair_of, Subject, subject, Truth, Truths, IsClear, IsGet, Final, Numbered, Coded, Terminates, GathersIn, CancelSaid, Operating, Inv, Keeps, keeps_truth, truths_keep, coded_more, final_more, gathers_at, fresh, in_place}
+use Rattle.plan_safety.proofs.Part.{Seen, Shows, kind_of, shown_of, stage_number, Part, Moments, pair_of, Subject, subject, Truth, Truths, IsClear, IsGet, Final, Numbered, Coded, Terminates, GathersIn, CancelSaid, Operating, Inv, Keeps, keeps_truth, truths_keep, coded_more, final_more, gathers_at, fresh, in_place, answered_counted}
 use Rattle.plan_safety.proofs.StationNews.{Silent, news_of, SeesPlan, SeesClear, SeesEnd, Acted, Heeds, with_station, station_said, end_cancelled}
 
 -- the operation o, at the drone d, in the phase f
@@ -28,7 +28,7 @@ pub op_sends : (d s : Stream) (sent : List Frame) (m : Frame) (t : Transaction) 
 op_sends d s sent m t c cancelled old_pings new_pings o f idle asked final_sent number total got h n g l x = record {
   means = h.means;
   numbered = n;
-  coded = coded_more d s sent m t.drone_since o.code h.coded;
+  coded = coded_more d s sent m t o.code h.coded;
   terminates = h.terminates;
   gathers = g;
   final = l;
@@ -91,6 +91,10 @@ synced_fifteen p k f h on = grind arith
 
 synced_early : (p : Pair) (c k : ℕ) → Facts p → Synchronises p c k → p.work ≡ 1 → p.final_sent ≡ 0 → p.stage ≡ 1
 synced_early p c k f h on last = grind arith
+
+-- before an upload starts nothing was opened
+unopened : (p : Pair) → Facts p → p.phase ≡ 2 → p.terminating ≡ 0 → p.first_open ≡ 0
+unopened p f ph t = grind arith
 
 -- stages that aren't fresh
 not_fresh : (s : Stage) → stage_number s ≢ 1 → stage_number s ≤ 2
@@ -167,7 +171,7 @@ attempt_told u o = by_test (λ (a : StationStep). a.told ≡ None) (nat_lt u.pin
 
 module _ (d s : Stream) (ne : d ≢ s) where
   -- an attempt begins, and the operation is terminating where a Count was sent
-  pub on_silent_attempt : (p : Part) (g : Moments) (t : StationState) (o : Operation) (f : Phase) (code : Option ℕ) (terminating : Bool) → Inv d s (with_station d p (with_operation t (op o d f))) g → (0 < g.first_count → 0 < flag terminating) → Coded p.sent d s p.transaction.drone_since code → Terminates p.cancelled o.work terminating → Acted d s (with_operation t (op o d f)) (with_station d p (with_operation t (op o d f))) (resynchronises (with_operation t (op o d f)) (record o { drone = d; phase = f; code = code; terminating = terminating })) Silent
+  pub on_silent_attempt : (p : Part) (g : Moments) (t : StationState) (o : Operation) (f : Phase) (code : Option ℕ) (terminating : Bool) → Inv d s (with_station d p (with_operation t (op o d f))) g → (0 < g.first_count → 0 < flag terminating) → Coded p.sent d s p.transaction code → Terminates p.cancelled o.work terminating → Acted d s (with_operation t (op o d f)) (with_station d p (with_operation t (op o d f))) (resynchronises (with_operation t (op o d f)) (record o { drone = d; phase = f; code = code; terminating = terminating })) Silent
   on_silent_attempt p g t o f code terminating i end cd tm =
       let u = with_operation t (op o d f) in
       let v = with_station d p u in
@@ -190,8 +194,8 @@ module _ (d s : Stream) (ne : d ≢ s) where
             (side.attempts_facts q (flag terminating) i.facts some end)
             (record { drone_next = omega arith; station_next = omega arith; shows = λ a b. absurd (omega arith); drone = λ u x. side.attempts_drone q (flag terminating) u x i.facts some end; station = λ ck k n l u x. side.attempts_station q (flag terminating) ck k n l u x i.facts some end })
             (attempt_new q (flag terminating)) tt (omega arith)
-            (record { means = i.operation.means; numbered = (let z : t.pings + 1 ≤ t.pings + 1 = omega arith in z); coded = coded_more d s p.sent _ p.transaction.drone_since code cd; terminates = tm; gathers = tt; final = λ e. final_more d s p.sent _ p.transaction (i.operation.final e); cancel = tt })
-            i.since_count (λ x. inr (i.count x));
+            (record { means = i.operation.means; numbered = (let z : t.pings + 1 ≤ t.pings + 1 = omega arith in z); coded = coded_more d s p.sent (record { from = s; timestamp = p.station_next; message = Some ping }) p.transaction code cd; terminates = tm; gathers = tt; final = λ e. final_more d s p.sent _ p.transaction (i.operation.final e); cancel = tt })
+            i.since_count (λ x. inr (i.count x)) (λ x. ((i.asked x).0, inr (i.asked x).1)) (λ ph. absurd (omega arith));
       })
       (λ _. let j = subject p.transaction p.opening in let r : Pair = attempts_spent q (flag terminating) in record {
         needs = tt;
@@ -211,11 +215,13 @@ module _ (d s : Stream) (ne : d ≢ s) where
           since_count = i.since_count;
           count = i.count;
           download = λ a b. absurd (omega arith);
+          asked = i.asked;
+          answers = λ ph. absurd (omega arith);
         };
       })
 
   -- the same, as a step at a message or a tick
-  pub on_attempt : (p : Part) (g : Moments) (t : StationState) (o : Operation) (f : Phase) (code : Option ℕ) (terminating : Bool) → Inv d s (with_station d p (with_operation t (op o d f))) g → (0 < g.first_count → 0 < flag terminating) → Coded p.sent d s p.transaction.drone_since code → Terminates p.cancelled o.work terminating → Heeds d s (with_operation t (op o d f)) (with_station d p (with_operation t (op o d f))) (resynchronises (with_operation t (op o d f)) (record o { drone = d; phase = f; code = code; terminating = terminating }))
+  pub on_attempt : (p : Part) (g : Moments) (t : StationState) (o : Operation) (f : Phase) (code : Option ℕ) (terminating : Bool) → Inv d s (with_station d p (with_operation t (op o d f))) g → (0 < g.first_count → 0 < flag terminating) → Coded p.sent d s p.transaction code → Terminates p.cancelled o.work terminating → Heeds d s (with_operation t (op o d f)) (with_station d p (with_operation t (op o d f))) (resynchronises (with_operation t (op o d f)) (record o { drone = d; phase = f; code = code; terminating = terminating }))
   on_attempt p g t o f code terminating i end cd tm =
       let u = with_operation t (op o d f) in
       let o' : Operation = record o { drone = d; phase = f; code = code; terminating = terminating } in
@@ -228,7 +234,7 @@ module _ (d s : Stream) (ne : d ≢ s) where
       let u = with_operation t (Some o') in
       let v = with_station d p u in
       let q : Pair = pair_of s v g in
-      let m : Moments = record g { first_count = p.station_next; last_count = p.station_next; first_ping = 0; first_reply = 0 } in
+      let m : Moments = record g { first_count = p.station_next; last_count = p.station_next; counted = p.drone_next; first_ping = 0; first_reply = 0 } in
       let ek : o.kind ≡ p.transaction.kind = i.operation.means.0 in
       let ep : length o.plan ≡ length p.transaction.plan = ap length i.operation.means.1 in
       let can = synced_can q c k i.facts h in
@@ -247,7 +253,9 @@ module _ (d s : Stream) (ne : d ≢ s) where
             (rw (ek, ep) (count_new q (kind_of p.opening) p.transaction.kind (length p.transaction.plan) (slice_get p.transaction.plan) i.facts))
             refl (omega arith)
             (op_sends d s p.sent _ p.transaction p.opening p.cancelled t.pings t.pings o' Sending 0 o.asked o.final_sent None 0 [] i.operation tt tt (λ e. final_more d s p.sent _ p.transaction (i.operation.final e)) tt)
-            (λ _. i.since) (λ _. inl (refl, i.since, ap (λ n. Some (Count (node_of d) (length o.plan) n)) ek ∙ ap (λ n. Some (Count (node_of d) n p.transaction.kind)) ep));
+            (λ _. i.since) (λ _. inl (refl, i.since, ap (λ n. Some (Count (node_of d) (length o.plan) n)) ek ∙ ap (λ n. Some (Count (node_of d) n p.transaction.kind)) ep))
+            (λ x. ((i.asked x).0, inr (i.asked x).1))
+            (λ _. answered_counted d s p.transaction p.drone_next g.first_open q (subject p.transaction p.opening) p.sent (unopened q i.facts refl refl) (omega arith) i.truths);
       }
   on_start p g t o Clears c k i h =
       let o' : Operation = record o { work = Clears; terminating = false; drone = d; phase = Cancelling } in
@@ -276,7 +284,7 @@ module _ (d s : Stream) (ne : d ≢ s) where
             (subst (λ x. SentByStation (starts_clear q n.0) x p.transaction.kind (length p.transaction.plan) (slice_get p.transaction.plan) p.station_next (a_clear o.kind)) (sym ec) (clear_new q o.kind p.transaction.kind (length p.transaction.plan) (slice_get p.transaction.plan) n.0 i.facts refl e l))
             refl (omega arith)
             (op_sends d s p.sent _ p.transaction p.opening p.cancelled t.pings t.pings o' Clearing 0 o.asked o.final_sent None 0 [] i.operation tt tt (λ e. final_more d s p.sent _ p.transaction (i.operation.final e)) tt)
-            i.since_count (λ x. inr (i.count x));
+            i.since_count (λ x. inr (i.count x)) (λ x. ((i.asked x).0, inr (i.asked x).1)) (λ ph. absurd (omega arith));
       }
   on_start p g t o Gets c k i h =
       let o' : Operation = record o { work = Gets; terminating = false; drone = d; phase = Cancelling } in
@@ -305,7 +313,7 @@ module _ (d s : Stream) (ne : d ≢ s) where
             (subst (λ x. SentByStation (starts_listing q n.0) x p.transaction.kind (length p.transaction.plan) (slice_get p.transaction.plan) p.station_next (a_list o.kind)) (sym ec) (listing_new q o.kind p.transaction.kind (length p.transaction.plan) (slice_get p.transaction.plan) n.0 i.facts refl e l))
             refl (omega arith)
             (op_sends d s p.sent _ p.transaction p.opening p.cancelled t.pings t.pings o' Listing_items 0 o.asked o.final_sent None 0 [] i.operation tt tt (λ e. final_more d s p.sent _ p.transaction (i.operation.final e)) tt)
-            i.since_count (λ x. inr (i.count x));
+            i.since_count (λ x. inr (i.count x)) (λ x. ((i.asked x).0, inr (i.asked x).1)) (λ ph. absurd (omega arith));
       }
 
   -- an upload is over, and its transaction's stage is then `stage`
@@ -331,6 +339,8 @@ module _ (d s : Stream) (ne : d ≢ s) where
         since_count = λ x. absurd (omega arith);
         count = λ x. absurd (omega arith);
         download = λ a b. absurd (omega arith);
+        asked = λ x. absurd (omega arith);
+        answers = λ ph. absurd (omega arith);
       }
 
   -- each outcome of an upload
@@ -346,7 +356,7 @@ module _ (d s : Stream) (ne : d ≢ s) where
     inv = upload_over p g t p.transaction.stage i c work (λ x. absurd (omega arith));
   }
 
-  pub on_not_installed : (p : Part) (g : Moments) (t : StationState) (code : ℕ) → Inv d s (with_station d p t) g → CanEnd (pair_of s (with_station d p t) g) → (pair_of s (with_station d p t) g).work ≡ 1 → stage_number p.transaction.stage ≡ 1 → (code ≡ 15) ⊎ Acked p.sent d s p.transaction.drone_since code → Heeds d s t (with_station d p t) (ends t d (Told_not_installed code))
+  pub on_not_installed : (p : Part) (g : Moments) (t : StationState) (code : ℕ) → Inv d s (with_station d p t) g → CanEnd (pair_of s (with_station d p t) g) → (pair_of s (with_station d p t) g).work ≡ 1 → stage_number p.transaction.stage ≡ 1 → (code ≡ 15) ⊎ RefusedWith p.sent d s p.transaction code → Heeds d s t (with_station d p t) (ends t d (Told_not_installed code))
   on_not_installed p g t code i c work e cause = record {
     needs = (fresh p.transaction.stage e, cause);
     moments = record g { first_count = 0; first_open = 0; first_ping = 0; first_reply = 0; first_job = 0 };
@@ -394,6 +404,8 @@ module _ (d s : Stream) (ne : d ≢ s) where
         since_count = λ x. absurd (omega arith);
         count = λ x. absurd (omega arith);
         download = λ a b. absurd (omega arith);
+        asked = λ x. absurd (omega arith);
+        answers = λ ph. absurd (omega arith);
       }
     where
       not_one : (p : Pair) → Facts p → 1 < p.work → p.stage ≢ 1
@@ -462,7 +474,7 @@ module _ (d s : Stream) (ne : d ≢ s) where
         inv =
             station_said d s ne v m m u (Ack (node_of d) 0 kind) (pings q) j refl (side.pings_facts q j.facts)
             (record { drone_next = omega arith; station_next = omega arith; shows = λ a b. (a, refl); drone = λ u x. side.pings_drone q u x j.facts; station = λ ck k n l u x. side.pings_station q ck k n l u x j.facts })
-            (omega arith, λ e. absurd (omega arith), λ e. absurd (omega arith)) refl (omega arith) tt j.since_count (λ x. inr (j.count x));
+            (omega arith, λ e. absurd (omega arith), λ e. absurd (omega arith)) refl (omega arith) tt j.since_count (λ x. inr (j.count x)) (λ x. absurd (omega arith)) (λ ph. absurd (omega arith));
       }
 
   -- the answer to the cancel: `acked` is the frame
@@ -502,6 +514,6 @@ module _ (d s : Stream) (ne : d ≢ s) where
             | inr e ↦ synced_early q c k i.facts h refl (flag_false _ e)
           ]
 
-      cause : (code : Option ℕ) → Coded p.sent d s p.transaction.drone_since code → (given_code code ≡ 15) ⊎ Acked p.sent d s p.transaction.drone_since (given_code code)
+      cause : (code : Option ℕ) → Coded p.sent d s p.transaction code → (given_code code ≡ 15) ⊎ RefusedWith p.sent d s p.transaction (given_code code)
       cause None h = inl refl
       cause (Some n) h = inr h

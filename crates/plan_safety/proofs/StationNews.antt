@@ -9,10 +9,10 @@ use Rattle.plan_items.specs.Kinds.{limit_of}
 use Rattle.plan_upload.specs.Station.{StationState, StationStep, Operation, Told, Told_installed, Told_not_installed, Told_unknown, Told_cleared, Told_got, Told_ended, is_synced}
 use Rattle.plan_safety.specs.Frames.{Frame, Said}
 use Rattle.plan_safety.specs.World.{frame_of}
-use Rattle.plan_safety.specs.Store.{Job, A_clear, A_get, Transaction, Fresh, In_place, Closed, Acked, TooMany, staged, given_up, begun}
+use Rattle.plan_safety.specs.Store.{Job, A_clear, A_get, Transaction, Fresh, In_place, Closed, Acked, RefusedWith, ItemAsked, TooMany, staged, given_up, begun}
 use Rattle.plan_safety.proofs.Keys.{flag}
 use Rattle.plan_safety.proofs.Pair.{Pair, Facts, SentByStation}
-use Rattle.plan_safety.proofs.Part.{Seen, Part, Moments, pair_of, subject, Named, Truths, Final, Operates, Inv, Keeps, keeps_truth, truths_keep, gathers_more, shown_of, number_in, job_number, since_of, IsGet}
+use Rattle.plan_safety.proofs.Part.{Seen, Part, Moments, pair_of, subject, Named, Truths, Final, Operates, Inv, Keeps, keeps_truth, truths_keep, gathers_more, shown_of, number_in, job_number, since_of, IsGet, Answered}
 
 -- what a step tells: an outcome, that an operation began, or that it was cancelled
 pub data StationNews : Type 0 where
@@ -44,7 +44,7 @@ SeesEnd sent d s cancelled (Some c) code =
 -- what an outcome needs of the pair
 abbrev pub Tellable : Stream → Stream → List Frame → Transaction → Option Seen → Bool → Told → Type 0
 Tellable d s sent t c cancelled Told_installed = t.stage ≡ In_place
-Tellable d s sent t c cancelled (Told_not_installed code) = (t.stage ≡ Fresh) × ((code ≡ 15) ⊎ Acked sent d s t.drone_since code)
+Tellable d s sent t c cancelled (Told_not_installed code) = (t.stage ≡ Fresh) × ((code ≡ 15) ⊎ RefusedWith sent d s t code)
 Tellable d s sent t c cancelled Told_unknown = (t.stage ≡ Closed → ⊥) × (t.lost ≡ true) × Acked sent d s t.drone_since 1 × Final sent d s t × Said sent s t.since (Ack (node_of d) 15 t.kind)
 Tellable d s sent t c cancelled Told_cleared = SeesClear c
 Tellable d s sent t c cancelled (Told_got plan) = SeesPlan c plan
@@ -156,8 +156,8 @@ abbrev pub sent_part : Stream → Stream → Part → StationState → PlanMsg �
 sent_part d s p t x = part_sends s (with_station d p t) (Some x)
 
 -- q is the pair after the frame, however it is spelled
-pub station_said : (d s : Stream) → d ≢ s → (p : Part) (g h : Moments) (t : StationState) (x : PlanMsg) (q : Pair) → Inv d s p g → pair_of s (sent_part d s p t x) h ≡ q → Facts q → Keeps (pair_of s p g) q → (let j = subject p.transaction p.opening in SentByStation q j.jkind j.kind j.total j.plan p.station_next (Some x)) → Named d (Some x) → p.station_next < q.station_next → Operates d s (sent_part d s p t x).sent p.transaction p.opening p.cancelled t.pings t.operation → (0 < h.first_count → p.transaction.since ≤ h.first_count) → (0 < h.first_count → Said (sent_part d s p t x).sent s p.transaction.since (Count (node_of d) (length p.transaction.plan) p.transaction.kind)) → Inv d s (sent_part d s p t x) h
-station_said d s ne p g h t x q i is f k n named l o c m = record {
+pub station_said : (d s : Stream) → d ≢ s → (p : Part) (g h : Moments) (t : StationState) (x : PlanMsg) (q : Pair) → Inv d s p g → pair_of s (sent_part d s p t x) h ≡ q → Facts q → Keeps (pair_of s p g) q → (let j = subject p.transaction p.opening in SentByStation q j.jkind j.kind j.total j.plan p.station_next (Some x)) → Named d (Some x) → p.station_next < q.station_next → Operates d s (sent_part d s p t x).sent p.transaction p.opening p.cancelled t.pings t.operation → (0 < h.first_count → p.transaction.since ≤ h.first_count) → (0 < h.first_count → Said (sent_part d s p t x).sent s p.transaction.since (Count (node_of d) (length p.transaction.plan) p.transaction.kind)) → (0 < h.first_open → ItemAsked (sent_part d s p t x).sent d s p.transaction) → ((pair_of s (sent_part d s p t x) h).phase ≡ 3 → Answered d s p.transaction h.counted h.first_open p.sent) → Inv d s (sent_part d s p t x) h
+station_said d s ne p g h t x q i is f k n named l o c m ask old = record {
   facts = subst Facts (sym is) f;
   truths = subst (λ y. Truths d s y (subject p.transaction p.opening) (sent_part d s p t x).sent) (sym is) (
     record { drone = λ e _. absurd (ne (sym e)); shows = λ e _. absurd (ne (sym e)); station = λ _ _. n; named = λ _ _. named; by_drone = λ e. absurd (ne (sym e)); by_station = λ _. l },
@@ -170,6 +170,8 @@ station_said d s ne p g h t x q i is f k n named l o c m = record {
   since_count = c;
   count = m;
   download = λ a b. let e = k.shows (subst (λ x. 4 < x.phase) is a) (subst (λ x. 0 < x.now_shown) is b) in let w : 0 < g.now_shown = (let z = e.1 in let y : h.now_shown ≡ q.now_shown = ap (λ x. x.now_shown) is in omega arith) in i.download e.0 w;
+  asked = ask;
+  answers = λ ph. (λ e _. absurd (ne (sym e)), old ph);
 }
 
 -- more sent frames tell no less
@@ -181,13 +183,13 @@ end_more d s sent f cancelled None code h = h
 end_more d s sent f cancelled (Some c) code (inl h) = inl (acked_more sent f d s c.drone_since code h)
 end_more d s sent f cancelled (Some c) code (inr h) = inr h
 
-or_acked : (sent : List Frame) (f : Frame) (d s : Stream) (since code : ℕ) → (code ≡ 15) ⊎ Acked sent d s since code → (code ≡ 15) ⊎ Acked (f ∷ sent) d s since code
-or_acked sent f d s since code (inl h) = inl h
-or_acked sent f d s since code (inr h) = inr (acked_more sent f d s since code h)
+or_refused : (sent : List Frame) (f : Frame) (d s : Stream) (t : Transaction) (code : ℕ) → (code ≡ 15) ⊎ RefusedWith sent d s t code → (code ≡ 15) ⊎ RefusedWith (f ∷ sent) d s t code
+or_refused sent f d s t code (inl h) = inl h
+or_refused sent f d s t code (inr h) = inr (inr h)
 
 pub tellable_more : (d s : Stream) (sent : List Frame) (f : Frame) (t : Transaction) (c : Option Seen) (cancelled : Bool) (told : Told) → Tellable d s sent t c cancelled told → Tellable d s (f ∷ sent) t c cancelled told
 tellable_more d s sent f t c cancelled Told_installed h = h
-tellable_more d s sent f t c cancelled (Told_not_installed code) h = (h.0, or_acked sent f d s t.drone_since code h.1)
+tellable_more d s sent f t c cancelled (Told_not_installed code) h = (h.0, or_refused sent f d s t code h.1)
 tellable_more d s sent f t c cancelled Told_unknown h = (h.0, h.1, acked_more sent f d s t.drone_since 1 h.2, (h.3.0, h.3.1, h.3.2, h.3.3, inr h.3.4), inr h.4)
 tellable_more d s sent f t c cancelled Told_cleared h = h
 tellable_more d s sent f t c cancelled (Told_got plan) h = h

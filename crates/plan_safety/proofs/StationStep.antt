@@ -12,13 +12,13 @@ use Rattle.std.proofs.lemmas.List.{take_all}
 use Rattle.plan_upload.specs.Drone.{idle_limit}
 use Rattle.plan_upload.specs.Station.{StationState, StationStep, Operation, Work, Uploads, Clears, Gets, Phase, Pinging, Cancelling, Sending, Clearing, Listing_items, Getting, phase_number, addressee, stays, sends, becomes, terminated, refused, item_asked, upload_acked, counted, item_got, is_number, phase_step, idle_again, tries_again, pinged, phase_tick, phase_cancel, operation_cancel}
 use Rattle.plan_safety.specs.Frames.{Frame, Said}
-use Rattle.plan_safety.specs.Store.{Job, A_clear, A_get, Transaction, Acked}
-use Rattle.plan_safety.proofs.Keys.{by_test, number_same, eq_true, less, not_less, both_true, flag, flag_true, flag_false}
+use Rattle.plan_safety.specs.Store.{Job, A_clear, A_get, Transaction, Acked, RefusesCount, RefusedWith}
+use Rattle.plan_safety.proofs.Keys.{by_test, number_same, eq_true, eq_false, less, not_less, both_true, flag, flag_true, flag_false}
 use Rattle.plan_safety.proofs.Part as Part
 use Rattle.plan_safety.proofs.Lists.{in_range, next_front}
 use Rattle.plan_safety.proofs.Pair.{Pair, Facts, SentByStation, SentByDrone, AnswersCancel, IsVerdict, hears, later_station, cancels, sends_item, marks_terminating, gets, pings, counts, a_ping, a_count, an_item, an_ack}
 use Rattle.plan_safety.proofs.StationSide as side
-use Rattle.plan_safety.proofs.Part.{Seen, Shows, kind_of, shown_of, shown_by, since_of, HasShown, IsShown, IsGet, GathersIn, Numbered, Terminates, Final, Operating, Operates, Part, Moments, pair_of, subject, Inv, keeps_truth, truths_keep, work_number, job_number, number_in, attempt_number, began_at, operates_more, final_more}
+use Rattle.plan_safety.proofs.Part.{Seen, Shows, kind_of, shown_of, shown_by, since_of, HasShown, IsShown, IsGet, GathersIn, Numbered, Terminates, Final, Operating, Operates, Part, Moments, pair_of, subject, Inv, keeps_truth, truths_keep, work_number, job_number, number_in, attempt_number, began_at, operates_more, final_more, IsAbout}
 use Rattle.plan_safety.proofs.StationNews.{Silent, Cancels, SeesClear, SeesPlan, Acted, Heeds, with_station, station_said, OfDrone, end_acked, end_too_many}
 use Rattle.plan_safety.proofs.StationCases.{with_operation, op, op_sends, CanEnd, on_silent_attempt, on_attempt, on_synchronises, on_installed, on_ended, on_cleared, on_got, some_job}
 
@@ -79,6 +79,9 @@ accepting c e = grind arith
 refusing_upload : (c : ℕ) → ((c == 3) || ((c == 4) || ((c == 5) || (c == 14)))) ≡ true → IsVerdict c
 refusing_upload c e = grind arith
 
+refusing_count : (c : ℕ) → ((c == 3) || ((c == 4) || ((c == 5) || (c == 14)))) ≡ true → RefusesCount c
+refusing_count c e = grind arith
+
 -- what is true of the frames that a tick sends again
 ping_new : (p : Pair) (n : ℕ) → Facts p → p.phase ≡ 1 → n ≡ p.number → n < p.next_ping → SentByStation (pings p) 0 0 0 (λ x. None) p.station_next (a_ping n)
 ping_new p n f h e l = grind arith
@@ -97,8 +100,8 @@ no_count p f h c = grind arith
 cancel_began : (p : Pair) → Facts p → p.phase ≡ 2 → p.began ≤ p.station_last
 cancel_began p f h = grind arith
 
-asked_began : (p : Pair) → Facts p → p.asked ≡ 1 → p.began ≤ p.station_last
-asked_began p f h = grind arith
+asked_opened : (p : Pair) → Facts p → p.asked ≡ 1 → (0 < p.first_open) × (p.first_open ≤ p.station_last)
+asked_opened p f h = grind arith
 
 getting_began : (p : Pair) → Facts p → p.phase ≡ 6 → p.began ≤ p.station_last
 getting_began p f h = grind arith
@@ -133,6 +136,7 @@ pub record Heard (p : Pair) (x : Option PlanMsg) : Type 0 where
   pub reply : p.phase ≡ 2 → p.first_reply < p.station_last
   pub request : (to : Name) (i k : ℕ) → x ≡ Some (Request to i k) → (0 < p.first_open) × (p.first_open ≤ p.station_last)
   pub verdict : (to : Name) (c k : ℕ) → x ≡ Some (Ack to c k) → 2 < p.phase → IsVerdict c → p.began ≤ p.station_last
+  pub counted : (to : Name) (c k : ℕ) → x ≡ Some (Ack to c k) → p.phase ≡ 3 → IsVerdict c → p.counted ≤ p.station_last
   pub job : (to : Name) (c k : ℕ) → x ≡ Some (Ack to c k) → 3 < p.phase → IsVerdict c → (p.station_last ≡ p.last_verdict) × (p.last_job ≤ p.drone_last) × (4 < p.phase → p.now_shown ≡ 0)
   pub count : (to : Name) (n k : ℕ) → x ≡ Some (Count to n k) → p.phase ≡ 5 → (0 < p.now_shown) × (p.station_last ≡ p.now_shown)
   pub item : p.phase ≡ 6 → p.now_shown < p.station_last
@@ -186,6 +190,8 @@ module _ (d s : Stream) (ne : d ≢ s) where
         since_count = i.since_count;
         count = i.count;
         download = i.download;
+        asked = i.asked;
+        answers = i.answers;
       }
 
   -- nothing changes
@@ -212,6 +218,8 @@ module _ (d s : Stream) (ne : d ≢ s) where
       since_count = i.since_count;
       count = i.count;
       download = i.download;
+      asked = i.asked;
+      answers = i.answers;
     };
   }
 
@@ -238,7 +246,7 @@ module _ (d s : Stream) (ne : d ≢ s) where
             (record { drone_next = omega arith; station_next = omega arith; shows = λ a b. absurd (omega arith); drone = λ u x. side.cancels_drone q u x i.facts refl some late; station = λ ck k n l u x. side.cancels_station q ck k n l u x i.facts refl some late })
             (cancel_new q 0 0 0 (λ x. None) o.kind) refl (omega arith)
             (op_sends d s p.sent _ p.transaction p.opening p.cancelled t.pings t.pings (record o { drone = d; phase = Pinging }) Cancelling o.idle o.asked o.final_sent o.number o.total o.got i.operation i.operation.numbered tt (λ e. final_more d s p.sent _ p.transaction (i.operation.final e)) (inl (refl, i.since, refl)))
-            i.since_count (λ x. inr (i.count x));
+            i.since_count (λ x. inr (i.count x)) (λ x. ((i.asked x).0, inr (i.asked x).1)) (λ ph. absurd (omega arith));
       }
 
   -- MISSION_REQUEST_INT
@@ -270,7 +278,7 @@ module _ (d s : Stream) (ne : d ≢ s) where
             (item_new q (kind_of p.opening) o.kind (length o.plan) (slice_get o.plan) last seq x i.facts refl within is (last_flag o.final_sent seq (length o.plan)))))
             refl (omega arith)
             (op_sends d s p.sent _ p.transaction p.opening p.cancelled t.pings t.pings o' Sending 0 true marked o.number o.total o.got i.operation i.operation.numbered tt (λ e. final_now p.sent p.transaction o.final_sent i.operation.final i.operation.means.0 i.operation.means.1 e i.since) tt)
-            i.since_count (λ x. inr (i.count x));
+            i.since_count (λ x. inr (i.count x)) (λ x. ((i.asked x).0, inr (i.asked x).1)) i.answers;
       }
     where
       final_now : (sent : List Frame) (tr : Transaction) (b : Bool) → (b ≡ true → Final sent d s tr) → o.kind ≡ tr.kind → o.plan ≡ tr.plan → (b || (seq + 1 == length o.plan)) ≡ true → tr.since ≤ p.station_next → Final (record { from = s; timestamp = p.station_next; message = Some (Give (node_of d) seq o.kind x) } ∷ sent) d s tr
@@ -310,9 +318,9 @@ module _ (d s : Stream) (ne : d ≢ s) where
             station_said d s ne v g g (with_operation t (op (record o { idle = 0; total = n; got = [] }) d Getting)) (Request (node_of d) 0 o.kind) (gets q) i refl
             (side.gets_facts q i.facts refl some late)
             (record { drone_next = omega arith; station_next = omega arith; shows = λ a b. (omega arith, refl); drone = λ u x. side.gets_drone q u x i.facts refl some late; station = λ ck k n l u x. side.gets_station q ck k n l u x i.facts refl some late })
-            (let z : p.station_next < p.station_next + 1 = omega arith in z) refl (omega arith)
+            ((let z : p.station_next < p.station_next + 1 = omega arith in z), λ c. absurd (no_count q i.facts (omega arith) c)) refl (omega arith)
             (op_sends d s p.sent _ p.transaction p.opening p.cancelled t.pings t.pings (record o { drone = d; phase = Listing_items }) Getting 0 o.asked o.final_sent o.number n [] i.operation i.operation.numbered (refl, subst (λ n. 0 < n) len more, len) (λ e. final_more d s p.sent _ p.transaction (i.operation.final e)) tt)
-            i.since_count (λ x. inr (i.count x));
+            i.since_count (λ x. inr (i.count x)) (λ x. ((i.asked x).0, inr (i.asked x).1)) (λ ph. absurd (omega arith));
       }))
     where
       above : (n : ℕ) → (n == 0) ≡ false → 0 < n
@@ -342,19 +350,19 @@ module _ (d s : Stream) (ne : d ≢ s) where
             station_said d s ne v g g (with_operation t (op (record o { idle = 0; got = items }) d Getting)) (Request (node_of d) (length items) o.kind) (pings q) i refl
             (side.pings_facts q i.facts)
             (record { drone_next = omega arith; station_next = omega arith; shows = λ a b. (a, refl); drone = λ u x. side.pings_drone q u x i.facts; station = λ ck k n l u x. side.pings_station q ck k n l u x i.facts })
-            (let z : p.station_next < p.station_next + 1 = omega arith in z) refl (omega arith)
+            ((let z : p.station_next < p.station_next + 1 = omega arith in z), λ c. absurd (no_count q i.facts (omega arith) c)) refl (omega arith)
             (op_sends d s p.sent _ p.transaction p.opening p.cancelled t.pings t.pings (record o { drone = d; phase = Getting }) Getting 0 o.asked o.final_sent o.number o.total items i.operation i.operation.numbered (front, subst (λ n. length items < n) gathers.2 (less _ _ short), gathers.2) (λ e. final_more d s p.sent _ p.transaction (i.operation.final e)) tt)
-            i.since_count (λ x. inr (i.count x));
+            i.since_count (λ x. inr (i.count x)) (λ x. ((i.asked x).0, inr (i.asked x).1)) (λ ph. absurd (omega arith));
       })
       (λ long. on_got d s ne p g u o.kind items i can.0 can.1 (sees p.opening items has (front ∙ take_all (length items) plan (subst (λ n. n ≤ length items) gathers.2 (not_less _ _ long)))))
 
   -- an upload is refused, or given up
-  on_refused : (p : Part) (g : Moments) (t : StationState) (o : Operation) (c : ℕ) → (let u = with_operation t (op (record o { work = Uploads }) d Sending) in Inv d s (with_station d p u) g → Acked p.sent d s p.transaction.drone_since c → Heeds d s u (with_station d p u) (refused u (record o { work = Uploads; drone = d; phase = Sending }) c))
-  on_refused p g t o c i acked = on_attempt d s ne p g t (record o { work = Uploads }) Sending (Some c) true i (λ _. omega arith) acked tt
+  on_refused : (p : Part) (g : Moments) (t : StationState) (o : Operation) (c : ℕ) → (let u = with_operation t (op (record o { work = Uploads }) d Sending) in Inv d s (with_station d p u) g → RefusedWith p.sent d s p.transaction c → Heeds d s u (with_station d p u) (refused u (record o { work = Uploads; drone = d; phase = Sending }) c))
+  on_refused p g t o c i by = on_attempt d s ne p g t (record o { work = Uploads }) Sending (Some c) true i (λ _. omega arith) by tt
 
   -- an acknowledgement while the upload is sent
-  on_upload_acked : (p : Part) (g : Moments) (t : StationState) (o : Operation) (to : Name) (c k : ℕ) → (let u = with_operation t (op (record o { work = Uploads }) d Sending) in Inv d s (with_station d p u) g → Heard (pair_of s (with_station d p u) g) (Some (Ack to c k)) → to ≡ node_of s → ((since : ℕ) → since ≤ p.station_last → Said p.sent d since (Ack to c k)) → Heeds d s u (with_station d p u) (upload_acked u (record o { work = Uploads; drone = d; phase = Sending }) c))
-  on_upload_acked p g t o to c k i h me said =
+  on_upload_acked : (p : Part) (g : Moments) (t : StationState) (o : Operation) (to : Name) (c k : ℕ) → (let u = with_operation t (op (record o { work = Uploads }) d Sending) in Inv d s (with_station d p u) g → Heard (pair_of s (with_station d p u) g) (Some (Ack to c k)) → (IsAbout g.counted g.first_open p.station_last c → RefusedWith p.sent d s p.transaction c) → Heeds d s u (with_station d p u) (upload_acked u (record o { work = Uploads; drone = d; phase = Sending }) c))
+  on_upload_acked p g t o to c k i h by =
       let u = with_operation t (op (record o { work = Uploads }) d Sending) in
       let P : StationStep → Type 0 = Heeds d s u (with_station d p u) in
       let q : Pair = pair_of s (with_station d p u) g in
@@ -366,9 +374,9 @@ module _ (d s : Stream) (ne : d ≢ s) where
       let r = done_stage q k i.facts refl (flag_true _ asked) tr in
       on_installed d s ne p g u i (done_can q k i.facts refl (flag_true _ asked) tr) refl r.0)
       (λ _. rested p g u i refl))
-      (λ _. on_refused p g t o c i (acked_with p to c k p.transaction.drone_since me (said p.transaction.drone_since (asked_began q i.facts (flag_true _ asked))))))
+      (λ not0. let b = asked_opened q i.facts (flag_true _ asked) in on_refused p g t o c i (by (inr (b.0, b.1, eq_false c 0 not0)))))
       (λ _. by_test P ((c == 3) || ((c == 4) || ((c == 5) || (c == 14)))) _ _
-      (λ e. on_refused p g t o c i (acked_with p to c k p.transaction.drone_since me (said p.transaction.drone_since (h.verdict to c k refl (omega arith) (refusing_upload c e)))))
+      (λ e. on_refused p g t o c i (by (inl (h.counted to c k refl refl (refusing_upload c e), refusing_count c e))))
       (λ _. rested p g u i refl))
 
   -- a verdict ends a clear or a download: the drone's code since it began
@@ -376,28 +384,28 @@ module _ (d s : Stream) (ne : d ≢ s) where
   ended_by p w to c k more me said began = acked_with p to c k (since_of p.opening) me (said (since_of p.opening) (subst (λ n. n ≤ p.station_last) (began_other w p.transaction.drone_since (since_of p.opening) more) began))
 
   -- each message of the drone, by the phase
-  pub on_hears : (p : Part) (g : Moments) (t : StationState) (o : Operation) (w : Work) (f : Phase) (x : PlanMsg) → (let u = with_operation t (op (record o { work = w }) d f) in Inv d s (with_station d p u) g → Heard (pair_of s (with_station d p u) g) (Some x) → Shows (pair_of s (with_station d p u) g) (kind_of p.opening) (shown_of p.opening) p.station_last (Some x) → addressee x ≡ node_of s → ((since : ℕ) → since ≤ p.station_last → Said p.sent d since x) → Heeds d s u (with_station d p u) (phase_step u (record o { work = w; drone = d; phase = f }) f x))
-  on_hears p g t o w Pinging (Ping to usec n) i h sh me said =
+  pub on_hears : (p : Part) (g : Moments) (t : StationState) (o : Operation) (w : Work) (f : Phase) (x : PlanMsg) → (let u = with_operation t (op (record o { work = w }) d f) in Inv d s (with_station d p u) g → Heard (pair_of s (with_station d p u) g) (Some x) → Shows (pair_of s (with_station d p u) g) (kind_of p.opening) (shown_of p.opening) p.station_last (Some x) → addressee x ≡ node_of s → ((since : ℕ) → since ≤ p.station_last → Said p.sent d since x) → ((to : Name) (c k : ℕ) → x ≡ Ack to c k → (pair_of s (with_station d p u) g).phase ≡ 3 → IsAbout g.counted g.first_open p.station_last c → RefusedWith p.sent d s p.transaction c) → Heeds d s u (with_station d p u) (phase_step u (record o { work = w; drone = d; phase = f }) f x))
+  on_hears p g t o w Pinging (Ping to usec n) i h sh me said by =
       let u = with_operation t (op (record o { work = w }) d Pinging) in
       let q : Pair = pair_of s (with_station d p u) g in
       by_test (Heeds d s u (with_station d p u)) ((usec == t.boot) && is_number o.number n) _ _
       (λ e. let r = h.truth.2 (i.facts.phase_attempt (omega arith) (omega arith)) (number_is t.pings n o.number (both_true _ _ e).1) in on_reply p g t (record o { work = w }) i r.0 r.1)
       (λ _. rested p g u i refl)
-  on_hears p g t o w Cancelling (Ack to c k) i h sh me said =
+  on_hears p g t o w Cancelling (Ack to c k) i h sh me said by =
       let u = with_operation t (op (record o { work = w }) d Cancelling) in
       let q : Pair = pair_of s (with_station d p u) g in
       by_test (Heeds d s u (with_station d p u)) ((c == 0) || ((c == 1) || (c == 15))) _ _
       (λ e. on_synchronises d s ne p g t o w o.terminating c k i (record { phase = refl; late = h.reply refl; code = cancel_answered c e; truth = h.truth }) (acked_with p to c k q.began me (said q.began (cancel_began q i.facts refl))))
       (λ _. rested p g u i refl)
-  on_hears p g t o Uploads Sending (Request to seq k) i h sh me said =
+  on_hears p g t o Uploads Sending (Request to seq k) i h sh me said by =
       let u = with_operation t (op (record o { work = Uploads }) d Sending) in
       by_test (Heeds d s u (with_station d p u)) (k == o.kind) _ _
       (λ _. let r = h.request to seq k refl in on_item_asked p g t o seq (slice_get o.plan seq) i r.0 r.1 refl)
       (λ _. rested p g u i refl)
-  on_hears p g t o Clears Sending x i h sh me said = absurd (let z : (pair_of s (with_station d p (with_operation t (op (record o { work = Clears }) d Sending))) g).work ≡ 1 = sending_work _ i.facts refl in omega arith)
-  on_hears p g t o Gets Sending x i h sh me said = absurd (let z : (pair_of s (with_station d p (with_operation t (op (record o { work = Gets }) d Sending))) g).work ≡ 1 = sending_work _ i.facts refl in omega arith)
-  on_hears p g t o Uploads Sending (Ack to c k) i h sh me said = on_upload_acked p g t o to c k i h me said
-  on_hears p g t o w Clearing (Ack to c k) i h sh me said =
+  on_hears p g t o Clears Sending x i h sh me said by = absurd (let z : (pair_of s (with_station d p (with_operation t (op (record o { work = Clears }) d Sending))) g).work ≡ 1 = sending_work _ i.facts refl in omega arith)
+  on_hears p g t o Gets Sending x i h sh me said by = absurd (let z : (pair_of s (with_station d p (with_operation t (op (record o { work = Gets }) d Sending))) g).work ≡ 1 = sending_work _ i.facts refl in omega arith)
+  on_hears p g t o Uploads Sending (Ack to c k) i h sh me said by = on_upload_acked p g t o to c k i h (by to c k refl refl)
+  on_hears p g t o w Clearing (Ack to c k) i h sh me said by =
       let u = with_operation t (op (record o { work = w }) d Clearing) in
       let q : Pair = pair_of s (with_station d p u) g in
       let P : StationStep → Type 0 = Heeds d s u (with_station d p u) in
@@ -407,31 +415,31 @@ module _ (d s : Stream) (ne : d ≢ s) where
       (λ e. let r = h.job to c k refl (omega arith) (refusing c e) in let b = cleared_can q c k i.facts (omega arith) (omega arith) (refusing c e) h.truth r.0 r.1 r.2 in
       on_ended d s ne p g u c i b.0 b.1 (end_acked d s p.sent p.cancelled p.opening c (some_job q i.facts b.1) (ended_by p w to c k b.1 me said (h.verdict to c k refl (omega arith) (refusing c e)))))
       (λ _. rested p g u i refl))
-  on_hears p g t o w Listing_items (Ack to c k) i h sh me said =
+  on_hears p g t o w Listing_items (Ack to c k) i h sh me said by =
       let u = with_operation t (op (record o { work = w }) d Listing_items) in
       let q : Pair = pair_of s (with_station d p u) g in
       by_test (Heeds d s u (with_station d p u)) ((c == 3) || (c == 14)) _ _
       (λ e. let r = h.job to c k refl (omega arith) (refusing c e) in let b = cleared_can q c k i.facts (omega arith) (omega arith) (refusing c e) h.truth r.0 r.1 r.2 in
       on_ended d s ne p g u c i b.0 b.1 (end_acked d s p.sent p.cancelled p.opening c (some_job q i.facts b.1) (ended_by p w to c k b.1 me said (h.verdict to c k refl (omega arith) (refusing c e)))))
       (λ _. rested p g u i refl)
-  on_hears p g t o w Listing_items (Count to n k) i h sh me said =
+  on_hears p g t o w Listing_items (Count to n k) i h sh me said by =
       let u = with_operation t (op (record o { work = w }) d Listing_items) in
       by_test (Heeds d s u (with_station d p u)) (k == o.kind) _ _
       (λ _. let c = h.count to n k refl refl in let now : g.now_shown ≤ p.station_last = (let z = c.1 in omega arith) in let y = sh (omega arith) c.0 now in let x = i.download (omega arith) c.0 in on_counted p g t (record o { work = w }) n i c.0 c.1 y.1 x.0)
       (λ _. rested p g u i refl)
-  on_hears p g t o w Getting (Give to seq k x) i h sh me said =
+  on_hears p g t o w Getting (Give to seq k x) i h sh me said by =
       let u = with_operation t (op (record o { work = w }) d Getting) in
       by_test (Heeds d s u (with_station d p u)) ((k == o.kind) && (seq == length o.got)) _ _
       (λ e. let some : 0 < g.now_shown = i.facts.getting_listed refl in let late : g.now_shown < p.station_last = h.item refl in let far : 4 < 6 = omega arith in let y = sh far some late in let at : seq ≡ length o.got = eq_true seq (length o.got) (both_true (k == o.kind) (seq == length o.got) e).1 in
       on_item_got p g t (record o { work = w }) x i (subst (λ n. slice_get (shown_of p.opening) n ≡ Some x) at y.1) (i.download far some).0)
       (λ _. rested p g u i refl)
-  on_hears p g t o w Getting (Ack to c k) i h sh me said =
+  on_hears p g t o w Getting (Ack to c k) i h sh me said by =
       let u = with_operation t (op (record o { work = w }) d Getting) in
       let q : Pair = pair_of s (with_station d p u) g in
       by_test (Heeds d s u (with_station d p u)) (c == 0) _ _
       (λ _. rested p g u i refl)
       (λ _. let b = getting_can q i.facts refl in on_ended d s ne p g u c i b.0 b.1 (end_acked d s p.sent p.cancelled p.opening c (some_job q i.facts b.1) (ended_by p w to c k b.1 me said (getting_began q i.facts refl))))
-  on_hears p g t o w f x i h sh me said = rested p g (with_operation t (op (record o { work = w }) d f)) i refl
+  on_hears p g t o w f x i h sh me said by = rested p g (with_operation t (op (record o { work = w }) d f)) i refl
 
   -- a cancel of the station's own, where it was marked in the store
   marked : (p : Part) (g : Moments) (t : StationState) (o : Operation) (f : Phase) → phase_number f < 3 → (let u = with_operation t (op o d f) in Inv d s (with_station d (record p { cancelled = true }) u) g → Heeds d s u (with_station d (record p { cancelled = true }) u) (becomes u (record o { terminating = true; drone = d; phase = f })))
@@ -458,6 +466,8 @@ module _ (d s : Stream) (ne : d ≢ s) where
           since_count = i.since_count;
           count = i.count;
           download = i.download;
+          asked = i.asked;
+          answers = i.answers;
         };
       }
     where
@@ -478,6 +488,8 @@ module _ (d s : Stream) (ne : d ≢ s) where
     since_count = i.since_count;
     count = i.count;
     download = i.download;
+    asked = i.asked;
+    answers = i.answers;
   }
 
   -- a step with the mark set is a cancel
@@ -531,7 +543,7 @@ module _ (d s : Stream) (ne : d ≢ s) where
             (record { drone_next = omega arith; station_next = omega arith; shows = λ a b. (a, refl); drone = λ u x. side.pings_drone q u x i.facts; station = λ ck k n l u x. side.pings_station q ck k n l u x i.facts })
             (ping_new q n i.facts refl refl (omega arith)) tt (omega arith)
             (op_sends d s p.sent _ p.transaction p.opening p.cancelled t.pings t.pings o' Pinging o.idle o.asked o.final_sent (Some n) o.total o.got i.operation used tt (λ e. final_more d s p.sent _ p.transaction (i.operation.final e)) tt)
-            i.since_count (λ x. inr (i.count x));
+            i.since_count (λ x. inr (i.count x)) (λ x. ((i.asked x).0, inr (i.asked x).1)) (λ ph. absurd (omega arith));
       }
 
   -- a tick: the Count again
@@ -559,7 +571,7 @@ module _ (d s : Stream) (ne : d ≢ s) where
             (rw (ek, ep) (count_again q (kind_of p.opening) p.transaction.kind (length p.transaction.plan) (slice_get p.transaction.plan) i.facts refl))
             refl (omega arith)
             (op_sends d s p.sent _ p.transaction p.opening p.cancelled t.pings t.pings o' Sending (o.idle + 1) o.asked o.final_sent o.number o.total o.got i.operation i.operation.numbered tt (λ e. final_more d s p.sent _ p.transaction (i.operation.final e)) tt)
-            i.since_count (λ x. inr (i.count x));
+            i.since_count (λ x. inr (i.count x)) (λ x. ((i.asked x).0, inr (i.asked x).1)) i.answers;
       }
 
   -- a tick: the Request again
@@ -580,9 +592,9 @@ module _ (d s : Stream) (ne : d ≢ s) where
             station_said d s ne v g g (with_operation t (Some (idle_again o'))) (Request (node_of d) (length o.got) o.kind) (pings q) i refl
             (side.pings_facts q i.facts)
             (record { drone_next = omega arith; station_next = omega arith; shows = λ a b. (a, refl); drone = λ u x. side.pings_drone q u x i.facts; station = λ ck k n l u x. side.pings_station q ck k n l u x i.facts })
-            (let z : p.station_next < p.station_next + 1 = omega arith in z) refl (omega arith)
+            ((let z : p.station_next < p.station_next + 1 = omega arith in z), λ c. absurd (no_count q i.facts (omega arith) c)) refl (omega arith)
             (op_sends d s p.sent _ p.transaction p.opening p.cancelled t.pings t.pings o' Getting (o.idle + 1) o.asked o.final_sent o.number o.total o.got i.operation i.operation.numbered i.operation.gathers (λ e. final_more d s p.sent _ p.transaction (i.operation.final e)) tt)
-            i.since_count (λ x. inr (i.count x));
+            i.since_count (λ x. inr (i.count x)) (λ x. ((i.asked x).0, inr (i.asked x).1)) (λ ph. absurd (omega arith));
       }
 
   -- a tick

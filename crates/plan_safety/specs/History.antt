@@ -5,7 +5,7 @@ use Rattle.plan_items.specs.declared.items.Item.{Item}
 use Rattle.plan_upload.specs.Addresses.{same_stream}
 use Rattle.plan_upload.specs.Station.{Told, Told_installed, Told_not_installed, Told_unknown, Told_cleared, Told_got, Told_ended}
 use Rattle.plan_safety.specs.Frames.{Frame}
-use Rattle.plan_safety.specs.Store.{Store, StoreEvent, Upload_begun, Installed, Clear_begun, Cleared, Get_begun, Shown, Cancelled, Ended, Restarted, Opening, FullySent, FinalSent, CancelSent, Acked, TooMany, Needs, does, first_store}
+use Rattle.plan_safety.specs.Store.{Store, StoreEvent, Upload_begun, Installed, Clear_begun, Cleared, Get_begun, Shown, Cancelled, Ended, Restarted, Opening, FullySent, FinalSent, CancelSent, Acked, RefusedWith, TooMany, Needs, does, first_store}
 use Rattle.plan_safety.specs.World.{Nodes, World, Event, happens}
 
 -- an event, and the frames sent by then
@@ -139,9 +139,9 @@ HeldSince (x ∷ h) s drone kind plan = ((store_of (x ∷ h)).plan drone kind �
 abbrev pub GotHeld : List Step → Stream → List Item → Type 0
 GotHeld h s plan = (c : Opening) × ((store_of h).opening s ≡ Some c) × HeldSince h s c.drone c.kind plan
 
--- why an upload was told "not installed": with a code that the drone sent since it began, or 15
+-- why an upload was told "not installed": with a code that the drone refused it with, or 15
 abbrev pub NotInstalledBy : List Step → List Frame → Stream → ℕ → Type 0
-NotInstalledBy h sent s code = let t = (store_of h).transaction s in (code ≡ 15) ⊎ Acked sent t.drone s t.drone_since code
+NotInstalledBy h sent s code = let t = (store_of h).transaction s in (code ≡ 15) ⊎ RefusedWith sent t.drone s t code
 
 -- why an upload was told "unknown": since it began the drone has started again, the last item and a cancel were
 -- sent, and the drone answered code 1

@@ -3,12 +3,14 @@
 use Rattle.std.specs.Prelude.{ℕ, ◌+◌, ◌≡◌, ◌<◌, ◌⊎◌, Bool, true, false, ◌==◌, ◌&&◌, if◌then◌else◌, List, [], ◌∷◌, length, Option, Some, None, slice_get}
 use Rattle.mav_ports.specs.declared.names.Stream.{Stream}
 use Rattle.plan_items.specs.declared.items.Item.{Item}
-use Rattle.plan_items.specs.declared.messages.PlanMsg.TheVariants.{Count, Item as Give, Ack}
+use Rattle.plan_items.specs.declared.faults.PlanFault.{PlanFault}
+use Rattle.plan_items.specs.declared.messages.PlanMsg.TheVariants.{Count, Request, Item as Give, Ack}
 use Rattle.plan_items.specs.Kinds.{limit_of}
+use Rattle.plan_items.specs.Validation.{code_of}
 use Rattle.plan_upload.specs.Addresses.{same_stream, node_of}
 use Rattle.plan_upload.specs.Plans.{every_kind}
 use Rattle.plan_upload.specs.Station.{Told, Told_installed, Told_not_installed, Told_unknown, Told_cleared, Told_got, Told_ended}
-use Rattle.plan_safety.specs.Frames.{Frame, Said}
+use Rattle.plan_safety.specs.Frames.{Frame, Said, SaidAfter}
 
 -- an upload transaction is fresh until it is installed, or closed uninstalled
 pub data Stage : Type 0 where
@@ -70,6 +72,30 @@ pub record FullySent (sent : List Frame) (station : Stream) (t : Transaction) : 
   pub count : Said sent station t.since (Count (node_of t.drone) (length t.plan) t.kind)
   pub items : (seq : ℕ) (item : Item) → slice_get t.plan seq ≡ Some item → Said sent station t.since (Give (node_of t.drone) seq t.kind item)
 
+-- the station sent its count of the upload to the drone
+abbrev pub CountSent : List Frame → Stream → Stream → Transaction → Type 0
+CountSent sent drone station t = Said sent station t.since (Count (node_of drone) (length t.plan) t.kind)
+
+-- after that count the drone asked the station for an item of the kind
+abbrev pub ItemAsked : List Frame → Stream → Stream → Transaction → Type 0
+ItemAsked sent drone station t = (seq : ℕ) × SaidAfter (λ earlier. CountSent earlier drone station t) sent drone (Request (node_of station) seq t.kind)
+
+-- the codes that refuse a count: UNSUPPORTED, NO_SPACE, INVALID, DENIED
+abbrev pub RefusesCount : ℕ → Type 0
+RefusesCount code = (code ≡ 3) ⊎ ((code ≡ 4) ⊎ ((code ≡ 5) ⊎ (code ≡ 14)))
+
+-- the codes that refuse a count or an item, or the whole plan: by a fault, or with ERROR where it couldn't be kept;
+-- and OPERATION_CANCELLED, where the drone has given the upload up
+abbrev pub RefusesUpload : ℕ → Type 0
+RefusesUpload code = RefusesCount code ⊎ (((fault : PlanFault) × (code ≡ code_of fault)) ⊎ ((code ≡ 1) ⊎ (code ≡ 15)))
+
+-- the drone refused the upload with this code, in an acknowledgement of the upload's kind to the station: after the
+-- upload's count with a code that refuses a count, or after it has asked for an item with a code that refuses an upload
+abbrev pub RefusedWith : List Frame → Stream → Stream → Transaction → ℕ → Type 0
+RefusedWith sent drone station t code =
+    SaidAfter (λ earlier. (CountSent earlier drone station t × RefusesCount code) ⊎ (ItemAsked earlier drone station t × RefusesUpload code)) sent drone
+    (Ack (node_of station) code t.kind)
+
 -- the station sent the last item
 abbrev pub FinalSent : List Frame → Stream → Transaction → Type 0
 FinalSent sent station t =
@@ -117,9 +143,9 @@ EndCause sent station cancelled (Some c) code =
 abbrev pub MayEnd : List Frame → Stream → Transaction → Option Opening → Bool → Told → Type 0
 -- installed: the latest upload is
 MayEnd sent station t opening cancelled Told_installed = t.stage ≡ In_place
--- not installed: it is fresh, and the code is one that the drone sent since it began, or 15
+-- not installed: it is fresh, and the code is one that the drone refused it with, or 15
 MayEnd sent station t opening cancelled (Told_not_installed code) =
-    (t.stage ≡ Fresh) × ((code ≡ 15) ⊎ Acked sent t.drone station t.drone_since code)
+    (t.stage ≡ Fresh) × ((code ≡ 15) ⊎ RefusedWith sent t.drone station t code)
 -- unknown: the drone has started again, the last item and a cancel were sent, and it answered code 1
 MayEnd sent station t opening cancelled Told_unknown =
     (t.stage ≡ Closed → ⊥) × (t.lost ≡ true) × Acked sent t.drone station t.drone_since 1 × FinalSent sent station t × CancelSent sent station t

@@ -6,10 +6,10 @@ ghost use Rattle.plan_safety.specs.Frames.{Frame};
 ghost use Rattle.plan_safety.specs.Store.{Ended};
 ghost use Rattle.plan_safety.specs.History.{Step, step, IsHistory, NotInstalledBy, UnknownBy, EndedBy};
 
-/// The code of NotInstalled is 15 or one that the drone sent since the upload began. Unknown comes only
-/// where since then the drone has started again, the last item and a cancel were sent, and the drone
-/// answered code 1. Ended has a code that the drone sent since the operation began, or 15 after a
-/// cancel, or 4 for too long a plan.
+/// The code of NotInstalled is 15, or one with which the drone refused this upload's Count, or the upload
+/// after it has asked for an item. Unknown comes only where since the upload began the drone has started
+/// again, the last item and a cancel were sent, and the drone answered code 1. Ended has a code that the
+/// drone sent since the operation began, or 15 after a cancel, or 4 for too long a plan.
 pub fn every_outcome()
     ensures not_installed { (h : List Step) → (sent : List Frame) → (s : Stream) → (code : ℕ) → IsHistory (step sent (Ended s (Told_not_installed code)) ∷ h) → NotInstalledBy h sent s code }
     ensures unknown { (h : List Step) → (sent : List Frame) → (s : Stream) → IsHistory (step sent (Ended s Told_unknown) ∷ h) → UnknownBy h sent s }

@@ -69,6 +69,13 @@ last_stamps = refl
 pub a_minute_behind : map (λ stamp. stamp_answer (stream 2) stamp one_admitted) (4000000 ∷ 3999999 ∷ []) ≡ Admitted ∷ TooOld 10000000 ∷ []
 a_minute_behind = refl
 
+-- so may a later frame of a known stream, and no more than a minute
+abbrev long_ago : List Entry
+long_ago = admitted 2 5 ∷ one_admitted
+
+pub a_known_stream_behind : map (λ stamp. stamp_answer (stream 2) stamp long_ago) (5 ∷ 3999999 ∷ 4000000 ∷ []) ≡ NotLater 5 ∷ TooOld 10000000 ∷ Admitted ∷ []
+a_known_stream_behind = refl
+
 abbrev next_after : List Entry → Result ℕ StampsSpent
 next_after history = stamp_given (next_in history 0)
 
