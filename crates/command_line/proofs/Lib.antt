@@ -3,3 +3,4 @@ pub mod Agreement
 pub mod FormsAgree
 pub mod Readings
 mod Wholes
+mod Taken

@@ -18,6 +18,15 @@ pub first : {A : Type 0} (bad : Bool) (r : Reason) (m : Option Reason) (v : A)
 first true r m v = refl
 first false r m v = refl
 
+-- an answer to some words, of which the first is read
+pub ok_then : {A B : Type 0} (o : Result A Reason) (x : A) (rest : A → Result B Reason) (said : Result B Reason)
+    → Ok x ≡ o → said ≡ rest x → said ≡ and_then o rest
+ok_then o x rest said is h = rw (← is) h
+
+-- or isn't
+pub err_then : {A B : Type 0} (o : Result A Reason) (r : Reason) (rest : A → Result B Reason) → Err r ≡ o → Err r ≡ and_then o rest
+err_then o r rest is = rw (← is) refl
+
 -- one word that is read, and the others behind it
 pub step : {A B : Type 0} (o : Option A) (m n : Option Reason) (r : Reason) (v : B) (rest : A → Result B Reason)
     → ((x : A) → o ≡ Some x → rest x ≡ answered (first_reason m n) v)

@@ -1,7 +1,7 @@
 // Numbers in the words of a line.
-ghost use Rattle.std.specs.Prelude.{◌≡◌, ◌<◌, ◌≤◌, ◌&&◌, nat_le, if◌then◌else◌, ◌-◌, ◌^◌, negsuc, Some, None};
+ghost use Rattle.std.specs.Prelude.{◌≡◌, ◌<◌, ◌≤◌, ◌&&◌, nat_le, if◌then◌else◌, ◌-◌, ◌^◌, negsuc, Some, None, IfSome};
 ghost use Rattle.std.specs.List.{list_all};
-ghost use Rattle.scenario_lines.specs.Words.{is_digit, is_numeral, digits_value, number_in, integer_of, wire_word, bytes_word};
+ghost use Rattle.scenario_lines.specs.Words.{is_digit, is_numeral, digits_value, number_in, negative_of, positive_of, integer_of, wire_word, bytes_word};
 ghost use Rattle.std.specs.Option.{ok_or};
 ghost use Rattle.scenario_lines.specs.Readings.{Says};
 ghost use Rattle.scenario_lines.specs.declared.faults.Reason.TheVariants.{Hex};
@@ -37,7 +37,8 @@ fn is_numeral(word: &[u8]) -> bool
 
 /// The number of decimal digits, where it is at most `high`.
 fn value_up_to(digits: &[u8], high: u64) -> Option<u64>
-    ensures { result ≡ (if nat_le (digits_value digits.now) high then Some (digits_value digits.now) else None) }
+    ensures exact { result ≡ (if nat_le (digits_value digits.now) high then Some (digits_value digits.now) else None) }
+    ensures most { IfSome result (λ n. n ≤ high) }
 {
     let mut value: u64 = 0;
     for digit in digits {
@@ -53,7 +54,9 @@ fn value_up_to(digits: &[u8], high: u64) -> Option<u64>
 
 /// A whole number within a range.
 pub(crate) fn number(word: &[u8], low: u64, high: u64) -> Option<u64>
-    ensures { result ≡ number_in low high word.now }
+    ensures exact { result ≡ number_in low high word.now }
+    ensures least { IfSome result (λ n. low ≤ n) }
+    ensures most { IfSome result (λ n. n ≤ high) }
 {
     if !is_numeral(word) {
         return None;
@@ -70,18 +73,24 @@ pub(crate) fn integer(word: &[u8]) -> Option<i32>
     ensures { result ≡ integer_of word.now }
 {
     match word {
-        [b'-', digits @ ..] => Some(negative(number(digits, 1, 1 << 31)?)),
-        _ => Some(number(word, 0, (1 << 31) - 1)? as i32),
+        [b'-', digits @ ..] => below_zero(digits),
+        _ => from_zero(word),
     }
 }
 
-/// The number that is `distance` below 0.
-fn negative(distance: u64) -> i32
-    requires low { 1 ≤ distance }
-    requires high { distance ≤ 2 ^ 31 }
-    ensures { result ≡ negsuc (distance - 1) }
+/// The number of some digits, from 0 on.
+fn from_zero(digits: &[u8]) -> Option<i32>
+    ensures { result ≡ positive_of (number_in 0 (2 ^ 31 - 1) digits.now) }
 {
-    -(distance as i64) as i32
+    Some(number(digits, 0, (1 << 31) - 1)? as i32)
+}
+
+/// The number below 0 whose digits these are.
+fn below_zero(digits: &[u8]) -> Option<i32>
+    ensures { result ≡ negative_of (number_in 1 (2 ^ 31) digits.now) }
+{
+    let distance = number(digits, 1, 1 << 31)?;
+    Some(-(distance as i64) as i32)
 }
 
 /// Eight hexadecimal digits in either case, the highest first.

@@ -1,4 +1,4 @@
-use Rattle.std.proofs.Common.{refl}
+use Rattle.std.proofs.Common.{refl, arith, ap, length}
 use Rattle.field_layout.specs.Definition.{all_fields}
 use Rattle.mav_profile.specs.Profile.{command_long_definition}
 use Rattle.mav_messages.specs.Values.{command_long_values}
@@ -13,3 +13,36 @@ pub returns-clause-fits : goal.returns-clause-fits
 returns-clause-fits c =
     fits_layout (all_fields command_long_definition) (command_long_values c.args.self.now)
     ((refl, c.put_u8.ensures.small), ((refl, c.put_u8-2.ensures.small), ((refl, c.put_u16.ensures.small), ((refl, c.put_u8-3.ensures.small), ((refl, c.put_u32.ensures.small), ((refl, c.put_u32-2.ensures.small), ((refl, c.put_u32-3.ensures.small), ((refl, c.put_u32-4.ensures.small), ((refl, c.put_u32-5.ensures.small), ((refl, c.put_u32-6.ensures.small), ((refl, c.put_u32-7.ensures.small), tt)))))))))))
+
+pub put_u32-requires : goal.put_u32-requires
+put_u32-requires c = omega (arith, ap length c.requires)
+
+pub put_u32-requires-2 : goal.put_u32-requires-2
+put_u32-requires-2 c = omega (arith, ap length c.requires)
+
+pub put_u32-requires-3 : goal.put_u32-requires-3
+put_u32-requires-3 c = omega (arith, ap length c.requires)
+
+pub put_u32-requires-4 : goal.put_u32-requires-4
+put_u32-requires-4 c = omega (arith, ap length c.requires)
+
+pub put_u32-requires-5 : goal.put_u32-requires-5
+put_u32-requires-5 c = omega (arith, ap length c.requires)
+
+pub put_u32-requires-6 : goal.put_u32-requires-6
+put_u32-requires-6 c = omega (arith, ap length c.requires)
+
+pub put_u32-requires-7 : goal.put_u32-requires-7
+put_u32-requires-7 c = omega (arith, ap length c.requires)
+
+pub put_u16-requires : goal.put_u16-requires
+put_u16-requires c = omega (arith, ap length c.requires)
+
+pub put_u8-requires : goal.put_u8-requires
+put_u8-requires c = omega (arith, ap length c.requires)
+
+pub put_u8-requires-2 : goal.put_u8-requires-2
+put_u8-requires-2 c = omega (arith, ap length c.requires)
+
+pub put_u8-requires-3 : goal.put_u8-requires-3
+put_u8-requires-3 c = omega (arith, ap length c.requires)

@@ -1,4 +1,4 @@
-use Rattle.std.proofs.Common.{refl}
+use Rattle.std.proofs.Common.{refl, arith, ap, length}
 use Rattle.field_layout.specs.Definition.{all_fields}
 use Rattle.mav_profile.specs.Profile.{mission_item_reached_definition}
 use Rattle.mav_messages.specs.Values.{mission_item_reached_values}
@@ -13,3 +13,6 @@ pub returns-clause-fits : goal.returns-clause-fits
 returns-clause-fits c =
     fits_layout (all_fields mission_item_reached_definition) (mission_item_reached_values c.args.self.now)
     ((refl, c.put_u16.ensures.small), tt)
+
+pub put_u16-requires : goal.put_u16-requires
+put_u16-requires c = omega (arith, ap length c.requires)

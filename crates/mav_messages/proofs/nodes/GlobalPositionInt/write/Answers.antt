@@ -1,4 +1,4 @@
-use Rattle.std.proofs.Common.{refl, rules}
+use Rattle.std.proofs.Common.{refl, rules, arith, ap, length}
 use Rattle.field_layout.specs.Definition.{all_fields}
 use Rattle.mav_profile.specs.Profile.{global_position_int_definition}
 use Rattle.mav_messages.specs.Values.{global_position_int_values}
@@ -23,3 +23,30 @@ pub returns-clause-fits : goal.returns-clause-fits
 returns-clause-fits c =
     fits_layout (all_fields global_position_int_definition) (global_position_int_values c.args.self.now)
     ((refl, c.put_u32.ensures.small), ((refl, search rules), ((refl, search rules), ((refl, search rules), ((refl, search rules), ((refl, search rules), ((refl, search rules), ((refl, search rules), ((refl, c.put_u16-4.ensures.small), tt)))))))))
+
+pub put_u32-requires : goal.put_u32-requires
+put_u32-requires c = omega (arith, ap length c.requires)
+
+pub put_u32-requires-2 : goal.put_u32-requires-2
+put_u32-requires-2 c = omega (arith, ap length c.requires)
+
+pub put_u32-requires-3 : goal.put_u32-requires-3
+put_u32-requires-3 c = omega (arith, ap length c.requires)
+
+pub put_u32-requires-4 : goal.put_u32-requires-4
+put_u32-requires-4 c = omega (arith, ap length c.requires)
+
+pub put_u32-requires-5 : goal.put_u32-requires-5
+put_u32-requires-5 c = omega (arith, ap length c.requires)
+
+pub put_u16-requires : goal.put_u16-requires
+put_u16-requires c = omega (arith, ap length c.requires)
+
+pub put_u16-requires-2 : goal.put_u16-requires-2
+put_u16-requires-2 c = omega (arith, ap length c.requires)
+
+pub put_u16-requires-3 : goal.put_u16-requires-3
+put_u16-requires-3 c = omega (arith, ap length c.requires)
+
+pub put_u16-requires-4 : goal.put_u16-requires-4
+put_u16-requires-4 c = omega (arith, ap length c.requires)

@@ -1,4 +1,4 @@
-use Rattle.std.proofs.Common.{refl}
+use Rattle.std.proofs.Common.{refl, arith, ap, length}
 use Rattle.field_layout.specs.Definition.{all_fields}
 use Rattle.mav_profile.specs.Profile.{heartbeat_definition}
 use Rattle.mav_messages.specs.Values.{heartbeat_values}
@@ -13,3 +13,21 @@ pub returns-clause-fits : goal.returns-clause-fits
 returns-clause-fits c =
     fits_layout (all_fields heartbeat_definition) (heartbeat_values c.args.self.now)
     ((refl, c.put_u8.ensures.small), ((refl, c.put_u8-2.ensures.small), ((refl, c.put_u8-3.ensures.small), ((refl, c.put_u32.ensures.small), ((refl, c.put_u8-4.ensures.small), ((refl, c.put_u8-5.ensures.small), tt))))))
+
+pub put_u32-requires : goal.put_u32-requires
+put_u32-requires c = omega (arith, ap length c.requires)
+
+pub put_u8-requires : goal.put_u8-requires
+put_u8-requires c = omega (arith, ap length c.requires)
+
+pub put_u8-requires-2 : goal.put_u8-requires-2
+put_u8-requires-2 c = omega (arith, ap length c.requires)
+
+pub put_u8-requires-3 : goal.put_u8-requires-3
+put_u8-requires-3 c = omega (arith, ap length c.requires)
+
+pub put_u8-requires-4 : goal.put_u8-requires-4
+put_u8-requires-4 c = omega (arith, ap length c.requires)
+
+pub put_u8-requires-5 : goal.put_u8-requires-5
+put_u8-requires-5 c = omega (arith, ap length c.requires)

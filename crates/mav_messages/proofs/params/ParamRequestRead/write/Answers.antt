@@ -1,4 +1,4 @@
-use Rattle.std.proofs.Common.{refl, rules, append_assoc}
+use Rattle.std.proofs.Common.{refl, rules, append_assoc, arith, ap, length}
 use Rattle.std.proofs.lemmas.List.{append-nil}
 use Rattle.field_layout.specs.Definition.{all_fields}
 use Rattle.mav_profile.specs.Profile.{param_request_read_definition}
@@ -18,3 +18,15 @@ pub returns-clause-fits : goal.returns-clause-fits
 returns-clause-fits c =
     fits_layout (all_fields param_request_read_definition) (param_request_read_values c.args.self.now)
     ((refl, c.put_u8.ensures.small), ((refl, c.put_u8-2.ensures.small), ((search rules, c.put_bytes.ensures.small), ((refl, search rules), tt))))
+
+pub put_u16-requires : goal.put_u16-requires
+put_u16-requires c = omega (arith, ap length c.requires)
+
+pub put_u8-requires : goal.put_u8-requires
+put_u8-requires c = omega (arith, ap length c.requires)
+
+pub put_u8-requires-2 : goal.put_u8-requires-2
+put_u8-requires-2 c = omega (arith, ap length c.requires)
+
+pub put_bytes-requires : goal.put_bytes-requires
+put_bytes-requires c = omega (arith, ap length c.requires)

@@ -1,4 +1,4 @@
-use Rattle.std.proofs.Common.{refl, rules, append_assoc}
+use Rattle.std.proofs.Common.{refl, rules, append_assoc, arith, ap, length}
 use Rattle.std.proofs.lemmas.List.{append-nil}
 use Rattle.field_layout.specs.Definition.{all_fields}
 use Rattle.mav_profile.specs.Profile.{param_set_definition}
@@ -14,3 +14,18 @@ pub returns-clause-fits : goal.returns-clause-fits
 returns-clause-fits c =
     fits_layout (all_fields param_set_definition) (param_set_values c.args.self.now)
     ((refl, c.put_u8.ensures.small), ((refl, c.put_u8-2.ensures.small), ((search rules, c.put_bytes.ensures.small), ((refl, c.put_u32.ensures.small), ((refl, c.put_u8-3.ensures.small), tt)))))
+
+pub put_u32-requires : goal.put_u32-requires
+put_u32-requires c = omega (arith, ap length c.requires)
+
+pub put_u8-requires : goal.put_u8-requires
+put_u8-requires c = omega (arith, ap length c.requires)
+
+pub put_u8-requires-2 : goal.put_u8-requires-2
+put_u8-requires-2 c = omega (arith, ap length c.requires)
+
+pub put_bytes-requires : goal.put_bytes-requires
+put_bytes-requires c = omega (arith, ap length c.requires)
+
+pub put_u8-requires-3 : goal.put_u8-requires-3
+put_u8-requires-3 c = omega (arith, ap length c.requires)
