@@ -6,7 +6,7 @@ use Rattle.field_layout.specs.declared.ty.Ty.TheVariants.{U8}
 use Rattle.field_layout.specs.declared.fields.Field.{Field}
 use Rattle.field_layout.specs.Definition.{Definition, all_fields}
 use Rattle.field_layout.specs.WireOrder.{offset_of}
-use Rattle.mav_ports.specs.declared.names.Name.{Name}
+use Rattle.mav_names.specs.declared.names.Name.{Name}
 
 abbrev pub is_uint8 : Ty → Bool
 is_uint8 U8 = true

@@ -11,7 +11,7 @@ use crate::faults::{payload_len, repeated_place};
 use crate::order::Tables;
 use crate::target::{target_byte, target_offset};
 use crate::{LayoutFault, MessageDef, NoMemory};
-use mav_ports::Name;
+use mav_names::Name;
 use std::marker::Model;
 
 // The most bytes that a payload has.

@@ -1,6 +1,6 @@
 -- A scenario that uploads one item, its report as a person would write it down, and what the theorem says of it.
 use Rattle.std.specs.Prelude.{ℕ, true, List, [], ◌∷◌, codes, pos}
-use Rattle.mav_ports.specs.declared.names.Name.{Name}
+use Rattle.mav_names.specs.declared.names.Name.{Name}
 use Rattle.plan_items.specs.declared.items.Item.{Item}
 use Rattle.plan_upload.specs.Station.{Told_installed}
 use Rattle.plan_safety.specs.World.{Nodes}

@@ -1,8 +1,8 @@
 -- What a node does at a datagram, a tick, a heartbeat and an order.
 use Rattle.std.proofs.Common.{◌≡◌, ℕ, ◌<◌, List, [], slice_get, Option, Some, None, IfSome, refl, sym, subst}
 use Rattle.std.specs.Prelude.{All}
-use Rattle.mav_ports.specs.declared.names.Name.{Name}
-use Rattle.mav_ports.specs.declared.names.Stream.{Stream}
+use Rattle.mav_names.specs.declared.names.Name.{Name}
+use Rattle.mav_names.specs.declared.names.Stream.{Stream}
 use Rattle.mav_profile.specs.Messages.{extras_of}
 use Rattle.mav_profile.specs.Profile.{profile_definitions}
 use Rattle.plan_items.specs.declared.items.Item.{Item}

@@ -2,7 +2,7 @@
 use Rattle.std.proofs.Common.{◌≡◌, ℕ, zero, suc, ◌+◌, List, length, slice_get, Option, Some, None, Ok, Err, refl, arith, ◌∙◌}
 use Rattle.std.specs.Prelude.{position}
 use Rattle.std.specs.declared.result.Result.{Result}
-use Rattle.mav_ports.specs.declared.names.Name.{Name}
+use Rattle.mav_names.specs.declared.names.Name.{Name}
 use Rattle.mav_frame.specs.Packet.{Packet}
 use Rattle.mav_frame.specs.Encoding.{encoding}
 use Rattle.plan_upload.specs.Addresses.{same_name}

@@ -1,7 +1,7 @@
 -- What a node does at frames that it hears, at ticks and at orders.
 use Rattle.std.proofs.Common.{◌≡◌, ℕ, suc, List, [], ◌∷◌, ◌++◌, slice_get, Option, Some, None, true, IfSome, refl, sym, ap, subst, arith, ◌∙◌}
 use Rattle.std.specs.Prelude.{is_some}
-use Rattle.mav_ports.specs.declared.names.Stream.{Stream}
+use Rattle.mav_names.specs.declared.names.Stream.{Stream}
 use Rattle.plan_items.specs.declared.messages.PlanMsg.{PlanMsg}
 use Rattle.plan_upload.specs.declared.changes.Change.{Change}
 use Rattle.plan_upload.specs.declared.changes.Change.TheVariants.{Same, Install, Empty}

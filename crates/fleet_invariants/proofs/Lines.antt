@@ -4,7 +4,7 @@ use Rattle.std.specs.Prelude.{All, position}
 use Rattle.std.specs.declared.result.Result.{Result}
 use Rattle.std.proofs.lemmas.List.{append-nil}
 use Rattle.std.proofs.lemmas.List.Elements.{All-nil, All-append, All-push}
-use Rattle.mav_ports.specs.declared.names.Name.{Name}
+use Rattle.mav_names.specs.declared.names.Name.{Name}
 use Rattle.mav_frame.specs.Packet.{Packet}
 use Rattle.plan_items.specs.Kinds.{number_of}
 use Rattle.plan_items.specs.declared.kinds.PlanKind.{PlanKind}

@@ -5,7 +5,7 @@ use Rattle.std.specs.Cmp.{IsEquivalence}
 use Rattle.std.specs.List.{list_any, IsDistinct}
 use Rattle.std.proofs.lemmas.Map.Keys.{IsDistinct-push}
 use Rattle.std.proofs.lemmas.Map.Made.{length-le_from_is_member}
-use Rattle.mav_ports.specs.declared.names.Stream.{Stream}
+use Rattle.mav_names.specs.declared.names.Stream.{Stream}
 use Rattle.mav_sign.specs.History.{Entry, Stamped, admitted_in, same_stream, last_of, with_stream, streams_of}
 use Rattle.mav_sign.proofs.Histories.{same_self, same_is, is_kept}
 use Rattle.fleet_invariants.proofs.Lists.{nowhere, some_is}

@@ -1,7 +1,7 @@
 -- Tests: of numbers and names, and of what an `if` chooses.
 use Rattle.std.proofs.Common.{◌≡◌, ℕ, ◌<◌, ◌≤◌, ◌⊎◌, inl, inr, Bool, true, false, if◌then◌else◌, ◌==◌, ◌&&◌, ◌||◌, nat_lt, refl, ap, arith, ◌∙◌}
 use Rattle.std.specs.Prelude.{nat_le}
-use Rattle.mav_ports.specs.declared.names.Name.{Name}
+use Rattle.mav_names.specs.declared.names.Name.{Name}
 use Rattle.plan_upload.specs.Addresses.{same_name}
 
 -- what holds of either branch holds of the choice

@@ -2,8 +2,8 @@
 -- ranges, what was sent is signed and reads back, and every timestamp that was admitted had been sent.
 use Rattle.std.specs.Prelude.{ℕ, ◌≡◌, ◌≤◌, ◌<◌, ◌+◌, ◌^◌, Bool, true, List, length, map, slice_get, All, Some, None, IfSome, is_some}
 use Rattle.std.specs.List.{list_any, IsDistinct}
-use Rattle.mav_ports.specs.declared.names.Name.{Name}
-use Rattle.mav_ports.specs.declared.names.Stream.{Stream}
+use Rattle.mav_names.specs.declared.names.Name.{Name}
+use Rattle.mav_names.specs.declared.names.Stream.{Stream}
 use Rattle.mav_profile.specs.Messages.{extras_of}
 use Rattle.mav_profile.specs.Profile.{profile_definitions}
 use Rattle.field_layout.specs.Payload.{FitsLayout}

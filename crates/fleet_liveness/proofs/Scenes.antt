@@ -1,7 +1,7 @@
 -- What a sound scene gives: who is at a place, which timestamps are fresh, and that they are admitted.
 use Rattle.std.proofs.Common.{◌≡◌, ◌≢◌, ◌∙◌, ℕ, ◌+◌, ◌<◌, ◌≤◌, max, true, List, [], ◌∷◌, length, slice_get, Some, refl, sym, ap, subst, arith}
-use Rattle.mav_ports.specs.declared.names.Name.{Name}
-use Rattle.mav_ports.specs.declared.names.Stream.{Stream}
+use Rattle.mav_names.specs.declared.names.Name.{Name}
+use Rattle.mav_names.specs.declared.names.Stream.{Stream}
 use Rattle.mav_frame.specs.Packet.{Packet}
 use Rattle.plan_items.specs.declared.messages.PlanMsg.{PlanMsg}
 use Rattle.plan_items.specs.declared.messages.PlanMsg.TheVariants.{Ping}

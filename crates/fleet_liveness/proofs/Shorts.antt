@@ -4,8 +4,8 @@ use Rattle.std.proofs.Common.{◌≡◌, ◌∙◌, ℕ, zero, suc, ◌+◌, ◌
 use Rattle.std.specs.Prelude.{nat_le}
 use Rattle.std.specs.declared.result.Result.{Result}
 use Rattle.std.proofs.lemmas.List.{append-nil, length-map}
-use Rattle.mav_ports.specs.declared.names.Name.{Name}
-use Rattle.mav_ports.specs.declared.names.Stream.{Stream}
+use Rattle.mav_names.specs.declared.names.Name.{Name}
+use Rattle.mav_names.specs.declared.names.Stream.{Stream}
 use Rattle.mav_profile.specs.Messages.{extras_of}
 use Rattle.mav_profile.specs.Profile.{profile_definitions}
 use Rattle.mav_frame.specs.Packet.{Packet, SignatureBlock}

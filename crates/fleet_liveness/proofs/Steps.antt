@@ -2,7 +2,7 @@
 use Rattle.std.proofs.Common.{◌≡◌, ℕ, ◌+◌, true, false, List, [], ◌++◌, length, slice_set, Some, None, Ok, Err, refl, ap, subst, sym}
 use Rattle.std.specs.Prelude.{IfOk, nat_le}
 use Rattle.std.specs.declared.result.Result.{Result}
-use Rattle.mav_ports.specs.declared.names.Name.{Name}
+use Rattle.mav_names.specs.declared.names.Name.{Name}
 use Rattle.mav_frame.specs.Packet.{Packet}
 use Rattle.mav_frame.specs.Encoding.{encoding}
 use Rattle.plan_upload.specs.Addresses.{same_name}

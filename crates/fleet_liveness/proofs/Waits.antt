@@ -1,6 +1,6 @@
 -- One frame of the upload is on its way, and what else is still to be given are replies of other drones.
 use Rattle.std.proofs.Common.{◌≡◌, ◌≢◌, ℕ, ◌<◌, ◌≤◌, Bool, true, false, List, slice_get, Some}
-use Rattle.mav_ports.specs.declared.names.Name.{Name}
+use Rattle.mav_names.specs.declared.names.Name.{Name}
 use Rattle.plan_items.specs.declared.items.Item.{Item}
 use Rattle.plan_items.specs.declared.kinds.PlanKind.{PlanKind}
 use Rattle.plan_items.specs.declared.messages.PlanMsg.TheVariants.{Ping}

@@ -6,7 +6,7 @@ ghost use Rattle.fleet_report.specs.Texts.{said, addressee, target_field, target
 
 use crate::texts::{KindText, NameText};
 use mav_messages::Message;
-use mav_ports::Name;
+use mav_names::Name;
 use plan_items::PlanMsg;
 use std::fmt;
 

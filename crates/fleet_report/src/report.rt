@@ -17,7 +17,7 @@ use crate::messages::MessageText;
 use crate::texts::{KindText, NameText, RefusalText, code};
 use mav_frame::{Frame, encode};
 use mav_messages::Message;
-use mav_ports::Name;
+use mav_names::Name;
 use mav_sign::Admit;
 use plan_items::{Plan, PlanKind};
 use plan_upload::{OpFault, Outcome};

@@ -2,7 +2,7 @@
 ghost use Rattle.std.specs.Prelude.{◌≡◌, Some};
 ghost use Rattle.fleet_report.specs.Texts.{name_text, kind_text, refusal_text, code_of};
 
-use mav_ports::Name;
+use mav_names::Name;
 use mav_sign::Admit;
 use plan_items::PlanKind;
 use plan_upload::OpFault;

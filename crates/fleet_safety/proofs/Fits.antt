@@ -1,8 +1,8 @@
 -- A scene fits a world of messages: its nodes are the world's, its packets are the world's frames, and the world's
 -- timestamps are none above those that the nodes keep.
 use Rattle.std.proofs.Common.{◌≡◌, ◌≢◌, ℕ, zero, suc, ◌+◌, inl, inr, List, [], ◌∷◌, ◌++◌, length, slice_get, slice_set, Some, None, refl, sym, subst, ◌∙◌}
-use Rattle.mav_ports.specs.declared.names.Name.{Name}
-use Rattle.mav_ports.specs.declared.names.Stream.{Stream}
+use Rattle.mav_names.specs.declared.names.Name.{Name}
+use Rattle.mav_names.specs.declared.names.Stream.{Stream}
 use Rattle.mav_frame.specs.Packet.{Packet}
 use Rattle.plan_safety.specs.Store.{Store, first_store}
 use Rattle.plan_safety.specs.World as world

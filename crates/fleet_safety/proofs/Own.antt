@@ -1,7 +1,7 @@
 -- What the abstract mission store goes through in one action: of one call it is one event, or some that tell no line of their own.
 use Rattle.std.proofs.Common.{◌≡◌, ◌⊎◌, inl, inr, ◌==◌, List, [], ◌∷◌, ◌++◌, Option, Some, None, refl, sym, ap, subst, ◌∙◌}
 use Rattle.std.proofs.lemmas.List.{append_assoc, append-nil}
-use Rattle.mav_ports.specs.declared.names.Stream.{Stream}
+use Rattle.mav_names.specs.declared.names.Stream.{Stream}
 use Rattle.plan_upload.specs.Drone.{PlanEvent, Quiet, Installs, Empties, Shows}
 use Rattle.plan_upload.specs.Plans.{every_kind}
 use Rattle.plan_upload.specs.Station.{Operation, Told}

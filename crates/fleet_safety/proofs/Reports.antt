@@ -1,7 +1,7 @@
 -- What events of the world tell, one by one and one after another.
 use Rattle.std.proofs.Common.{◌≡◌, ℕ, suc, ◌+◌, ◌<◌, ◌≤◌, ◌⊎◌, inl, inr, true, false, ◌==◌, nat_lt, List, [], ◌∷◌, ◌++◌, length, Option, Some, None, refl, sym, ap, subst, arith, ◌∙◌}
 use Rattle.std.proofs.lemmas.List.{append_assoc}
-use Rattle.mav_ports.specs.declared.names.Stream.{Stream}
+use Rattle.mav_names.specs.declared.names.Stream.{Stream}
 use Rattle.plan_items.specs.declared.items.Item.{Item}
 use Rattle.plan_items.specs.Kinds.{number_of}
 use Rattle.plan_upload.specs.Addresses.{node_of}
@@ -17,7 +17,7 @@ use Rattle.plan_safety.specs.History.{Step, final, steps_of, history}
 use Rattle.plan_safety.proofs.Keys.{by_test, number_same}
 use Rattle.plan_safety.proofs.DroneShape.{Shape, EventOf, plans_after}
 use Rattle.plan_safety.proofs.FleetMoves.{plus}
-use Rattle.mav_ports.specs.declared.names.Name.{Name}
+use Rattle.mav_names.specs.declared.names.Name.{Name}
 use Rattle.mav_nodes.specs.News.{NodeEvent, Sends, Installs as NodeInstalls, Empties as NodeEmpties, Drops, Ends}
 use Rattle.mav_nodes.specs.Nodes.{change_events, told_events}
 use Rattle.fleet_report.specs.Events as report

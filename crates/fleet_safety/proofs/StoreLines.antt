@@ -1,7 +1,7 @@
 -- What a report tells of plans is what the store goes through.
 use Rattle.std.proofs.Common.{◌≡◌, ℕ, ◌==◌, nat_lt, max, Bool, List, [], ◌∷◌, ◌++◌, length, slice_get, Option, Some, None, refl, sym, ap, ◌∙◌, ◌&&◌}
 use Rattle.std.proofs.lemmas.List.{append_assoc, append-nil}
-use Rattle.mav_ports.specs.declared.names.Stream.{Stream}
+use Rattle.mav_names.specs.declared.names.Stream.{Stream}
 use Rattle.plan_items.specs.Kinds.{number_of}
 use Rattle.plan_items.specs.declared.messages.PlanMsg.{PlanMsg}
 use Rattle.plan_upload.specs.declared.faults.OpFault.{OpFault}

@@ -1,7 +1,7 @@
 -- The main theorem over scenarios: the actions of a scenario are an execution of the world of messages, and so one of the
 -- abstract mission store.
 use Rattle.std.specs.Prelude.{ℕ, ◌≡◌, ◌<◌, ◌+◌, ◌==◌, ◌&&◌, ◌↔◌, if◌then◌else◌, List, [], ◌∷◌, ◌++◌, Some, slice_get}
-use Rattle.mav_ports.specs.declared.names.Stream.{Stream}
+use Rattle.mav_names.specs.declared.names.Stream.{Stream}
 use Rattle.plan_items.specs.declared.items.Item.{Item}
 use Rattle.plan_upload.specs.Addresses.{node_of, same_stream}
 use Rattle.plan_upload.specs.Plans.{plan_at}

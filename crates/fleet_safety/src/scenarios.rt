@@ -1,6 +1,6 @@
 // What scenarios lead to.
 ghost use Rattle.std.specs.Prelude.{ℕ, ◌≡◌, Bool, List};
-ghost use Rattle.mav_ports.specs.declared.names.Name.{Name};
+ghost use Rattle.mav_names.specs.declared.names.Name.{Name};
 ghost use Rattle.scenario_lines.specs.declared.lines.Line.{Line};
 ghost use Rattle.scenario_lines.specs.declared.lines.Line.TheVariants.{Deliver};
 ghost use Rattle.fleet_world.specs.Scene.{Scene};

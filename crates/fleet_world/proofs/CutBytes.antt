@@ -1,7 +1,7 @@
 -- Parts of one list of bytes.
 use Rattle.std.proofs.Common.{◌≡◌, ℕ, zero, suc, ◌+◌, ◌-◌, ◌≤◌, List, [], ◌∷◌, ◌++◌, length, take, drop, slice_get, option_map, Option, Some, None, refl, sym, ap, ◌∙◌, subst, arith, length-append, length-drop}
 use Rattle.std.proofs.lemmas.List.{take-append-le, drop-append-le}
-use Rattle.mav_ports.specs.declared.names.Name.{Name}
+use Rattle.mav_names.specs.declared.names.Name.{Name}
 use Rattle.fleet_world.specs.declared.sent.Place.{Place}
 use Rattle.fleet_world.specs.Seen.{Kept, bytes_of}
 use Rattle.fleet_world.specs.Cuts.{cut, cuts, AreWithin, behind}

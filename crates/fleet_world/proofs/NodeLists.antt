@@ -1,7 +1,7 @@
 -- Nodes, pairwise with what contracts see of them, and their names.
 use Rattle.std.proofs.Common.{◌≡◌, ℕ, zero, suc, List, [], ◌∷◌, ◌++◌, slice_get, slice_set, option_map, Some, None, refl, sym, ap, ◌∙◌, subst}
 use Rattle.scenario_lines.specs.declared.roster.Named.{Named}
-use Rattle.mav_ports.specs.declared.names.Name.{Name}
+use Rattle.mav_names.specs.declared.names.Name.{Name}
 use Rattle.fleet_world.specs.declared.nodes.Node.{Node as SeenNode}
 use Rattle.fleet_world.specs.Scene.{Node, Drone, Station, named, names_of, node_name}
 use Rattle.fleet_world.specs.Seen.{IsNode, AreNodes, Fleet, IsFleet}

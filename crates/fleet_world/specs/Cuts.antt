@@ -1,7 +1,7 @@
 -- Parts of one list of bytes, each with the name of its sender.
 use Rattle.std.specs.Prelude.{ℕ, ◌+◌, ◌-◌, ◌≤◌, List, [], ◌∷◌, length, take, drop}
 use Rattle.fleet_world.specs.declared.sent.Place.{Place}
-use Rattle.mav_ports.specs.declared.names.Name.{Name}
+use Rattle.mav_names.specs.declared.names.Name.{Name}
 use Rattle.fleet_world.specs.Seen.{Kept}
 
 abbrev pub cut : List ℕ → Place → Kept

@@ -1,7 +1,7 @@
 -- What calls of a world promise: which scene it is in behind them, and what they report.
 use Rattle.std.specs.Prelude.{ℕ, ◌≡◌, ◌≢◌, Bool, List, [], ◌++◌, length, map, slice_set, Option, Some, None, Ok, Err}
 use Rattle.std.specs.declared.result.Result.{Result}
-use Rattle.mav_ports.specs.declared.names.Name.{Name}
+use Rattle.mav_names.specs.declared.names.Name.{Name}
 use Rattle.mav_nodes.specs.News.{NodeEvent, shown, events_of}
 use Rattle.mav_nodes.specs.Links.{Outcome}
 use Rattle.mav_nodes.specs.Promises.{Did}

@@ -1,7 +1,7 @@
 -- The state of a scenario's world: drones and stations that exchange signed datagrams.
 use Rattle.std.specs.Prelude.{ℕ, Bool, false, ◌+◌, List, [], ◌∷◌, length, map}
-use Rattle.mav_ports.specs.declared.names.Name.{Name}
-use Rattle.mav_ports.specs.declared.names.Stream.{Stream}
+use Rattle.mav_names.specs.declared.names.Name.{Name}
+use Rattle.mav_names.specs.declared.names.Stream.{Stream}
 use Rattle.mav_frame.specs.Packet.{Packet}
 use Rattle.plan_items.specs.declared.items.Item.{Item}
 use Rattle.plan_upload.specs.Addresses.{node_of, same_name}

@@ -13,8 +13,8 @@ use crate::drafts::put_items;
 use crate::fleet::stream;
 use crate::{Bound, World, WorldFault};
 use fleet_report::Report;
+use mav_names::Name;
 use mav_nodes::Order;
-use mav_ports::Name;
 use plan_items::{Item, Plan};
 use scenario_lines::Line;
 

@@ -12,8 +12,8 @@ use crate::sent::SentFrames;
 use crate::telling::{frames_in, tell_all};
 use crate::{Bound, World, WorldFault};
 use fleet_report::Report;
+use mav_names::Name;
 use mav_nodes::{News, NodeFault};
-use mav_ports::Name;
 
 const MOST_FRAMES: usize = 100_000;
 

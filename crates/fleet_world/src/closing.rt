@@ -11,7 +11,7 @@ use crate::NoMemory;
 use crate::fleet::Fleet;
 use crate::nodes::Node;
 use fleet_report::Report;
-use mav_ports::Name;
+use mav_names::Name;
 use plan_items::PlanKind;
 use plan_upload::Drone;
 

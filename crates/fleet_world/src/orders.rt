@@ -16,8 +16,8 @@ ghost use Rattle.fleet_world.specs.Promises.{Moved, Refuses, WorldDid, IsHalt, R
 use crate::fleet::stream;
 use crate::{World, WorldFault};
 use fleet_report::Report;
+use mav_names::Name;
 use mav_nodes::{News, Order, OrderFault};
-use mav_ports::Name;
 use plan_items::{Plan, PlanKind};
 use plan_upload::OpFault;
 use std::mem;

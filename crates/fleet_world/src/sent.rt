@@ -5,7 +5,7 @@ ghost use Rattle.fleet_world.specs.Seen.{Kept, kept_as, bytes_of};
 
 use crate::NoMemory;
 use mav_frame::{Frame, encode};
-use mav_ports::Name;
+use mav_names::Name;
 use std::alloc::Global;
 use std::marker::Model;
 

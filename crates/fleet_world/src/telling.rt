@@ -9,8 +9,8 @@ ghost use Rattle.fleet_world.specs.Promises.{Told};
 use crate::NoMemory;
 use crate::sent::SentFrames;
 use fleet_report::Report;
+use mav_names::{Name, Stream};
 use mav_nodes::News;
-use mav_ports::{Name, Stream};
 
 // The node that a stream comes from.
 fn sender(stream: Stream) -> Name

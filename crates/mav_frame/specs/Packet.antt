@@ -1,6 +1,6 @@
 -- A frame as plain data (MAVLink guide, MAVLink 2 Packet Format; Message Signing, Signature).
 use Rattle.std.specs.Prelude.{ℕ, ◌^◌, ◌<◌, ◌≡◌, List, length, Option, IfSome, All}
-use Rattle.mav_ports.specs.declared.names.Name.{Name}
+use Rattle.mav_names.specs.declared.names.Name.{Name}
 
 -- the link id, the timestamp and the six bytes of the signature
 pub record SignatureBlock : Type 0 where

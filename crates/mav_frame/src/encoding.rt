@@ -5,7 +5,7 @@ ghost use Rattle.mav_frame.specs.Encoding.{checksum, encoding, header as header_
 use crate::looking::payload_of;
 use crate::numbers::{bytes_2, bytes_3, bytes_6};
 use crate::{Block, Frame};
-use mav_ports::Name;
+use mav_names::Name;
 use x25_check::X25;
 
 /// The first byte of a frame of MAVLink 2.

@@ -3,7 +3,7 @@ ghost use Rattle.std.specs.Prelude.{◌≡◌, ◌^◌, ◌<◌, ◌≤◌, leng
 ghost use Rattle.mav_frame.specs.Packet.{Packet, SignatureBlock};
 ghost use Rattle.mav_frame.specs.Padding.{IsPadded, padded, unpadded};
 
-use mav_ports::Name;
+use mav_names::Name;
 use std::marker::Model;
 
 /// The signature block behind a frame: link id, timestamp in units of 10 microseconds since 1 January 2015, and the first

@@ -9,7 +9,7 @@ use crate::encoding::STX;
 use crate::looks::{Look, Sight, Why};
 use crate::numbers::{number_2, number_3, number_6};
 use crate::{Block, Frame};
-use mav_ports::Name;
+use mav_names::Name;
 use x25_check::{Extras, X25};
 
 // The bytes of a header, of a checksum and of a signature block.

@@ -1,6 +1,6 @@
 -- Which message carries which message of the mission protocol (MAVLink guide, Mission Protocol).
 use Rattle.std.specs.Prelude.{ℕ, [], ◌∷◌, slice_index, Option, Some, None}
-use Rattle.mav_ports.specs.declared.names.Name.{Name}
+use Rattle.mav_names.specs.declared.names.Name.{Name}
 use Rattle.plan_items.specs.declared.items.Item.{Item}
 use Rattle.plan_items.specs.declared.messages.PlanMsg.{PlanMsg}
 use Rattle.plan_items.specs.declared.messages.PlanMsg.TheVariants as plan

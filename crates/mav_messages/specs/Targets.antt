@@ -3,7 +3,7 @@ use Rattle.std.specs.Prelude.{ℕ, List, codes, slice_index, position, Option, S
 use Rattle.field_layout.specs.Definition.{Definition, all_fields}
 use Rattle.field_layout.specs.Payload.{words_at}
 use Rattle.field_layout.specs.Target.{is_target}
-use Rattle.mav_ports.specs.declared.names.Name.{Name}
+use Rattle.mav_names.specs.declared.names.Name.{Name}
 
 -- the word of the field at that place, 0 where there is no such field
 abbrev pub word_or_zero : List (List ℕ) → Option ℕ → ℕ

@@ -13,7 +13,7 @@ use crate::{
     MissionRequestInt, MissionRequestList, ParamRequestList, ParamRequestRead, ParamSet,
     ParamValue, Ping, Statustext,
 };
-use mav_ports::Name;
+use mav_names::Name;
 
 /// A message of the profile, with its fields under their names (MAVLink common messages). `type` is a keyword, so that
 /// field is `ty`; a float is the word of its bits. Contracts see the definition of a message and its values: the raw

@@ -6,7 +6,7 @@ use crate::{
     Message, MissionAck, MissionClearAll, MissionCount, MissionItemInt, MissionRequestInt,
     MissionRequestList, Ping,
 };
-use mav_ports::Name;
+use mav_names::Name;
 use plan_items::{Item, PlanMsg};
 
 impl MissionItemInt {

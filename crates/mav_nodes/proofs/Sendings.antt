@@ -20,7 +20,7 @@ use Rattle.field_layout.specs.Definition.{Definition, all_fields}
 use Rattle.field_layout.specs.Payload.{FitsLayout}
 use Rattle.mav_profile.specs.Messages.{extras_of}
 use Rattle.mav_profile.specs.Profile.{profile_definitions}
-use Rattle.mav_ports.specs.declared.names.Stream.{Stream}
+use Rattle.mav_names.specs.declared.names.Stream.{Stream}
 use Rattle.mav_frame.specs.Encoding.{checksum}
 use Rattle.mav_frame.specs.Parse.{Final}
 use Rattle.mav_frame.specs.declared.events.Event.{Event}

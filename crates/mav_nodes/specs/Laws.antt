@@ -1,6 +1,6 @@
 -- What a node sends, read again.
 use Rattle.std.specs.Prelude.{ℕ, ◌≡◌, ◌<◌, ◌^◌, List, [], ◌∷◌, All, None}
-use Rattle.mav_ports.specs.declared.names.Stream.{Stream}
+use Rattle.mav_names.specs.declared.names.Stream.{Stream}
 use Rattle.mav_frame.specs.Packet.{Packet, FitsFrame}
 use Rattle.mav_frame.specs.Encoding.{encoding, IsSealed}
 use Rattle.mav_frame.specs.FinalParse.{final_parse}

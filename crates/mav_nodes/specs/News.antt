@@ -1,6 +1,6 @@
 -- What happens to a node, and what its calls tell of it.
 use Rattle.std.specs.Prelude.{ℕ, List, length, map}
-use Rattle.mav_ports.specs.declared.names.Stream.{Stream}
+use Rattle.mav_names.specs.declared.names.Stream.{Stream}
 use Rattle.plan_items.specs.declared.items.Item.{Item}
 use Rattle.plan_items.specs.declared.kinds.PlanKind.{PlanKind}
 use Rattle.plan_upload.specs.Station.{Told}

@@ -8,7 +8,7 @@ use Rattle.field_layout.specs.WireOrder.{Placed, offset_of}
 use Rattle.field_layout.specs.Payload.{words_at}
 use Rattle.field_layout.specs.Reading.{words_from}
 use Rattle.mav_profile.specs.Profile.{ping_definition, mission_request_list_definition, mission_count_definition, mission_clear_all_definition, mission_ack_definition, mission_request_int_definition, mission_item_int_definition}
-use Rattle.mav_ports.specs.declared.names.Name.{Name}
+use Rattle.mav_names.specs.declared.names.Name.{Name}
 use Rattle.plan_items.specs.declared.messages.PlanMsg.{PlanMsg}
 use Rattle.plan_items.specs.declared.messages.PlanMsg.TheVariants.{Count, Request, Item as Give, Ack, List as Listing, Clear, Ping}
 

@@ -2,7 +2,7 @@
 use Rattle.std.specs.Prelude.{ℕ, List, [], Option, Some, None}
 use Rattle.x25_check.specs.Extras.{extra_of}
 use Rattle.field_layout.specs.Payload.{serialised, truncated}
-use Rattle.mav_ports.specs.declared.names.Stream.{Stream}
+use Rattle.mav_names.specs.declared.names.Stream.{Stream}
 use Rattle.mav_frame.specs.Packet.{Packet}
 use Rattle.mav_frame.specs.Encoding.{checksum}
 use Rattle.mav_messages.specs.declared.messages.Message.{Message}

@@ -1,7 +1,7 @@
 -- What a node does at frames, whatever its core is: each is tried, the core takes the plan message of an admitted one, and
 -- its answer is sent before the next frame is tried.
 use Rattle.std.specs.Prelude.{ℕ, List, [], ◌∷◌, ◌++◌, Option, Some, None}
-use Rattle.mav_ports.specs.declared.names.Stream.{Stream}
+use Rattle.mav_names.specs.declared.names.Stream.{Stream}
 use Rattle.plan_items.specs.declared.messages.PlanMsg.{PlanMsg}
 use Rattle.mav_frame.specs.Packet.{Packet, SignatureBlock}
 use Rattle.mav_frame.specs.FinalParse.{final_parse}

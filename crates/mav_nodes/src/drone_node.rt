@@ -14,7 +14,7 @@ use crate::link::{Link, Tried};
 use crate::news::tell;
 use crate::{News, NoMemory, NodeFault};
 use mav_frame::{Event, Frame, event_at};
-use mav_ports::Stream;
+use mav_names::Stream;
 use mav_sign::Key;
 use plan_items::{PlanKind, PlanMsg};
 use plan_upload::{Change, Drone};

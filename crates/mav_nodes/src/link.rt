@@ -15,7 +15,7 @@ use crate::news::tell;
 use crate::{News, NoMemory, NodeFault};
 use mav_frame::Frame;
 use mav_messages::Message;
-use mav_ports::Stream;
+use mav_names::Stream;
 use mav_sign::{Admit, Endpoint, Heard, Key};
 use plan_items::PlanMsg;
 use std::alloc::Global;

@@ -4,7 +4,7 @@ ghost use Rattle.std.specs.Prelude.{◌≡◌, ◌++◌, ◌∷◌, [], OnOk, If
 use crate::NodeFault;
 use mav_frame::Frame;
 use mav_messages::Message;
-use mav_ports::Stream;
+use mav_names::Stream;
 use mav_sign::Admit;
 use plan_items::PlanKind;
 use plan_upload::Outcome;

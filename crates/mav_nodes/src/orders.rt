@@ -1,5 +1,5 @@
 // What a station is asked to do.
-use mav_ports::Stream;
+use mav_names::Stream;
 use plan_items::{Plan, PlanKind};
 
 /// An order to a station.

@@ -12,7 +12,7 @@ use crate::link::{Link, Tried};
 use crate::news::tell;
 use crate::{News, NoMemory, NodeFault, Order, OrderFault};
 use mav_frame::{Event, Frame, event_at};
-use mav_ports::Stream;
+use mav_names::Stream;
 use mav_sign::Key;
 use plan_items::PlanMsg;
 use plan_upload::Station;

@@ -11,5 +11,8 @@ mod scanner;
 mod window;
 
 pub use ahead::Ahead;
-use mav_ports::NoMemory;
 pub use scanner::Scanner;
+use std::alloc::AllocError;
+
+/// There was no memory.
+pub type NoMemory = AllocError;

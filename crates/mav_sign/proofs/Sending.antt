@@ -3,7 +3,7 @@ use Rattle.std.proofs.Common.{◌≡◌, ℕ, List, Some, sym, ap, ◌∙◌, re
 use Rattle.x25_check.specs.Extras.{extra_of}
 use Rattle.field_layout.specs.Payload.{serialised, truncated, FitsLayout, Represents}
 use Rattle.field_layout.proofs.Unique.{truncated_represents}
-use Rattle.mav_ports.specs.declared.names.Stream.{Stream}
+use Rattle.mav_names.specs.declared.names.Stream.{Stream}
 use Rattle.mav_messages.specs.declared.messages.Message.{Message}
 use Rattle.mav_messages.specs.Messages.{definition_of, values_of}
 use Rattle.mav_frame.specs.Packet.{Packet}

@@ -6,7 +6,7 @@ use Rattle.field_layout.specs.Definition.{Definition}
 use Rattle.field_layout.specs.CrcExtra.{crc_extra_of}
 use Rattle.field_layout.specs.Payload.{serialised, truncated, Represents as PayloadRepresents}
 use Rattle.mav_profile.specs.Profile.{profile_definitions}
-use Rattle.mav_ports.specs.declared.names.Stream.{Stream}
+use Rattle.mav_names.specs.declared.names.Stream.{Stream}
 use Rattle.mav_messages.specs.declared.messages.Message.{Message}
 use Rattle.mav_messages.specs.Messages.{definition_of, values_of, profile_definition}
 use Rattle.mav_frame.specs.Packet.{Packet, SignatureBlock}

@@ -1,7 +1,7 @@
 -- What a verifier keeps of its history.
 use Rattle.std.specs.Prelude.{ℕ, ◌≡◌, ◌+◌, ◌*◌, ◌<◌, ◌==◌, nat_eq, max, is_some, if◌then◌else◌, List, length, Option, Some}
 use Rattle.std.specs.Map.{lookup}
-use Rattle.mav_ports.specs.declared.names.Stream.{Stream}
+use Rattle.mav_names.specs.declared.names.Stream.{Stream}
 use Rattle.mav_sign.specs.declared.admission.Admit.{Admit}
 use Rattle.mav_sign.specs.declared.admission.Admit.TheVariants.{Admitted}
 use Rattle.mav_sign.specs.History.{Entry, answer_after, last_of, streams_of, accepted_in, previous_in, sent_in, greatest}

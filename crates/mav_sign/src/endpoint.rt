@@ -14,7 +14,7 @@ use crate::stamps::stream_of;
 use crate::{Admit, Heard, Key, NoMemory, Stamps, StampsSpent, sign};
 use mav_frame::{Block, Frame, Look, look};
 use mav_messages::Message;
-use mav_ports::{Name, Stream};
+use mav_names::{Name, Stream};
 use mav_stream::Reader;
 use std::alloc::Global;
 use std::marker::Model;

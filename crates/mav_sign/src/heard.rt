@@ -1,7 +1,7 @@
 // What an endpoint tells of a frame.
 use crate::Admit;
 use mav_messages::Message;
-use mav_ports::Stream;
+use mav_names::Stream;
 
 /// What became of a frame that came in.
 #[derive(Clone, Copy)]

@@ -7,7 +7,7 @@ use crate::signing::is_right;
 use crate::table::{STREAM_LIMIT, Table};
 use crate::{Admit, Key, NoMemory, StampsSpent};
 use mav_frame::{Block, Frame};
-use mav_ports::{Name, Stream};
+use mav_names::{Name, Stream};
 use std::alloc::Global;
 use std::marker::Model;
 

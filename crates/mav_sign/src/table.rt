@@ -3,7 +3,7 @@ ghost use Rattle.std.specs.Prelude.{◌≡◌, ◌<◌, ◌+◌, ◌==◌, ℕ, 
 ghost use Rattle.mav_sign.specs.Kept.{stream_number, stamp_at};
 
 use crate::NoMemory;
-use mav_ports::Stream;
+use mav_names::Stream;
 use std::alloc::Global;
 use std::collections::HashMap;
 use std::marker::Model;

@@ -1,6 +1,6 @@
 // The messages of the mission protocol.
 use crate::Item;
-use mav_ports::Name;
+use mav_names::Name;
 
 /// A message about a plan, for the node `to` (MAVLink guide, Mission Protocol). `kind` is the
 /// number of a kind as it was sent, of none too, and `PlanKind::ALL` means all kinds.

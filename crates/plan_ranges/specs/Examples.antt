@@ -1,6 +1,6 @@
 -- A drone and a station in the middle of an upload, by computation.
 use Rattle.std.specs.Prelude.{true, false, [], ◌∷◌, pos, negsuc, Some, None}
-use Rattle.mav_ports.specs.declared.names.Stream.{Stream}
+use Rattle.mav_names.specs.declared.names.Stream.{Stream}
 use Rattle.plan_items.specs.declared.items.Item.{Item}
 use Rattle.plan_items.specs.declared.messages.PlanMsg.{PlanMsg}
 use Rattle.plan_items.specs.declared.messages.PlanMsg.TheVariants.{Item as Give}

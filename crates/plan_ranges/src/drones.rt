@@ -1,6 +1,6 @@
 // A drone stays in range, and says what is in range.
 ghost use Rattle.std.specs.Prelude.{ℕ, ◌<◌, Bool};
-ghost use Rattle.mav_ports.specs.declared.names.Stream.{Stream};
+ghost use Rattle.mav_names.specs.declared.names.Stream.{Stream};
 ghost use Rattle.plan_items.specs.declared.messages.PlanMsg.{PlanMsg};
 ghost use Rattle.plan_upload.specs.Plans.{no_plans};
 ghost use Rattle.plan_upload.specs.Drone.{DroneState, fresh_drone, restored, drone_step, drone_tick};

@@ -1,7 +1,7 @@
 // A station stays in range, and says what is in range.
 ghost use Rattle.std.specs.Prelude.{ℕ, ◌≡◌, ◌<◌, ◌^◌, List, None};
 ghost use Rattle.std.specs.List.{All};
-ghost use Rattle.mav_ports.specs.declared.names.Stream.{Stream};
+ghost use Rattle.mav_names.specs.declared.names.Stream.{Stream};
 ghost use Rattle.plan_items.specs.declared.items.Item.{Item};
 ghost use Rattle.plan_items.specs.declared.messages.PlanMsg.{PlanMsg};
 ghost use Rattle.plan_upload.specs.Station.{StationState, fresh_station, station_step, station_tick, station_cancel, begin_upload, begin_clear, begin_get, untold};

@@ -1,7 +1,7 @@
 // The ranges are those of the code's types.
 ghost use Rattle.plan_ranges.specs.Ranges.{InRange, ItemInRange, NameInRange};
 
-use mav_ports::Name;
+use mav_names::Name;
 use plan_items::{Item, PlanMsg};
 
 /// A name, by its type.

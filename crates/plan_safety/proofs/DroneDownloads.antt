@@ -1,7 +1,7 @@
 -- The drone, at a List and a Request of the station that it has admitted.
 use Rattle.std.proofs.Common.{◌≡◌, ◌≢◌, ℕ, ◌+◌, ◌<◌, ◌≤◌, inr, Bool, ◌==◌, ◌&&◌, nat_lt, List, [], ◌∷◌, length, Option, Some, None, refl, sym, subst, arith, ◌∙◌}
 use Rattle.std.specs.Prelude.{slice_get}
-use Rattle.mav_ports.specs.declared.names.Stream.{Stream}
+use Rattle.mav_names.specs.declared.names.Stream.{Stream}
 use Rattle.plan_items.specs.declared.items.Item.{Item}
 use Rattle.plan_items.specs.declared.messages.PlanMsg.{PlanMsg}
 use Rattle.plan_items.specs.declared.messages.PlanMsg.TheVariants.{Count, Request, Item as Give, Ack, List as Listing, Clear, Ping}

@@ -1,8 +1,8 @@
 -- What a step of the drone tells, whatever the stream.
 use Rattle.std.proofs.Common.{◌≡◌, ℕ, ◌+◌, ◌<◌, ◌⊎◌, inl, inr, Bool, true, false, if◌then◌else◌, ◌==◌, ◌&&◌, nat_lt, List, [], ◌∷◌, ◌++◌, length, Option, Some, None, refl, sym, ap, subst, arith}
 use Rattle.std.specs.Prelude.{slice_get, not, is_some}
-use Rattle.mav_ports.specs.declared.names.Name.{Name}
-use Rattle.mav_ports.specs.declared.names.Stream.{Stream}
+use Rattle.mav_names.specs.declared.names.Name.{Name}
+use Rattle.mav_names.specs.declared.names.Stream.{Stream}
 use Rattle.plan_items.specs.declared.items.Item.{Item}
 use Rattle.plan_items.specs.declared.messages.PlanMsg.{PlanMsg}
 use Rattle.plan_items.specs.declared.messages.PlanMsg.TheVariants.{Count, Request, Item as Give, Ack, List as Listing, Clear, Ping}

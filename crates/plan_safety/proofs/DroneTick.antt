@@ -1,7 +1,7 @@
 -- The drone at what the pair sees nothing of but its next timestamp, at a tick, and at its restart.
 use Rattle.std.proofs.Common.{◌≡◌, ◌≢◌, ℕ, ◌+◌, ◌<◌, ◌≤◌, ◌⊎◌, inl, inr, Bool, true, nat_lt, length, Option, Some, None, refl, sym, ap, subst, arith, ◌∙◌}
 use Rattle.std.specs.Prelude.{not}
-use Rattle.mav_ports.specs.declared.names.Stream.{Stream}
+use Rattle.mav_names.specs.declared.names.Stream.{Stream}
 use Rattle.plan_items.specs.declared.messages.PlanMsg.{PlanMsg}
 use Rattle.plan_upload.specs.Addresses.{same_stream, node_of}
 use Rattle.plan_upload.specs.Drone.{DroneState, DroneTick, Upload, closed, is_own, result_of, idle_limit, ack, ask, upload_waits, restored}

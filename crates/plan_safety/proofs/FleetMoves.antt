@@ -1,6 +1,6 @@
 -- One node of the world moves: what then has to be shown of it, for what holds to hold again.
 use Rattle.std.proofs.Common.{◌≡◌, ◌≢◌, ℕ, ◌<◌, inl, inr, true, List, ◌∷◌, Option, Some, None, sym, subst, ◌∙◌}
-use Rattle.mav_ports.specs.declared.names.Stream.{Stream}
+use Rattle.mav_names.specs.declared.names.Stream.{Stream}
 use Rattle.plan_upload.specs.Addresses.{node_of}
 use Rattle.plan_upload.specs.Plans.{plan_at}
 use Rattle.plan_safety.specs.Frames.{Frame}

@@ -1,7 +1,7 @@
 -- One answer of the drone: what each of its steps has to show.
 use Rattle.std.proofs.Common.{◌≡◌, ◌≢◌, ℕ, ◌+◌, ◌<◌, inr, if◌then◌else◌, ◌==◌, List, ◌∷◌, length, Option, Some, None, sym, ap, subst, arith}
 use Rattle.std.specs.Prelude.{slice_get}
-use Rattle.mav_ports.specs.declared.names.Stream.{Stream}
+use Rattle.mav_names.specs.declared.names.Stream.{Stream}
 use Rattle.plan_items.specs.declared.items.Item.{Item}
 use Rattle.plan_items.specs.declared.messages.PlanMsg.{PlanMsg}
 use Rattle.plan_items.specs.declared.messages.PlanMsg.TheVariants.{Count, Item as Give}

@@ -1,7 +1,7 @@
 -- The executions of the examples, by computation.
 use Rattle.std.proofs.Common.{◌≡◌, [], ◌∷◌, ◌++◌, ◌⊎◌, inl, inr, ◌||◌, None, true, false, refl, sym, ap, subst, arith, ◌∙◌}
-use Rattle.mav_ports.specs.declared.names.Name.{Name}
-use Rattle.mav_ports.specs.declared.names.Stream.{Stream}
+use Rattle.mav_names.specs.declared.names.Name.{Name}
+use Rattle.mav_names.specs.declared.names.Stream.{Stream}
 use Rattle.plan_items.specs.Validation.{item_fault, plan_fault, whole_fault}
 use Rattle.plan_items.specs.declared.kinds.PlanKind.TheVariants.{Mission}
 use Rattle.plan_upload.specs.Addresses.{same_stream, node_of, is_for_drone}

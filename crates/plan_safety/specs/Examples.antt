@@ -1,6 +1,6 @@
 -- Executions of small fleets, which show that the laws speak of something.
 use Rattle.std.specs.Prelude.{ℕ, ◌||◌, true, List, [], ◌∷◌, ◌++◌, pos}
-use Rattle.mav_ports.specs.declared.names.Stream.{Stream}
+use Rattle.mav_names.specs.declared.names.Stream.{Stream}
 use Rattle.plan_items.specs.declared.items.Item.{Item}
 use Rattle.plan_items.specs.declared.kinds.PlanKind.TheVariants.{Mission}
 use Rattle.plan_upload.specs.Addresses.{same_stream}

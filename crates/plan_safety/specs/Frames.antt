@@ -1,6 +1,6 @@
 -- Signed frames that were sent, as far as the mission protocol sees them.
 use Rattle.std.specs.Prelude.{ℕ, ◌≡◌, ◌≤◌, ◌⊎◌, List, [], ◌∷◌, Option, Some}
-use Rattle.mav_ports.specs.declared.names.Stream.{Stream}
+use Rattle.mav_names.specs.declared.names.Stream.{Stream}
 use Rattle.plan_items.specs.declared.messages.PlanMsg.{PlanMsg}
 
 -- a frame: the stream that signed it, its timestamp, and its plan message; None is a message of another service

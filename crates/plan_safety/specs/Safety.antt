@@ -1,6 +1,6 @@
 -- Each execution of the world is one of the abstract mission store.
 use Rattle.std.specs.Prelude.{ℕ, ◌≡◌, ◌<◌, List, [], ◌∷◌}
-use Rattle.mav_ports.specs.declared.names.Stream.{Stream}
+use Rattle.mav_names.specs.declared.names.Stream.{Stream}
 use Rattle.plan_upload.specs.Plans.{plan_at}
 use Rattle.plan_safety.specs.Store.{Store, Meets, follows}
 use Rattle.plan_safety.specs.World.{Nodes, World, Event, happens}

@@ -3,7 +3,7 @@
 -- else makes a real node refuse a frame (too old, too many streams) only makes it admit fewer: it is as if the
 -- frame had not come.
 use Rattle.std.specs.Prelude.{ℕ, ◌+◌, ◌≡◌, Bool, true, false, if◌then◌else◌, ◌==◌, nat_lt, max, List, [], ◌∷◌, ◌++◌, Option, Some, None, slice_get}
-use Rattle.mav_ports.specs.declared.names.Stream.{Stream}
+use Rattle.mav_names.specs.declared.names.Stream.{Stream}
 use Rattle.plan_items.specs.declared.items.Item.{Item}
 use Rattle.plan_items.specs.declared.kinds.PlanKind.{PlanKind}
 use Rattle.plan_items.specs.declared.messages.PlanMsg.{PlanMsg}

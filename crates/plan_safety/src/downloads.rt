@@ -1,6 +1,6 @@
 // What a download hands out.
 ghost use Rattle.std.specs.Prelude.{List, ◌∷◌};
-ghost use Rattle.mav_ports.specs.declared.names.Stream.{Stream};
+ghost use Rattle.mav_names.specs.declared.names.Stream.{Stream};
 ghost use Rattle.plan_items.specs.declared.items.Item.{Item};
 ghost use Rattle.plan_upload.specs.Station.{Told_got};
 ghost use Rattle.plan_safety.specs.Frames.{Frame};

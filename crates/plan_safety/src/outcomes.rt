@@ -1,6 +1,6 @@
 // Why operations end as they are told.
 ghost use Rattle.std.specs.Prelude.{ℕ, List, ◌∷◌};
-ghost use Rattle.mav_ports.specs.declared.names.Stream.{Stream};
+ghost use Rattle.mav_names.specs.declared.names.Stream.{Stream};
 ghost use Rattle.plan_upload.specs.Station.{Told_not_installed, Told_unknown, Told_ended};
 ghost use Rattle.plan_safety.specs.Frames.{Frame};
 ghost use Rattle.plan_safety.specs.Store.{Ended};

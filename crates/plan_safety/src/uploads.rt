@@ -1,6 +1,6 @@
 // What plans and uploads are in each history of the store.
 ghost use Rattle.std.specs.Prelude.{ℕ, List, [], ◌∷◌, ◌≡◌, ◌≤◌, ◌<◌};
-ghost use Rattle.mav_ports.specs.declared.names.Stream.{Stream};
+ghost use Rattle.mav_names.specs.declared.names.Stream.{Stream};
 ghost use Rattle.plan_items.specs.declared.items.Item.{Item};
 ghost use Rattle.plan_upload.specs.Plans.{plan_at};
 ghost use Rattle.plan_upload.specs.Station.{Told_installed};

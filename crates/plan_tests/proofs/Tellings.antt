@@ -4,7 +4,7 @@ use Rattle.std.proofs.Common.{◌≡◌, true, List, [], ◌∷◌, codes, refl}
 use Rattle.hex.specs.Hex.{decode_pairs}
 use Rattle.sha2.specs.Sha256.{first_words, schedule, rounds, compress, hash_after, digest_bytes, sha256}
 use Rattle.x25_check.specs.Check as check
-use Rattle.mav_ports.specs.declared.names.Name.{Name}
+use Rattle.mav_names.specs.declared.names.Name.{Name}
 use Rattle.plan_items.specs.Validation.{item_fault, whole_fault, plan_fault}
 use Rattle.plan_items.specs.declared.messages.PlanMsg.TheVariants.{Count, Request, Item as Give, Ack, Ping}
 use Rattle.plan_upload.specs.Addresses.{everyone}

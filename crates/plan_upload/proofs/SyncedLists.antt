@@ -1,7 +1,7 @@
 -- Whether a drone is among the synchronised ones.
 use Rattle.std.proofs.Common.{◌≡◌, ◌||◌, List, [], ◌∷◌, refl, ap}
 use Rattle.std.specs.List.{list_any}
-use Rattle.mav_ports.specs.declared.names.Stream.{Stream}
+use Rattle.mav_names.specs.declared.names.Stream.{Stream}
 use Rattle.plan_upload.specs.Addresses.{same_stream}
 use Rattle.plan_upload.specs.Station.{is_synced}
 

@@ -1,7 +1,7 @@
 -- Who a plan message comes from and whom it is for (MAVLink guide, Routing).
 use Rattle.std.specs.Prelude.{ℕ, ◌==◌, ◌&&◌, ◌||◌, Bool}
-use Rattle.mav_ports.specs.declared.names.Name.{Name}
-use Rattle.mav_ports.specs.declared.names.Stream.{Stream}
+use Rattle.mav_names.specs.declared.names.Name.{Name}
+use Rattle.mav_names.specs.declared.names.Stream.{Stream}
 
 -- two streams are one
 abbrev pub same_stream : Stream → Stream → Bool

@@ -1,6 +1,6 @@
 -- What a plan message would do to a drone's plans.
 use Rattle.std.specs.Prelude.{Option, Some, None, true}
-use Rattle.mav_ports.specs.declared.names.Stream.{Stream}
+use Rattle.mav_names.specs.declared.names.Stream.{Stream}
 use Rattle.plan_items.specs.Kinds.{kind_of}
 use Rattle.plan_items.specs.declared.kinds.PlanKind.{PlanKind}
 use Rattle.plan_items.specs.declared.messages.PlanMsg.{PlanMsg}

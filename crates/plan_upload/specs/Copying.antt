@@ -1,6 +1,6 @@
 -- The open download as the drone keeps it, and what its calls answer.
 use Rattle.std.specs.Prelude.{ℕ, ◌==◌, ◌&&◌, slice_get, Option, Some, None, if◌then◌else◌}
-use Rattle.mav_ports.specs.declared.names.Stream.{Stream}
+use Rattle.mav_names.specs.declared.names.Stream.{Stream}
 use Rattle.plan_items.specs.declared.items.Item.{Item}
 use Rattle.plan_items.specs.declared.messages.PlanMsg.{PlanMsg}
 use Rattle.plan_items.specs.declared.messages.PlanMsg.TheVariants.{Item as Give}

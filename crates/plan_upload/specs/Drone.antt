@@ -2,7 +2,7 @@
 -- MAVLink guide, Mission Protocol: upload, download, clear. That a count of 0 is refused, and what a
 -- cancel is answered by, is this project's profile.
 use Rattle.std.specs.Prelude.{ℕ, ◌+◌, ◌-◌, ◌^◌, ◌==◌, Bool, true, false, if◌then◌else◌, ◌&&◌, not, nat_lt, min, is_some, List, [], ◌∷◌, ◌++◌, length, slice_get, Option, Some, None}
-use Rattle.mav_ports.specs.declared.names.Stream.{Stream}
+use Rattle.mav_names.specs.declared.names.Stream.{Stream}
 use Rattle.plan_items.specs.declared.items.Item.{Item}
 use Rattle.plan_items.specs.declared.faults.PlanFault.{PlanFault}
 use Rattle.plan_items.specs.declared.messages.PlanMsg.{PlanMsg}

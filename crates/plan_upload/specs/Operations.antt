@@ -1,6 +1,6 @@
 -- A station's operation as it is kept, phase by phase.
 use Rattle.std.specs.Prelude.{ℕ, [], Bool, false, Option, Some, None}
-use Rattle.mav_ports.specs.declared.names.Stream.{Stream}
+use Rattle.mav_names.specs.declared.names.Stream.{Stream}
 use Rattle.plan_items.specs.Kinds.{number_of}
 use Rattle.plan_items.specs.Plans.{items_of}
 use Rattle.plan_items.specs.declared.kinds.PlanKind.{PlanKind}

@@ -1,6 +1,6 @@
 -- Whether a drone can keep a result of a stream.
 use Rattle.std.specs.Prelude.{◌||◌, nat_lt, is_some, Bool, List, length}
-use Rattle.mav_ports.specs.declared.names.Stream.{Stream}
+use Rattle.mav_names.specs.declared.names.Stream.{Stream}
 use Rattle.plan_upload.specs.Drone.{UploadResult, result_of, most_results}
 
 -- the stream has a result, or there is room for one more

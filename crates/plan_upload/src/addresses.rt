@@ -4,7 +4,7 @@ ghost use Rattle.plan_upload.specs.Addresses.{same_stream, same_name, node_of, e
 ghost use Rattle.plan_upload.specs.Drone.{ack, ask};
 ghost use Rattle.plan_upload.specs.Station.{addressee};
 
-use mav_ports::{Name, Stream};
+use mav_names::{Name, Stream};
 use plan_items::PlanMsg;
 
 // A drone is this component of its system (MAVLink common messages, MAV_COMP_ID_AUTOPILOT1).

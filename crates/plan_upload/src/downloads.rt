@@ -9,7 +9,7 @@ use crate::NoMemory;
 use crate::addresses::{acknowledge, is_same_stream, node};
 use crate::buffers::Buffer;
 use crate::uploads::LAST_IDLE_TICK;
-use mav_ports::Stream;
+use mav_names::Stream;
 use plan_items::{Item, MissionResult, Plan, PlanKind, PlanMsg};
 use std::alloc::Global;
 use std::marker::Model;

@@ -18,7 +18,7 @@ use crate::held::HeldPlans;
 use crate::results::Results;
 use crate::uploads::UploadSlot;
 use crate::verdicts::Verdict;
-use mav_ports::Stream;
+use mav_names::Stream;
 use plan_items::{Plan, PlanKind, PlanMsg};
 use std::alloc::Global;
 use std::marker::Model;

@@ -6,7 +6,7 @@ ghost use Rattle.plan_upload.specs.Kinds.{clear_number};
 
 use crate::Outcome;
 use crate::buffers::Buffer;
-use mav_ports::Stream;
+use mav_names::Stream;
 use plan_items::{MissionResult, Plan, PlanKind};
 
 /// An upload: the plan, and what its drone was seen to do.

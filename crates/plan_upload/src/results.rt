@@ -6,7 +6,7 @@ ghost use Rattle.plan_upload.specs.Room.{has_place};
 
 use crate::NoMemory;
 use crate::addresses::is_same_stream;
-use mav_ports::Stream;
+use mav_names::Stream;
 use std::alloc::Global;
 use std::marker::Model;
 

@@ -21,7 +21,7 @@ use crate::buffers::Buffer;
 use crate::operations::{GetTask, OpenOperation, Stage, Task, UploadTask, kind_number};
 use crate::synced::SyncedDrones;
 use crate::{BeginFault, NoMemory, OpFault, Outcome};
-use mav_ports::{Name, Stream};
+use mav_names::{Name, Stream};
 use plan_items::{Plan, PlanKind, PlanMsg};
 use std::alloc::Global;
 use std::marker::Model;

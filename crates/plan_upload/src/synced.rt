@@ -6,7 +6,7 @@ ghost use Rattle.plan_upload.specs.Station.{is_synced, synced_too};
 
 use crate::NoMemory;
 use crate::addresses::is_same_stream;
-use mav_ports::Stream;
+use mav_names::Stream;
 use std::alloc::Global;
 use std::marker::Model;
 
@@ -22,7 +22,7 @@ pub struct SyncedDrones {
 
 impl Model for SyncedDrones {
     ghost use Rattle.std.specs.Prelude.{◌≤◌, List, vec_capacity};
-    ghost use Rattle.mav_ports.specs.declared.names.Stream.{Stream};
+    ghost use Rattle.mav_names.specs.declared.names.Stream.{Stream};
 
     ghost Value = { List Stream };
 

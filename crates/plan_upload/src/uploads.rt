@@ -11,7 +11,7 @@ use crate::addresses::{acknowledge, is_same_stream, request};
 use crate::buffers::Buffer;
 use crate::held::HeldPlans;
 use crate::verdicts::Verdict;
-use mav_ports::Stream;
+use mav_names::Stream;
 use plan_items::{
     Item, MissionResult, Plan, PlanKind, PlanMsg, check_item, check_whole_with, code,
 };

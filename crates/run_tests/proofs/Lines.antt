@@ -2,7 +2,7 @@
 use Rattle.std.proofs.Common.{◌≡◌, [], ◌∷◌, codes, Some, None, pos, neg_ℤ, refl}
 use Rattle.std.specs.Prelude.{map}
 use Rattle.hex.specs.Hex.{decode_pairs}
-use Rattle.mav_ports.specs.declared.names.Name.{Name}
+use Rattle.mav_names.specs.declared.names.Name.{Name}
 use Rattle.plan_items.specs.declared.items.Item.{Item}
 use Rattle.plan_items.specs.declared.kinds.PlanKind.TheVariants.{Mission, Fence, Rally}
 use Rattle.scenario_lines.specs.declared.faults.Reason.TheVariants.{Word, Draft}

@@ -2,7 +2,7 @@
 use Rattle.std.specs.Prelude.{◌≡◌, ℕ, ℤ, pos, ◌+◌, ◌==◌, ◌||◌, not, nat_lt, Bool, if◌then◌else◌, List, [], ◌∷◌, length, Option, Some, None, Ok, Err}
 use Rattle.std.specs.declared.result.Result.{Result}
 use Rattle.std.specs.Option.{ok_or}
-use Rattle.mav_ports.specs.declared.names.Name.{Name}
+use Rattle.mav_names.specs.declared.names.Name.{Name}
 use Rattle.plan_items.specs.declared.items.Item.{Item}
 use Rattle.plan_items.specs.declared.kinds.PlanKind.{PlanKind}
 use Rattle.scenario_lines.specs.declared.faults.Reason.{Reason}

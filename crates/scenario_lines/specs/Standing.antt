@@ -1,7 +1,7 @@
 -- What is known of the world that a line is read for.
 use Rattle.std.specs.Prelude.{ℕ, ◌==◌, ◌&&◌, Bool, true, false, List}
 use Rattle.std.specs.List.{list_any}
-use Rattle.mav_ports.specs.declared.names.Name.{Name}
+use Rattle.mav_names.specs.declared.names.Name.{Name}
 use Rattle.scenario_lines.specs.declared.roster.Role.{Role}
 use Rattle.scenario_lines.specs.declared.roster.Role.TheVariants.{Drone, Station}
 use Rattle.scenario_lines.specs.declared.roster.Named.{Named}

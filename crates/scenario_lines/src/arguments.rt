@@ -5,7 +5,7 @@ use crate::name_words::{kind, kind_or_all, name};
 use crate::numbers::{integer, number, wire_word};
 use crate::words::Words;
 use crate::{Reason, Role, Roster};
-use mav_ports::Name;
+use mav_names::Name;
 use plan_items::{Item, PlanKind};
 
 impl Words<'_> {

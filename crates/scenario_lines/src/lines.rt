@@ -1,6 +1,6 @@
 // What a scenario line says.
 use field_layout::Label;
-use mav_ports::Name;
+use mav_names::Name;
 use plan_items::{Item, PlanKind};
 
 /// A scenario line that was read.

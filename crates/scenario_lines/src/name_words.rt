@@ -5,7 +5,7 @@ ghost use Rattle.scenario_lines.specs.Words.{is_point, name_of_word};
 ghost use Rattle.scenario_lines.specs.Grammar.{kind_word, kind_or_all};
 
 use crate::numbers::number;
-use mav_ports::Name;
+use mav_names::Name;
 use plan_items::PlanKind;
 
 pub(crate) fn is_word(word: &[u8], text: &str) -> bool

@@ -5,7 +5,7 @@ ghost use Rattle.scenario_lines.specs.Readings.{read_drone, read_station};
 
 use crate::words::Words;
 use crate::{Line, Reason, Roster};
-use mav_ports::Name;
+use mav_names::Name;
 
 /// The component of every drone.
 const AUTOPILOT: u8 = 1;

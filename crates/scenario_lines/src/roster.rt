@@ -4,7 +4,7 @@ ghost use Rattle.std.specs.List.{list_any};
 ghost use Rattle.scenario_lines.specs.Standing.{same_name, same_role, is_called, is_in_role, has_name};
 
 use crate::NoMemory;
-use mav_ports::Name;
+use mav_names::Name;
 use std::alloc::Global;
 use std::marker::Model;
 

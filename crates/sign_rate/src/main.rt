@@ -8,7 +8,7 @@
 ghost use Rattle.std.specs.Prelude.{IsSome};
 
 use mav_frame::{Block, Frame};
-use mav_ports::Name;
+use mav_names::Name;
 use mav_sign::{Key, sign, verifies};
 use sha2::{Digest, Sha256};
 use std::process::ExitCode;

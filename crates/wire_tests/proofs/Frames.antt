@@ -4,7 +4,7 @@ use Rattle.std.specs.Prelude.{Some, None, Option}
 use Rattle.std.specs.List.{range_with_len}
 use Rattle.x25_check.specs.Check.{after_byte}
 use Rattle.x25_check.specs.Extras.{extra_of}
-use Rattle.mav_ports.specs.declared.names.Name.{Name}
+use Rattle.mav_names.specs.declared.names.Name.{Name}
 use Rattle.mav_frame.specs.Packet.{Packet, SignatureBlock}
 use Rattle.mav_frame.specs.Encoding.{checksum, encoding}
 use Rattle.mav_frame.specs.Looks.{look_of}

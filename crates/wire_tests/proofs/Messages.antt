@@ -2,7 +2,7 @@
 -- What is read of such a payload is the message again, by the law `packed_values_come_back`.
 use Rattle.std.proofs.Common.{◌≡◌, ℕ, pos, List, [], ◌∷◌, ◌++◌, length, replicate, codes, refl}
 use Rattle.std.specs.Prelude.{◌-◌, neg_ℤ, None}
-use Rattle.mav_ports.specs.declared.names.Name.{Name}
+use Rattle.mav_names.specs.declared.names.Name.{Name}
 use Rattle.field_layout.specs.Payload.{serialised, truncated}
 use Rattle.field_layout.proofs.Decoding.{decoded_all}
 use Rattle.mav_profile.specs.Profile.{mission_ack_definition}

@@ -3,7 +3,7 @@ ghost use Rattle.std.specs.Prelude.{IfOk};
 ghost use Rattle.mav_sign.specs.Endpoints.{HasProfile};
 
 use dialect::Dialect;
-use mav_ports::Stream;
+use mav_names::Stream;
 use mav_sign::{Admit, Endpoint, Heard, Key, NoMemory};
 use std::alloc::Global;
 use std::test::Fail;

@@ -10,7 +10,7 @@ use super::Drone;
 use crate::addresses::{acknowledge, node, request};
 use crate::changes::Change;
 use crate::verdicts::Verdict;
-use mav_ports::Stream;
+use mav_names::Stream;
 use plan_items::{Item, MissionResult, PlanKind, PlanMsg};
 
 impl Drone {

@@ -5,7 +5,7 @@ ghost use Rattle.plan_upload.specs.Station.{Cancelling, with_operation, phase_st
 
 use super::Station;
 use crate::operations::{Stage, Task};
-use mav_ports::Stream;
+use mav_names::Stream;
 use plan_items::{MissionResult, PlanMsg};
 
 impl Station {

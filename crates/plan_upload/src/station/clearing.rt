@@ -7,7 +7,7 @@ use super::Station;
 use crate::Outcome;
 use crate::operations::{Stage, Task};
 use crate::uploads::LAST_IDLE_TICK;
-use mav_ports::Stream;
+use mav_names::Stream;
 use plan_items::{MissionResult, PlanKind, PlanMsg};
 
 impl Station {

@@ -8,7 +8,7 @@ use crate::Outcome;
 use crate::addresses::{acknowledge, request};
 use crate::operations::{Getting as Download, Stage, Task};
 use crate::uploads::LAST_IDLE_TICK;
-use mav_ports::Stream;
+use mav_names::Stream;
 use plan_items::{Item, MissionResult, PlanMsg};
 
 impl Station {

@@ -9,7 +9,7 @@ use crate::Outcome;
 use crate::addresses::{acknowledge, request};
 use crate::operations::{GetTask, Getting, Stage, Task};
 use crate::uploads::LAST_IDLE_TICK;
-use mav_ports::Stream;
+use mav_names::Stream;
 use plan_items::{MissionResult, PlanMsg};
 
 impl Station {

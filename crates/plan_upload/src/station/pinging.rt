@@ -7,7 +7,7 @@ ghost use Rattle.plan_upload.specs.Station.{Pinging, with_operation, phase_step,
 use super::Station;
 use crate::addresses::{acknowledge, broadcast};
 use crate::operations::{Stage, Task};
-use mav_ports::Stream;
+use mav_names::Stream;
 use plan_items::{MissionResult, PlanMsg};
 
 fn is_expected(number: Option<u32>, seq: u32) -> bool

@@ -9,7 +9,7 @@ use crate::Outcome;
 use crate::addresses::node;
 use crate::operations::{Stage, Task, UploadTask};
 use crate::uploads::LAST_IDLE_TICK;
-use mav_ports::Stream;
+use mav_names::Stream;
 use plan_items::{MissionResult, PlanMsg};
 
 // A drone that refuses a count answers one of these codes before it asks for an item.

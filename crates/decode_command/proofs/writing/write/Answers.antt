@@ -38,8 +38,9 @@ returns-in_err-write_all-clause-moved g c =
 
 pub returns-in_err-write_all-clause-front : goal.returns-in_err-write_all-clause-front
 returns-in_err-write_all-clause-front g c = λ before whole s.
-    let (more, f) = c.in_err-write_all.ensures.front in
-    (more ++ [],
-    sent_in before (g.K.Sink.sent c.args.out.now) (g.K.Sink.sent c.write_all.new.sink) whole c.args.text.now.items [] more
-    (subst (Sent before (g.K.Sink.sent c.args.out.now) whole) (sym (append-nil c.args.text.now.items)) s)
-    (subst (λ text. Sent (g.K.Sink.sent c.args.out.now) (g.K.Sink.sent c.write_all.new.sink) text more) c.deref.ensures.value f))
+    let (more, f) = c.in_err-write_all.ensures.front in (
+      more ++ [],
+      sent_in before (g.K.Sink.sent c.args.out.now) (g.K.Sink.sent c.write_all.new.sink) whole c.args.text.now.items [] more
+          (subst (Sent before (g.K.Sink.sent c.args.out.now) whole) (sym (append-nil c.args.text.now.items)) s)
+          (subst (λ text. Sent (g.K.Sink.sent c.args.out.now) (g.K.Sink.sent c.write_all.new.sink) text more) c.deref.ensures.value f),
+    )

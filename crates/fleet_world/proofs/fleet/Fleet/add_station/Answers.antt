@@ -1,5 +1,5 @@
 use Rattle.std.proofs.Common.{subst}
-use Rattle.mav_ports.specs.declared.names.Stream.{Stream}
+use Rattle.mav_names.specs.declared.names.Stream.{Stream}
 use Rattle.mav_nodes.specs.Nodes.{new_station, IsStation}
 use Rattle.fleet_world.specs.Scene.{Station, stream_of}
 use Rattle.fleet_world.specs.Seen.{Fleet}
