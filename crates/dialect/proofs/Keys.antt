@@ -4,13 +4,19 @@ use Rattle.std.proofs.lemmas.Bool.Decides.{nat_tests}
 use Rattle.std.proofs.lemmas.List.{map-append, append-nil, length-map, take_at, take_more}
 use Rattle.std.proofs.lemmas.List.Elements.{filter_map-append}
 use Rattle.std.proofs.lemmas.List.Folds.{find_at}
+use Rattle.std.proofs.lemmas.List.Sums.{fold_more}
 use Rattle.std.proofs.lemmas.Option.{none-some, slice_get_past}
 use Rattle.std.specs.Global.{Vec}
 use Rattle.std.specs.Result.{is_err, OnErr}
 use Rattle.std.specs.declared.result.Result.{Result}
 use Rattle.std.specs.List.{list_any, filter_map, position_or_len}
 use Rattle.std.specs.Str.{bytes_eq}
+use Rattle.std.specs.BTreeMap.{insert_entry}
+use Rattle.std.specs.Ordering.{nat_cmp}
 use Rattle.indexmap.specs.IndexSet.{insert_key}
+use Rattle.field_layout.specs.Definition.{Definition}
+use Rattle.field_layout.specs.CrcExtra.{crc_extra_of}
+use Rattle.mav_profile.specs.Messages.{with_extra, extras_of}
 use Rattle.dialect.specs.Spelled.{bytes_of}
 
 module _ {X Y : Type 0} (f : X → Y) (p : Y → Bool) where
@@ -103,3 +109,16 @@ module _ {Fault : Type 0} {X : Type 0} (key : X → List ℕ) (names added : Lis
       ∙ ap (λ names. names ++ name ∷ []) were
       ∙ ap (λ name. map key old ++ name ∷ []) is
       ∙ sym (ap (map key) (when_ok r well kept) ∙ map-append key old (x ∷ []))
+
+-- the CRC_EXTRA of one more message
+pub one-extra : (defs : List Definition) (i : ℕ) (def : Definition) (before more : List (ℕ × ℕ)) (id crc : ℕ) → i < length defs → def ≡ get_or defs i def
+    → before ≡ extras_of (take i defs) → more ≡ insert_entry nat_cmp before id crc → id ≡ def.id → crc ≡ crc_extra_of def
+    → more ≡ extras_of (take (i + 1) defs)
+one-extra defs i def before more id crc within here were inserted is_id is_crc =
+    let pairs = extras_of (take i defs) in
+    inserted
+    ∙ ap (λ pairs. insert_entry nat_cmp pairs id crc) were
+    ∙ ap (λ id. insert_entry nat_cmp pairs id crc) is_id
+    ∙ ap (λ crc. insert_entry nat_cmp pairs def.id crc) is_crc
+    ∙ ap (with_extra pairs) here
+    ∙ sym (fold_more with_extra [] defs i def within)
