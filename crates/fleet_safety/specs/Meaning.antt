@@ -17,7 +17,7 @@ use Rattle.fleet_safety.specs.Safe.{Upload, upload, uploads_by, report_of, order
 abbrev pub Means : Told → List Step → List Step → List Frame → Stream → Type 0
 -- the station's latest upload was installed, and in the whole history once
 Means Told_installed whole earlier sent station = tally installs_upload whole station (uploads earlier station) ≡ 1
--- it is never installed, before or after, and its code is 15 or one that the drone sent since it began
+-- it is never installed, before or after, and its code is 15 or one that the drone refused it with
 Means (Told_not_installed code) whole earlier sent station =
     (tally installs_upload whole station (uploads earlier station) ≡ 0) × NotInstalledBy earlier sent station code
 -- the drone has started again since it began

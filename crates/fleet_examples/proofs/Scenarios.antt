@@ -8,15 +8,7 @@ use Rattle.x25_check.specs.Check as check
 use Rattle.plan_items.specs.Validation.{item_fault, whole_fault, plan_fault}
 use Rattle.plan_items.specs.Words.{word_number, small_word_of}
 use Rattle.fleet_world.specs.Scenario.{played, whole_report}
-
--- the key of the bytes 0 to 31
-abbrev pub the_key : List ℕ
-the_key = 0 ∷ 1 ∷ 2 ∷ 3 ∷ 4 ∷ 5 ∷ 6 ∷ 7 ∷ 8 ∷ 9 ∷ 10 ∷ 11 ∷ 12 ∷ 13 ∷ 14 ∷ 15 ∷ 16 ∷ 17 ∷ 18 ∷ 19 ∷ 20 ∷ 21 ∷ 22 ∷ 23 ∷ 24 ∷ 25 ∷ 26 ∷ 27 ∷ 28 ∷ 29 ∷ 30 ∷ 31 ∷ []
-
--- lines, each with its LF
-abbrev pub text : List (List ℕ) → List ℕ
-text [] = []
-text (line ∷ lines) = line ++ 10 ∷ text lines
+use Rattle.fleet_examples.specs.Scenarios.{the_key, text}
 
 -- the report of a drone and a station at these lines
 abbrev report : List (List ℕ) → List ℕ

@@ -15,7 +15,7 @@ use Rattle.mav_sign.specs.Signing.{Verifies}
 use Rattle.fleet_world.specs.Scene.{Scene}
 use Rattle.fleet_world.specs.Scenario.{at_start, lines_played}
 use Rattle.fleet_world.specs.Authentic.{Authentic, AuthenticBytes, WasSent}
-use Rattle.plan_tests.proofs.Scenarios.{the_key, text}
+use Rattle.fleet_examples.specs.Scenarios.{the_key, text}
 
 -- the PING of 255.190 at timestamp 1, signed by Python's hashlib under the key of the bytes 0 to 31
 abbrev ping_bytes : List ℕ

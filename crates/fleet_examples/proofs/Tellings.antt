@@ -13,7 +13,7 @@ use Rattle.plan_safety.specs.World.{first_world}
 use Rattle.plan_safety.specs.Examples.{small_fleet, station_a, waypoint, one_waypoint, upload_of_one}
 use Rattle.fleet_world.specs.Scenario.{played}
 use Rattle.fleet_safety.specs.Telling.{ProtocolEvent, Sent, Installed, Ended, seen, told}
-use Rattle.plan_tests.proofs.Scenarios.{the_key, text}
+use Rattle.fleet_examples.specs.Scenarios.{the_key, text}
 
 abbrev drone : Name
 drone = record { sys = 7; comp = 1 }

@@ -1,0 +1,4 @@
+pub mod Scenarios
+pub mod Flows
+pub mod Noise
+pub mod Tellings
