@@ -1,4 +1,4 @@
-use Rattle.fleet_examples.proofs.Flows as flows
+use Rattle.fleet_examples.proofs.TwoDrones as flows
 use Rattle.fleet_examples.proofs.flows.flows_over_two_drones.Goals as goal
 
 pub returns : goal.returns
