@@ -8,9 +8,9 @@ use Rattle.std.proofs.Math.Seq.{take-append_seam}
 use Rattle.x25_check.specs.Check.{check}
 use Rattle.x25_check.specs.Extras.{extra_of}
 use Rattle.mav_frame.specs.Numbers.{little_endian, number_at}
-use Rattle.mav_frame.specs.Packet.{SignatureBlock, Packet, FitsFrame, FitsBlock}
-use Rattle.mav_frame.specs.Encoding.{incompat_flags, block_bytes, header, checked_bytes, encoding, IsSealed}
-use Rattle.mav_frame.specs.Looks.{id_at, check_place, frame_size_at, block_at, packet_at, look_id, look_of}
+use Rattle.mav_frame.specs.Packet.{SignatureBlock, Packet, FitsFrame, FitsBlock, FitsOld}
+use Rattle.mav_frame.specs.Encoding.{stx_of, incompat_flags, block_bytes, header_of, checked_bytes, encoding, IsSealed}
+use Rattle.mav_frame.specs.Looks.{header_size, id_at, check_offset, frame_size_at, block_at, packet_at, look_id, look_known, look_header, look_as, look_of}
 use Rattle.mav_frame.specs.declared.looks.Look.TheVariants.{Frame as Found}
 
 pub skip : {A : Type 0} (t : Bool) (x y : A) → t ≡ false → (if t then x else y) ≡ y
@@ -39,7 +39,7 @@ length_block : (o : Option SignatureBlock) → IfSome o FitsBlock → length (bl
 length_block None f = refl
 length_block (Some s) f = let l = f.length in omega arith
 
--- a block behind some bytes is read as that block
+-- a block after some bytes is read as that block
 block_again : (H : List ℕ) (n : ℕ) (s : SignatureBlock) (rest : List ℕ) → FitsBlock s → n ≡ length H → block_at n (H ++ (block_bytes (Some s) ++ rest)) ≡ Some s
 block_again H n s rest f is =
     let T : List ℕ = block_bytes (Some s) ++ rest in
@@ -62,83 +62,153 @@ block_read : (H b : List ℕ) (n : ℕ) (o : Option SignatureBlock) (rest : List
 block_read H b n None rest f is e = refl
 block_read H b n (Some s) rest f is e = ap (block_at n) e ∙ block_again H n s rest f is
 
--- what stands behind a payload
-module _ (p : Packet) (rest : List ℕ) (f : FitsFrame p) where
-  abbrev pub tail : List ℕ
+-- a frame's bytes and what follows, as a header, a payload and the rest
+module _ (v : Bool) (p : Packet) (rest : List ℕ) (f : FitsFrame p) where
+  abbrev start : List ℕ
+  start = stx_of v ∷ header_of v p
+
+  abbrev tail : List ℕ
   tail = little_endian 2 p.check ++ (block_bytes p.block ++ rest)
 
-  abbrev pub b : List ℕ
-  b = 0xFD ∷ header p ++ p.payload ++ tail
+  abbrev b : List ℕ
+  b = start ++ (p.payload ++ tail)
 
-  abbrev front : List ℕ
-  front = 0xFD ∷ header p
+  start_size : length start ≡ header_size v
+  start_size = sizes v
+    where
+      sizes : (w : Bool) → length (stx_of w ∷ header_of w p) ≡ header_size w
+      sizes true = refl
+      sizes false = refl
 
-  behind : (k : ℕ) → slice_index b (10 + length p.payload + k) ≡ slice_index tail k
-  behind k = let e : 10 + length p.payload + k ≡ length front + (length p.payload + k) = omega arith in
-      ap (λ (n : ℕ). get_or b n 0) e ∙ (get_or-append-add front (p.payload ++ tail) (length p.payload + k) 0 ∙ get_or-append-add p.payload tail k 0)
+  offset_is : check_offset v b ≡ length start + length p.payload
+  offset_is = let s = start_size in let e = second v in omega arith
+    where
+      second : (w : Bool) → slice_index ((stx_of w ∷ header_of w p) ++ (p.payload ++ tail)) 1 ≡ length p.payload
+      second true = refl
+      second false = refl
 
-  id_is : id_at b ≡ p.id
-  id_is = let small = f.id in omega arith
+  after_payload : (k : ℕ) → slice_index b (length start + length p.payload + k) ≡ slice_index tail k
+  after_payload k = let e : length start + length p.payload + k ≡ length start + (length p.payload + k) = omega arith in
+      ap (λ (n : ℕ). get_or b n 0) e ∙ (get_or-append-add start (p.payload ++ tail) (length p.payload + k) 0 ∙ get_or-append-add p.payload tail k 0)
 
-  check_is : number_at 2 (check_place b) b ≡ p.check
+  check_is : number_at 2 (check_offset v b) b ≡ p.check
   check_is =
-      let len : ℕ = length p.payload in
-      let i0 : slice_index b (10 + len) ≡ p.check % 256 = ap (λ (n : ℕ). get_or b n 0) (let e : 10 + len ≡ 10 + len + 0 = omega arith in e) ∙ behind 0 in
-      let i1 : slice_index b (10 + len + 1) ≡ p.check / 256 % 256 = behind 1 in
+      let n : ℕ = length start + length p.payload in
+      let i0 : slice_index b n ≡ p.check % 256 = ap (λ (m : ℕ). get_or b m 0) (let e : n ≡ n + 0 = omega arith in e) ∙ after_payload 0 in
+      let i1 : slice_index b (n + 1) ≡ p.check / 256 % 256 = after_payload 1 in
       let small = f.check in
-      let t : slice_index b (10 + len) + 256 * (slice_index b (10 + len + 1) + 256 * 0) ≡ p.check = omega arith in t
+      let t : slice_index b n + 256 * (slice_index b (n + 1) + 256 * 0) ≡ p.check = omega arith in
+      ap (λ (m : ℕ). number_at 2 m b) offset_is ∙ t
 
-  covered_is : slice_range b 1 (check_place b) ≡ checked_bytes p
-  covered_is =
-      let e : drop 1 b ≡ checked_bytes p ++ tail = refl in
-      let n : 10 + length p.payload - 1 ≡ length (checked_bytes p) = omega arith in
-      ap (λ (k : ℕ). take k (checked_bytes p ++ tail)) n ∙ take-append_seam (checked_bytes p) tail
-
-  payload_is : slice_range b 10 (check_place b) ≡ p.payload
+  payload_is : slice_range b (header_size v) (check_offset v b) ≡ p.payload
   payload_is =
-      let n : 10 + length p.payload - 10 ≡ length p.payload = omega arith in
-      ap (λ (k : ℕ). take k (p.payload ++ tail)) n ∙ take-append_seam p.payload tail
+      let s = start_size in let o = offset_is in
+      let n : check_offset v b - header_size v ≡ length p.payload = omega arith in
+      let d : drop (header_size v) b ≡ p.payload ++ tail = ap (λ (m : ℕ). drop m b) (let e : header_size v ≡ length start + 0 = omega arith in e) ∙ drop-append-add start (p.payload ++ tail) 0 in
+      (λ i. take (n i) (d i)) ∙ take-append_seam p.payload tail
+
+  covered_is : slice_range b 1 (check_offset v b) ≡ header_of v p ++ p.payload
+  covered_is =
+      let o = offset_is in let l = length-append (header_of v p) p.payload in
+      let e : drop 1 b ≡ (header_of v p ++ p.payload) ++ tail = sym (append_assoc (header_of v p) p.payload tail) in
+      let n : check_offset v b - 1 ≡ length (header_of v p ++ p.payload) = omega arith in
+      (λ i. take (n i) (e i)) ∙ take-append_seam (header_of v p ++ p.payload) tail
 
   abbrev before : List ℕ
-  before = 0xFD ∷ header p ++ p.payload ++ little_endian 2 p.check
-
-  pub whole : encoding p ++ rest ≡ b
-  whole = simp append_assoc
+  before = start ++ (p.payload ++ little_endian 2 p.check)
 
   before_is : b ≡ before ++ (block_bytes p.block ++ rest)
-  before_is = simp append_assoc
+  before_is = sym (append_assoc start (p.payload ++ little_endian 2 p.check) (block_bytes p.block ++ rest) ∙ ap (λ (l : List ℕ). start ++ l) (append_assoc p.payload (little_endian 2 p.check) (block_bytes p.block ++ rest)))
 
-  size_is : frame_size_at b ≡ length (encoding p)
-  size_is =
-      let l = length-append (p.payload ++ little_endian 2 p.check) (block_bytes p.block) in
+  abbrev encoded : List ℕ
+  encoded = stx_of v ∷ (header_of v p ++ p.payload) ++ little_endian 2 p.check ++ block_bytes p.block
+
+  encoded_is : encoded ++ rest ≡ b
+  encoded_is = simp append_assoc
+
+  encoded_size : length encoded ≡ header_size v + length p.payload + 2 + block_size p.block
+  encoded_size =
+      let s = start_size in
+      let l = length-append (header_of v p ++ p.payload ++ little_endian 2 p.check) (block_bytes p.block) in
+      let m = length-append (header_of v p ++ p.payload) (little_endian 2 p.check) in
+      let n = length-append (header_of v p) p.payload in
+      let k = length_block p.block f.block in omega arith
+
+  long : length b ≡ length encoded + length rest
+  long = ap length (sym encoded_is) ∙ length-append encoded rest
+
+-- after the header, what is encoded is found, if its id, the length and the frame are read back
+module _ (v : Bool) (p : Packet) (rest : List ℕ) (f : FitsFrame p) (extras : List (ℕ × ℕ)) (extra : ℕ) where
+  pub header_found :
+      extra_of p.id extras ≡ Some extra
+      → p.check ≡ check ((header_of v p ++ p.payload) ++ extra ∷ [])
+      → id_at v (b v p rest f) ≡ p.id
+      → frame_size_at v (b v p rest f) ≡ length (encoded v p rest f)
+      → packet_at v (b v p rest f) ≡ p
+      → look_header extras v (b v p rest f) ≡ Found p (length (encoded v p rest f))
+  header_found known right id size packet =
+      let c : List ℕ = b v p rest f in
+      let l = long v p rest f in let e = encoded_size v p rest f in
+      let same : number_at 2 (check_offset v c) c ≡ check (slice_range c 1 (check_offset v c) ++ extra ∷ []) = check_is v p rest f ∙ (right ∙ ap (λ (m : List ℕ). check (m ++ extra ∷ [])) (sym (covered_is v p rest f))) in
+      skip _ _ _ (le-ltb (length c) (header_size v) (omega arith))
+      ∙ (ap (λ (o : Option ℕ). look_id v o c) (ap (λ (i : ℕ). extra_of i extras) id ∙ known)
+      ∙ (skip _ _ _ (le-ltb (length c) (frame_size_at v c) (omega arith))
+      ∙ (pick _ _ _ (eq_is _ _ same)
+      ∙ (λ i. Found (packet i) (size i)))))
+
+-- a frame of MAVLink 2
+module _ (p : Packet) (rest : List ℕ) (f : FitsFrame p) where
+  new_size : frame_size_at false (b false p rest f) ≡ length (encoded false p rest f)
+  new_size = let e = encoded_size false p rest f in
+      let t : 10 + length p.payload + 2 + block_size p.block ≡ length (encoded false p rest f) = omega arith in t
+
+  new_block : (if incompat_flags p.block == 0 then None else block_at (10 + length p.payload + 2) (b false p rest f)) ≡ p.block
+  new_block =
       let m = length-append p.payload (little_endian 2 p.check) in
-      let k = length_block p.block f.block in
-      let t : 10 + length p.payload + 2 + block_size p.block ≡ length (encoding p) = omega arith in t
+      let n : 10 + length p.payload + 2 ≡ length (before false p rest f) = omega arith in
+      block_read (before false p rest f) (b false p rest f) (10 + length p.payload + 2) p.block rest f.block n (before_is false p rest f)
 
-  block_is : (if slice_index b 2 == 0 then None else block_at (check_place b + 2) b) ≡ p.block
-  block_is =
-      let m = length-append p.payload (little_endian 2 p.check) in
-      let n : 10 + length p.payload + 2 ≡ length before = omega arith in
-      block_read before b (10 + length p.payload + 2) p.block rest f.block n before_is
+  new_packet : packet_at false (b false p rest f) ≡ record p { old = false }
+  new_packet =
+      let small = f.id in
+      let id : id_at false (b false p rest f) ≡ p.id = omega arith in
+      λ i. record { old = false; compat = p.compat; seq = p.seq; from = p.from; id = id i; payload = payload_is false p rest f i; check = check_is false p rest f i; block = new_block i }
 
-  packet_is : packet_at b ≡ p
-  packet_is i = record { compat = p.compat; seq = p.seq; from = p.from; id = id_is i; payload = payload_is i; check = check_is i; block = block_is i }
+-- a frame of MAVLink 1 has no flags and no signature block
+module _ (p : Packet) (rest : List ℕ) (f : FitsFrame p) (o : FitsOld p) where
+  old_size : frame_size_at true (b true p rest f) ≡ length (encoded true p rest f)
+  old_size =
+      let e = encoded_size true p rest f in
+      let n : block_size p.block ≡ 0 = ap block_size o.block in
+      let t : 6 + length p.payload + 2 + 0 ≡ length (encoded true p rest f) = omega arith in t
 
-  pub again : (extras : List (ℕ × ℕ)) → IsSealed extras p → look_of extras b ≡ Found p (length (encoding p))
-  again extras s =
-      let whole_len = length-append (p.payload ++ little_endian 2 p.check) (block_bytes p.block) in
-      let len_b : length b ≡ length (encoding p) + length rest = ap length (sym whole) ∙ length-append (encoding p) rest in
-      let size = size_is in
-      let right : number_at 2 (check_place b) b ≡ check (slice_range b 1 (check_place b) ++ s.extra ∷ []) = check_is ∙ (s.right ∙ ap (λ (l : List ℕ). check (l ++ s.extra ∷ [])) (sym covered_is)) in
-      skip _ _ _ (and_false (nat_lt 0 (length b)))
-      ∙ (skip _ _ _ (le-ltb (length b) 3 (omega arith))
-      ∙ (skip _ _ _ (le-ltb 1 (incompat_flags p.block) (flags_le p.block))
-      ∙ (skip _ _ _ (le-ltb (length b) 10 (omega arith))
-      ∙ (ap (λ (o : Option ℕ). look_id o b) (ap (λ (i : ℕ). extra_of i extras) id_is ∙ s.known)
-      ∙ (skip _ _ _ (le-ltb (length b) (frame_size_at b) (omega arith))
-      ∙ (pick _ _ _ (eq_is _ _ right)
-      ∙ (λ i. Found (packet_is i) (size_is i))))))))
+  old_packet : packet_at true (b true p rest f) ≡ record p { old = true }
+  old_packet =
+      let small = o.id in
+      let id : id_at true (b true p rest f) ≡ p.id = omega arith in
+      λ i. record { old = true; compat = sym o.compat i; seq = p.seq; from = p.from; id = id i; payload = payload_is true p rest f i; check = check_is true p rest f i; block = sym o.block i }
+
+-- what encodes a frame of either version is found, if its version is read
+found_as : (v : Bool) (extras : List (ℕ × ℕ)) (old : Bool) (p : Packet) (rest : List ℕ) → FitsFrame (record p { old = v }) → IsSealed extras old (record p { old = v }) → look_of extras old (encoding (record p { old = v }) ++ rest) ≡ Found (record p { old = v }) (length (encoding (record p { old = v })))
+found_as true extras old p rest f s =
+    let q : Packet = record p { old = true } in
+    let o : FitsOld q = f.old refl in
+    let small = o.id in
+    ap (λ (t : Bool). look_of extras t (encoding q ++ rest)) (s.version refl)
+    ∙ (ap (look_header extras true) (encoded_is true q rest f)
+    ∙ header_found true q rest f extras s.extra s.known s.right (omega arith) (old_size q rest f o) (old_packet q rest f o))
+found_as false extras old p rest f s =
+    let q : Packet = record p { old = false } in
+    let c : List ℕ = b false q rest f in
+    let small = f.id in
+    let l = long false q rest f in let e = encoded_size false q rest f in
+    ap (look_of extras old) (encoded_is false q rest f)
+    ∙ (ap (λ (t : Bool). look_as extras t c) (and_false old)
+    ∙ (skip _ _ _ (and_false (nat_lt 0 (length c)))
+    ∙ (skip _ _ _ (le-ltb (length c) 3 (omega arith))
+    ∙ (skip _ _ _ (le-ltb 1 (incompat_flags q.block) (flags_le q.block))
+    ∙ header_found false q rest f extras s.extra s.known s.right (omega arith) (new_size q rest f) (new_packet q rest f)))))
 
 -- what encodes a frame is found
-pub found : (extras : List (ℕ × ℕ)) (p : Packet) (b rest : List ℕ) → FitsFrame p → IsSealed extras p → b ≡ encoding p ++ rest → look_of extras b ≡ Found p (length (encoding p))
-found extras p b rest f s e = ap (look_of extras) (e ∙ whole p rest f) ∙ again p rest f extras s
+pub found : (extras : List (ℕ × ℕ)) (old : Bool) (p : Packet) (b rest : List ℕ) → FitsFrame p → IsSealed extras old p → b ≡ encoding p ++ rest → look_of extras old b ≡ Found p (length (encoding p))
+found extras old p b rest f s e = ap (look_of extras old) e ∙ found_as p.old extras old p rest f s

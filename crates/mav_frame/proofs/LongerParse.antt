@@ -1,5 +1,5 @@
 -- More bytes change no event, and a parse goes on event by event.
-use Rattle.std.proofs.Common.{◌≡◌, ℕ, List, [], ◌∷◌, ◌++◌, refl, sym, ap, ◌∙◌, subst, ⊎_elim, append_assoc}
+use Rattle.std.proofs.Common.{◌≡◌, Bool, ℕ, List, [], ◌∷◌, ◌++◌, refl, sym, ap, ◌∙◌, subst, ⊎_elim, append_assoc}
 use Rattle.std.specs.Prelude.{flat_map}
 use Rattle.mav_frame.specs.Packet.{Packet}
 use Rattle.mav_frame.specs.Encoding.{encoding}
@@ -25,57 +25,57 @@ not_more w k e = cc
 not_found : (w : Why) (p : Packet) (n : ℕ) → NotHere w ≡ Found p n → ⊥
 not_found w p n e = cc
 
-module _ (extras : List (ℕ × ℕ)) (b more : List ℕ) where
-  never_incomplete : (r : Look) → look_of extras b ≡ r → (IsIncomplete extras b → ⊥) → IsIncomplete extras (b ++ more) → ⊥
-  never_incomplete (Found p n) e never h = let l = lacks extras (b ++ more) h in found_more p n l.0 (sym (stays extras b more (Found p n) (found_more p n) e) ∙ l.1)
-  never_incomplete (NotHere w) e never h = let l = lacks extras (b ++ more) h in not_more w l.0 (sym (stays extras b more (NotHere w) (not_more w) e) ∙ l.1)
-  never_incomplete (More k) e never h = never (incomplete extras b k e)
+module _ (extras : List (ℕ × ℕ)) (old : Bool) (b more : List ℕ) where
+  never_incomplete : (r : Look) → look_of extras old b ≡ r → (IsIncomplete extras old b → ⊥) → IsIncomplete extras old (b ++ more) → ⊥
+  never_incomplete (Found p n) e never h = let l = lacks extras old (b ++ more) h in found_more p n l.0 (sym (stays extras old b more (Found p n) (found_more p n) e) ∙ l.1)
+  never_incomplete (NotHere w) e never h = let l = lacks extras old (b ++ more) h in not_more w l.0 (sym (stays extras old b more (NotHere w) (not_more w) e) ∙ l.1)
+  never_incomplete (More k) e never h = never (incomplete extras old b k e)
 
 -- no frame is encoded where the table has a reason, nor where it lacks bytes
-pub no_frame : (extras : List (ℕ × ℕ)) (b : List ℕ) (r : Look) → look_of extras b ≡ r → ((p : Packet) (n : ℕ) → r ≡ Found p n → ⊥) → NoFrame extras b
-no_frame extras b r e never p front rest f s is = never p _ (sym e ∙ found extras p b rest f s.sealed (is ∙ ap (λ (l : List ℕ). l ++ rest) s.bytes))
+pub no_frame : (extras : List (ℕ × ℕ)) (old : Bool) (b : List ℕ) (r : Look) → look_of extras old b ≡ r → ((p : Packet) (n : ℕ) → r ≡ Found p n → ⊥) → NoFrame extras old b
+no_frame extras old b r e never p front rest f s is = never p _ (sym e ∙ found extras old p b rest f s.sealed (is ∙ ap (λ (l : List ℕ). l ++ rest) s.bytes))
 
-module _ (extras : List (ℕ × ℕ)) (b more : List ℕ) where
-  event_longer : (m : Event) (rest : List ℕ) → (IsIncomplete extras b → ⊥) → EventAt extras m b rest → EventAt extras m (b ++ more) (rest ++ more)
+module _ (extras : List (ℕ × ℕ)) (old : Bool) (b more : List ℕ) where
+  event_longer : (m : Event) (rest : List ℕ) → (IsIncomplete extras old b → ⊥) → EventAt extras old m b rest → EventAt extras old m (b ++ more) (rest ++ more)
   event_longer (Frame p) rest never h = (h.0, h.1, ap (λ (l : List ℕ). l ++ more) h.2 ∙ append_assoc (encoding p) rest more)
   event_longer (Skipped c w) rest never h = ⊎_elim
-      (λ (x : look_of extras b ≡ NotHere w).
-      let same = stays extras b more (NotHere w) (not_more w) x in
-      (ap (λ (l : List ℕ). l ++ more) h.0, no_frame extras (b ++ more) (NotHere w) same (not_found w), reason extras (b ++ more) w same))
-      (λ (x : IsIncomplete extras b × (w ≡ Short)). absurd (never x.0))
-      (listed extras b w h.2)
+      (λ (x : look_of extras old b ≡ NotHere w).
+      let same = stays extras old b more (NotHere w) (not_more w) x in
+      (ap (λ (l : List ℕ). l ++ more) h.0, no_frame extras old (b ++ more) (NotHere w) same (not_found w), reason extras old (b ++ more) w same))
+      (λ (x : IsIncomplete extras old b × (w ≡ Short)). absurd (never x.0))
+      (listed extras old b w h.2)
 
 pub more_bytes_keep : MoreBytesKeep
-more_bytes_keep extras [] left b more h = ap (λ (l : List ℕ). l ++ more) h
-more_bytes_keep extras (m ∷ ms) left b more h = (never_incomplete extras b more (look_of extras b) refl h.0, (h.1.0 ++ more, event_longer extras b more m h.1.0 h.0 h.1.1, more_bytes_keep extras ms left h.1.0 more h.1.2))
+more_bytes_keep extras old [] left b more h = ap (λ (l : List ℕ). l ++ more) h
+more_bytes_keep extras old (m ∷ ms) left b more h = (never_incomplete extras old b more (look_of extras old b) refl h.0, (h.1.0 ++ more, event_longer extras old b more m h.1.0 h.0 h.1.1, more_bytes_keep extras old ms left h.1.0 more h.1.2))
 
 pub incremental_goes_on : IncrementalGoesOn
-incremental_goes_on extras [] m left rest b h never x = ((λ l. never (subst (λ (z : List ℕ). IsIncomplete extras z) h l)), (rest, subst (λ (z : List ℕ). EventAt extras m z rest) (sym h) x, refl))
-incremental_goes_on extras (n ∷ ns) m left rest b h never x = (h.0, (h.1.0, h.1.1, incremental_goes_on extras ns m left rest h.1.0 h.1.2 never x))
+incremental_goes_on extras old [] m left rest b h never x = ((λ l. never (subst (λ (z : List ℕ). IsIncomplete extras old z) h l)), (rest, subst (λ (z : List ℕ). EventAt extras old m z rest) (sym h) x, refl))
+incremental_goes_on extras old (n ∷ ns) m left rest b h never x = (h.0, (h.1.0, h.1.1, incremental_goes_on extras old ns m left rest h.1.0 h.1.2 never x))
 
 pub incremental_ends : IncrementalEnds
-incremental_ends extras [] left b h l = (sym h, subst (λ (z : List ℕ). IsIncomplete extras z) (sym h) l)
-incremental_ends extras (m ∷ ms) left b h l = (h.0, (h.1.0, h.1.1, incremental_ends extras ms left h.1.0 h.1.2 l))
+incremental_ends extras old [] left b h l = (sym h, subst (λ (z : List ℕ). IsIncomplete extras old z) (sym h) l)
+incremental_ends extras old (m ∷ ms) left b h l = (h.0, (h.1.0, h.1.1, incremental_ends extras old ms left h.1.0 h.1.2 l))
 
 pub final_goes_on : FinalGoesOn
-final_goes_on extras [] m left rest b h x = (rest, subst (λ (z : List ℕ). EventAt extras m z rest) (sym h) x, refl)
-final_goes_on extras (n ∷ ns) m left rest b h x = (h.0, h.1, final_goes_on extras ns m left rest h.0 h.2 x)
+final_goes_on extras old [] m left rest b h x = (rest, subst (λ (z : List ℕ). EventAt extras old m z rest) (sym h) x, refl)
+final_goes_on extras old (n ∷ ns) m left rest b h x = (h.0, h.1, final_goes_on extras old ns m left rest h.0 h.2 x)
 
 pub final_ends : FinalEnds
-final_ends extras [] b h = h
-final_ends extras (m ∷ ms) b h = (h.0, h.1, final_ends extras ms h.0 h.2)
+final_ends extras old [] b h = h
+final_ends extras old (m ∷ ms) b h = (h.0, h.1, final_ends extras old ms h.0 h.2)
 
 pub incremental_begins_final : IncrementalBeginsFinal
-incremental_begins_final extras [] left b h = h
-incremental_begins_final extras (m ∷ ms) left b h = (h.1.0, h.1.1, incremental_begins_final extras ms left h.1.0 h.1.2)
+incremental_begins_final extras old [] left b h = h
+incremental_begins_final extras old (m ∷ ms) left b h = (h.1.0, h.1.1, incremental_begins_final extras old ms left h.1.0 h.1.2)
 
-event_covers : (extras : List (ℕ × ℕ)) (event : Event) (b rest : List ℕ) → EventAt extras event b rest → b ≡ event_bytes event ++ rest
-event_covers extras (Frame p) b rest h = h.2
-event_covers extras (Skipped c w) b rest h = h.0
+event_covers : (extras : List (ℕ × ℕ)) (old : Bool) (event : Event) (b rest : List ℕ) → EventAt extras old event b rest → b ≡ event_bytes event ++ rest
+event_covers extras old (Frame p) b rest h = h.2
+event_covers extras old (Skipped c w) b rest h = h.0
 
 pub events_cover_bytes : EventsCoverBytes
-events_cover_bytes extras [] left b h = h
-events_cover_bytes extras (m ∷ ms) left b h =
-    event_covers extras m b h.0 h.1
-    ∙ (ap (λ (l : List ℕ). event_bytes m ++ l) (events_cover_bytes extras ms left h.0 h.2)
+events_cover_bytes extras old [] left b h = h
+events_cover_bytes extras old (m ∷ ms) left b h =
+    event_covers extras old m b h.0 h.1
+    ∙ (ap (λ (l : List ℕ). event_bytes m ++ l) (events_cover_bytes extras old ms left h.0 h.2)
     ∙ sym (append_assoc (event_bytes m) (flat_map event_bytes ms) left))

@@ -1,74 +1,83 @@
--- The parse of a whole stream into frames and skipped bytes.
-use Rattle.std.specs.Prelude.{ℕ, ◌≡◌, ◌≢◌, ◌<◌, ◌≤◌, List, [], ◌∷◌, ◌++◌, length, slice_index, Some, None, IsSome}
+-- The parse of a whole stream into frames and skipped bytes. The Bool says that frames of MAVLink 1 are read too.
+use Rattle.std.specs.Prelude.{ℕ, ◌≡◌, ◌≢◌, ◌<◌, ◌≤◌, Bool, true, false, List, [], ◌∷◌, ◌++◌, length, slice_index, Some, None, IsSome}
 use Rattle.x25_check.specs.Extras.{extra_of}
 use Rattle.mav_frame.specs.Numbers.{number_at}
 use Rattle.mav_frame.specs.Packet.{Packet, FitsFrame}
-use Rattle.mav_frame.specs.Encoding.{encoding, IsSealed, Encodes}
-use Rattle.mav_frame.specs.Looks.{id_at, check_place, frame_size_at, checksum_at}
+use Rattle.mav_frame.specs.Encoding.{stx_of, encoding, IsSealed, Encodes}
+use Rattle.mav_frame.specs.Looks.{is_old_at, header_size, id_at, check_offset, frame_size_at, checksum_at}
 use Rattle.mav_frame.specs.declared.looks.Why.{Why}
 use Rattle.mav_frame.specs.declared.looks.Why.TheVariants.{NotStx, UnknownFlag, UnknownId, BadCheck, Short}
 use Rattle.mav_frame.specs.declared.events.Event.{Event}
 use Rattle.mav_frame.specs.declared.events.Event.TheVariants.{Frame, Skipped}
 
--- no front of the bytes encodes a frame
-abbrev pub NoFrame : List (ℕ × ℕ) → List ℕ → Type 0
-NoFrame extras b = (packet : Packet) (front rest : List ℕ) → FitsFrame packet → Encodes extras packet front → b ≡ front ++ rest → ⊥
+-- no prefix of the bytes encodes a frame
+abbrev pub NoFrame : List (ℕ × ℕ) → Bool → List ℕ → Type 0
+NoFrame extras old b = (packet : Packet) (front rest : List ℕ) → FitsFrame packet → Encodes extras old packet front → b ≡ front ++ rest → ⊥
 
--- an incomplete frame: STX, no unknown flag and a known id as far as the bytes go, and fewer of them than the header fixes
-pub record IsIncomplete (extras : List (ℕ × ℕ)) (b : List ℕ) : Type 0 where
-  pub stx : 0 < length b → slice_index b 0 ≡ 0xFD
-  pub flag : 3 ≤ length b → slice_index b 2 ≤ 1
-  pub known : 10 ≤ length b → IsSome (extra_of (id_at b) extras)
-  pub short : 10 ≤ length b → length b < frame_size_at b
+-- an incomplete frame of one version: its STX, no unknown flag and a known id as far as the bytes go, and fewer of them
+-- than the header fixes
+pub record IsIncompleteAs (extras : List (ℕ × ℕ)) (is_old : Bool) (b : List ℕ) : Type 0 where
+  pub stx : 0 < length b → slice_index b 0 ≡ stx_of is_old
+  pub flag : is_old ≡ false → 3 ≤ length b → slice_index b 2 ≤ 1
+  pub known : header_size is_old ≤ length b → IsSome (extra_of (id_at is_old b) extras)
+  pub short : header_size is_old ≤ length b → length b < frame_size_at is_old b
+
+-- an incomplete frame of the version whose STX stands there
+abbrev pub IsIncomplete : List (ℕ × ℕ) → Bool → List ℕ → Type 0
+IsIncomplete extras old b = IsIncompleteAs extras (is_old_at old b) b
 
 -- STX and no unknown flag
-pub record StartsFrame (b : List ℕ) : Type 0 where
-  pub stx : slice_index b 0 ≡ 0xFD
-  pub flag : slice_index b 2 ≤ 1
+pub record StartsFrame (is_old : Bool) (b : List ℕ) : Type 0 where
+  pub stx : slice_index b 0 ≡ stx_of is_old
+  pub flag : is_old ≡ false → slice_index b 2 ≤ 1
 
 -- a whole frame of a known id, whose checksum differs
-pub record IsCorrupt (extras : List (ℕ × ℕ)) (b : List ℕ) : Type 0 where
-  pub starts : StartsFrame b
+pub record IsCorrupt (extras : List (ℕ × ℕ)) (is_old : Bool) (b : List ℕ) : Type 0 where
+  pub starts : StartsFrame is_old b
   pub extra : ℕ
-  pub long : 10 ≤ length b
-  pub known : extra_of (id_at b) extras ≡ Some extra
-  pub whole : frame_size_at b ≤ length b
-  pub wrong : number_at 2 (check_place b) b ≢ checksum_at extra b
+  pub long : header_size is_old ≤ length b
+  pub known : extra_of (id_at is_old b) extras ≡ Some extra
+  pub whole : frame_size_at is_old b ≤ length b
+  pub wrong : number_at 2 (check_offset is_old b) b ≢ checksum_at is_old extra b
+
+-- why no frame of one version begins here
+abbrev pub SkipReasonAs : List (ℕ × ℕ) → Bool → List ℕ → Why → Type 0
+SkipReasonAs extras is_old b NotStx = (0 < length b) × (slice_index b 0 ≢ stx_of is_old)
+SkipReasonAs extras is_old b UnknownFlag = (is_old ≡ false) × (slice_index b 0 ≡ 0xFD) × (3 ≤ length b) × (1 < slice_index b 2)
+SkipReasonAs extras is_old b UnknownId = StartsFrame is_old b × (header_size is_old ≤ length b) × (extra_of (id_at is_old b) extras ≡ None)
+SkipReasonAs extras is_old b BadCheck = IsCorrupt extras is_old b
+SkipReasonAs extras is_old b Short = IsIncompleteAs extras is_old b
 
 -- why no frame begins here
-abbrev pub SkipReason : List (ℕ × ℕ) → List ℕ → Why → Type 0
-SkipReason extras b NotStx = (0 < length b) × (slice_index b 0 ≢ 0xFD)
-SkipReason extras b UnknownFlag = (slice_index b 0 ≡ 0xFD) × (3 ≤ length b) × (1 < slice_index b 2)
-SkipReason extras b UnknownId = StartsFrame b × (10 ≤ length b) × (extra_of (id_at b) extras ≡ None)
-SkipReason extras b BadCheck = IsCorrupt extras b
-SkipReason extras b Short = IsIncomplete extras b
+abbrev pub SkipReason : List (ℕ × ℕ) → Bool → List ℕ → Why → Type 0
+SkipReason extras old b why = SkipReasonAs extras (is_old_at old b) b why
 
--- the event at the front of the bytes, and what follows it
-abbrev pub EventAt : List (ℕ × ℕ) → Event → List ℕ → List ℕ → Type 0
-EventAt extras (Frame packet) b rest = FitsFrame packet × IsSealed extras packet × (b ≡ encoding packet ++ rest)
-EventAt extras (Skipped byte why) b rest = (b ≡ byte ∷ rest) × NoFrame extras b × SkipReason extras b why
+-- the event at the start of the bytes, and what follows it
+abbrev pub EventAt : List (ℕ × ℕ) → Bool → Event → List ℕ → List ℕ → Type 0
+EventAt extras old (Frame packet) b rest = FitsFrame packet × IsSealed extras old packet × (b ≡ encoding packet ++ rest)
+EventAt extras old (Skipped byte why) b rest = (b ≡ byte ∷ rest) × NoFrame extras old b × SkipReason extras old b why
 
 -- the final parse: every byte is in an event
-abbrev pub Final : List (ℕ × ℕ) → List Event → List ℕ → Type 0
-Final extras [] b = b ≡ []
-Final extras (event ∷ events) b = (rest : List ℕ) × EventAt extras event b rest × Final extras events rest
+abbrev pub Final : List (ℕ × ℕ) → Bool → List Event → List ℕ → Type 0
+Final extras old [] b = b ≡ []
+Final extras old (event ∷ events) b = (rest : List ℕ) × EventAt extras old event b rest × Final extras old events rest
 
 -- the incremental parse: the events go on until all that is left is an incomplete frame, or nothing
-abbrev pub Incremental : List (ℕ × ℕ) → List Event → List ℕ → List ℕ → Type 0
-Incremental extras [] left b = (left ≡ b) × IsIncomplete extras b
-Incremental extras (event ∷ events) left b =
-    (IsIncomplete extras b → ⊥) × ((rest : List ℕ) × EventAt extras event b rest × Incremental extras events left rest)
+abbrev pub Incremental : List (ℕ × ℕ) → Bool → List Event → List ℕ → List ℕ → Type 0
+Incremental extras old [] left b = (left ≡ b) × IsIncomplete extras old b
+Incremental extras old (event ∷ events) left b =
+    (IsIncomplete extras old b → ⊥) × ((rest : List ℕ) × EventAt extras old event b rest × Incremental extras old events left rest)
 
 -- the events begin the incremental parse of the bytes, and this is left
-abbrev pub BeginsIncremental : List (ℕ × ℕ) → List Event → List ℕ → List ℕ → Type 0
-BeginsIncremental extras [] left b = b ≡ left
-BeginsIncremental extras (event ∷ events) left b =
-    (IsIncomplete extras b → ⊥) × ((rest : List ℕ) × EventAt extras event b rest × BeginsIncremental extras events left rest)
+abbrev pub BeginsIncremental : List (ℕ × ℕ) → Bool → List Event → List ℕ → List ℕ → Type 0
+BeginsIncremental extras old [] left b = b ≡ left
+BeginsIncremental extras old (event ∷ events) left b =
+    (IsIncomplete extras old b → ⊥) × ((rest : List ℕ) × EventAt extras old event b rest × BeginsIncremental extras old events left rest)
 
 -- the events begin the final parse of the bytes, and this is left
-abbrev pub BeginsFinal : List (ℕ × ℕ) → List Event → List ℕ → List ℕ → Type 0
-BeginsFinal extras [] left b = b ≡ left
-BeginsFinal extras (event ∷ events) left b = (rest : List ℕ) × EventAt extras event b rest × BeginsFinal extras events left rest
+abbrev pub BeginsFinal : List (ℕ × ℕ) → Bool → List Event → List ℕ → List ℕ → Type 0
+BeginsFinal extras old [] left b = b ≡ left
+BeginsFinal extras old (event ∷ events) left b = (rest : List ℕ) × EventAt extras old event b rest × BeginsFinal extras old events left rest
 
 -- the bytes of an event
 abbrev pub event_bytes : Event → List ℕ

@@ -1,5 +1,5 @@
 -- Laws of parses.
-use Rattle.std.specs.Prelude.{ℕ, ◌≡◌, ◌<◌, ◌↔◌, All, flat_map, List, [], ◌∷◌, ◌++◌}
+use Rattle.std.specs.Prelude.{ℕ, ◌≡◌, ◌<◌, ◌↔◌, All, flat_map, Bool, List, [], ◌∷◌, ◌++◌}
 use Rattle.mav_frame.specs.Looks.{look_of}
 use Rattle.mav_frame.specs.declared.looks.Look.TheVariants.{More}
 use Rattle.mav_frame.specs.Parse.{IsIncomplete, EventAt, Final, Incremental, BeginsIncremental, BeginsFinal, event_bytes}
@@ -8,53 +8,53 @@ use Rattle.mav_frame.specs.declared.events.Event.{Event}
 
 -- a stream of bytes has the final parse that the function gives
 abbrev pub FinalIsFunction : Type 0
-FinalIsFunction = (extras : List (ℕ × ℕ)) (b : List ℕ) → All (λ byte. byte < 256) b → Final extras (final_parse extras b) b
+FinalIsFunction = (extras : List (ℕ × ℕ)) (old : Bool) (b : List ℕ) → All (λ byte. byte < 256) b → Final extras old (final_parse extras old b) b
 
 -- a stream has one final parse at most
 abbrev pub OneFinal : Type 0
-OneFinal = (extras : List (ℕ × ℕ)) (b : List ℕ) (events others : List Event) → Final extras events b → Final extras others b → events ≡ others
+OneFinal = (extras : List (ℕ × ℕ)) (old : Bool) (b : List ℕ) (events others : List Event) → Final extras old events b → Final extras old others b → events ≡ others
 
 -- a stream has one incremental parse at most
 abbrev pub OneIncremental : Type 0
 OneIncremental =
-    (extras : List (ℕ × ℕ)) (b left also_left : List ℕ) (events others : List Event) → Incremental extras events left b → Incremental extras others also_left b → (events ≡ others) × (left ≡ also_left)
+    (extras : List (ℕ × ℕ)) (old : Bool) (b left also_left : List ℕ) (events others : List Event) → Incremental extras old events left b → Incremental extras old others also_left b → (events ≡ others) × (left ≡ also_left)
 
 -- more bytes change no event of the incremental parse
 abbrev pub MoreBytesKeep : Type 0
 MoreBytesKeep =
-    (extras : List (ℕ × ℕ)) (events : List Event) (left b more : List ℕ) → BeginsIncremental extras events left b → BeginsIncremental extras events (left ++ more) (b ++ more)
+    (extras : List (ℕ × ℕ)) (old : Bool) (events : List Event) (left b more : List ℕ) → BeginsIncremental extras old events left b → BeginsIncremental extras old events (left ++ more) (b ++ more)
 
--- a beginning of the incremental parse goes on by the event at the front of what is left
+-- a beginning of the incremental parse goes on by the event at the start of what is left
 abbrev pub IncrementalGoesOn : Type 0
 IncrementalGoesOn =
-    (extras : List (ℕ × ℕ)) (events : List Event) (event : Event) (left rest b : List ℕ) → BeginsIncremental extras events left b → (IsIncomplete extras left → ⊥) → EventAt extras event left rest → BeginsIncremental extras (events ++ event ∷ []) rest b
+    (extras : List (ℕ × ℕ)) (old : Bool) (events : List Event) (event : Event) (left rest b : List ℕ) → BeginsIncremental extras old events left b → (IsIncomplete extras old left → ⊥) → EventAt extras old event left rest → BeginsIncremental extras old (events ++ event ∷ []) rest b
 
 -- it is whole where what is left is an incomplete frame
 abbrev pub IncrementalEnds : Type 0
 IncrementalEnds =
-    (extras : List (ℕ × ℕ)) (events : List Event) (left b : List ℕ) → BeginsIncremental extras events left b → IsIncomplete extras left → Incremental extras events left b
+    (extras : List (ℕ × ℕ)) (old : Bool) (events : List Event) (left b : List ℕ) → BeginsIncremental extras old events left b → IsIncomplete extras old left → Incremental extras old events left b
 
--- a beginning of the final parse goes on by the event at the front of what is left
+-- a beginning of the final parse goes on by the event at the start of what is left
 abbrev pub FinalGoesOn : Type 0
 FinalGoesOn =
-    (extras : List (ℕ × ℕ)) (events : List Event) (event : Event) (left rest b : List ℕ) → BeginsFinal extras events left b → EventAt extras event left rest → BeginsFinal extras (events ++ event ∷ []) rest b
+    (extras : List (ℕ × ℕ)) (old : Bool) (events : List Event) (event : Event) (left rest b : List ℕ) → BeginsFinal extras old events left b → EventAt extras old event left rest → BeginsFinal extras old (events ++ event ∷ []) rest b
 
 -- it is whole where nothing is left
 abbrev pub FinalEnds : Type 0
 FinalEnds =
-    (extras : List (ℕ × ℕ)) (events : List Event) (b : List ℕ) → BeginsFinal extras events [] b → Final extras events b
+    (extras : List (ℕ × ℕ)) (old : Bool) (events : List Event) (b : List ℕ) → BeginsFinal extras old events [] b → Final extras old events b
 
 -- the events of the incremental parse are events of the final parse
 abbrev pub IncrementalBeginsFinal : Type 0
 IncrementalBeginsFinal =
-    (extras : List (ℕ × ℕ)) (events : List Event) (left b : List ℕ) → BeginsIncremental extras events left b → BeginsFinal extras events left b
+    (extras : List (ℕ × ℕ)) (old : Bool) (events : List Event) (left b : List ℕ) → BeginsIncremental extras old events left b → BeginsFinal extras old events left b
 
 -- the answer `More` is that of an incomplete frame, and of nothing else
 abbrev pub IncompleteIsMore : Type 0
 IncompleteIsMore =
-    (extras : List (ℕ × ℕ)) (b : List ℕ) → IsIncomplete extras b ↔ ((k : ℕ) × (look_of extras b ≡ More k))
+    (extras : List (ℕ × ℕ)) (old : Bool) (b : List ℕ) → IsIncomplete extras old b ↔ ((k : ℕ) × (look_of extras old b ≡ More k))
 
 -- the bytes of the events in order, and then what is left, are the bytes
 abbrev pub EventsCoverBytes : Type 0
 EventsCoverBytes =
-    (extras : List (ℕ × ℕ)) (events : List Event) (left b : List ℕ) → BeginsFinal extras events left b → b ≡ flat_map event_bytes events ++ left
+    (extras : List (ℕ × ℕ)) (old : Bool) (events : List Event) (left b : List ℕ) → BeginsFinal extras old events left b → b ≡ flat_map event_bytes events ++ left

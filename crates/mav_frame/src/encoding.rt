@@ -1,18 +1,22 @@
 // From a frame to its bytes.
-ghost use Rattle.std.specs.Prelude.{◌≡◌, ℕ, ◌+◌, ◌<◌, ◌^◌, ◌≤◌, ◌++◌, None, length, take, drop};
-ghost use Rattle.mav_frame.specs.Encoding.{checksum, encoding, header as header_of};
+ghost use Rattle.std.specs.Prelude.{◌≡◌, ℕ, ◌+◌, ◌<◌, ◌^◌, ◌≤◌, ◌++◌, ◌∷◌, None, false, true, length, take, drop};
+ghost use Rattle.mav_frame.specs.Encoding.{block_bytes, checksum, encoding, header as header_bytes, header_of, stx_of};
+ghost use Rattle.mav_frame.specs.Looks.{header_size};
 
-use crate::looking::payload_of;
+use crate::checking::payload_of;
 use crate::numbers::{bytes_2, bytes_3, bytes_6};
 use crate::{Block, Frame};
 use mav_names::Name;
 use x25_check::X25;
 
 /// The first byte of a frame of MAVLink 2.
-pub(crate) const STX: u8 = 0xFD;
+pub const STX: u8 = 0xFD;
+
+/// The first byte of a frame of MAVLink 1.
+pub const OLD_STX: u8 = 0xFE;
 
 impl Frame {
-    /// A frame whose checksum is still 0.
+    /// A frame of MAVLink 2 whose checksum is still 0.
     pub fn new(
         compat: u8,
         seq: u8,
@@ -23,9 +27,10 @@ impl Frame {
     ) -> Frame
         requires id { id < 2 ^ 24 }
         requires payload { length payload.now < 256 }
-        ensures { result ≡ record { compat = compat; seq = seq; from = from; id = id; payload = payload.now; check = 0; block = block } }
+        ensures { result ≡ record { old = false; compat = compat; seq = seq; from = from; id = id; payload = payload.now; check = 0; block = block } }
     {
         Frame {
+            old: false,
             compat,
             seq,
             from,
@@ -39,10 +44,14 @@ impl Frame {
 
     /// Sets the checksum, where the message has that CRC_EXTRA.
     pub fn seal(&mut self, extra: u8)
-        ensures { self.new ≡ record self.old { check = checksum self.old extra } }
+        ensures { self.exit.now ≡ record self.entry.now { check = checksum self.entry.now extra } }
     {
         let mut check = X25::new();
-        check.push_all(&self.header());
+        if self.old {
+            check.push_all(&self.old_header());
+        } else {
+            check.push_all(&self.new_header());
+        }
         check.push_all(self.payload_bytes());
         check.push(extra);
         self.check = check.value();
@@ -50,16 +59,18 @@ impl Frame {
 
     /// The payload's bytes.
     pub fn payload_bytes(&self) -> &[u8]
-        ensures { result.now ≡ self.now.payload }
+        ensures bytes { result.now ≡ self.now.payload }
+        ensures short { length result.now ≤ 255 }
     {
         &self.payload[..usize::from(self.len)]
     }
 
-    /// How many bytes encode the frame: 12 and its payload, and 13 more with a signature block.
+    /// How many bytes encode the frame: the payload's and 8 of MAVLink 1, or 12 of MAVLink 2 and 13 more with a signature
+    /// block.
     pub fn size(&self) -> usize
         ensures { result ≡ length (encoding self.now) }
     {
-        let unsigned = 12 + usize::from(self.len);
+        let unsigned = if self.old { 8 } else { 12 } + usize::from(self.len);
         match &self.block {
             None => unsigned,
             Some(block) => unsigned + 7 + block.sig.as_slice().len(),
@@ -68,9 +79,22 @@ impl Frame {
 }
 
 impl Frame {
-    // The nine bytes of the header behind STX.
-    fn header(&self) -> [u8; 9]
-        ensures { result ≡ header_of self.now }
+    // The header of MAVLink 1 after STX.
+    fn old_header(&self) -> [u8; 5]
+        ensures { result ≡ header_of true self.now }
+    {
+        [
+            self.len,
+            self.seq,
+            self.from.sys,
+            self.from.comp,
+            (self.id % 256) as u8,
+        ]
+    }
+
+    // The header of MAVLink 2 after STX.
+    fn new_header(&self) -> [u8; 9]
+        ensures { result ≡ header_of false self.now }
     {
         let [low, middle, high] = bytes_3(self.id);
         let flags = if self.block.is_some() { 1 } else { 0 };
@@ -88,33 +112,59 @@ impl Frame {
     }
 }
 
-// Writes the bytes at a place.
-fn put(out: &mut [u8; 280], at: usize, bytes: &[u8])
+// Writes the bytes at an offset, and returns where they end.
+fn put(out: &mut [u8; 280], at: usize, bytes: &[u8]) -> usize
     requires { at + length bytes.now ≤ 280 }
-    ensures front { take (at + length bytes.now) out.new ≡ take at out.old ++ bytes.now }
-    ensures behind { (k : ℕ) → at + length bytes.now ≤ k → drop k out.new ≡ drop k out.old }
+    ensures end { result ≡ at + length bytes.now }
+    ensures prefix { take result out.new ≡ take at out.old ++ bytes.now }
+    ensures rest { (k : ℕ) → result ≤ k → drop k out.new ≡ drop k out.old }
 {
-    out[at..at + bytes.len()].copy_from_slice(bytes);
+    let end = at + bytes.len();
+    out[at..end].copy_from_slice(bytes);
+    end
 }
 
-/// Writes the frame's bytes to the front of `out`, and answers how many these are. The rest of `out` stays.
+// Writes the header, STX included, and returns its length.
+fn put_header(frame: &Frame, out: &mut [u8; 280]) -> usize
+    ensures end { result ≡ header_size frame.now.old }
+    ensures short { result ≤ 10 }
+    ensures prefix { take result out.new ≡ stx_of frame.now.old ∷ header_bytes frame.now }
+    ensures rest { (k : ℕ) → result ≤ k → drop k out.new ≡ drop k out.old }
+{
+    if frame.old {
+        put(out, 0, &[OLD_STX]);
+        put(out, 1, &frame.old_header())
+    } else {
+        put(out, 0, &[STX]);
+        put(out, 1, &frame.new_header())
+    }
+}
+
+// Writes the signature block at an offset, if there is one, and returns where it ends.
+fn put_block(block: &Option<Block>, out: &mut [u8; 280], at: usize) -> usize
+    requires { at + 13 ≤ 280 }
+    ensures end { result ≡ at + length (block_bytes block.now) }
+    ensures prefix { take result out.new ≡ take at out.old ++ block_bytes block.now }
+    ensures rest { (k : ℕ) → result ≤ k → drop k out.new ≡ drop k out.old }
+{
+    match block {
+        None => at,
+        Some(block) => {
+            let at = put(out, at, &[block.link]);
+            let at = put(out, at, &bytes_6(block.stamp));
+            put(out, at, &block.sig)
+        }
+    }
+}
+
+/// Writes the frame's bytes to the start of `out`, and returns how many these are. The rest of `out` stays.
 pub fn encode(frame: &Frame, out: &mut [u8; 280]) -> usize
     ensures size { result ≡ length (encoding frame.now) }
     ensures bytes { take result out.new ≡ encoding frame.now }
     ensures rest { drop result out.new ≡ drop result out.old }
 {
-    let len = usize::from(frame.len);
-    put(out, 0, &[STX]);
-    put(out, 1, &frame.header());
-    put(out, 10, &frame.payload[..len]);
-    put(out, 10 + len, &bytes_2(frame.check));
-    match &frame.block {
-        None => 12 + len,
-        Some(block) => {
-            put(out, 12 + len, &[block.link]);
-            put(out, 13 + len, &bytes_6(block.stamp));
-            put(out, 19 + len, &block.sig);
-            25 + len
-        }
-    }
+    let at = put_header(frame, out);
+    let at = put(out, at, frame.payload_bytes());
+    let at = put(out, at, &bytes_2(frame.check));
+    put_block(&frame.block, out, at)
 }

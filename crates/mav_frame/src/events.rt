@@ -2,7 +2,7 @@
 use crate::{Frame, Why};
 
 /// A frame of a stream, or a skipped byte and why no frame begins there.
-#[derive(Clone, Copy, Debug, PartialEq, Eq)]
+#[derive(Clone, Copy)]
 pub enum Event {
     Frame(Frame),
     Skipped(u8, Why),

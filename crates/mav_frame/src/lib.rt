@@ -1,27 +1,30 @@
-//! Frames of MAVLink 2: their bytes, and the search for them in a stream.
+//! Frames of MAVLink 2 and of MAVLink 1: their bytes, and the search for them in a stream.
 //!
-//! [`encode`] writes a [`Frame`], and [`look`] says what stands at the front of some bytes: a frame, no frame and why, or
+//! [`encode`] writes a [`Frame`], and [`look`] says what stands at the start of some bytes: a frame, no frame and why, or
 //! the beginning of one. The parse of a whole stream is defined here as a list of [`Event`]s, and [`parse`] is that
-//! definition's program; a reader of streams that come in pieces stands in the crate above. Only [`parse`] takes memory.
+//! definition's program; a reader of streams that come in pieces stands in the crate above. Frames of MAVLink 1 are read
+//! only if the caller says so. Only [`parse`] takes memory.
 #![tactic(auto)]
 
+mod checking;
 mod encoding;
 mod events;
 mod frames;
 pub mod laws;
-mod looking;
 mod looks;
 mod numbers;
 mod parsing;
+mod tables;
 
-pub use encoding::encode;
+pub use checking::{check_frame, frame_at, look};
+pub use encoding::{OLD_STX, STX, encode};
 pub use events::Event;
 pub use frames::{Block, Frame};
-pub use looking::{frame_at, look, sight};
-pub use looks::{Look, Sight, Why};
+pub use looks::{FrameCheck, Look, Why};
 pub use numbers::bytes_6;
 pub use parsing::{event_at, parse};
 use std::alloc::AllocError;
+pub use tables::CrcExtras;
 
 /// There was no memory.
 pub type NoMemory = AllocError;

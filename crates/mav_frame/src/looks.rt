@@ -1,9 +1,9 @@
-// What can stand at the front of some bytes.
+// What can stand at the start of some bytes.
 use crate::Frame;
 
 /// Why no frame begins at a byte, numbered from 1 to 5. `Short` is the reason of an incomplete frame at the end of the
 /// input, which `look` never gives.
-#[derive(Clone, Copy, Debug, PartialEq, Eq)]
+#[derive(Clone, Copy)]
 pub enum Why {
     NotStx = 1,
     UnknownFlag = 2,
@@ -13,7 +13,7 @@ pub enum Why {
 }
 
 /// A frame and its length in bytes, no frame, or an incomplete frame and how many bytes it lacks as far as that is known.
-#[derive(Clone, Copy, Debug, PartialEq, Eq)]
+#[derive(Clone, Copy)]
 pub enum Look {
     Frame(Frame, usize),
     NotHere(Why),
@@ -21,8 +21,8 @@ pub enum Look {
 }
 
 /// The same without the frame: its length alone.
-#[derive(Clone, Copy, Debug, PartialEq, Eq)]
-pub enum Sight {
+#[derive(Clone, Copy)]
+pub enum FrameCheck {
     Whole(usize),
     NotHere(Why),
     More(usize),

@@ -2,32 +2,37 @@
 ghost use Rattle.std.specs.Prelude.{◌<◌, ◌≤◌, length, drop, IfOk};
 ghost use Rattle.mav_frame.specs.Parse.{EventAt, Final};
 
-use crate::looking::look;
+use crate::checking::look;
 use crate::{Event, Look, NoMemory, Why};
 use std::alloc::Global;
 use x25_check::Extras;
 
 /// The events of the final parse of all the bytes, by its definition: at each place a frame, or one byte skipped.
-pub fn parse(alloc: Global, extras: &Extras, bytes: &[u8]) -> Result<Vec<Event>, NoMemory>
-    ensures { IfOk result (λ events. Final extras.now events.items bytes.now) }
+pub fn parse(
+    alloc: Global,
+    extras: &Extras,
+    old: bool,
+    bytes: &[u8],
+) -> Result<Vec<Event>, NoMemory>
+    ensures { IfOk result (λ events. Final extras.now old events.items bytes.now) }
 {
     let mut events = Vec::new(alloc);
     let mut place = 0;
     while place < bytes.len() {
-        let (event, size) = event_at(extras, &bytes[place..]);
+        let (event, size) = event_at(extras, old, &bytes[place..]);
         events.push(event)?;
         place += size;
     }
     Ok(events)
 }
 
-/// The event at the front of the bytes in their final parse, and how many bytes it takes. Takes no memory.
-pub fn event_at(extras: &Extras, bytes: &[u8]) -> (Event, usize)
+/// The event at the start of the bytes in their final parse, and how many bytes it takes. Takes no memory.
+pub fn event_at(extras: &Extras, old: bool, bytes: &[u8]) -> (Event, usize)
     requires { 0 < length bytes.now }
     ensures size { (0 < result.1) × (result.1 ≤ length bytes.now) }
-    ensures event { EventAt extras.now result.0 bytes.now (drop result.1 bytes.now) }
+    ensures event { EventAt extras.now old result.0 bytes.now (drop result.1 bytes.now) }
 {
-    match look(extras, bytes) {
+    match look(extras, old, bytes) {
         Look::Frame(frame, size) => (Event::Frame(frame), size),
         Look::NotHere(why) => (Event::Skipped(bytes[0], why), 1),
         Look::More(_) => (Event::Skipped(bytes[0], Why::Short), 1),

@@ -5,7 +5,7 @@ use Rattle.mav_frame.proofs.parsing.parse.Given as goal
 abbrev pub invariant-loop-place : goal.invariant-loop-place
 invariant-loop-place l = record {
   within : l.place ≤ length l.bytes;
-  begun : BeginsFinal l.extras l.events.items (drop l.place l.bytes) l.bytes;
+  begun : BeginsFinal l.extras l.old l.events.items (drop l.place l.bytes) l.bytes;
 }
 
 abbrev pub decreases-loop-place : goal.decreases-loop-place
