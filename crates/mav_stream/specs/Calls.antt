@@ -1,5 +1,5 @@
 -- Any list of calls of one reader, however its stream is cut.
-use Rattle.std.specs.Prelude.{ℕ, ◌≡◌, ◌-◌, ◌++◌, ◌∷◌, List, [], length, take, min, flat_map, true, false}
+use Rattle.std.specs.Prelude.{ℕ, ◌≡◌, ◌-◌, ◌++◌, ◌∷◌, List, [], length, take, min, flat_map, Bool, true, false}
 use Rattle.mav_frame.specs.declared.events.Event.{Event}
 use Rattle.mav_stream.specs.Held.{Held, nothing_held}
 use Rattle.mav_stream.specs.Nexts.{NextIs, given_by}
@@ -39,9 +39,9 @@ events_of (asked answer) = given_by answer
 -- over any list of calls the events given begin the parse of the bytes taken
 abbrev pub AnyCalls : Type 0
 AnyCalls =
-    (extras : List (ℕ × ℕ)) (calls : List Call) (held : Held) → CallsAre (nothing_held extras) calls held → Progress extras (flat_map taken_by calls) (flat_map events_of calls) held
+    (extras : List (ℕ × ℕ)) (reads_old : Bool) (calls : List Call) (held : Held) → CallsAre (nothing_held extras reads_old) calls held → Progress extras reads_old (flat_map taken_by calls) (flat_map events_of calls) held
 
 -- and they are the whole parse where `next` then answers Need
 abbrev pub AnyCallsToNeed : Type 0
 AnyCallsToNeed =
-    (extras : List (ℕ × ℕ)) (calls : List Call) (held new : Held) → CallsAre (nothing_held extras) calls held → CallIs held (asked Need) new → IsWhole extras (flat_map taken_by calls) (flat_map events_of calls) held
+    (extras : List (ℕ × ℕ)) (reads_old : Bool) (calls : List Call) (held new : Held) → CallsAre (nothing_held extras reads_old) calls held → CallIs held (asked Need) new → IsWhole extras reads_old (flat_map taken_by calls) (flat_map events_of calls) held

@@ -1,4 +1,4 @@
--- What `next` answers.
+-- What `next` returns.
 use Rattle.std.specs.Prelude.{◌≡◌, ◌<◌, ◌∷◌, List, [], length, true, false}
 use Rattle.mav_frame.specs.Parse.{IsIncomplete, EventAt}
 use Rattle.mav_frame.specs.declared.events.Event.{Event}
@@ -7,17 +7,16 @@ use Rattle.mav_stream.specs.Held.{Held}
 use Rattle.mav_stream.specs.declared.Next.{Next}
 use Rattle.mav_stream.specs.declared.Next.TheVariants.{Frame, Skipped, Need}
 
--- the event stands at the front of what was held, and the rest is held; before the end of the input no incomplete frame does
+-- the event stands at the start of what was held, and the rest is held; before the end of the input no incomplete frame does
 pub record Gives (old : Held) (event : Event) (new : Held) : Type 0 where
-  pub stands : EventAt old.extras event old.bytes new.bytes
-  pub decided : old.ended ≡ false → IsIncomplete old.extras old.bytes → ⊥
-  pub extras : new.extras ≡ old.extras
-  pub ended : new.ended ≡ old.ended
+  pub stands : EventAt old.extras old.reads_old event old.bytes new.bytes
+  pub decided : old.ended ≡ false → IsIncomplete old.extras old.reads_old old.bytes → ⊥
+  pub same : new ≡ record old { bytes = new.bytes }
 
 -- an incomplete frame is held and may still go on, or nothing is held
 pub record Needs (old new : Held) : Type 0 where
   pub same : new ≡ old
-  pub incomplete : IsIncomplete old.extras old.bytes
+  pub incomplete : IsIncomplete old.extras old.reads_old old.bytes
   pub empty : old.ended ≡ true → old.bytes ≡ []
 
 abbrev pub NextIs : Held → Next → Held → Type 0
@@ -31,7 +30,7 @@ given_by (Frame packet) = FrameEvent packet ∷ []
 given_by (Skipped byte why) = SkippedEvent byte why ∷ []
 given_by Need = []
 
--- fewer bytes are held behind an event, and at Need there is room for one more
+-- fewer bytes are held after an event, and at Need there is room for one more
 abbrev pub HasRoomBehind : Held → Next → Held → Type 0
 HasRoomBehind old (Frame packet) new = length new.bytes < length old.bytes
 HasRoomBehind old (Skipped byte why) new = length new.bytes < length old.bytes

@@ -1,4 +1,4 @@
-//! A reader of MAVLink 2 streams that come in pieces, in 280 bytes and without memory.
+//! A reader of MAVLink streams that come in pieces, in 280 bytes and without memory.
 //!
 //! [`Reader`] takes bytes by `feed`, and its `next` gives one event at a time: a frame, or a skipped byte and why no frame
 //! begins there. The events are those of the whole stream's parse as `mav_frame` defines it, however the stream is cut: of
@@ -13,7 +13,7 @@ use mav_frame::{Frame, Why};
 pub use reader::Reader;
 
 /// A frame, a skipped byte and why no frame begins there, or the need for more bytes.
-#[derive(Clone, Copy, Debug, PartialEq, Eq)]
+#[derive(Clone, Copy)]
 pub enum Next {
     Frame(Frame),
     Skipped(u8, Why),

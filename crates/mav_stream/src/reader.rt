@@ -1,5 +1,5 @@
 // The reader of a stream.
-ghost use Rattle.std.specs.Prelude.{◌≡◌, ◌-◌, ◌<◌, ◌++◌, ℕ, List, [], length, take, drop, min, slice_index, true, false};
+ghost use Rattle.std.specs.Prelude.{◌≡◌, ◌-◌, ◌<◌, ◌++◌, ℕ, Bool, List, [], length, take, drop, min, slice_index, true, false};
 ghost use Rattle.mav_frame.specs.declared.events.Event.{Event};
 ghost use Rattle.mav_stream.specs.Held.{Held, nothing_held};
 ghost use Rattle.mav_stream.specs.Nexts.{NextIs, HasRoomBehind, given_by};
@@ -7,7 +7,7 @@ ghost use Rattle.mav_stream.specs.Progress.{Progress, WholeAtNeed};
 
 use crate::Next;
 use crate::window::Window;
-use mav_frame::{Sight, Why, frame_at, sight};
+use mav_frame::{FrameCheck, Why, check_frame, frame_at};
 use std::marker::Model;
 use x25_check::Extras;
 
@@ -15,6 +15,7 @@ use x25_check::Extras;
 #[derive(Drop)]
 pub struct Reader {
     extras: Extras,
+    reads_old: bool,
     window: Window,
     ended: bool,
 }
@@ -24,28 +25,29 @@ impl Model for Reader {
 
     ghost Value = { Held };
 
-    ghost view = { λ r. record { extras = r.extras; bytes = r.window; ended = r.ended } };
+    ghost view = { λ r. record { extras = r.extras; reads_old = r.reads_old; bytes = r.window; ended = r.ended } };
 }
 
 impl Reader {
-    /// A reader of frames whose messages have these CRC_EXTRA bytes.
-    pub fn new(extras: Extras) -> Reader
-        ensures new { result ≡ nothing_held extras }
-        ensures progress { Progress extras [] [] result }
+    /// A reader of frames whose messages have these CRC_EXTRA bytes; `old` says whether frames of MAVLink 1 are read too.
+    pub fn new(extras: Extras, old: bool) -> Reader
+        ensures new { result ≡ nothing_held extras old }
+        ensures progress { Progress extras old [] [] result }
     {
         Reader {
             extras,
+            reads_old: old,
             window: Window::new(),
             ended: false,
         }
     }
 
-    /// Takes as many bytes as fit beside those held, and answers how many. It isn't called after `end`.
+    /// Takes as many bytes as fit beside those held, and returns how many. It isn't called after `end`.
     pub fn feed(&mut self, piece: &[u8]) -> usize
         ensures count { result ≡ min (length piece.now) (280 - length self.old.bytes) }
         ensures held { self.new ≡ record self.old { bytes = self.old.bytes ++ take result piece.now } }
         // The events given begin the parse of all bytes taken.
-        ensures progress { (extras : List (ℕ × ℕ)) (taken : List ℕ) (given : List Event) → self.old.ended ≡ false → Progress extras taken given self.old → Progress extras (taken ++ take result piece.now) given self.new }
+        ensures progress { (extras : List (ℕ × ℕ)) (reads_old : Bool) (taken : List ℕ) (given : List Event) → self.old.ended ≡ false → Progress extras reads_old taken given self.old → Progress extras reads_old (taken ++ take result piece.now) given self.new }
     {
         self.window.append(piece)
     }
@@ -53,7 +55,7 @@ impl Reader {
     /// The input has ended: what is left of it is in frames, or is skipped byte by byte.
     pub fn end(&mut self)
         ensures held { self.new ≡ record self.old { ended = true } }
-        ensures progress { (extras : List (ℕ × ℕ)) (taken : List ℕ) (given : List Event) → Progress extras taken given self.old → Progress extras taken given self.new }
+        ensures progress { (extras : List (ℕ × ℕ)) (reads_old : Bool) (taken : List ℕ) (given : List Event) → Progress extras reads_old taken given self.old → Progress extras reads_old taken given self.new }
     {
         self.ended = true;
     }
@@ -64,27 +66,27 @@ impl Reader {
         // Fewer bytes are held, or there is room for more.
         ensures room { HasRoomBehind self.old result self.new }
         // The events given and this one begin the parse.
-        ensures progress { (extras : List (ℕ × ℕ)) (taken : List ℕ) (given : List Event) → Progress extras taken given self.old → Progress extras taken (given ++ given_by result) self.new }
+        ensures progress { (extras : List (ℕ × ℕ)) (reads_old : Bool) (taken : List ℕ) (given : List Event) → Progress extras reads_old taken given self.old → Progress extras reads_old taken (given ++ given_by result) self.new }
         // At Need all of it was given.
-        ensures whole { (extras : List (ℕ × ℕ)) (taken : List ℕ) (given : List Event) → Progress extras taken given self.old → WholeAtNeed extras taken given result self.new }
+        ensures whole { (extras : List (ℕ × ℕ)) (reads_old : Bool) (taken : List ℕ) (given : List Event) → Progress extras reads_old taken given self.old → WholeAtNeed extras reads_old taken given result self.new }
     {
         let _held = self.window.bytes();
-        self.looked()
+        self.step()
     }
 
     #[inline(never)]
-    fn looked(&mut self) -> Next
+    fn step(&mut self) -> Next
         ensures { NextIs self.old result self.new }
     {
         let bytes = self.window.bytes();
-        match sight(&self.extras, bytes) {
-            Sight::Whole(size) => {
-                let frame = frame_at(bytes);
+        match check_frame(&self.extras, self.reads_old, bytes) {
+            FrameCheck::Whole(size) => {
+                let frame = frame_at(self.reads_old, bytes);
                 self.window.remove(size);
                 Next::Frame(frame)
             }
-            Sight::NotHere(why) => self.skip(why),
-            Sight::More(_) => {
+            FrameCheck::NotHere(why) => self.skip(why),
+            FrameCheck::More(_) => {
                 if !self.ended || self.window.bytes().is_empty() {
                     return Next::Need;
                 }

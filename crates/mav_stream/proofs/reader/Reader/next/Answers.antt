@@ -6,12 +6,12 @@ use Rattle.mav_stream.proofs.Answers.{room_behind}
 use Rattle.mav_stream.proofs.reader.Reader.next.Goals as goal
 
 pub returns-clause-room : goal.returns-clause-room
-returns-clause-room c = room_behind c.args.self.now c.looked.new.self c.looked.result (subst IsBytes (c.bytes-held.ensures.list ∙ ap (λ (h : Held). h.bytes) c.self.view_is) c.bytes-held.ensures.bytes) c.looked.ensures
+returns-clause-room c = room_behind c.args.self.now c.step.new.self c.step.result (subst IsBytes (c.bytes-held.ensures.list ∙ ap (λ (h : Held). h.bytes) c.self.view_is) c.bytes-held.ensures.bytes) c.step.ensures
 
 pub returns-clause-progress : goal.returns-clause-progress
-returns-clause-progress c extras taken given h =
-    next_on extras taken given c.args.self.now h c.looked.result c.looked.new.self c.looked.ensures
+returns-clause-progress c extras reads_old taken given h =
+    next_on extras reads_old taken given c.args.self.now h c.step.result c.step.new.self c.step.ensures
 
 pub returns-clause-whole : goal.returns-clause-whole
-returns-clause-whole c extras taken given h =
-    whole_at_need extras taken given c.args.self.now h c.looked.result c.looked.new.self c.looked.ensures
+returns-clause-whole c extras reads_old taken given h =
+    whole_at_need extras reads_old taken given c.args.self.now h c.step.result c.step.new.self c.step.ensures
