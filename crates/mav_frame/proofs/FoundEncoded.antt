@@ -306,6 +306,13 @@ once extras old b p n h e =
     let Q : Packet × ℕ → Type 0 = λ z. (z.1 ≤ length b) × Encodes extras old z.0 (take z.1 b) × FitsFrame z.0 in
     subst Q (λ i. (f.1 i, f.2 i)) (once_as v extras old b h f.0 s.0 s.1)
 
+-- the frame that is found, and its length, are those of the bytes
+pub found_is : (extras : List (ℕ × ℕ)) (old : Bool) (b : List ℕ) (p : Packet) (n : ℕ) → look_of extras old b ≡ Found p n → (packet_at (is_old_at old b) b ≡ p) × (frame_size_at (is_old_at old b) b ≡ n)
+found_is extras old b p n e =
+    let v : Bool = is_old_at old b in
+    let s = starts extras old v b p n refl e in
+    let f = facts extras v b p n s.2 in (f.1, f.2)
+
 pub once_look : (extras : List (ℕ × ℕ)) (old : Bool) (b : List ℕ) (r : Look) → IsBytes b → r ≡ look_of extras old b → IfFrame r (λ p n. (n ≤ length b) × Encodes extras old p (take n b) × FitsFrame p)
 once_look extras old b (Found p n) h e = once extras old b p n h (sym e)
 once_look extras old b (NotHere w) h e = tt

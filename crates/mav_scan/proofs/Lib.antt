@@ -1,4 +1,4 @@
-mod GarbageRuns
-mod FlaggedRuns
-mod SkippedRuns
-mod Aheads
+mod Counts
+mod Lengths
+mod Skipped
+mod NextSpans

@@ -1,4 +1,3 @@
-pub mod Garbage
-pub mod Flagged
-pub mod Ahead
+pub mod Skips
+pub mod Spans
 pub mod Entries

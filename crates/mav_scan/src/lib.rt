@@ -2,16 +2,14 @@
 //! where they stand.
 #![tactic(auto)]
 
-mod ahead;
-mod known;
-mod looking;
-mod numbers;
-mod runs;
 mod scanner;
+mod skips;
+mod spans;
+mod table;
 mod window;
 
-pub use ahead::Ahead;
 pub use scanner::Scanner;
+pub use spans::NextSpan;
 use std::alloc::AllocError;
 
 /// There was no memory.

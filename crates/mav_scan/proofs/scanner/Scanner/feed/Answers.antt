@@ -5,9 +5,9 @@ use Rattle.mav_stream.proofs.Steps.{fed_on}
 use Rattle.mav_scan.proofs.scanner.Scanner.feed.Goals as goal
 
 pub returns-clause-progress : goal.returns-clause-progress
-returns-clause-progress c extras taken given still h =
+returns-clause-progress c extras reads_old taken given still h =
     let i = c.self.inside in let bytes = take c.append.result c.args.piece.now in
-    let held : Held = record { extras = i.known; bytes = i.window; ended = i.ended } in
-    let known : (held.ended ≡ false) × Progress extras taken given held =
-    subst (λ (z : Held). (z.ended ≡ false) × Progress extras taken given z) (sym c.self.view_is) (still, h) in
-    subst (λ (z : List ℕ). Progress extras (taken ++ bytes) given (record held { bytes = z })) (sym c.append.ensures.bytes) (fed_on extras taken given held known.1 bytes known.0)
+    let held : Held = record { extras = i.table; reads_old = i.reads_old; bytes = i.window; ended = i.ended } in
+    let known : (held.ended ≡ false) × Progress extras reads_old taken given held =
+    subst (λ (z : Held). (z.ended ≡ false) × Progress extras reads_old taken given z) (sym c.self.view_is) (still, h) in
+    subst (λ (z : List ℕ). Progress extras reads_old (taken ++ bytes) given (record held { bytes = z })) (sym c.append.ensures.bytes) (fed_on extras reads_old taken given held known.1 bytes known.0)
