@@ -65,15 +65,22 @@ impl Frame {
         &self.payload[..usize::from(self.len)]
     }
 
-    /// How many bytes encode the frame: the payload's and 8 of MAVLink 1, or 12 of MAVLink 2 and 13 more with a signature
-    /// block.
+    /// How many bytes encode the frame without its signature block: the payload's, and 8 of MAVLink 1 or 12 of MAVLink 2.
+    pub fn unsigned_size(&self) -> usize
+        ensures exact { result ≡ header_size self.now.old + length self.now.payload + 2 }
+        ensures short { result ≤ 267 }
+    {
+        let others = if self.old { 8 } else { 12 };
+        others + usize::from(self.len)
+    }
+
+    /// How many bytes encode the frame: 13 more with a signature block.
     pub fn size(&self) -> usize
         ensures { result ≡ length (encoding self.now) }
     {
-        let unsigned = if self.old { 8 } else { 12 } + usize::from(self.len);
         match &self.block {
-            None => unsigned,
-            Some(block) => unsigned + 7 + block.sig.as_slice().len(),
+            None => self.unsigned_size(),
+            Some(block) => self.unsigned_size() + 7 + block.sig.as_slice().len(),
         }
     }
 }

@@ -1,10 +1,10 @@
 -- What is told of frames, one after another.
-use Rattle.std.proofs.Common.{◌≡◌, ℕ, ◌+◌, ◌-◌, ◌≤◌, List, [], ◌∷◌, ◌++◌, length, take, drop, slice_range, refl, sym, ap, ◌∙◌, subst, arith, append_assoc, length-append, length-take, length-drop}
+use Rattle.std.proofs.Common.{◌≡◌, Bool, true, false, ℕ, ◌+◌, ◌-◌, ◌≤◌, List, [], ◌∷◌, ◌++◌, length, take, drop, slice_range, refl, sym, ap, ◌∙◌, subst, arith, append_assoc, length-append, length-take, length-drop}
 use Rattle.std.proofs.lemmas.List.{append-nil, drop-drop, take_all}
 use Rattle.std.proofs.lemmas.List.Elements.{filter_map-append}
 use Rattle.std.proofs.lemmas.List.Sums.{fold-append}
 use Rattle.mav_frame.specs.Packet.{Packet}
-use Rattle.mav_frame.specs.Encoding.{encoding, Encodes, block_bytes}
+use Rattle.mav_frame.specs.Encoding.{encoding, Encodes, block_bytes, checked_bytes, header_of}
 use Rattle.mav_frame.specs.Numbers.{little_endian}
 use Rattle.mav_frame.specs.Parse.{EventAt, BeginsFinal}
 use Rattle.mav_frame.specs.declared.events.Event.{Event}
@@ -46,23 +46,29 @@ told_more key history first second before between after middle stamps told more 
 pub frames_more : (events : List Event) (event : Event) → frames_of (events ++ event ∷ []) ≡ frames_of events ++ frames_of (event ∷ [])
 frames_more events event = filter_map-append frame_in events (event ∷ [])
 
--- a frame has at least 12 bytes
-pub least_frame : (extras : List (ℕ × ℕ)) (packet : Packet) (bytes : List ℕ) (size : ℕ) → size ≤ length bytes → Encodes extras packet (take size bytes) → 12 ≤ size
+-- a frame of MAVLink 2 has at least 12 bytes
+header_is : (packet : Packet) (old : Bool) → (old ≡ true → false ≡ true) → 9 ≤ length (header_of old packet)
+header_is packet true never = absurd (let bad : false ≡ true = never refl in cc)
+header_is packet false never = omega arith
+
+pub least_frame : (extras : List (ℕ × ℕ)) (packet : Packet) (bytes : List ℕ) (size : ℕ) → size ≤ length bytes → Encodes extras false packet (take size bytes) → 12 ≤ size
 least_frame extras packet bytes size within encodes =
     let long : length (take size bytes) ≡ length (encoding packet) = ap length encodes.bytes in
-    let rest : length (packet.payload ++ little_endian 2 packet.check ++ block_bytes packet.block) ≡ length (packet.payload ++ little_endian 2 packet.check) + length (block_bytes packet.block) = length-append (packet.payload ++ little_endian 2 packet.check) (block_bytes packet.block) in
-    let front : length (packet.payload ++ little_endian 2 packet.check) ≡ length packet.payload + 2 = length-append packet.payload (little_endian 2 packet.check) in
-    omega (arith, long, rest, front, length-take size bytes)
+    let header = header_is packet packet.old encodes.sealed.version in
+    let rest : length (checked_bytes packet ++ little_endian 2 packet.check ++ block_bytes packet.block) ≡ length (checked_bytes packet ++ little_endian 2 packet.check) + length (block_bytes packet.block) = length-append (checked_bytes packet ++ little_endian 2 packet.check) (block_bytes packet.block) in
+    let front : length (checked_bytes packet ++ little_endian 2 packet.check) ≡ length (checked_bytes packet) + 2 = length-append (checked_bytes packet) (little_endian 2 packet.check) in
+    let checked : length (checked_bytes packet) ≡ length (header_of packet.old packet) + length packet.payload = length-append (header_of packet.old packet) packet.payload in
+    omega (arith, long, header, rest, front, checked, length-take size bytes)
 
 -- the parse goes on by what was heard at its front
 pub heard_on : (extras : List (ℕ × ℕ)) (key : List ℕ) (history : List Entry) (bytes : List ℕ) (place size : ℕ) (before between after : List Heard) (middle stamps : Kept) → (to : HeardTo extras key history bytes place before between middle) → FrontHeard extras key (after_frames key history (frames_of to.events)) (slice_range bytes place (length bytes)) size between after stamps → HeardTo extras key history bytes (place + size) before after stamps
 heard_on extras key history bytes place size before between after middle stamps to front =
     let all : slice_range bytes place (length bytes) ≡ drop place bytes = take_all (length bytes - place) (drop place bytes) (omega (arith, length-drop place bytes)) in
-    let there : EventAt extras front.event (drop place bytes) (drop size (drop place bytes)) = subst (λ (z : List ℕ). EventAt extras front.event z (drop size z)) all front.stands in
+    let there : EventAt extras false front.event (drop place bytes) (drop size (drop place bytes)) = subst (λ (z : List ℕ). EventAt extras false front.event z (drop size z)) all front.stands in
     let e : drop size (drop place bytes) ≡ drop (place + size) bytes = drop-drop size place bytes in
     record {
       events = to.events ++ front.event ∷ [];
-      begun = subst (λ (z : List ℕ). BeginsFinal extras (to.events ++ front.event ∷ []) z bytes) e (final_goes_on extras to.events front.event (drop place bytes) (drop size (drop place bytes)) bytes to.begun there);
+      begun = subst (λ (z : List ℕ). BeginsFinal extras false (to.events ++ front.event ∷ []) z bytes) e (final_goes_on extras false to.events front.event (drop place bytes) (drop size (drop place bytes)) bytes to.begun there);
       told = subst (λ (packets : List Packet). Told key history packets before after stamps) (sym (frames_more to.events front.event)) (told_more key history (frames_of to.events) (frames_of (front.event ∷ [])) before between after middle stamps to.told front.told);
     }
 
@@ -74,7 +80,7 @@ heard_whole extras key history bytes place before after stamps past to =
     let none : drop place bytes ≡ [] = nothing (drop place bytes) (omega (arith, length-drop place bytes)) in
     record {
       events = to.events;
-      parse = final_ends extras to.events bytes (subst (λ (z : List ℕ). BeginsFinal extras to.events z bytes) none to.begun);
+      parse = final_ends extras false to.events bytes (subst (λ (z : List ℕ). BeginsFinal extras false to.events z bytes) none to.begun);
       told = to.told;
     }
   where

@@ -1,5 +1,5 @@
 -- A frame that carries a message.
-use Rattle.std.proofs.Common.{◌≡◌, ℕ, List, Some, sym, ap, ◌∙◌, refl, subst}
+use Rattle.std.proofs.Common.{◌≡◌, ℕ, true, false, List, Some, sym, ap, ◌∙◌, refl, subst}
 use Rattle.x25_check.specs.Extras.{extra_of}
 use Rattle.field_layout.specs.Payload.{serialised, truncated, FitsLayout, Represents}
 use Rattle.field_layout.proofs.Unique.{truncated_represents}
@@ -13,6 +13,7 @@ use Rattle.mav_sign.specs.Endpoints.{FrameOf}
 -- the packet of a message, before its checksum
 abbrev pub unsealed : Stream → ℕ → ℕ → ℕ → List ℕ → List ℕ → Packet
 unsealed me seq id stamp payload sig = record {
+  old = false;
   compat = 0;
   seq = seq;
   from = record { sys = me.sys; comp = me.comp };
@@ -22,14 +23,18 @@ unsealed me seq id stamp payload sig = record {
   block = Some record { link = me.link; stamp = stamp; sig = sig };
 }
 
+not_old : false ≡ true → ⊥
+not_old e = cc
+
 pub sealed_frame : (me : Stream) (extras : List (ℕ × ℕ)) (seq stamp : ℕ) (message : Message) (id extra : ℕ) (payload sig : List ℕ) → id ≡ (definition_of message).id → extra_of (definition_of message).id extras ≡ Some extra → FitsLayout (definition_of message) (values_of message) → payload ≡ truncated (serialised (definition_of message) (values_of message)) → FrameOf me extras seq stamp message (record (unsealed me seq id stamp payload sig) { check = checksum (unsealed me seq id stamp payload sig) extra })
 sealed_frame me extras seq stamp message id extra payload sig is known fits bytes = record {
+  version = refl;
   compat = refl;
   seq_is = refl;
   from = refl;
   id = is;
   payload = bytes;
   represents = subst (λ (l : List ℕ). Represents (definition_of message) l (values_of message)) (sym bytes) (truncated_represents (definition_of message) (values_of message) fits);
-  sealed = record { extra = extra; known = ap (λ (n : ℕ). extra_of n extras) is ∙ known; right = refl };
+  sealed = record { extra = extra; known = ap (λ (n : ℕ). extra_of n extras) is ∙ known; right = refl; version = λ bad. absurd (not_old bad) };
   signed = refl;
 }

@@ -1,5 +1,5 @@
 -- One end of signed links: what it hears and sends.
-use Rattle.std.specs.Prelude.{ℕ, ◌≡◌, List, [], ◌∷◌, ◌++◌, fold, drop, All, Option, Some, None, IsSome, IfSome}
+use Rattle.std.specs.Prelude.{ℕ, ◌≡◌, false, List, [], ◌∷◌, ◌++◌, fold, drop, All, Option, Some, None, IsSome, IfSome}
 use Rattle.std.specs.List.{filter_map}
 use Rattle.x25_check.specs.Extras.{extra_of}
 use Rattle.field_layout.specs.Definition.{Definition}
@@ -91,30 +91,31 @@ pub record Told (key : List ℕ) (history : List Entry) (packets : List Packet) 
 -- what stands at the front of some bytes was heard
 pub record FrontHeard (extras : List (ℕ × ℕ)) (key : List ℕ) (history : List Entry) (bytes : List ℕ) (size : ℕ) (before after : List Heard) (stamps : Kept) : Type 0 where
   pub event : Event
-  pub stands : EventAt extras event bytes (drop size bytes)
+  pub stands : EventAt extras false event bytes (drop size bytes)
   pub told : Told key history (frames_of (event ∷ [])) before after stamps
 
 -- the bytes from a place on are left
 pub record HeardTo (extras : List (ℕ × ℕ)) (key : List ℕ) (history : List Entry) (bytes : List ℕ) (place : ℕ) (before after : List Heard) (stamps : Kept) : Type 0 where
   pub events : List Event
-  pub begun : BeginsFinal extras events (drop place bytes) bytes
+  pub begun : BeginsFinal extras false events (drop place bytes) bytes
   pub told : Told key history (frames_of events) before after stamps
 
 -- a whole datagram was heard: the frames of its final parse, in order
 pub record Received (extras : List (ℕ × ℕ)) (key : List ℕ) (history : List Entry) (datagram : List ℕ) (before after : List Heard) (stamps : Kept) : Type 0 where
   pub events : List Event
-  pub parse : Final extras events datagram
+  pub parse : Final extras false events datagram
   pub told : Told key history (frames_of events) before after stamps
 
 -- a frame that carries a message from a stream, at a timestamp
 pub record FrameOf (me : Stream) (extras : List (ℕ × ℕ)) (seq stamp : ℕ) (message : Message) (packet : Packet) : Type 0 where
+  pub version : packet.old ≡ false
   pub compat : packet.compat ≡ 0
   pub seq_is : packet.seq ≡ seq
   pub from : packet.from ≡ (record { sys = me.sys; comp = me.comp })
   pub id : packet.id ≡ (definition_of message).id
   pub payload : packet.payload ≡ truncated (serialised (definition_of message) (values_of message))
   pub represents : PayloadRepresents (definition_of message) packet.payload (values_of message)
-  pub sealed : IsSealed extras packet
+  pub sealed : IsSealed extras false packet
   pub signed : IsSome packet.block
 
 -- the same, signed

@@ -19,22 +19,22 @@ listed (Some a) = a ∷ []
 pub record ReadTo (extras : List (ℕ × ℕ)) (taken : List ℕ) (given : List Event) (frame : Option Packet) (held : Held) : Type 0 where
   pub events : List Event
   pub frames : frames_of events ≡ listed frame
-  pub progress : Progress extras taken (given ++ events) held
-  pub whole : frame ≡ None → Incremental extras (given ++ events) held.bytes taken
+  pub progress : Progress extras false taken (given ++ events) held
+  pub whole : frame ≡ None → Incremental extras false (given ++ events) held.bytes taken
 
 -- the parse went on over skipped bytes alone
 pub record SkippedTo (extras : List (ℕ × ℕ)) (taken : List ℕ) (given : List Event) (held : Held) : Type 0 where
   pub events : List Event
   pub frames : frames_of events ≡ []
-  pub progress : Progress extras taken (given ++ events) held
+  pub progress : Progress extras false taken (given ++ events) held
 
 -- the reader of an endpoint: its input hasn't ended
 abbrev pub reader_of : EndpointState → Held
-reader_of endpoint = record { extras = endpoint.extras; bytes = endpoint.held; ended = false }
+reader_of endpoint = record { extras = endpoint.extras; reads_old = false; bytes = endpoint.held; ended = false }
 
 -- the incremental parse went on by some events, whose frame, if there is one, was heard; without one it is whole
 pub record PartHeard (extras : List (ℕ × ℕ)) (key : List ℕ) (history : List Entry) (taken : List ℕ) (given : List Event) (heard : Option Heard) (held : Held) (stamps : Kept) : Type 0 where
   pub events : List Event
-  pub progress : Progress extras taken (given ++ events) held
+  pub progress : Progress extras false taken (given ++ events) held
   pub told : Told key history (frames_of events) [] (listed heard) stamps
-  pub whole : heard ≡ None → Incremental extras (given ++ events) held.bytes taken
+  pub whole : heard ≡ None → Incremental extras false (given ++ events) held.bytes taken

@@ -1,5 +1,5 @@
 // One end of signed links.
-ghost use Rattle.std.specs.Prelude.{◌≡◌, ℕ, ◌+◌, ◌*◌, ◌%◌, ◌^◌, ◌<◌, ◌≤◌, None, take, length, vec_len, vec_capacity, ◌++◌, ◌∷◌, [], List, Some, IfOk, OnOk, OnErr};
+ghost use Rattle.std.specs.Prelude.{◌≡◌, ℕ, ◌+◌, ◌*◌, ◌%◌, ◌^◌, ◌<◌, ◌≤◌, None, false, take, length, vec_len, vec_capacity, ◌++◌, ◌∷◌, [], List, Some, IfOk, OnOk, OnErr};
 ghost use Rattle.x25_check.specs.Extras.{extra_of};
 ghost use Rattle.mav_messages.specs.Messages.{definition_of};
 ghost use Rattle.mav_sign.specs.History.{Entry, sent, next_in, greatest_stamp};
@@ -44,7 +44,7 @@ impl Model for Endpoint {
 
     ghost view = { λ e. record { key = e.key; me = e.me; extras = e.extras; stamps = e.stamps; seq = e.seq; held = e.reader.bytes } };
 
-    ghost invariant = { λ e. HasProfile e.extras × (e.reader.extras ≡ e.extras) × (e.reader.ended ≡ false) };
+    ghost invariant = { λ e. HasProfile e.extras × (e.reader.extras ≡ e.extras) × (e.reader.ended ≡ false) × (e.reader.reads_old ≡ false) };
 }
 
 // What an admitted frame says.
@@ -64,9 +64,9 @@ impl Endpoint {
         requires { HasProfile extras }
         ensures state { IfOk result (λ endpoint. endpoint ≡ new_endpoint key me extras endpoint.stamps) }
         ensures history { IfOk result (λ endpoint. Represents endpoint.stamps []) }
-        ensures stream { IfOk result (λ endpoint. Progress extras [] [] (reader_of endpoint)) }
+        ensures stream { IfOk result (λ endpoint. Progress extras false [] [] (reader_of endpoint)) }
     {
-        let reader = Reader::new(extras.copy()?);
+        let reader = Reader::new(extras.copy()?, false);
         let stamps = Stamps::new(alloc)?;
         Ok(Endpoint {
             key,
@@ -118,7 +118,7 @@ impl Endpoint {
         ensures room { (vec_capacity out.old ≤ vec_capacity out.new) × (vec_len out.new * 12 ≤ vec_len out.old * 12 + result) }
         ensures same { self.new ≡ record self.old { stamps = self.new.stamps } }
     {
-        match look(&self.extras, bytes) {
+        match look(&self.extras, false, bytes) {
             Look::Frame(frame, size) => {
                 self.hear_frame(&frame, out);
                 size
@@ -148,7 +148,7 @@ impl Endpoint {
     // Reads on to the next frame of the incoming stream.
     fn read(&mut self, piece: &[u8]) -> (usize, Option<Frame>)
         ensures count { result.0 ≤ length piece.now }
-        ensures read { (taken : List ℕ) (given : List Event) → Progress self.old.extras taken given (reader_of self.old)
+        ensures read { (taken : List ℕ) (given : List Event) → Progress self.old.extras false taken given (reader_of self.old)
             → ReadTo self.old.extras (taken ++ take result.0 piece.now) given result.1 (reader_of self.new) }
         ensures none { result.1 ≡ None → result.0 ≡ length piece.now }
         ensures same { self.new ≡ record self.old { held = self.new.held } }
@@ -161,7 +161,7 @@ impl Endpoint {
     pub fn receive_part(&mut self, piece: &[u8]) -> (usize, Option<Heard>)
         ensures count { result.0 ≤ length piece.now }
         ensures heard { (taken : List ℕ) (given : List Event) (history : List Entry)
-            → Progress self.old.extras taken given (reader_of self.old) → Represents self.old.stamps history
+            → Progress self.old.extras false taken given (reader_of self.old) → Represents self.old.stamps history
             → PartHeard self.old.extras self.old.key history (taken ++ take result.0 piece.now) given result.1 (reader_of self.new) self.new.stamps }
         ensures none { result.1 ≡ None → result.0 ≡ length piece.now }
         ensures same { self.new ≡ record self.old { stamps = self.new.stamps; held = self.new.held } }

@@ -7,14 +7,14 @@ ghost use Rattle.mav_sign.specs.Streams.{ReadTo};
 use mav_frame::Frame;
 use mav_stream::{Next, Reader};
 
-/// Reads on to the next frame, and answers how many bytes of the piece that took. Without a frame it took all of them.
+/// Reads on to the next frame, and returns how many bytes of the piece that took. Without a frame it took all of them.
 pub(crate) fn read_frame(reader: &mut Reader, piece: &[u8]) -> (usize, Option<Frame>)
-    requires { reader.old.ended ≡ false }
+    requires { (reader.old.ended ≡ false) × (reader.old.reads_old ≡ false) }
     ensures count { result.0 ≤ length piece.now }
-    ensures read { (extras : List (ℕ × ℕ)) (taken : List ℕ) (given : List Event) → Progress extras taken given reader.old
+    ensures read { (extras : List (ℕ × ℕ)) (taken : List ℕ) (given : List Event) → Progress extras false taken given reader.old
         → ReadTo extras (taken ++ take result.0 piece.now) given result.1 reader.new }
     ensures none { result.1 ≡ None → result.0 ≡ length piece.now }
-    ensures same { (reader.new.extras ≡ reader.old.extras) × (reader.new.ended ≡ false) }
+    ensures same { (reader.new.extras ≡ reader.old.extras) × (reader.new.ended ≡ false) × (reader.new.reads_old ≡ false) }
 {
     let mut taken = 0;
     'reading: loop {

@@ -7,13 +7,13 @@ use crate::Key;
 use mav_frame::{Block, Frame, bytes_6, encode};
 use sha2::{Digest, Sha256};
 
-// Writes the bytes of a frame, and answers how many of them stand through its checksum.
+// Writes the bytes of a frame, and returns how many of them stand through its checksum.
 fn write_through_checksum(frame: &Frame, out: &mut [u8; 280]) -> usize
     ensures within { result < 280 }
     ensures bytes { take result out.new ≡ through_checksum frame.now }
 {
     let _ = encode(frame, out);
-    12 + usize::from(frame.len)
+    frame.unsigned_size()
 }
 
 // The signature of a frame.
@@ -55,11 +55,11 @@ pub fn verifies(key: &Key, frame: &Frame) -> bool
 /// microseconds since 1 January 2015, and the signature.
 pub fn sign(key: &Key, frame: &mut Frame, link: u8, stamp: u64)
     requires stamp { stamp < 2 ^ 48 }
-    requires block { IsSome frame.old.block }
-    ensures signed { frame.new ≡ record frame.old {
-      block = Some record { link = link; stamp = stamp; sig = signature_of key.now frame.old link stamp };
+    requires block { IsSome frame.now.block }
+    ensures signed { frame.exit.now ≡ record frame.entry.now {
+      block = Some record { link = link; stamp = stamp; sig = signature_of key.now frame.entry.now link stamp };
     } }
-    ensures verifies { Verifies key.now frame.new frame.new.block }
+    ensures verifies { Verifies key.now frame.exit.now frame.exit.now.block }
 {
     let sig = signature(key, frame, link, stamp);
     frame.block = Some(Block { link, stamp, sig });

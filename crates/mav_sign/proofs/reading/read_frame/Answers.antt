@@ -10,7 +10,8 @@ pub reading-init : goal.reading-init
 reading-init c = record {
   within = omega arith;
   extras = refl;
-  still = c.requires;
+  still = c.requires.0;
+  version = c.requires.1;
   skipped = λ extras taken given progress. skipped_start extras taken c.args.piece.now given c.args.reader.now progress;
 }
 
@@ -20,19 +21,20 @@ returns-in-Frame-clause-read c =
     let r = c.reading in
     let to = r.invariant.skipped extras taken given progress in
     let bytes = taken ++ take r.taken c.args.piece.now in
-    frame_read extras bytes given r.reader c.next.new.self c.in-Frame.frame to (c.in-Frame.ensures.progress extras bytes (given ++ to.events) to.progress)
+    frame_read extras bytes given r.reader c.next.new.self c.in-Frame.frame to (c.in-Frame.ensures.progress extras false bytes (given ++ to.events) to.progress)
 
 pub reading-preserved-in-Skipped : goal.reading-preserved-in-Skipped
 reading-preserved-in-Skipped c =
     let r = c.reading in
     record {
       within = r.invariant.within;
-      extras = c.in-Skipped.ensures.next.extras ∙ r.invariant.extras;
-      still = c.in-Skipped.ensures.next.ended ∙ r.invariant.still;
+      extras = ap (λ (h : Held). h.extras) c.in-Skipped.ensures.next.same ∙ r.invariant.extras;
+      still = ap (λ (h : Held). h.ended) c.in-Skipped.ensures.next.same ∙ r.invariant.still;
+      version = ap (λ (h : Held). h.reads_old) c.in-Skipped.ensures.next.same ∙ r.invariant.version;
       skipped = λ extras taken given progress.
           let to = r.invariant.skipped extras taken given progress in
           let bytes = taken ++ take r.taken c.args.piece.now in
-          skipped_more extras bytes given r.reader c.next.new.self c.in-Skipped.field-0 c.in-Skipped.field-1 to (c.in-Skipped.ensures.progress extras bytes (given ++ to.events) to.progress);
+          skipped_more extras bytes given r.reader c.next.new.self c.in-Skipped.field-0 c.in-Skipped.field-1 to (c.in-Skipped.ensures.progress extras false bytes (given ++ to.events) to.progress);
     }
 
 pub returns-then-taken-piece-clause-read : goal.returns-then-taken-piece-clause-read
@@ -42,8 +44,8 @@ returns-then-taken-piece-clause-read c =
     let to = r.invariant.skipped extras taken given progress in
     let bytes = taken ++ take r.taken c.args.piece.now in
     let still : c.next.new.self.ended ≡ false = ap (λ (h : Held). h.ended) c.in-Need.ensures.next.same ∙ r.invariant.still in
-    let on = subst (λ (g : List Event). Progress extras bytes g c.next.new.self) (append-nil (given ++ to.events)) (c.in-Need.ensures.progress extras bytes (given ++ to.events) to.progress) in
-    all_read extras bytes given r.reader c.next.new.self still to on (c.in-Need.ensures.whole extras bytes (given ++ to.events) to.progress)
+    let on = subst (λ (g : List Event). Progress extras false bytes g c.next.new.self) (append-nil (given ++ to.events)) (c.in-Need.ensures.progress extras false bytes (given ++ to.events) to.progress) in
+    all_read extras bytes given r.reader c.next.new.self still to on (c.in-Need.ensures.whole extras false bytes (given ++ to.events) to.progress)
 
 pub reading-preserved : goal.reading-preserved
 reading-preserved c =
@@ -57,9 +59,10 @@ reading-preserved c =
       within = omega (arith, few, r.invariant.within);
       extras = ap (λ (h : Held). h.extras) (c.feed-taken.ensures.held) ∙ (ap (λ (h : Held). h.extras) c.in-Need.ensures.next.same ∙ r.invariant.extras);
       still = ap (λ (h : Held). h.ended) (c.feed-taken.ensures.held) ∙ still;
+      version = ap (λ (h : Held). h.reads_old) (c.feed-taken.ensures.held) ∙ (ap (λ (h : Held). h.reads_old) c.in-Need.ensures.next.same ∙ r.invariant.version);
       skipped = λ extras taken given progress.
           let to = r.invariant.skipped extras taken given progress in
           let bytes = taken ++ take r.taken piece in
-          let on = subst (λ (g : List Event). Progress extras bytes g c.next.new.self) (append-nil (given ++ to.events)) (c.in-Need.ensures.progress extras bytes (given ++ to.events) to.progress) in
-          skipped_fed extras taken piece given r.reader c.feed-taken.new.self r.taken count few to (c.feed-taken.ensures.progress extras bytes (given ++ to.events) still on);
+          let on = subst (λ (g : List Event). Progress extras false bytes g c.next.new.self) (append-nil (given ++ to.events)) (c.in-Need.ensures.progress extras false bytes (given ++ to.events) to.progress) in
+          skipped_fed extras taken piece given r.reader c.feed-taken.new.self r.taken count few to (c.feed-taken.ensures.progress extras false bytes (given ++ to.events) still on);
     }

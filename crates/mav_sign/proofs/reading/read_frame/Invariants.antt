@@ -9,7 +9,8 @@ invariant-reading l = record {
   within : l.taken ≤ length l.piece;
   extras : l.reader.extras ≡ l.initial.reader.extras;
   still : l.reader.ended ≡ false;
-  skipped : (extras : List (ℕ × ℕ)) (taken : List ℕ) (given : List Event) → Progress extras taken given l.initial.reader → SkippedTo extras (taken ++ take l.taken l.piece) given l.reader;
+  version : l.reader.reads_old ≡ false;
+  skipped : (extras : List (ℕ × ℕ)) (taken : List ℕ) (given : List Event) → Progress extras false taken given l.initial.reader → SkippedTo extras (taken ++ take l.taken l.piece) given l.reader;
 }
 
 abbrev pub decreases-reading : goal.decreases-reading

@@ -1,4 +1,4 @@
-use Rattle.std.proofs.Common.{drop, slice_index, sym, subst, arith}
+use Rattle.std.proofs.Common.{false, drop, slice_index, sym, subst, arith}
 use Rattle.mav_frame.specs.Parse.{EventAt}
 use Rattle.mav_frame.specs.declared.events.Event.TheVariants.{Frame, Skipped}
 use Rattle.mav_frame.specs.declared.looks.Why.TheVariants.{Short}
@@ -14,7 +14,7 @@ returns-in-Frame-clause-heard c =
     let packet = c.in-Frame.frame in
     record {
       event = Frame packet;
-      stands = subst (λ (s : EndpointState). EventAt s.extras (Frame packet) bytes (drop c.in-Frame.size bytes)) c.self.view_is (frame_event c.self.inside.extras bytes packet c.in-Frame.size c.in-Frame.ensures.found);
+      stands = subst (λ (s : EndpointState). EventAt s.extras false (Frame packet) bytes (drop c.in-Frame.size bytes)) c.self.view_is (frame_event c.self.inside.extras false bytes packet c.in-Frame.size c.in-Frame.ensures.found);
       told = c.hear_frame.ensures.told history of;
     }
 
@@ -25,7 +25,7 @@ returns-in-NotHere-clause-heard c =
     let why = c.in-NotHere.field-0 in
     record {
       event = Skipped (slice_index bytes 0) why;
-      stands = subst (λ (s : EndpointState). EventAt s.extras (Skipped (slice_index bytes 0) why) bytes (drop 1 bytes)) c.self.view_is (skipped_event c.self.inside.extras bytes why c.requires.some (sym c.in-NotHere.ensures.exact));
+      stands = subst (λ (s : EndpointState). EventAt s.extras false (Skipped (slice_index bytes 0) why) bytes (drop 1 bytes)) c.self.view_is (skipped_event c.self.inside.extras false bytes why c.requires.some (sym c.in-NotHere.ensures.exact));
       told = told_none c.args.self.now.key history c.args.out.now.items c.args.self.now.stamps of;
     }
 
@@ -35,7 +35,7 @@ returns-in-More-clause-heard c =
     let bytes = c.args.bytes.now in
     record {
       event = Skipped (slice_index bytes 0) Short;
-      stands = subst (λ (s : EndpointState). EventAt s.extras (Skipped (slice_index bytes 0) Short) bytes (drop 1 bytes)) c.self.view_is (short_event c.self.inside.extras bytes c.in-More.field-0 c.requires.some (sym c.in-More.ensures.exact));
+      stands = subst (λ (s : EndpointState). EventAt s.extras false (Skipped (slice_index bytes 0) Short) bytes (drop 1 bytes)) c.self.view_is (short_event c.self.inside.extras false bytes c.in-More.field-0 c.requires.some (sym c.in-More.ensures.exact));
       told = told_none c.args.self.now.key history c.args.out.now.items c.args.self.now.stamps of;
     }
 
