@@ -7,3 +7,4 @@ pub mod OneParse
 pub mod LongerParse
 pub mod EventsFound
 pub mod ParsedByFunction
+mod Versions

@@ -1,10 +1,13 @@
 -- Laws of parses.
-use Rattle.std.specs.Prelude.{ℕ, ◌≡◌, ◌<◌, ◌↔◌, All, flat_map, Bool, List, [], ◌∷◌, ◌++◌}
+use Rattle.std.specs.Prelude.{ℕ, ◌≡◌, ◌≢◌, ◌<◌, ◌↔◌, All, flat_map, Bool, true, false, List, [], ◌∷◌, ◌++◌}
+use Rattle.mav_frame.specs.Packet.{Packet, FitsFrame}
+use Rattle.mav_frame.specs.Encoding.{encoding, IsSealed}
 use Rattle.mav_frame.specs.Looks.{look_of}
 use Rattle.mav_frame.specs.declared.looks.Look.TheVariants.{More}
 use Rattle.mav_frame.specs.Parse.{IsIncomplete, EventAt, Final, Incremental, BeginsIncremental, BeginsFinal, event_bytes}
 use Rattle.mav_frame.specs.FinalParse.{final_parse}
 use Rattle.mav_frame.specs.declared.events.Event.{Event}
+use Rattle.mav_frame.specs.declared.events.Event.TheVariants.{Frame, Skipped}
 
 -- a stream of bytes has the final parse that the function gives
 abbrev pub FinalIsFunction : Type 0
@@ -58,3 +61,23 @@ IncompleteIsMore =
 abbrev pub EventsCoverBytes : Type 0
 EventsCoverBytes =
     (extras : List (ℕ × ℕ)) (old : Bool) (events : List Event) (left b : List ℕ) → BeginsFinal extras old events left b → b ≡ flat_map event_bytes events ++ left
+
+-- a frame has one encoding, which is a prefix of no other frame's
+abbrev pub EncodingsArePrefixFree : Type 0
+EncodingsArePrefixFree =
+    (extras : List (ℕ × ℕ)) (old : Bool) (packet other : Packet) (more : List ℕ) → FitsFrame packet → FitsFrame other → IsSealed extras old packet → IsSealed extras old other → encoding other ≡ encoding packet ++ more → (packet ≡ other) × (more ≡ [])
+
+-- a frame of MAVLink 2, or a skipped byte
+abbrev pub IsNew : Event → Type 0
+IsNew (Frame packet) = packet.old ≡ false
+IsNew (Skipped byte why) = Unit {0}
+
+-- where frames of MAVLink 1 aren't read, none is in a parse
+abbrev pub OldFramesUnread : Type 0
+OldFramesUnread =
+    (extras : List (ℕ × ℕ)) (events : List Event) (b : List ℕ) → Final extras false events b → All IsNew events
+
+-- a stream without 0xFE has the same parse whether they are read or not
+abbrev pub SameWithoutOldStx : Type 0
+SameWithoutOldStx =
+    (extras : List (ℕ × ℕ)) (b : List ℕ) → All (λ byte. byte ≢ 0xFE) b → final_parse extras true b ≡ final_parse extras false b

@@ -1,5 +1,5 @@
 //! Laws of parses: functions without a body, whose contract is the law.
-ghost use Rattle.mav_frame.specs.ParseLaws.{FinalIsFunction, OneFinal, OneIncremental, MoreBytesKeep, IncrementalGoesOn, IncrementalEnds, FinalGoesOn, FinalEnds, IncrementalBeginsFinal, IncompleteIsMore, EventsCoverBytes};
+ghost use Rattle.mav_frame.specs.ParseLaws.{FinalIsFunction, OneFinal, OneIncremental, MoreBytesKeep, IncrementalGoesOn, IncrementalEnds, FinalGoesOn, FinalEnds, IncrementalBeginsFinal, IncompleteIsMore, EventsCoverBytes, EncodingsArePrefixFree, OldFramesUnread, SameWithoutOldStx};
 
 /// `final_parse` is the final parse of the bytes.
 pub fn final_is_function()
@@ -54,4 +54,19 @@ pub fn incomplete_is_more()
 /// The bytes of the events in order, and then those left, are the stream's.
 pub fn events_cover_bytes()
     ensures { EventsCoverBytes }
+{}
+
+/// A frame has one encoding, which is a prefix of no other frame's.
+pub fn encodings_are_prefix_free()
+    ensures { EncodingsArePrefixFree }
+{}
+
+/// Where frames of MAVLink 1 aren't read, none is in a parse.
+pub fn old_frames_unread()
+    ensures { OldFramesUnread }
+{}
+
+/// A stream without 0xFE has the same parse whether frames of MAVLink 1 are read or not.
+pub fn same_without_old_stx()
+    ensures { SameWithoutOldStx }
 {}
