@@ -1,9 +1,9 @@
 -- An authentic scenario of the grammar that keeps to the limits is played to its end.
 use Rattle.std.proofs.Common.{◌≡◌, ◌≢◌, ◌∙◌, inl, inr, ℕ, Bool, true, List, refl, sym, ap, Option, Some, None, option_map}
 use Rattle.std.specs.Io.KnownBytes.{append_known}
-use Rattle.command_ends.specs.declared.stops.Stop.{Stop}
-use Rattle.command_ends.specs.Endings.{code_of}
-use Rattle.command_ends.specs.Runs.{Outside, Promises, end_of, output_of}
+use Rattle.run_status.specs.declared.stops.Stop.{Stop}
+use Rattle.run_status.specs.Endings.{code_of}
+use Rattle.run_status.specs.Runs.{Outside, Promises, end_of, output_of}
 use Rattle.fleet_world.specs.Authentic.{Authentic}
 use Rattle.fleet_world.specs.Steps.{At_limit, Stamps_spent}
 use Rattle.fleet_world.specs.Scenario.{Stop as ScenarioStop, Bad, Too_many_lines, Halted, played}

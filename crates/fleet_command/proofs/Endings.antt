@@ -4,9 +4,9 @@ use Rattle.std.specs.Result.{result_err}
 use Rattle.std.specs.Io.KnownBytes.{append_known, prepend_known}
 use Rattle.fleet_world.specs.Seen.{World}
 use Rattle.fleet_world.specs.Scenario.{Played, played, report_of, whole_report}
-use Rattle.command_ends.specs.declared.halts.Halt.{Halt}
-use Rattle.command_ends.specs.declared.halts.Halt.TheVariants.{Usage, Stopped, ReadFault, WriteFault, NoMemory, TurnsSpent}
-use Rattle.command_ends.specs.Runs.{Outside, text_so_far, Untold}
+use Rattle.run_status.specs.declared.halts.Halt.{Halt}
+use Rattle.run_status.specs.declared.halts.Halt.TheVariants.{Usage, Stopped, ReadFault, WriteFault, NoMemory, TurnsSpent}
+use Rattle.run_status.specs.Runs.{Outside, text_so_far, Untold}
 use Rattle.fleet_command.specs.Plays.{Reading, HaltedAt, Finished}
 use Rattle.fleet_command.specs.Script.{told_stop, fleet_script}
 use Rattle.fleet_command.proofs.Steps.{reading_cut}

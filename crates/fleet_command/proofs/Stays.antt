@@ -1,8 +1,8 @@
 -- A scenario that stopped stays so, whatever follows.
 use Rattle.std.proofs.Common.{◌≡◌, ◌∙◌, ℕ, Bool, false, List, ◌++◌, refl, ap, Option, Some, None, option_map}
 use Rattle.fleet_world.specs.Scenario.{Played, Stop as ScenarioStop, played, report_of}
-use Rattle.command_ends.specs.declared.stops.Stop.{Stop}
-use Rattle.command_ends.specs.Runs.{Steady}
+use Rattle.run_status.specs.declared.stops.Stop.{Stop}
+use Rattle.run_status.specs.Runs.{Steady}
 use Rattle.fleet_command.specs.Script.{told_stop, fleet_script}
 use Rattle.fleet_command.proofs.Grows.{stopped_for_good}
 

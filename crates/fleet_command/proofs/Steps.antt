@@ -18,9 +18,9 @@ use Rattle.fleet_world.specs.declared.faults.WorldFault.TheVariants.{Limit, Node
 use Rattle.fleet_world.specs.Promises.{IsStep, IsHalt}
 use Rattle.fleet_world.specs.Steps.{Step, Halt as LineHalt, At_limit, Stamps_spent, after_line, closing_text}
 use Rattle.fleet_world.specs.Scenario.{Played, Stop as ScenarioStop, Bad, Too_many_lines, Halted, most_lines, stopped, goes_on, judged, without_cr, line_played, last_played, unless_stopped, at_start, played, report_of, whole_report}
-use Rattle.command_ends.specs.declared.halts.Halt.{Halt}
-use Rattle.command_ends.specs.declared.halts.Halt.TheVariants.{Usage, Stopped, ReadFault, WriteFault, NoMemory, TurnsSpent}
-use Rattle.command_ends.specs.declared.stops.Stop.{Stop}
+use Rattle.run_status.specs.declared.halts.Halt.{Halt}
+use Rattle.run_status.specs.declared.halts.Halt.TheVariants.{Usage, Stopped, ReadFault, WriteFault, NoMemory, TurnsSpent}
+use Rattle.run_status.specs.declared.stops.Stop.{Stop}
 use Rattle.fleet_command.specs.Script.{told_stop}
 use Rattle.fleet_command.specs.Plays.{plays, long_halt, Holds, Reading, StoppedBy, HaltedAt, Finished, Leads, FailsAs}
 use Rattle.fleet_command.proofs.Lines.{part_short, part_long, too_long, played_plays}

@@ -2,11 +2,11 @@
 use Rattle.std.proofs.Common.{◌≡◌, ◌∙◌, ℕ, Bool, true, List, ◌++◌, sym, subst, arith, ap, Option, Some, None, append-nil}
 use Rattle.std.specs.Io.KnownBytes.{prepend_known}
 use Rattle.mav_ports.specs.Gets.{IsSpent}
-use Rattle.command_ends.specs.declared.halts.Halt.{Halt}
-use Rattle.command_ends.specs.declared.halts.Halt.TheVariants.{Usage, Stopped, ReadFault, WriteFault, NoMemory, TurnsSpent}
-use Rattle.command_ends.specs.declared.stops.Stop.TheVariants.{Bad, AtLimit, StampsSpent}
-use Rattle.command_ends.specs.Endings.{code_of}
-use Rattle.command_ends.specs.Runs.{Outside, Ran}
+use Rattle.run_status.specs.declared.halts.Halt.{Halt}
+use Rattle.run_status.specs.declared.halts.Halt.TheVariants.{Usage, Stopped, ReadFault, WriteFault, NoMemory, TurnsSpent}
+use Rattle.run_status.specs.declared.stops.Stop.TheVariants.{Bad, AtLimit, StampsSpent}
+use Rattle.run_status.specs.Endings.{code_of}
+use Rattle.run_status.specs.Runs.{Outside, Ran}
 use Rattle.fleet_world.specs.Authentic.{Authentic}
 use Rattle.fleet_safety.proofs.Plays.{every_scenario}
 use Rattle.fleet_safety.proofs.ToldLines.{every_line}

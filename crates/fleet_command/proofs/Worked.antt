@@ -5,8 +5,8 @@ use Rattle.hex.specs.Hex.{encode_with, decode_pairs}
 use Rattle.sha2.specs.Sha256.{first_words, schedule, rounds, compress, hash_after, digest_bytes, sha256}
 use Rattle.x25_check.specs.Check as check
 use Rattle.plan_items.specs.Validation.{item_fault, whole_fault, plan_fault}
-use Rattle.command_ends.specs.Endings.{code_of}
-use Rattle.command_ends.specs.Runs.{Script, output_of, end_of}
+use Rattle.run_status.specs.Endings.{code_of}
+use Rattle.run_status.specs.Runs.{Script, output_of, end_of}
 use Rattle.fleet_world.specs.Scene.{stream_of}
 use Rattle.fleet_world.specs.Authentic.{Authentic}
 use Rattle.fleet_safety.specs.Actions.{Accepts_upload, actions_of}

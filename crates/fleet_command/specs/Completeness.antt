@@ -6,7 +6,7 @@ use Rattle.fleet_world.specs.declared.faults.Bound.{Bound}
 use Rattle.fleet_world.specs.Steps.{At_limit}
 use Rattle.fleet_world.specs.Authentic.{Authentic}
 use Rattle.fleet_world.specs.Scenario.{Bad, Too_many_lines, Halted, played, whole_report}
-use Rattle.command_ends.specs.Runs.{Outside}
+use Rattle.run_status.specs.Runs.{Outside}
 
 -- a scenario of the grammar that keeps to the limits, played under a key
 pub record IsPlayable (key : List ℕ) (bytes : List ℕ) : Type 0 where

@@ -6,14 +6,14 @@ use Rattle.fleet_world.specs.declared.faults.Bound.{Bound}
 use Rattle.fleet_world.specs.declared.faults.Bound.TheVariants.{Frames as MostFrames, Drones as MostDrones, Stations as MostStations}
 use Rattle.fleet_world.specs.Steps.{Halt, At_limit, Stamps_spent, closing_text}
 use Rattle.fleet_world.specs.Scenario.{Stop as ScenarioStop, Bad as BadLine, Too_many_lines, Halted, played, report_of}
-use Rattle.command_ends.specs.declared.stops.Place.TheVariants.{Line}
-use Rattle.command_ends.specs.declared.stops.InputReason.{InputReason}
-use Rattle.command_ends.specs.declared.stops.InputReason.TheVariants.{Long as IsLong, Word as IsWord, Later as IsLater, Count as IsCount, Number as IsNumber, Node as IsNode, Kind as IsKind, Hex as IsHex, Twice as IsTwice, Range as IsRange, Draft as IsDraft, Clock as IsClock}
-use Rattle.command_ends.specs.declared.stops.Limit.{Limit}
-use Rattle.command_ends.specs.declared.stops.Limit.TheVariants.{Lines, Frames, Drones, Stations}
-use Rattle.command_ends.specs.declared.stops.Stop.{Stop}
-use Rattle.command_ends.specs.declared.stops.Stop.TheVariants.{Bad, AtLimit, StampsSpent}
-use Rattle.command_ends.specs.Runs.{Script}
+use Rattle.run_status.specs.declared.stops.Place.TheVariants.{Line}
+use Rattle.run_status.specs.declared.stops.InputReason.{InputReason}
+use Rattle.run_status.specs.declared.stops.InputReason.TheVariants.{Long as IsLong, Word as IsWord, Later as IsLater, Count as IsCount, Number as IsNumber, Node as IsNode, Kind as IsKind, Hex as IsHex, Twice as IsTwice, Range as IsRange, Draft as IsDraft, Clock as IsClock}
+use Rattle.run_status.specs.declared.stops.Limit.{Limit}
+use Rattle.run_status.specs.declared.stops.Limit.TheVariants.{Lines, Frames, Drones, Stations}
+use Rattle.run_status.specs.declared.stops.Stop.{Stop}
+use Rattle.run_status.specs.declared.stops.Stop.TheVariants.{Bad, AtLimit, StampsSpent}
+use Rattle.run_status.specs.Runs.{Script}
 
 -- a reason against a line, as it is told
 abbrev pub told_reason : Reason → InputReason

@@ -1,8 +1,8 @@
 -- The main theorem of a run of `fleet`, over the bytes that it took and what it wrote.
 use Rattle.std.specs.Prelude.{◌≡◌, ℕ, Bool, List, Option}
-use Rattle.command_ends.specs.declared.halts.Halt.{Halt}
-use Rattle.command_ends.specs.Endings.{code_of}
-use Rattle.command_ends.specs.Runs.{Outside, Ran}
+use Rattle.run_status.specs.declared.halts.Halt.{Halt}
+use Rattle.run_status.specs.Endings.{code_of}
+use Rattle.run_status.specs.Runs.{Outside, Ran}
 use Rattle.fleet_world.specs.Scenario.{played}
 use Rattle.fleet_world.specs.Authentic.{Authentic}
 use Rattle.fleet_safety.specs.Actions.{actions_of}

@@ -12,11 +12,11 @@ ghost use Rattle.fleet_world.specs.Scenario.{Bad, report_of, whole_report, witho
 ghost use Rattle.fleet_command.specs.Script.{told_reason, told_limit, told_stop};
 ghost use Rattle.fleet_command.specs.Plays.{Holds, Reading, HaltedAt, Finished, Leads, FailsAs, budget, long_halt};
 
-use command_ends::{Halt, InputReason, Limit, Place, Stop};
 use fleet_world::{Bound, World, WorldFault};
 use mav_nodes::NodeFault;
 use mav_ports::{NoMemory, Sink, write_all};
 use mav_sign::Key;
+use run_status::{Halt, InputReason, Limit, Place, Stop};
 use scenario_lines::{LineFault, Reason};
 use std::alloc::Global;
 

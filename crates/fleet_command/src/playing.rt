@@ -2,14 +2,14 @@
 ghost use Rattle.std.specs.Prelude.{◌≡◌, ◌<◌, ℕ, Bool, List, [], length, IsErrOf};
 ghost use Rattle.std.specs.Result.{result_err};
 ghost use Rattle.mav_ports.specs.Gets.{IsSpent};
-ghost use Rattle.command_ends.specs.Runs.{Untold, outside};
+ghost use Rattle.run_status.specs.Runs.{Untold, outside};
 ghost use Rattle.fleet_command.specs.Plays.{Reading};
 ghost use Rattle.fleet_command.specs.Script.{fleet_script};
 
 use crate::player::Player;
-use command_ends::{Halt, read_on};
 use mav_ports::{Got, Sink, Source};
 use mav_sign::Key;
+use run_status::{Halt, read_on};
 use std::alloc::Global;
 
 // How much is read at once.

@@ -11,9 +11,9 @@ use Rattle.command_line.specs.Built.{built, is_built}
 use Rattle.command_line.specs.Commands.{command_word, needs_key}
 use Rattle.command_line.specs.Forms.{stdin_files, ArePlain, IsFile}
 use Rattle.command_line.specs.Grammar.{Asked, Asks, Bare}
-use Rattle.command_ends.specs.Runs.{Script, end_of, output_of as output_by}
-use Rattle.command_ends.specs.Endings.{code_of}
-use Rattle.key_input.specs.KeyText.{default_key}
+use Rattle.run_status.specs.Runs.{Script, end_of, output_of as output_by}
+use Rattle.run_status.specs.Endings.{code_of}
+use Rattle.key_file.specs.KeyText.{default_key}
 use Rattle.fleet_command.specs.Examples.{one_item, the_key, IsInstalledOnce}
 use Rattle.fleet_command.proofs.Theorem.{theorem_of}
 use Rattle.fleet_command.proofs.Worked.{one_item_authentic, installed_once}

@@ -5,10 +5,10 @@ use Rattle.std.proofs.lemmas.Slice.Eq.{bytes_eq-Decides}
 use Rattle.hex.specs.Hex.{decode_sized}
 use Rattle.hex.specs.declared.error.FromHexError.{FromHexError}
 use Rattle.mav_ports.specs.Gets.{IsSpent}
-use Rattle.command_ends.proofs.Ends.{whole_taken}
-use Rattle.key_input.specs.KeyText.{is_line_end, key_with, key_or_default}
-use Rattle.key_input.specs.Script.{most_key_bytes, refusal_of, key_script}
-use Rattle.key_input.proofs.Stays.{goes_on}
+use Rattle.run_status.proofs.Ends.{whole_taken}
+use Rattle.key_file.specs.KeyText.{is_line_end, key_with, key_or_default}
+use Rattle.key_file.specs.Script.{most_key_bytes, refusal_of, key_script}
+use Rattle.key_file.proofs.Stays.{goes_on}
 use Rattle.fleet_command.specs.Script.{fleet_script}
 use Rattle.fleet_command.proofs.Completeness.{completed}
 use Rattle.station_cli.specs.Seen.{Input, Output, around, promised_over}

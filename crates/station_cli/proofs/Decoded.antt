@@ -4,15 +4,15 @@ use Rattle.std.specs.Result.{result_err}
 use Rattle.mav_ports.specs.Gets.{IsSpent}
 use Rattle.mav_ports.proofs.Known.{prepend_known_nil}
 use Rattle.mav_profile.specs.Profile.{profile_definitions}
-use Rattle.command_ends.specs.declared.halts.Halt.{Halt}
-use Rattle.command_ends.specs.declared.halts.Halt.TheVariants.{WriteFault, NoMemory}
-use Rattle.command_ends.specs.Endings.{code_of}
-use Rattle.command_ends.specs.Runs.{Script, Steady}
-use Rattle.command_ends.specs.Tells.{Tells}
-use Rattle.command_ends.proofs.Untolds.{untold_nothing, ran_told}
-use Rattle.command_ends.proofs.Ends.{promised}
-use Rattle.key_input.specs.Script.{key_script, TookAtMost}
-use Rattle.key_input.proofs.Stays.{key_steady}
+use Rattle.run_status.specs.declared.halts.Halt.{Halt}
+use Rattle.run_status.specs.declared.halts.Halt.TheVariants.{WriteFault, NoMemory}
+use Rattle.run_status.specs.Endings.{code_of}
+use Rattle.run_status.specs.Runs.{Script, Steady}
+use Rattle.run_status.specs.Tells.{Tells}
+use Rattle.run_status.proofs.Untolds.{untold_nothing, ran_told}
+use Rattle.run_status.proofs.Ends.{promised}
+use Rattle.key_file.specs.Script.{key_script, TookAtMost}
+use Rattle.key_file.proofs.Stays.{key_steady}
 use Rattle.dialect_command.specs.Script.{definitions_script}
 use Rattle.dialect_command.proofs.Stays.{reading_steady}
 use Rattle.decode_command.specs.Script.{decode_script}

@@ -1,11 +1,11 @@
 -- The clauses of `fleet`, from those of its parts.
 use Rattle.std.proofs.Common.{◌≡◌, ◌≢◌, inl, inr, ℕ, Bool, true, false, List, refl, subst, Option, Some}
 use Rattle.mav_ports.specs.Gets.{IsSpent}
-use Rattle.command_ends.specs.declared.halts.Halt.TheVariants.{NoMemory}
-use Rattle.command_ends.specs.Runs.{Script, Steady}
-use Rattle.key_input.specs.Script.{key_script}
-use Rattle.key_input.specs.KeyText.{default_key}
-use Rattle.key_input.proofs.Stays.{key_steady}
+use Rattle.run_status.specs.declared.halts.Halt.TheVariants.{NoMemory}
+use Rattle.run_status.specs.Runs.{Script, Steady}
+use Rattle.key_file.specs.Script.{key_script}
+use Rattle.key_file.specs.KeyText.{default_key}
+use Rattle.key_file.proofs.Stays.{key_steady}
 use Rattle.fleet_command.specs.Script.{fleet_script}
 use Rattle.fleet_command.proofs.Stays.{fleet_steady}
 use Rattle.fleet_command.proofs.Theorem.{carried}

@@ -4,11 +4,11 @@ use Rattle.std.specs.Result.{result_err}
 use Rattle.std.specs.Io.KnownBytes.{append_known}
 use Rattle.mav_ports.specs.Puts.{SentFront}
 use Rattle.mav_ports.proofs.Known.{append_known_nil}
-use Rattle.command_ends.specs.declared.stops.Stop.TheVariants.{Bad, AtLimit, StampsSpent}
-use Rattle.command_ends.specs.declared.halts.Halt.{Halt}
-use Rattle.command_ends.specs.declared.halts.Halt.TheVariants.{Usage, Stopped, ReadFault, WriteFault, NoMemory, TurnsSpent}
-use Rattle.command_ends.specs.Endings.{code_of}
-use Rattle.command_ends.specs.Tells.{HaltTold, Tells}
+use Rattle.run_status.specs.declared.stops.Stop.TheVariants.{Bad, AtLimit, StampsSpent}
+use Rattle.run_status.specs.declared.halts.Halt.{Halt}
+use Rattle.run_status.specs.declared.halts.Halt.TheVariants.{Usage, Stopped, ReadFault, WriteFault, NoMemory, TurnsSpent}
+use Rattle.run_status.specs.Endings.{code_of}
+use Rattle.run_status.specs.Tells.{HaltTold, Tells}
 use Rattle.station_cli.specs.Usage.{UsageTold}
 
 -- status 2 is that of words alone

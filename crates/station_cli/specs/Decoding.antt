@@ -3,8 +3,8 @@ use Rattle.std.specs.Prelude.{◌≡◌, ◌⊎◌, ℕ, Bool, true, false, List
 use Rattle.std.specs.declared.option.Option.{Option}
 use Rattle.field_layout.specs.Definition.{Definition}
 use Rattle.mav_profile.specs.Profile.{profile_definitions}
-use Rattle.command_ends.specs.Runs.{Script}
-use Rattle.key_input.specs.Script.{key_script, HoldsKey, TookAtMost}
+use Rattle.run_status.specs.Runs.{Script}
+use Rattle.key_file.specs.Script.{key_script, HoldsKey, TookAtMost}
 use Rattle.dialect_command.specs.Reads.{Holds}
 use Rattle.dialect_command.specs.Script.{definitions_script}
 use Rattle.decode_command.specs.Script.{decode_script}

@@ -1,8 +1,8 @@
 -- What is read of the inputs that a line of `fleet` names, what holds of that run, and when it is done.
 use Rattle.std.specs.Prelude.{◌≡◌, ◌≢◌, ℕ, Bool, true, false, List, None, Some}
 use Rattle.std.specs.declared.option.Option.{Option}
-use Rattle.key_input.specs.KeyText.{default_key, key_or_default}
-use Rattle.command_ends.specs.Runs.{Script}
+use Rattle.key_file.specs.KeyText.{default_key, key_or_default}
+use Rattle.run_status.specs.Runs.{Script}
 use Rattle.fleet_command.specs.Script.{fleet_script}
 use Rattle.fleet_command.specs.Theorem.{Carries}
 use Rattle.fleet_command.specs.Completeness.{NoFault, Completes}

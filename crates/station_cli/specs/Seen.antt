@@ -2,8 +2,8 @@
 use Rattle.std.specs.Prelude.{◌≡◌, ℕ, List}
 use Rattle.std.specs.declared.option.Option.{Option}
 use Rattle.mav_ports.specs.Gets.{IsSpent}
-use Rattle.command_ends.specs.declared.halts.Halt.{Halt}
-use Rattle.command_ends.specs.Runs.{Script, Outside, outside, Untold, Promises}
+use Rattle.run_status.specs.declared.halts.Halt.{Halt}
+use Rattle.run_status.specs.Runs.{Script, Outside, outside, Untold, Promises}
 
 pub record Input : Type 1 where
   -- it answered End, and nothing is left of it

@@ -8,12 +8,12 @@ ghost use Rattle.station_cli.specs.Seen.{input_of, output_of, untold_over};
 
 use crate::keys::named_key;
 use crate::wants::Inputs;
-use command_ends::Halt;
 use command_line::{Line, OptionName};
 use decode_command::{Known, decode, decode_by};
 use dialect_command::read_definitions;
 use mav_ports::{Sink, Source};
 use mav_sign::Key;
+use run_status::Halt;
 use std::alloc::Global;
 
 // Reads the definitions, and decodes the main input by them.

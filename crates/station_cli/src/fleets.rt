@@ -8,12 +8,12 @@ ghost use Rattle.station_cli.specs.Seen.{input_of, output_of, untold_over};
 
 use crate::keys::named_key;
 use crate::wants::Inputs;
-use command_ends::Halt;
 use command_line::{Line, OptionName};
 use fleet_command::fleet;
-use key_input::default_key;
+use key_file::default_key;
 use mav_ports::{Sink, Source};
 use mav_sign::Key;
+use run_status::Halt;
 use std::alloc::Global;
 
 fn or_default(key: Option<Key>) -> Key

@@ -3,15 +3,15 @@ ghost use Rattle.std.specs.Prelude.{◌≡◌, ℕ, List, Some, true, map, IfOk,
 ghost use Rattle.std.specs.declared.option.Option.{Option};
 ghost use Rattle.command_line.specs.Forms.{has_given};
 ghost use Rattle.command_line.specs.Lines.{given_of};
-ghost use Rattle.key_input.specs.Script.{key_script, TookAtMost};
+ghost use Rattle.key_file.specs.Script.{key_script, TookAtMost};
 ghost use Rattle.station_cli.specs.Decoding.{KeyIs};
 ghost use Rattle.station_cli.specs.Seen.{Output, input_of, untold_over};
 
-use command_ends::Halt;
 use command_line::{Line, OptionName};
-use key_input::read_key;
+use key_file::read_key;
 use mav_ports::Source;
 use mav_sign::Key;
+use run_status::Halt;
 
 /// Reads the key, where the line names one.
 pub(crate) fn named_key<S: Source>(line: &Line, key: &mut S) -> Result<Option<Key>, Halt>

@@ -3,7 +3,7 @@ ghost use Rattle.std.specs.Prelude.{◌≡◌, ◌≢◌, ◌⊎◌, ⊤, true, 
 ghost use Rattle.std.specs.Prelude.{IsErrOf, map, string_bytes};
 ghost use Rattle.std.specs.Result.{result_err};
 ghost use Rattle.mav_ports.specs.Gets.{IsSpent};
-ghost use Rattle.command_ends.specs.Runs.{Untold, Promises, outside};
+ghost use Rattle.run_status.specs.Runs.{Untold, Promises, outside};
 ghost use Rattle.command_line.specs.Built.{is_built, built};
 ghost use Rattle.command_line.specs.Forms.{has_given};
 ghost use Rattle.command_line.specs.Grammar.{Asked, Asks, AskNothing};
@@ -17,10 +17,10 @@ ghost use Rattle.station_cli.specs.Usage.{UsageTold};
 use crate::decoding::run_decode;
 use crate::fleets::run_fleet;
 use crate::wants::Inputs;
-use command_ends::{Halt, code_of, tell};
 use command_line::{Command, Line, OptionName, WantedFault, read};
 use dialect_command::{dialect, profile};
 use mav_ports::{Clock, Sink, Source};
+use run_status::{Halt, code_of, tell};
 use std::alloc::Global;
 
 // Runs `dialect`: over the definitions where the line names them, else over the profile.

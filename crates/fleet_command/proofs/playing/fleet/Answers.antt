@@ -1,6 +1,6 @@
 use Rattle.std.proofs.Common.{refl}
 use Rattle.std.proofs.lemmas.Result.{err_from_is_err_and}
-use Rattle.command_ends.proofs.Untolds.{untold_nothing}
+use Rattle.run_status.proofs.Untolds.{untold_nothing}
 use Rattle.fleet_command.specs.Script.{fleet_script}
 use Rattle.fleet_command.proofs.Steps.{reading_new}
 use Rattle.fleet_command.proofs.playing.fleet.Goals as goal

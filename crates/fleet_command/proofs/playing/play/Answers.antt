@@ -2,7 +2,7 @@ use Rattle.std.proofs.Common.{[], ◌≤◌, ◌++◌, ◌∙◌, ap, sym, refl,
 use Rattle.std.proofs.lemmas.Result.{err_from_is_err_and}
 use Rattle.mav_ports.specs.Counts.{Rose}
 use Rattle.mav_ports.proofs.Known.{prepend_known_nil}
-use Rattle.command_ends.proofs.Untolds.{took_none, took_more}
+use Rattle.run_status.proofs.Untolds.{took_none, took_more}
 use Rattle.fleet_command.proofs.Endings.{untold_halt, untold_end, untold_fault, untold_idle}
 use Rattle.fleet_command.proofs.playing.play.Goals as goal
 

@@ -1,7 +1,7 @@
 use Rattle.std.proofs.Common.{◌∙◌, refl, sym}
 use Rattle.std.specs.Result.{result_err}
-use Rattle.command_ends.proofs.Untolds.{ran_told, sound_told}
-use Rattle.command_ends.proofs.Ends.{promised}
+use Rattle.run_status.proofs.Untolds.{ran_told, sound_told}
+use Rattle.run_status.proofs.Ends.{promised}
 use Rattle.mav_profile.specs.Profile.{profile_definitions}
 use Rattle.dialect_command.specs.Script.{dialect_script, profile_script}
 use Rattle.dialect_command.proofs.Stays.{reading_steady, telling_steady}

@@ -1,7 +1,7 @@
 use Rattle.std.proofs.Common.{true, false, refl}
 use Rattle.command_line.specs.declared.commands.Command.TheVariants.{Fleet, Dialect, Decode}
 use Rattle.command_line.specs.declared.commands.OptionName.TheVariants.{Frames, Defs, Key}
-use Rattle.command_ends.proofs.Untolds.{untold_nothing}
+use Rattle.run_status.proofs.Untolds.{untold_nothing}
 use Rattle.dialect_command.specs.Script.{dialect_script, profile_script}
 use Rattle.station_cli.proofs.Same.{same_command, same_given, same_options}
 use Rattle.station_cli.proofs.Decoded.{decodes_as, decodes_unread}

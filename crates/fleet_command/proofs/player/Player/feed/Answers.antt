@@ -1,6 +1,6 @@
 use Rattle.std.proofs.Common.{◌≡◌, ◌≤◌, ◌<◌, ◌+◌, ◌∷◌, ◌++◌, [], ℕ, List, length, get_or, subst, sym, ap, ◌∙◌, take, drop, suc, refl, arith, append_assoc, append-nil, Ok, Err}
-use Rattle.command_ends.specs.declared.halts.Halt.{Halt}
-use Rattle.command_ends.specs.declared.halts.Halt.TheVariants.{WriteFault}
+use Rattle.run_status.specs.declared.halts.Halt.{Halt}
+use Rattle.run_status.specs.declared.halts.Halt.TheVariants.{WriteFault}
 use Rattle.std.proofs.lemmas.List.{take_more, take_all}
 use Rattle.mav_ports.specs.Counts.{Rose}
 use Rattle.std.proofs.lemmas.Result.{err_from_is_err_and}

@@ -2,7 +2,7 @@ use Rattle.std.proofs.Common.{◌≡◌, ◌≤◌, ◌+◌, ◌∷◌, ◌++◌
 use Rattle.std.proofs.lemmas.Result.{err_from_is_err_and}
 use Rattle.fleet_world.specs.Seen.{World}
 use Rattle.fleet_world.specs.Scenario.{line_played}
-use Rattle.command_ends.specs.declared.halts.Halt.{Halt}
+use Rattle.run_status.specs.declared.halts.Halt.{Halt}
 use Rattle.fleet_command.specs.Plays.{Reading, Leads, budget}
 use Rattle.fleet_command.proofs.Steps.{HaltedBy, if_err_leads, halted_next, reading_front, reading_next, reading_held, reading_long}
 use Rattle.fleet_command.proofs.player.Player.take.Goals as goal
