@@ -9,11 +9,11 @@ use Rattle.mav_ports.proofs.Known.{sent_all}
 use Rattle.decode_command.specs.declared.known.Known.{Known}
 use Rattle.mav_profile.specs.Messages.{extras_of}
 use Rattle.mav_frame.specs.declared.events.Event.{Event}
-use Rattle.command_ends.specs.declared.halts.Halt.{Halt}
-use Rattle.command_ends.specs.declared.halts.Halt.TheVariants.{Stopped, ReadFault, WriteFault, NoMemory, TurnsSpent}
-use Rattle.command_ends.specs.declared.stops.Limit.TheVariants.{InputBytes}
-use Rattle.command_ends.specs.declared.stops.Stop.TheVariants.{AtLimit}
-use Rattle.command_ends.specs.Runs.{Outside, Untold, text_so_far}
+use Rattle.run_status.specs.declared.halts.Halt.{Halt}
+use Rattle.run_status.specs.declared.halts.Halt.TheVariants.{Stopped, ReadFault, WriteFault, NoMemory, TurnsSpent}
+use Rattle.run_status.specs.declared.stops.Limit.TheVariants.{InputBytes}
+use Rattle.run_status.specs.declared.stops.Stop.TheVariants.{AtLimit}
+use Rattle.run_status.specs.Runs.{Outside, Untold, text_so_far}
 use Rattle.decode_command.specs.Parsing.{final_events, incremental_events}
 use Rattle.decode_command.specs.DecodeText.{event_lines, decode_text, last_line}
 use Rattle.decode_command.specs.Script.{most_input_bytes, lines_at, decode_script}

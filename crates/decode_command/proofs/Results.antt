@@ -1,6 +1,6 @@
 -- What holds of an answer, whichever it is.
 use Rattle.std.proofs.Common.{Result, Ok, Err, OnOk, IfErr}
-use Rattle.command_ends.specs.declared.halts.Halt.{Halt}
+use Rattle.run_status.specs.declared.halts.Halt.{Halt}
 
 pub on_ok : {P : Type 0} {Q : Type 0} (r : Result (Unit {0}) Halt) → OnOk r P → (P → Q) → OnOk r Q
 on_ok (Ok done) p f = f p

@@ -3,10 +3,10 @@ use Rattle.std.proofs.Common.{◌≡◌, ◌∙◌, ◌<◌, ◌≤◌, ℕ, ltb
 use Rattle.std.proofs.lemmas.Bool.{ltb-true}
 use Rattle.std.proofs.lemmas.List.{take-append-le}
 use Rattle.decode_command.specs.declared.known.Known.{Known}
-use Rattle.command_ends.specs.declared.stops.Limit.TheVariants.{InputBytes}
-use Rattle.command_ends.specs.declared.stops.Stop.{Stop}
-use Rattle.command_ends.specs.declared.stops.Stop.TheVariants.{AtLimit}
-use Rattle.command_ends.specs.Runs.{Steady}
+use Rattle.run_status.specs.declared.stops.Limit.TheVariants.{InputBytes}
+use Rattle.run_status.specs.declared.stops.Stop.{Stop}
+use Rattle.run_status.specs.declared.stops.Stop.TheVariants.{AtLimit}
+use Rattle.run_status.specs.Runs.{Steady}
 use Rattle.decode_command.specs.Script.{most_input_bytes, lines_at, decode_script}
 use Rattle.decode_command.proofs.Ends.{stops, report_past}
 

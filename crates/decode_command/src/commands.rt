@@ -2,17 +2,17 @@
 ghost use Rattle.std.specs.Prelude.{◌≡◌, ◌<◌, ◌≤◌, ◌+◌, [], true, false, length, IsErrOf};
 ghost use Rattle.std.specs.Result.{result_err};
 ghost use Rattle.mav_ports.specs.Gets.{IsSpent};
-ghost use Rattle.command_ends.specs.Runs.{Untold, outside};
+ghost use Rattle.run_status.specs.Runs.{Untold, outside};
 ghost use Rattle.mav_profile.specs.Profile.{profile_definitions};
 ghost use Rattle.decode_command.specs.Decodes.{Drained, IsNew, IsWithin};
 ghost use Rattle.decode_command.specs.Script.{decode_script, most_input_bytes};
 
 use crate::decoder::Decoder;
 use crate::known::Known;
-use command_ends::{Halt, Limit, Stop, read_on};
 use dialect::Dialect;
 use mav_ports::{Got, Sink, Source};
 use mav_sign::Key;
+use run_status::{Halt, Limit, Stop, read_on};
 use std::alloc::Global;
 
 // How much is read at once.

@@ -14,12 +14,12 @@ ghost use Rattle.decode_command.specs.Decodes.{Decoding, Drained, Halted, Front,
 use crate::known::Known;
 use crate::prepared::Prepared;
 use crate::writing::{ENOUGH_BYTES, write, write_enough};
-use command_ends::Halt;
 use dialect::Dialect;
 use mav_frame::Why;
 use mav_ports::{NoMemory, Sink};
 use mav_scan::{Ahead, Scanner};
 use mav_text::{Chunk, put_decimal, put_skips};
+use run_status::Halt;
 use std::alloc::Global;
 
 // More than the lines of what stands in front have.

@@ -4,8 +4,8 @@ ghost use Rattle.std.specs.declared.option.Option.{Option};
 ghost use Rattle.mav_ports.specs.Counts.{Rose};
 ghost use Rattle.mav_ports.specs.Puts.{Sent, SentFront};
 
-use command_ends::Halt;
 use mav_ports::{Sink, write_all};
+use run_status::Halt;
 
 /// How many bytes of lines are written at once.
 pub(crate) const ENOUGH_BYTES: usize = 65_536;

@@ -6,10 +6,10 @@ use Rattle.mav_ports.specs.Puts.{SentFront}
 use Rattle.mav_ports.proofs.Known.{append_known_nil, sent_start}
 use Rattle.field_layout.specs.Definition.{Definition}
 use Rattle.mav_text.specs.LayoutText.{dialect_text}
-use Rattle.command_ends.specs.declared.halts.Halt.{Halt}
-use Rattle.command_ends.specs.declared.halts.Halt.TheVariants.{Usage, Stopped, ReadFault, WriteFault, NoMemory, TurnsSpent}
-use Rattle.command_ends.specs.declared.stops.Stop.{Stop}
-use Rattle.command_ends.specs.Runs.{outside, text_so_far, Untold}
+use Rattle.run_status.specs.declared.halts.Halt.{Halt}
+use Rattle.run_status.specs.declared.halts.Halt.TheVariants.{Usage, Stopped, ReadFault, WriteFault, NoMemory, TurnsSpent}
+use Rattle.run_status.specs.declared.stops.Stop.{Stop}
+use Rattle.run_status.specs.Runs.{outside, text_so_far, Untold}
 use Rattle.dialect_command.specs.Script.{refusal_of, text_of, reading, dialect_script, telling}
 use Rattle.dialect_command.specs.Reads.{of_input, Holds, Halts}
 use Rattle.dialect_command.specs.Ends.{Told}

@@ -7,13 +7,13 @@ use Rattle.dialect.specs.declared.faults.DialectFault.{DialectFault}
 use Rattle.dialect.specs.declared.faults.DialectFault.TheVariants.{NotJson, Shape, BadType, BadName, TwiceId, TwiceName, Layout, TooMany, NoMemory as Unread}
 use Rattle.field_layout.specs.Definition.{Definition}
 use Rattle.dialect.specs.Grammar.{definitions_of}
-use Rattle.command_ends.specs.declared.halts.Halt.TheVariants.{Stopped, ReadFault, NoMemory, TurnsSpent}
-use Rattle.command_ends.specs.declared.stops.Place.TheVariants.{Definitions}
-use Rattle.command_ends.specs.declared.stops.InputReason.{InputReason}
-use Rattle.command_ends.specs.declared.stops.InputReason.TheVariants.{Json, Shape as IsShape, FieldType, Name, TwiceId as IsTwiceId, TwiceName as IsTwiceName, Layout as IsLayout, TooMany as AreTooMany}
-use Rattle.command_ends.specs.declared.stops.Limit.TheVariants.{DefinitionBytes}
-use Rattle.command_ends.specs.declared.stops.Stop.TheVariants.{Bad, AtLimit}
-use Rattle.command_ends.specs.Runs.{Outside}
+use Rattle.run_status.specs.declared.halts.Halt.TheVariants.{Stopped, ReadFault, NoMemory, TurnsSpent}
+use Rattle.run_status.specs.declared.stops.Place.TheVariants.{Definitions}
+use Rattle.run_status.specs.declared.stops.InputReason.{InputReason}
+use Rattle.run_status.specs.declared.stops.InputReason.TheVariants.{Json, Shape as IsShape, FieldType, Name, TwiceId as IsTwiceId, TwiceName as IsTwiceName, Layout as IsLayout, TooMany as AreTooMany}
+use Rattle.run_status.specs.declared.stops.Limit.TheVariants.{DefinitionBytes}
+use Rattle.run_status.specs.declared.stops.Stop.TheVariants.{Bad, AtLimit}
+use Rattle.run_status.specs.Runs.{Outside}
 use Rattle.dialect_command.specs.Script.{most_definition_bytes, told_reason, refusal_of}
 use Rattle.dialect_command.specs.Reads.{Holds, Halts, halt_of}
 use Rattle.dialect_command.proofs.Stays.{stops_long, goes_on}

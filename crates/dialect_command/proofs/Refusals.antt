@@ -5,12 +5,12 @@ use Rattle.std.specs.Io.KnownBytes.{prepend_known}
 use Rattle.field_layout.specs.Definition.{Definition}
 use Rattle.dialect.specs.declared.faults.DialectFault.{DialectFault}
 use Rattle.dialect.specs.Grammar.{definitions_of}
-use Rattle.command_ends.specs.declared.halts.Halt.TheVariants.{Stopped}
-use Rattle.command_ends.specs.declared.stops.Place.TheVariants.{Definitions}
-use Rattle.command_ends.specs.declared.stops.InputReason.{InputReason}
-use Rattle.command_ends.specs.declared.stops.Limit.{Limit}
-use Rattle.command_ends.specs.declared.stops.Limit.TheVariants.{DefinitionBytes}
-use Rattle.command_ends.specs.declared.stops.Stop.TheVariants.{Bad, AtLimit}
+use Rattle.run_status.specs.declared.halts.Halt.TheVariants.{Stopped}
+use Rattle.run_status.specs.declared.stops.Place.TheVariants.{Definitions}
+use Rattle.run_status.specs.declared.stops.InputReason.{InputReason}
+use Rattle.run_status.specs.declared.stops.Limit.{Limit}
+use Rattle.run_status.specs.declared.stops.Limit.TheVariants.{DefinitionBytes}
+use Rattle.run_status.specs.declared.stops.Stop.TheVariants.{Bad, AtLimit}
 use Rattle.dialect_command.specs.Script.{most_definition_bytes, refusal_of, stop_at}
 use Rattle.dialect_command.specs.Reads.{of_input, Halts}
 use Rattle.dialect_command.specs.Ends.{Refused, IsTooLong}

@@ -3,10 +3,10 @@ use Rattle.std.proofs.Common.{◌≡◌, ◌∙◌, ◌<◌, ◌≤◌, ℕ, ltb
 use Rattle.std.proofs.lemmas.Bool.{lt-ltb, le-ltb, ltb-true}
 use Rattle.std.proofs.lemmas.List.{length-append}
 use Rattle.field_layout.specs.Definition.{Definition}
-use Rattle.command_ends.specs.declared.stops.Limit.TheVariants.{DefinitionBytes}
-use Rattle.command_ends.specs.declared.stops.Stop.{Stop}
-use Rattle.command_ends.specs.declared.stops.Stop.TheVariants.{AtLimit}
-use Rattle.command_ends.specs.Runs.{Steady}
+use Rattle.run_status.specs.declared.stops.Limit.TheVariants.{DefinitionBytes}
+use Rattle.run_status.specs.declared.stops.Stop.{Stop}
+use Rattle.run_status.specs.declared.stops.Stop.TheVariants.{AtLimit}
+use Rattle.run_status.specs.Runs.{Steady}
 use Rattle.dialect_command.specs.Script.{most_definition_bytes, stop_at, reading, definitions_script, telling}
 
 -- too many bytes stop a run, and no fewer do before the input ended

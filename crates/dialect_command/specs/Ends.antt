@@ -5,7 +5,7 @@ use Rattle.field_layout.specs.Definition.{Definition}
 use Rattle.dialect.specs.declared.faults.DialectFault.{DialectFault}
 use Rattle.dialect.specs.Grammar.{definitions_of}
 use Rattle.mav_text.specs.LayoutText.{dialect_text}
-use Rattle.command_ends.specs.declared.stops.InputReason.{InputReason}
+use Rattle.run_status.specs.declared.stops.InputReason.{InputReason}
 use Rattle.dialect_command.specs.Script.{told_reason, most_definition_bytes}
 use Rattle.dialect_command.specs.Reads.{Holds}
 

@@ -4,13 +4,13 @@ use Rattle.std.specs.Io.KnownBytes.{prepend_known}
 use Rattle.mav_ports.specs.Counts.{Rose}
 use Rattle.field_layout.specs.Definition.{Definition}
 use Rattle.dialect.specs.Grammar.{definitions_of}
-use Rattle.command_ends.specs.declared.halts.Halt.{Halt}
-use Rattle.command_ends.specs.declared.halts.Halt.TheVariants.{Stopped, NoMemory}
-use Rattle.command_ends.specs.declared.stops.Place.TheVariants.{Definitions}
-use Rattle.command_ends.specs.declared.stops.Stop.TheVariants.{Bad}
+use Rattle.run_status.specs.declared.halts.Halt.{Halt}
+use Rattle.run_status.specs.declared.halts.Halt.TheVariants.{Stopped, NoMemory}
+use Rattle.run_status.specs.declared.stops.Place.TheVariants.{Definitions}
+use Rattle.run_status.specs.declared.stops.Stop.TheVariants.{Bad}
 use Rattle.dialect.specs.declared.faults.DialectFault.{DialectFault}
 use Rattle.dialect.specs.declared.faults.DialectFault.TheVariants.{NoMemory as NoMemoryToRead}
-use Rattle.command_ends.specs.Runs.{Outside, Cause}
+use Rattle.run_status.specs.Runs.{Outside, Cause}
 use Rattle.dialect_command.specs.Script.{told_reason, definitions_script, most_definition_bytes}
 
 -- what stands of the outside where only an input is called

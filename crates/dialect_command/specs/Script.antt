@@ -7,13 +7,13 @@ use Rattle.dialect.specs.declared.faults.DialectFault.TheVariants.{NotJson, Shap
 use Rattle.dialect.specs.Grammar.{definitions_of}
 use Rattle.mav_profile.specs.Profile.{profile_definitions}
 use Rattle.mav_text.specs.LayoutText.{dialect_text}
-use Rattle.command_ends.specs.declared.stops.Place.TheVariants.{Definitions}
-use Rattle.command_ends.specs.declared.stops.InputReason.{InputReason}
-use Rattle.command_ends.specs.declared.stops.InputReason.TheVariants.{Json, Shape as IsShape, FieldType, Name, TwiceId as IsTwiceId, TwiceName as IsTwiceName, Layout as IsLayout, TooMany as AreTooMany}
-use Rattle.command_ends.specs.declared.stops.Limit.TheVariants.{DefinitionBytes}
-use Rattle.command_ends.specs.declared.stops.Stop.{Stop}
-use Rattle.command_ends.specs.declared.stops.Stop.TheVariants.{Bad, AtLimit}
-use Rattle.command_ends.specs.Runs.{Script}
+use Rattle.run_status.specs.declared.stops.Place.TheVariants.{Definitions}
+use Rattle.run_status.specs.declared.stops.InputReason.{InputReason}
+use Rattle.run_status.specs.declared.stops.InputReason.TheVariants.{Json, Shape as IsShape, FieldType, Name, TwiceId as IsTwiceId, TwiceName as IsTwiceName, Layout as IsLayout, TooMany as AreTooMany}
+use Rattle.run_status.specs.declared.stops.Limit.TheVariants.{DefinitionBytes}
+use Rattle.run_status.specs.declared.stops.Stop.{Stop}
+use Rattle.run_status.specs.declared.stops.Stop.TheVariants.{Bad, AtLimit}
+use Rattle.run_status.specs.Runs.{Script}
 
 -- the most bytes of definitions
 abbrev pub most_definition_bytes : ℕ

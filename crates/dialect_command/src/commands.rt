@@ -2,15 +2,15 @@
 ghost use Rattle.std.specs.Prelude.{◌≡◌, ⊤, Some, [], OnOk, IsErrOf};
 ghost use Rattle.std.specs.Result.{result_err};
 ghost use Rattle.mav_ports.specs.Gets.{IsSpent};
-ghost use Rattle.command_ends.specs.Runs.{Untold, outside};
+ghost use Rattle.run_status.specs.Runs.{Untold, outside};
 ghost use Rattle.dialect_command.specs.Ends.{Told, Refused, IsTooLong};
 ghost use Rattle.dialect_command.specs.Script.{dialect_script, profile_script};
 
 use crate::definitions::read_definitions;
 use crate::layouts::write_dialect;
-use command_ends::{Halt, InputReason, Limit, Place, Stop};
 use dialect::Dialect;
 use mav_ports::{Sink, Source};
+use run_status::{Halt, InputReason, Limit, Place, Stop};
 use std::alloc::Global;
 
 /// Tells the layouts of the definitions that an input holds. Why the run halted, if it did, isn't

@@ -5,9 +5,9 @@ ghost use Rattle.mav_ports.specs.Gets.{IsSpent};
 ghost use Rattle.dialect_command.specs.Script.{most_definition_bytes};
 ghost use Rattle.dialect_command.specs.Reads.{Holds, Halts, of_input, halt_of};
 
-use command_ends::{Halt, InputReason, Limit, Place, Stop, read_on};
 use dialect::{Dialect, DialectFault};
 use mav_ports::{Got, Source};
+use run_status::{Halt, InputReason, Limit, Place, Stop, read_on};
 use std::alloc::Global;
 
 // How much is read at once.

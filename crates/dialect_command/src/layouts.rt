@@ -4,11 +4,11 @@ ghost use Rattle.std.specs.Result.{result_err};
 ghost use Rattle.mav_text.specs.LayoutText.{layout_text, dialect_text};
 ghost use Rattle.dialect_command.specs.Writes.{WroteText, count_line};
 
-use command_ends::Halt;
 use dialect::Dialect;
 use field_layout::Layout;
 use mav_ports::{Sink, write_all};
 use mav_text::put_layout;
+use run_status::Halt;
 use std::alloc::Global;
 
 /// Writes the lines of each message as they are made, and how many messages there are.

@@ -1,5 +1,5 @@
 use Rattle.std.proofs.lemmas.Result.{err_from_is_err_and}
-use Rattle.command_ends.proofs.Untolds.{untold_nothing}
+use Rattle.run_status.proofs.Untolds.{untold_nothing}
 use Rattle.mav_profile.specs.Profile.{profile_definitions}
 use Rattle.decode_command.specs.Script.{decode_script}
 use Rattle.decode_command.proofs.commands.decode.Goals as goal

@@ -1,7 +1,7 @@
 use Rattle.std.proofs.Common.{refl}
 use Rattle.std.specs.Result.{result_err}
 use Rattle.std.proofs.lemmas.Result.{err_from_is_err_and}
-use Rattle.command_ends.proofs.Untolds.{untold_nothing}
+use Rattle.run_status.proofs.Untolds.{untold_nothing}
 use Rattle.decode_command.specs.Script.{decode_script}
 use Rattle.decode_command.proofs.Ends.{same_script}
 use Rattle.decode_command.proofs.commands.decode_by.Goals as goal
