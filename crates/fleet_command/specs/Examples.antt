@@ -32,10 +32,10 @@ the_plan = record { frame = 6; command = 16; current = 0; autocontinue = 1; p = 
 
 -- the nodes that it names
 abbrev pub one_fleet : Nodes
-one_fleet = nodes_of (played the_key true one_item).scene.nodes
+one_fleet = nodes_of (played the_key true one_item).state.nodes
 
 -- that plan was installed, once, from a fully transmitted upload of that station; and that it is told so is true
 pub record IsInstalledOnce : Type 0 where
   pub safe : Safe the_key (played the_key true one_item) (actions_of the_key true one_item)
   pub installed : InstallIsTrue one_fleet (actions_of the_key true one_item) 7 the_drone 0 the_plan the_station
-  pub told : OutcomeIsTrue one_fleet (actions_of the_key true one_item) 9 the_station Told_installed
+  pub reported : OutcomeIsTrue one_fleet (actions_of the_key true one_item) 9 the_station Told_installed

@@ -78,15 +78,15 @@ more_there (z ∷ zs) ys x zero e = e
 more_there (z ∷ zs) ys x (suc i) e = more_there zs ys x i e
 
 pub record IsAt {A : Type 0} (xs : List A) (x : A) : Type 0 where
-  pub place : ℕ
-  pub found : slice_get xs place ≡ Some x
+  pub index : ℕ
+  pub found : slice_get xs index ≡ Some x
 
 pub behind_there : {A : Type 0} (xs ys : List A) (x : A) → IsAt ys x → IsAt (xs ++ ys) x
 behind_there [] ys x h = h
-behind_there (z ∷ zs) ys x h = let r = behind_there zs ys x h in record { place = suc r.place; found = r.found }
+behind_there (z ∷ zs) ys x h = let r = behind_there zs ys x h in record { index = suc r.index; found = r.found }
 
 pub in_either : {A : Type 0} (xs ys : List A) (x : A) (i : ℕ) → slice_get (xs ++ ys) i ≡ Some x → (slice_get xs i ≡ Some x) ⊎ IsAt ys x
-in_either [] ys x i e = inr (record { place = i; found = e })
+in_either [] ys x i e = inr (record { index = i; found = e })
 in_either (z ∷ zs) ys x zero e = inl e
 in_either (z ∷ zs) ys x (suc i) e = in_either zs ys x i e
 

@@ -21,7 +21,7 @@ use Rattle.mav_nodes.specs.Payloads.{plan_in}
 use Rattle.mav_nodes.specs.Links.{Link, Outcome, done, behind, and_then, tries, sent_at, sends}
 use Rattle.mav_nodes.specs.Signed.{signed_packet}
 use Rattle.mav_nodes.specs.Steps.{Side, CoreStep, with_core, steps, takes, admits, hears, hears_all, receives}
-use Rattle.fleet_world.specs.Scene.{stream_of}
+use Rattle.fleet_world.specs.WorldState.{stream_of}
 use Rattle.fleet_world.specs.Steps.{packets_in}
 use Rattle.fleet_invariants.proofs.Tests.{by_test, number_same}
 

@@ -23,8 +23,8 @@ use Rattle.mav_messages.specs.Plans.{message_of_plan, plan_of}
 use Rattle.plan_upload.proofs.ResultLists.{result_of-with_result}
 use Rattle.mav_nodes.specs.News.{NodeEvent, Installs}
 use Rattle.mav_nodes.specs.Nodes.{change_events}
-use Rattle.scenario_lines.specs.Standing.{drone_name}
-use Rattle.fleet_world.specs.Scene.{stream_of}
+use Rattle.scenario_lines.specs.LineContext.{drone_name}
+use Rattle.fleet_world.specs.WorldState.{stream_of}
 use Rattle.fleet_liveness.proofs.Names.{same, not_is_false}
 use Rattle.fleet_liveness.proofs.Lists.{four_are}
 use Rattle.fleet_liveness.proofs.Messages as messages

@@ -9,7 +9,7 @@ ghost use Rattle.hex.specs.Hex.{encode_lower};
 ghost use Rattle.std.specs.Fmt.{decimal};
 ghost use Rattle.fleet_report.specs.Texts.{newline};
 ghost use Rattle.fleet_report.specs.Events.{Sent, Installed, Emptied, Dropped, Missing, Refused, Ended, plan_text, frame_text};
-ghost use Rattle.fleet_report.specs.Reports.{told, with_text};
+ghost use Rattle.fleet_report.specs.Reports.{reported, with_text};
 
 use crate::NoMemory;
 use crate::items::put_items;
@@ -84,7 +84,7 @@ impl Report {
 
     /// A frame was sent, the `number`-th of the scenario, which carries the message.
     pub fn sent(&mut self, number: usize, frame: &Frame, message: &Message) -> Result<(), NoMemory>
-        ensures { OnOk result (self.new ≡ told self.old (Sent number frame.now message.now)) }
+        ensures { OnOk result (self.new ≡ reported self.old (Sent number frame.now message.now)) }
     {
         let (from, text) = (NameText(frame.from), MessageText(*message));
         writeln!(self.text, "{number} {from} {text}")?;
@@ -100,7 +100,7 @@ impl Report {
         by: Name,
     ) -> Result<(), NoMemory>
         ensures { OnOk result ((items : List Item) → length items ≡ count
-            → self.new ≡ told self.old (Installed drone (number_of kind) items by)) }
+            → self.new ≡ reported self.old (Installed drone (number_of kind) items by)) }
     {
         let (drone, kind, by) = (NameText(drone), KindText(kind.number()), NameText(by));
         writeln!(self.text, "install {drone} {kind} {count} from {by}")
@@ -108,7 +108,7 @@ impl Report {
 
     /// A drone's plan became empty.
     pub fn emptied(&mut self, drone: Name, kind: PlanKind) -> Result<(), NoMemory>
-        ensures { OnOk result (self.new ≡ told self.old (Emptied drone (number_of kind))) }
+        ensures { OnOk result (self.new ≡ reported self.old (Emptied drone (number_of kind))) }
     {
         let (drone, kind) = (NameText(drone), KindText(kind.number()));
         writeln!(self.text, "clear {drone} {kind}")
@@ -116,21 +116,21 @@ impl Report {
 
     /// A node didn't admit a frame.
     pub fn dropped(&mut self, node: Name, answer: Admit) -> Result<(), NoMemory>
-        ensures { OnOk result (self.new ≡ told self.old (Dropped node answer)) }
+        ensures { OnOk result (self.new ≡ reported self.old (Dropped node answer)) }
     {
         writeln!(self.text, "drop {} {}", NameText(node), code(answer))
     }
 
     /// No frame of that number was sent.
     pub fn missing(&mut self, number: u64) -> Result<(), NoMemory>
-        ensures { OnOk result (self.new ≡ told self.old (Missing number)) }
+        ensures { OnOk result (self.new ≡ reported self.old (Missing number)) }
     {
         writeln!(self.text, "no frame {number}")
     }
 
     /// A station refused a new operation.
     pub fn refused(&mut self, station: Name, why: OpFault) -> Result<(), NoMemory>
-        ensures { OnOk result (self.new ≡ told self.old (Refused station why)) }
+        ensures { OnOk result (self.new ≡ reported self.old (Refused station why)) }
     {
         let (station, why) = (NameText(station), RefusalText(why));
         writeln!(self.text, "refused {station} {why}")
@@ -138,7 +138,7 @@ impl Report {
 
     /// A station's operation ended.
     pub fn ended(&mut self, station: Name, outcome: &Outcome) -> Result<(), NoMemory>
-        ensures { OnOk result (self.new ≡ told self.old (Ended station (told_of outcome.now))) }
+        ensures { OnOk result (self.new ≡ reported self.old (Ended station (told_of outcome.now))) }
     {
         write!(self.text, "outcome {} ", NameText(station))?;
         match outcome {

@@ -12,11 +12,11 @@ use Rattle.plan_safety.proofs.Fleet.{All}
 use Rattle.plan_safety.proofs.Induction as induction
 use Rattle.plan_ranges.specs.Ranges.{DroneInRange, StationInRange}
 use Rattle.mav_nodes.specs.Links.{Done, Outcome}
-use Rattle.fleet_world.specs.Scene.{Node, Drone, Station, node_name, stream_of}
+use Rattle.fleet_world.specs.WorldState.{Node, Drone, Station, node_name, stream_of}
 use Rattle.fleet_world.specs.Steps.{packets_in}
 use Rattle.fleet_invariants.specs.Sound.{link_of}
 use Rattle.fleet_invariants.specs.Kept.{AllRead}
-use Rattle.fleet_safety.specs.Telling.{told}
+use Rattle.fleet_safety.specs.Reporting.{reported}
 use Rattle.fleet_safety.specs.Actions.{Order}
 use Rattle.fleet_safety.specs.Safe.{start}
 use Rattle.fleet_safety.proofs.Times.{KeepsTime, clock_keeps}
@@ -139,7 +139,7 @@ pub record Alike (a b : Node) : Type 0 where
 
 -- what a node does; these events of the world tell the same, are this accepted order, and lead to what fits
 pub record Led (n : Nodes) (clock : ℕ) (nodes : List Node) (sent : List Packet) (w : World) (k : ℕ) (old : Node) (d : Done Node) (events : List world.Event) (orders : List Order) : Type 0 where
-  pub report : seen_by (node_name old) (length sent) d.events ≡ told n w events
+  pub report : seen_by (node_name old) (length sent) d.events ≡ reported n w events
   pub own : Own n w events orders
   pub alike : Alike old d.node
   pub fits : Fits n clock (slice_set nodes k d.node) (sent ++ packets_in d.events) (final n w events)

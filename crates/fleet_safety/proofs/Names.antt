@@ -9,8 +9,8 @@ use Rattle.mav_nodes.specs.Steps.{Side}
 use Rattle.plan_ranges.specs.Ranges.{StreamInRange}
 use Rattle.plan_safety.specs.World.{Nodes, Distinct}
 use Rattle.plan_safety.proofs.Keys.{bool_split, differ, both_true, either_true, eq_true, name_eq, name_same, not_true}
-use Rattle.scenario_lines.specs.Standing.{has_name, has_drone, has_station, same_name as alike_names}
-use Rattle.fleet_world.specs.Scene.{Node, Drone as DroneNode, Station as StationNode, node_name, stream_of, names_of}
+use Rattle.scenario_lines.specs.LineContext.{has_name, has_drone, has_station, same_name as alike_names}
+use Rattle.fleet_world.specs.WorldState.{Node, Drone as DroneNode, Station as StationNode, node_name, stream_of, names_of}
 use Rattle.fleet_invariants.specs.Sound.{link_of}
 use Rattle.fleet_safety.specs.Safe.{nodes_of}
 use Rattle.fleet_safety.proofs.Lists.{some_is, at_end, set_there, set_elsewhere, more_there}
@@ -208,31 +208,31 @@ unnamed nodes name h = all nodes h
     all (StationNode d ∷ ns) h (suc i) a e is = all ns (neither _ _ h).1 i a e is
 
 pub record HoldsDrone (nodes : List Node) (name : Name) : Type 0 where
-  pub place : ℕ
+  pub index : ℕ
   pub drone : Side DroneState
-  pub there : slice_get nodes place ≡ Some (DroneNode drone)
+  pub there : slice_get nodes index ≡ Some (DroneNode drone)
   pub name_is : node_of drone.link.me ≡ name
 
 pub a_drone : (nodes : List Node) (name : Name) → has_drone (names_of nodes) name ≡ true → HoldsDrone nodes name
 a_drone [] name h = absurd (cc)
 a_drone (DroneNode d ∷ ns) name h = elim (either_true _ _ h) [
-  | inl x ↦ record { place = 0; drone = d; there = refl; name_is = name_eq_too _ _ x }
-  | inr y ↦ (let z = a_drone ns name y in record { place = suc z.place; drone = z.drone; there = z.there; name_is = z.name_is })
+  | inl x ↦ record { index = 0; drone = d; there = refl; name_is = name_eq_too _ _ x }
+  | inr y ↦ (let z = a_drone ns name y in record { index = suc z.index; drone = z.drone; there = z.there; name_is = z.name_is })
 ]
-a_drone (StationNode t ∷ ns) name h = let z = a_drone ns name h in record { place = suc z.place; drone = z.drone; there = z.there; name_is = z.name_is }
+a_drone (StationNode t ∷ ns) name h = let z = a_drone ns name h in record { index = suc z.index; drone = z.drone; there = z.there; name_is = z.name_is }
 
 pub record HoldsStation (nodes : List Node) (name : Name) : Type 0 where
-  pub place : ℕ
+  pub index : ℕ
   pub station : Side StationState
-  pub there : slice_get nodes place ≡ Some (StationNode station)
+  pub there : slice_get nodes index ≡ Some (StationNode station)
   pub name_is : node_of station.link.me ≡ name
 
 pub a_station : (nodes : List Node) (name : Name) → has_station (names_of nodes) name ≡ true → HoldsStation nodes name
 a_station [] name h = absurd (cc)
-a_station (DroneNode d ∷ ns) name h = let z = a_station ns name h in record { place = suc z.place; station = z.station; there = z.there; name_is = z.name_is }
+a_station (DroneNode d ∷ ns) name h = let z = a_station ns name h in record { index = suc z.index; station = z.station; there = z.there; name_is = z.name_is }
 a_station (StationNode t ∷ ns) name h = elim (either_true _ _ h) [
-  | inl x ↦ record { place = 0; station = t; there = refl; name_is = name_eq_too _ _ x }
-  | inr y ↦ (let z = a_station ns name y in record { place = suc z.place; station = z.station; there = z.there; name_is = z.name_is })
+  | inl x ↦ record { index = 0; station = t; there = refl; name_is = name_eq_too _ _ x }
+  | inr y ↦ (let z = a_station ns name y in record { index = suc z.index; station = z.station; there = z.there; name_is = z.name_is })
 ]
 
 or_true : (b : Bool) → (b || true) ≡ true
@@ -293,7 +293,7 @@ own_distinct nodes named = record {
     link s h = eq_true _ _ h
 
     component : (d : Stream) → HoldsDrone nodes (node_of d) → d.comp ≡ 1
-    component d h = sym (ap (λ (x : Name). x.comp) h.name_is) ∙ (named.proper h.place (DroneNode h.drone) h.there).1
+    component d h = sym (ap (λ (x : Name). x.comp) h.name_is) ∙ (named.proper h.index (DroneNode h.drone) h.there).1
 
     names : (d e : Stream) → HoldsDrone nodes (node_of d) → HoldsDrone nodes (node_of e) → d.sys ≡ e.sys → node_of d ≡ node_of e
     names d e x y s = ap (λ z. name z d.comp) s ∙ ap (λ c. name e.sys c) (component d x ∙ sym (component e y))
@@ -306,11 +306,11 @@ own_distinct nodes named = record {
         let z = both_true _ _ h in
         let system : s.sys ≡ d.sys = eq_true _ _ z.0 in
         let me : node_of y.station.link.me ≡ node_of s = y.name_is in
-        let some : 0 < s.comp = subst (λ (n : Name). 0 < n.comp) me (named.proper y.place (StationNode y.station) y.there).1 in
+        let some : 0 < s.comp = subst (λ (n : Name). 0 < n.comp) me (named.proper y.index (StationNode y.station) y.there).1 in
         let comp : s.comp ≡ 1 = one s.comp some z.1 in
         let alike : node_of x.drone.link.me ≡ node_of y.station.link.me = x.name_is ∙ ap (λ c. name d.sys c) (component d x ∙ sym comp) ∙ ap (λ k. name k s.comp) (sym system) ∙ sym me in
-        let place : x.place ≡ y.place = named.apart x.place y.place (DroneNode x.drone) (StationNode y.station) x.there y.there alike in
-        absurd (two x.drone y.station (sym x.there ∙ ap (slice_get nodes) place ∙ y.there))
+        let index : x.index ≡ y.index = named.apart x.index y.index (DroneNode x.drone) (StationNode y.station) x.there y.there alike in
+        absurd (two x.drone y.station (sym x.there ∙ ap (slice_get nodes) index ∙ y.there))
       where
         two : (d : Side DroneState) (t : Side StationState) → Some (DroneNode d) ≡ Some (StationNode t) → ⊥
         two d t e = absurd (cc)

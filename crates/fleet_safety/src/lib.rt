@@ -12,7 +12,7 @@
 mod meanings;
 mod scenarios;
 
-pub use meanings::every_line_told;
+pub use meanings::every_line_reported;
 pub use scenarios::{
     every_cause, every_delivery, every_quiet_scenario, every_report, every_scenario,
 };

@@ -5,18 +5,18 @@
 //! which scene a world is in (`IsScene`). Nothing here reads a file, sends a packet or waits.
 #![tactic(auto)]
 
-mod acting;
-mod calling;
 mod calls;
 mod closing;
 mod drafts;
+mod events;
 mod faults;
 mod fleet;
 mod flows;
+mod lines;
+mod node_calls;
 mod nodes;
 mod orders;
 mod sent;
-mod telling;
 mod world;
 
 pub use faults::{Bound, WorldFault};

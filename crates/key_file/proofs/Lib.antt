@@ -1,3 +1,3 @@
 pub mod NoKeys
 pub mod Stays
-pub mod Untolds
+pub mod RunsBeforeStatus

@@ -1,2 +1,2 @@
 pub mod KeyText
-pub mod Script
+pub mod Spec

@@ -57,15 +57,15 @@ upto : (n i : ℕ) → i < n + 1 → (i < n) ⊎ (i ≡ n)
 upto n i h = grind arith
 
 -- what a delivered item of the transaction is
-pub record Delivered (d s : Stream) (p : Part) (q : Pair) (kind place : ℕ) (item : Item) : Type 0 where
+pub record Delivered (d s : Stream) (p : Part) (q : Pair) (kind index : ℕ) (item : Item) : Type 0 where
   pub late : q.last_count < q.drone_last
   pub attempt : 0 < q.first_ping → q.drone_last < q.first_ping
   pub counted : 0 < q.first_count
   pub kind_is : kind ≡ p.transaction.kind
-  pub within : place < length p.transaction.plan
-  pub item_is : slice_get p.transaction.plan place ≡ Some item
-  pub last : place + 1 ≡ length p.transaction.plan → q.final_sent ≡ 1
-  pub said : Said p.sent s p.transaction.since (Give (node_of d) place kind item)
+  pub within : index < length p.transaction.plan
+  pub item_is : slice_get p.transaction.plan index ≡ Some item
+  pub last : index + 1 ≡ length p.transaction.plan → q.final_sent ≡ 1
+  pub said : Said p.sent s p.transaction.since (Give (node_of d) index kind item)
 
 abbrev pub with_upload : Part → Option Upload → Part
 with_upload p u = record p { drone = record p.drone { upload = u } }

@@ -503,9 +503,9 @@ answered_here d s t counted opened f fs c k from is about h =
     ]
 
 -- such an acknowledgement of the drone, in its place, refused the upload
-pub answered_at : (d s : Stream) (t : Transaction) (counted opened : ℕ) (fs : List Frame) (place : ℕ) (f : Frame) (c k : ℕ) → slice_get fs place ≡ Some f → f.from ≡ d → f.message ≡ Some (Ack (node_of s) c k) → IsAbout counted opened f.timestamp c → Answered d s t counted opened fs → RefusedWith fs d s t c
-answered_at d s t counted opened [] place f c k e from is about a = absurd (cc)
+pub answered_at : (d s : Stream) (t : Transaction) (counted opened : ℕ) (fs : List Frame) (index : ℕ) (f : Frame) (c k : ℕ) → slice_get fs index ≡ Some f → f.from ≡ d → f.message ≡ Some (Ack (node_of s) c k) → IsAbout counted opened f.timestamp c → Answered d s t counted opened fs → RefusedWith fs d s t c
+answered_at d s t counted opened [] index f c k e from is about a = absurd (cc)
 answered_at d s t counted opened (g ∷ fs) zero f c k e from is about a =
     let same : f ≡ g = cc in
     answered_here d s t counted opened g fs c k (subst (λ (x : Frame). x.from ≡ d) same from) (subst (λ (x : Frame). x.message ≡ Some (Ack (node_of s) c k)) same is) (subst (λ (x : Frame). IsAbout counted opened x.timestamp c) same about) a.0
-answered_at d s t counted opened (g ∷ fs) (suc place) f c k e from is about a = inr (answered_at d s t counted opened fs place f c k e from is about a.1)
+answered_at d s t counted opened (g ∷ fs) (suc index) f c k e from is about a = inr (answered_at d s t counted opened fs index f c k e from is about a.1)

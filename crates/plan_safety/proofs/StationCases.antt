@@ -166,8 +166,8 @@ first_job_sent : (p : Pair) → Facts p → p.first_job ≤ p.station_next
 first_job_sent p f = grind arith
 
 -- an attempt tells no outcome
-pub attempt_told : (u : StationState) (o : Operation) → (resynchronises u o).told ≡ None
-attempt_told u o = by_test (λ (a : StationStep). a.told ≡ None) (nat_lt u.pings last_ping) _ _ (λ _. refl) (λ _. refl)
+pub attempt_reported : (u : StationState) (o : Operation) → (resynchronises u o).told ≡ None
+attempt_reported u o = by_test (λ (a : StationStep). a.told ≡ None) (nat_lt u.pings last_ping) _ _ (λ _. refl) (λ _. refl)
 
 module _ (d s : Stream) (ne : d ≢ s) where
   -- an attempt begins, and the operation is terminating where a Count was sent
@@ -225,7 +225,7 @@ module _ (d s : Stream) (ne : d ≢ s) where
   on_attempt p g t o f code terminating i end cd tm =
       let u = with_operation t (op o d f) in
       let o' : Operation = record o { drone = d; phase = f; code = code; terminating = terminating } in
-      subst (λ x. Acted d s u (with_station d p u) (resynchronises u o') (news_of x)) (sym (attempt_told u o')) (on_silent_attempt p g t o f code terminating i end cd tm)
+      subst (λ x. Acted d s u (with_station d p u) (resynchronises u o') (news_of x)) (sym (attempt_reported u o')) (on_silent_attempt p g t o f code terminating i end cd tm)
 
   -- synchronised, and not terminating: it starts
   on_start : (p : Part) (g : Moments) (t : StationState) (o : Operation) (w : Work) (c k : ℕ) → (let u = with_operation t (op (record o { work = w; terminating = false }) d Cancelling) in Inv d s (with_station d p u) g → Synchronises (pair_of s (with_station d p u) g) c k → Heeds d s u (with_station d p u) (starts (synchronised u d) (record o { work = w; terminating = false; drone = d; phase = Cancelling })))

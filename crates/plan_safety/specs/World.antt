@@ -59,8 +59,8 @@ pub data Event : Type 0 where
   Drone_ticks : (drone : Stream) → Event
   Station_ticks : (station : Stream) → Event
   -- the sent frame with this place comes to a drone; `keeps` says whether its store keeps new plans
-  To_drone : (place : ℕ) (drone : Stream) (keeps : Bool) → Event
-  To_station : (place : ℕ) (station : Stream) → Event
+  To_drone : (index : ℕ) (drone : Stream) (keeps : Bool) → Event
+  To_station : (index : ℕ) (station : Stream) → Event
   -- it sends a message of another service
   Speaks : (node : Stream) → Event
   -- its clock: its next timestamp is at least that from now on
@@ -95,9 +95,9 @@ drone_news d (Installs by kind items) = Installed d kind items by ∷ []
 drone_news d (Empties by kind) = clears d by kind
 drone_news d (Shows to kind items) = Shown d kind items to ∷ []
 
-abbrev pub told_news : Stream → Option Told → List StoreEvent
-told_news s None = []
-told_news s (Some told) = Ended s told ∷ []
+abbrev pub outcome_news : Stream → Option Told → List StoreEvent
+outcome_news s None = []
+outcome_news s (Some told) = Ended s told ∷ []
 
 abbrev pub drone_does : World → Stream → DroneNode → DroneStep → World
 drone_does w d x r = drone_sends (record w { news = drone_news d r.event }) d (record x { state = r.drone }) r.answer
@@ -107,7 +107,7 @@ station_does w s y a news = station_sends (record w { news = news }) s (record y
 
 -- a call of a station: what it begins or cancels, and what it tells
 abbrev pub station_calls : World → Stream → StationNode → StationStep → List StoreEvent → World
-station_calls w s y a news = station_does w s y a (news ++ told_news s a.told)
+station_calls w s y a news = station_does w s y a (news ++ outcome_news s a.told)
 
 -- an admitted frame: a message of another service changes nothing
 abbrev pub drone_takes : Bool → DroneState → Stream → Option PlanMsg → DroneStep
@@ -127,7 +127,7 @@ drone_admits w keeps d x f =
 
 -- a step of a station at a frame or a tick: what it tells
 abbrev pub station_steps : World → Stream → StationNode → StationStep → World
-station_steps w s y a = station_does w s y a (told_news s a.told)
+station_steps w s y a = station_does w s y a (outcome_news s a.told)
 
 abbrev pub station_admits : World → Stream → StationNode → Frame → World
 station_admits w s y f =
@@ -202,8 +202,8 @@ happens n w (Cancels s) =
 happens n w (Hands_out s) = where_station n s w (station_calls w s (w.station s) (stays (untold (w.station s).state)) [])
 happens n w (Drone_ticks d) = where_drone n d w (drone_ticked w d (w.drone d) (drone_tick (w.drone d).state))
 happens n w (Station_ticks s) = where_station n s w (station_steps w s (w.station s) (station_tick (w.station s).state))
-happens n w (To_drone place d keeps) = where_drone n d w (to_drone w keeps d (slice_get w.sent place))
-happens n w (To_station place s) = where_station n s w (to_station w s (slice_get w.sent place))
+happens n w (To_drone index d keeps) = where_drone n d w (to_drone w keeps d (slice_get w.sent index))
+happens n w (To_station index s) = where_station n s w (to_station w s (slice_get w.sent index))
 happens n w (Speaks node) =
     if n.is_drone node then drone_speaks w node (w.drone node) else where_station n node w (station_speaks w node (w.station node))
 happens n w (Drone_waits d t) =

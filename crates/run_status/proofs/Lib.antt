@@ -1,2 +1,2 @@
-pub mod Untolds
+pub mod RunsBeforeStatus
 pub mod Ends

@@ -1,3 +1,3 @@
 pub mod Endings
 pub mod Runs
-pub mod Tells
+pub mod StatusText

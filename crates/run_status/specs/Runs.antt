@@ -3,35 +3,35 @@ use Rattle.std.specs.Prelude.{◌≡◌, ◌≢◌, ◌<◌, ◌≤◌, ◌+◌,
 use Rattle.std.specs.Io.KnownBytes.{append_known, prepend_known}
 use Rattle.mav_ports.specs.Counts.{Rose}
 use Rattle.mav_ports.specs.Puts.{SentFront}
-use Rattle.run_status.specs.declared.stops.Place.{Place}
-use Rattle.run_status.specs.declared.stops.InputReason.{InputReason}
-use Rattle.run_status.specs.declared.stops.Limit.{Limit}
-use Rattle.run_status.specs.declared.stops.Stop.{Stop}
-use Rattle.run_status.specs.declared.stops.Stop.TheVariants.{Bad, AtLimit, StampsSpent}
-use Rattle.run_status.specs.declared.halts.Halt.{Halt}
-use Rattle.run_status.specs.declared.halts.Halt.TheVariants.{Usage, Stopped, ReadFault, WriteFault, NoMemory, TurnsSpent}
-use Rattle.run_status.specs.Endings.{code_of, text_of, stop_code, stop_text}
+use Rattle.run_status.specs.declared.input_errors.Place.{Place}
+use Rattle.run_status.specs.declared.input_errors.Reason.{Reason}
+use Rattle.run_status.specs.declared.input_errors.Bound.{Bound}
+use Rattle.run_status.specs.declared.input_errors.InputError.{InputError}
+use Rattle.run_status.specs.declared.input_errors.InputError.TheVariants.{Bad, AtLimit, StampsSpent}
+use Rattle.run_status.specs.declared.run_ends.RunEnd.{RunEnd}
+use Rattle.run_status.specs.declared.run_ends.RunEnd.TheVariants.{Usage, Stopped, ReadFault, WriteFault, NoMemory, TurnsSpent}
+use Rattle.run_status.specs.Endings.{code_of, text_of, error_code, error_text}
 
 -- what a command does with the bytes of its input
-pub record Script : Type 0 where
+pub record CommandSpec : Type 0 where
   -- why these bytes stop a run, if they do; the flag says whether the input ended behind them
-  pub stop : Bool → List ℕ → Option Stop
+  pub stop : Bool → List ℕ → Option InputError
   -- what is written of them by then
   pub report : Bool → List ℕ → List ℕ
   -- what is written behind that once the input ended
   pub closing : List ℕ → List ℕ
 
 -- all that is written of an input that doesn't stop a run
-abbrev pub whole : Script → List ℕ → List ℕ
+abbrev pub whole : CommandSpec → List ℕ → List ℕ
 whole s bytes = s.report true bytes ++ s.closing bytes
 
 -- bytes that stop a run do so whatever follows, and what was written of them stays
-pub record Steady (s : Script) : Type 0 where
-  pub stays : (ended : Bool) (taken more : List ℕ) (stop : Stop) → s.stop false taken ≡ Some stop
+pub record Steady (s : CommandSpec) : Type 0 where
+  pub stays : (ended : Bool) (taken more : List ℕ) (stop : InputError) → s.stop false taken ≡ Some stop
       → (s.stop ended (taken ++ more) ≡ Some stop) × (s.report ended (taken ++ more) ≡ s.report false taken)
 
 -- what stands of the outside at the end of the call
-pub record Outside : Type 1 where
+pub record PortOutcome : Type 1 where
   -- the input answered End, so that nothing is left of it
   pub spent : Type 0
   -- its count of faults rose
@@ -42,8 +42,8 @@ pub record Outside : Type 1 where
   pub refused : Type 0
 
 -- that, by the counts before and after
-abbrev pub outside : Type 0 → ℕ → ℕ → ℕ → ℕ → ℕ → ℕ → Outside
-outside spent faults_before faults_after idles_before idles_after refusals_before refusals_after = record {
+abbrev pub port_outcome : Type 0 → ℕ → ℕ → ℕ → ℕ → ℕ → ℕ → PortOutcome
+port_outcome spent faults_before faults_after idles_before idles_after refusals_before refusals_after = record {
   spent = spent;
   failed = Rose faults_before faults_after;
   idled = (idles_after < 2 ^ 64 - 1 → idles_before + 1000000 ≤ idles_after);
@@ -51,12 +51,12 @@ outside spent faults_before faults_after idles_before idles_after refusals_befor
 }
 
 -- the text of which a front is written at least
-abbrev pub text_so_far : Script → Bool → List ℕ → List ℕ
+abbrev pub text_so_far : CommandSpec → Bool → List ℕ → List ℕ
 text_so_far s true taken = whole s taken
 text_so_far s false taken = s.report false taken
 
 -- why a run ends so, with these bytes taken from the input
-abbrev pub Cause : Script → Option Halt → Outside → Bool → List ℕ → Type 0
+abbrev pub Cause : CommandSpec → Option RunEnd → PortOutcome → Bool → List ℕ → Type 0
 Cause s None o ended taken = (ended ≡ true) × (s.stop ended taken ≡ None)
 Cause s (Some Usage) o ended taken = ⊥
 Cause s (Some (Stopped stop)) o ended taken = s.stop ended taken ≡ Some stop
@@ -66,24 +66,24 @@ Cause s (Some NoMemory) o ended taken = ⊤
 Cause s (Some TurnsSpent) o ended taken = o.idled × (ended ≡ false) × (s.stop ended taken ≡ None)
 
 -- all that a run writes that ends so
-abbrev pub output_of : Script → Option Halt → Bool → List ℕ → List ℕ
+abbrev pub output_of : CommandSpec → Option RunEnd → Bool → List ℕ → List ℕ
 output_of s None ended taken = s.report ended taken ++ s.closing taken
-output_of s (Some halt) ended taken = s.report ended taken ++ text_of halt
+output_of s (Some run_end) ended taken = s.report ended taken ++ text_of run_end
 
 -- what was written: all of it, or without memory a front of the report, or at a failed write that or a front of what
 -- a run writes that ends for a cause that stands
-abbrev pub Wrote : Script → Option Halt → Outside → Bool → List ℕ → Option (List ℕ) → Option (List ℕ) → Type 0
+abbrev pub Wrote : CommandSpec → Option RunEnd → PortOutcome → Bool → List ℕ → Option (List ℕ) → Option (List ℕ) → Type 0
 Wrote s None o ended taken before after = after ≡ append_known before (output_of s None ended taken)
 Wrote s (Some Usage) o ended taken before after = ⊥
 Wrote s (Some (Stopped stop)) o ended taken before after = after ≡ append_known before (output_of s (Some (Stopped stop)) ended taken)
 Wrote s (Some ReadFault) o ended taken before after = after ≡ append_known before (output_of s (Some ReadFault) ended taken)
 Wrote s (Some WriteFault) o ended taken before after =
-    SentFront before after (text_so_far s ended taken) ⊎ ((would : Option Halt) × Cause s would o ended taken × SentFront before after (output_of s would ended taken))
+    SentFront before after (text_so_far s ended taken) ⊎ ((would : Option RunEnd) × Cause s would o ended taken × SentFront before after (output_of s would ended taken))
 Wrote s (Some NoMemory) o ended taken before after = SentFront before after (text_so_far s ended taken)
 Wrote s (Some TurnsSpent) o ended taken before after = after ≡ append_known before (output_of s (Some TurnsSpent) ended taken)
 
 -- one run: the bytes taken from the input, why it ended, and what it wrote; nothing is taken where nothing was read
-pub record Ran (s : Script) (o : Outside) (left_before left_after sent_before sent_after : Option (List ℕ)) (end : Option Halt) : Type 0 where
+pub record Run (s : CommandSpec) (o : PortOutcome) (left_before left_after sent_before sent_after : Option (List ℕ)) (end : Option RunEnd) : Type 0 where
   pub taken : List ℕ
   pub ended : Bool
   pub took : left_before ≡ prepend_known taken left_after
@@ -92,7 +92,7 @@ pub record Ran (s : Script) (o : Outside) (left_before left_after sent_before se
   pub wrote : Wrote s end o ended taken sent_before sent_after
 
 -- the same before the halt's own text
-abbrev pub WroteReport : Script → Option Halt → Bool → List ℕ → Option (List ℕ) → Option (List ℕ) → Type 0
+abbrev pub WroteReport : CommandSpec → Option RunEnd → Bool → List ℕ → Option (List ℕ) → Option (List ℕ) → Type 0
 WroteReport s None ended taken before after = after ≡ append_known before (s.report ended taken ++ s.closing taken)
 WroteReport s (Some Usage) ended taken before after = ⊥
 WroteReport s (Some (Stopped stop)) ended taken before after = after ≡ append_known before (s.report ended taken)
@@ -101,7 +101,7 @@ WroteReport s (Some WriteFault) ended taken before after = SentFront before afte
 WroteReport s (Some NoMemory) ended taken before after = SentFront before after (text_so_far s ended taken)
 WroteReport s (Some TurnsSpent) ended taken before after = after ≡ append_known before (s.report ended taken)
 
-pub record Untold (s : Script) (o : Outside) (left_before left_after sent_before sent_after : Option (List ℕ)) (end : Option Halt) : Type 0 where
+pub record RunBeforeStatus (s : CommandSpec) (o : PortOutcome) (left_before left_after sent_before sent_after : Option (List ℕ)) (end : Option RunEnd) : Type 0 where
   pub taken : List ℕ
   pub ended : Bool
   pub took : left_before ≡ prepend_known taken left_after
@@ -114,19 +114,19 @@ abbrev pub Took : Type 0 → Option (List ℕ) → Option (List ℕ) → Bool �
 Took spent left_before left_after ended taken = (left_before ≡ prepend_known taken left_after) × (IsTrue ended → spent)
 
 -- a run that is told to have stopped here
-abbrev pub ToldStop : Script → Stop → Type 0 → Option (List ℕ) → Option (List ℕ) → Option (List ℕ) → Option (List ℕ) → Type 0
-ToldStop s stop spent left_before left_after sent_before sent_after =
+abbrev pub ReportedError : CommandSpec → InputError → Type 0 → Option (List ℕ) → Option (List ℕ) → Option (List ℕ) → Option (List ℕ) → Type 0
+ReportedError s stop spent left_before left_after sent_before sent_after =
     (ended : Bool) × (taken : List ℕ) × Took spent left_before left_after ended taken × (s.stop ended taken ≡ Some stop)
-    × (sent_after ≡ append_known sent_before (s.report ended taken ++ stop_text stop))
+    × (sent_after ≡ append_known sent_before (s.report ended taken ++ error_text stop))
 
 -- a run that was cut off where nothing had stopped it, with this text behind what it had written
-abbrev pub ToldCut : Script → List ℕ → Option (List ℕ) → Option (List ℕ) → Option (List ℕ) → Option (List ℕ) → Type 0
-ToldCut s text left_before left_after sent_before sent_after =
+abbrev pub ReportedCutoff : CommandSpec → List ℕ → Option (List ℕ) → Option (List ℕ) → Option (List ℕ) → Option (List ℕ) → Type 0
+ReportedCutoff s text left_before left_after sent_before sent_after =
     (taken : List ℕ) × (left_before ≡ prepend_known taken left_after) × (s.stop false taken ≡ None)
     × (sent_after ≡ append_known sent_before (s.report false taken ++ text))
 
 -- how a run ends over a whole input, where nothing fails
-abbrev pub end_of : Option Stop → Option Halt
+abbrev pub end_of : Option InputError → Option RunEnd
 end_of None = None
 end_of (Some stop) = Some (Stopped stop)
 
@@ -135,35 +135,35 @@ abbrev pub OrFails : ℕ → List ℕ → ℕ → Option (List ℕ) → Option (
 OrFails status output code sent_before sent_after = ((code ≡ status) × (sent_after ≡ append_known sent_before output)) ⊎ ((code ≡ 5) ⊎ (code ≡ 7))
 
 -- what a command promises of a run that ends with this status, by its script and what stands of the outside
-pub record Promises (s : Script) (o : Outside) (left_before left_after sent_before sent_after : Option (List ℕ)) (code : ℕ) : Type 0 where
+pub record Promises (s : CommandSpec) (o : PortOutcome) (left_before left_after sent_before sent_after : Option (List ℕ)) (code : ℕ) : Type 0 where
   -- 0: the input ended, nothing in it stopped the run, and all of its output was written
   pub done : code ≡ 0 → (taken : List ℕ) × (left_before ≡ prepend_known taken left_after) × o.spent × (s.stop true taken ≡ None)
       × (sent_after ≡ append_known sent_before (whole s taken))
   -- 2 is for words alone
   pub not_usage : code ≢ 2
   -- 3: the bytes taken have what is refused, at this place and for this reason
-  pub bad : code ≡ 3 → (place : Place) × (reason : InputReason) × ToldStop s (Bad place reason) o.spent left_before left_after sent_before sent_after
+  pub bad : code ≡ 3 → (place : Place) × (reason : Reason) × ReportedError s (Bad place reason) o.spent left_before left_after sent_before sent_after
   -- 6: they pass this limit
-  pub limit : code ≡ 6 → (limit : Limit) × ToldStop s (AtLimit limit) o.spent left_before left_after sent_before sent_after
+  pub limit : code ≡ 6 → (limit : Bound) × ReportedError s (AtLimit limit) o.spent left_before left_after sent_before sent_after
   -- 13: at them a node has no timestamp left
-  pub stamps_spent : code ≡ 13 → ToldStop s StampsSpent o.spent left_before left_after sent_before sent_after
+  pub stamps_spent : code ≡ 13 → ReportedError s StampsSpent o.spent left_before left_after sent_before sent_after
   -- where the bytes taken stop a run, the status is that of the stop, unless a write failed or memory ran out
-  pub stops : (stop : Stop) (taken rest : List ℕ) → left_before ≡ Some (taken ++ rest) → left_after ≡ Some rest → s.stop false taken ≡ Some stop
-      → OrFails (stop_code stop) (s.report false taken ++ stop_text stop) code sent_before sent_after
+  pub stops : (stop : InputError) (taken rest : List ℕ) → left_before ≡ Some (taken ++ rest) → left_after ≡ Some rest → s.stop false taken ≡ Some stop
+      → OrFails (error_code stop) (s.report false taken ++ error_text stop) code sent_before sent_after
   -- 4: a read failed, and nothing had stopped the run
-  pub read_fault : code ≡ 4 → o.failed × ToldCut s (codes "read fault\n") left_before left_after sent_before sent_after
+  pub read_fault : code ≡ 4 → o.failed × ReportedCutoff s (codes "read fault\n") left_before left_after sent_before sent_after
   -- 11: the input gave nothing for too long, and nothing had stopped the run
-  pub turns_spent : code ≡ 11 → o.idled × ToldCut s (codes "turns spent 1000000\n") left_before left_after sent_before sent_after
+  pub turns_spent : code ≡ 11 → o.idled × ReportedCutoff s (codes "turns spent 1000000\n") left_before left_after sent_before sent_after
   -- 5: a front of the report was written, or of what a run writes that ends for a cause that stands
   pub write_fault : code ≡ 5 → o.refused × (ended : Bool) × (taken : List ℕ) × Took o.spent left_before left_after ended taken
-      × (SentFront sent_before sent_after (text_so_far s ended taken) ⊎ ((would : Option Halt) × Cause s would o ended taken × SentFront sent_before sent_after (output_of s would ended taken)))
+      × (SentFront sent_before sent_after (text_so_far s ended taken) ⊎ ((would : Option RunEnd) × Cause s would o ended taken × SentFront sent_before sent_after (output_of s would ended taken)))
   -- 7: a front of the report was written
   pub no_memory : code ≡ 7 → (ended : Bool) × (taken : List ℕ) × Took o.spent left_before left_after ended taken × SentFront sent_before sent_after (text_so_far s ended taken)
   -- over an input that tells its bytes and neither fails nor idles too long, the status and the output are those of its
   -- bytes, unless a write failed or memory ran out
-  pub told : (bytes : List ℕ) → left_before ≡ Some bytes → ¬ o.failed → ¬ o.idled
+  pub determined : (bytes : List ℕ) → left_before ≡ Some bytes → ¬ o.failed → ¬ o.idled
       → OrFails (code_of (end_of (s.stop true bytes))) (output_of s (end_of (s.stop true bytes)) true bytes) code sent_before sent_after
   -- so a run that nothing stops is done, unless memory runs out
   pub complete : (bytes : List ℕ) → left_before ≡ Some bytes → s.stop true bytes ≡ None → ¬ o.failed → ¬ o.idled → ¬ o.refused → (code ≡ 0) ⊎ (code ≡ 7)
   -- all of it, of one run
-  pub ran : (end : Option Halt) × (code ≡ code_of end) × Ran s o left_before left_after sent_before sent_after end
+  pub run : (end : Option RunEnd) × (code ≡ code_of end) × Run s o left_before left_after sent_before sent_after end

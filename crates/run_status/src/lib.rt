@@ -7,13 +7,13 @@
 //! what it writes of them.
 #![tactic(auto)]
 
-mod halts;
+mod input_errors;
 mod reading;
-mod stops;
-mod telling;
+mod run_ends;
+mod status;
 
-pub use halts::Halt;
+pub use input_errors::{Bound, InputError, Place, Reason};
 use mav_ports::NoMemory;
 pub use reading::read_on;
-pub use stops::{InputReason, Limit, Place, Stop};
-pub use telling::{code_of, tell};
+pub use run_ends::RunEnd;
+pub use status::{code_of, write_status};

@@ -2,7 +2,7 @@
 use Rattle.std.proofs.Common.{◌≡◌, ℕ, ◌+◌, ◌-◌, Bool, true, false, cond, List, length, take, drop, refl, sym, ◌∙◌, ap, Option, Some, None}
 use Rattle.std.specs.List.{position}
 use Rattle.std.proofs.lemmas.List.{take_rest}
-use Rattle.scenario_lines.proofs.Places.{list_any-inside}
+use Rattle.scenario_lines.proofs.Indices.{list_any-inside}
 use Rattle.scenario_lines.specs.Words.{is_point, number_in, name_from, name_of_word}
 
 no_place : (b : Bool) (n : ℕ) → cond b (Some n) None ≡ (let none : Option ℕ = None in none) → b ≡ false

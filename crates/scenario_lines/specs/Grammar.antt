@@ -12,7 +12,7 @@ use Rattle.scenario_lines.specs.declared.lines.Line.{Line}
 use Rattle.scenario_lines.specs.declared.lines.Line.TheVariants.{Blank, Drone, Station, Item as OneItem, Items, Empty, Begin, Cancel, Clear, Get, Heartbeat, Deliver, Flow, Noise, Tick, Clock}
 use Rattle.scenario_lines.specs.declared.roster.Named.{Named}
 use Rattle.scenario_lines.specs.Words.{words_of, word_at, number_in, integer_of, wire_word, bytes_word, name_of_word}
-use Rattle.scenario_lines.specs.Standing.{has_name, has_drone, has_station}
+use Rattle.scenario_lines.specs.LineContext.{has_name, has_drone, has_station}
 
 -- what may stand at a place of a line
 pub data Argument : Type 0 where

@@ -13,7 +13,7 @@ use Rattle.scenario_lines.specs.declared.lines.Line.{Line}
 use Rattle.scenario_lines.specs.declared.lines.Line.TheVariants.{Drone, Station, Item as OneItem, Items, Empty, Begin, Cancel, Clear, Get, Heartbeat, Deliver, Flow, Noise, Tick, Clock}
 use Rattle.scenario_lines.specs.declared.roster.Named.{Named}
 use Rattle.scenario_lines.specs.Words.{word_at, number_in, integer_of, wire_word, bytes_word, name_of_word}
-use Rattle.scenario_lines.specs.Standing.{Standing, drone_name, has_name, has_drone, has_station}
+use Rattle.scenario_lines.specs.LineContext.{LineContext, drone_name, has_name, has_drone, has_station}
 use Rattle.scenario_lines.specs.Grammar.{form_of, kind_word, kind_or_all, line_from, most_whole, most_draft, most_clock}
 use Rattle.scenario_lines.specs.Reasons.{leaves_range, words_reason, item_words_reason}
 
@@ -23,7 +23,7 @@ answered None value = Ok value
 answered (Some reason) value = Err reason
 
 -- what is read of the words of a line that isn't blank
-abbrev pub reading : Standing → List (List ℕ) → Result Line Reason
+abbrev pub reading : LineContext → List (List ℕ) → Result Line Reason
 reading s words = answered (words_reason s words (form_of (word_at words 0))) (line_from words)
 
 -- an answer says what was read, unless memory was wanted

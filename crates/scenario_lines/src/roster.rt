@@ -1,7 +1,7 @@
 // The nodes that were named, by their roles and names.
 ghost use Rattle.std.specs.Prelude.{◌≡◌, OnOk, OnErr, ◌++◌, [], ◌∷◌, length, position, slice_get};
 ghost use Rattle.std.specs.List.{list_any};
-ghost use Rattle.scenario_lines.specs.Standing.{same_name, same_role, is_called, is_in_role, has_name};
+ghost use Rattle.scenario_lines.specs.LineContext.{same_name, same_role, is_called, is_in_role, has_name};
 
 use crate::NoMemory;
 use mav_names::Name;
@@ -88,14 +88,14 @@ impl Roster {
         self.nodes.len()
     }
 
-    pub fn get(&self, place: usize) -> Option<Named>
-        ensures { result ≡ slice_get self.now place }
+    pub fn get(&self, index: usize) -> Option<Named>
+        ensures { result ≡ slice_get self.now index }
     {
-        self.nodes.get(place).copied()
+        self.nodes.get(index).copied()
     }
 
     /// The place of the first node of this name in this role.
-    pub fn place_of(&self, role: Role, name: Name) -> Option<usize>
+    pub fn index_of(&self, role: Role, name: Name) -> Option<usize>
         ensures { result ≡ position (is_in_role role name) self.now }
     {
         self.nodes
@@ -104,7 +104,7 @@ impl Roster {
     }
 
     /// The place of the first node of this name.
-    pub fn place_of_name(&self, name: Name) -> Option<usize>
+    pub fn index_of_name(&self, name: Name) -> Option<usize>
         ensures { result ≡ position (is_called name) self.now }
     {
         self.nodes.iter().position(|node| is_called(*node, name))

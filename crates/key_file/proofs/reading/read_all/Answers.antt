@@ -3,8 +3,8 @@ use Rattle.std.specs.Io.KnownBytes.{prepend_known}
 use borrow.Rule.Slice.PartMut.{same_len_mid, take_put}
 use Rattle.mav_ports.specs.Counts.{Rose}
 use Rattle.mav_ports.proofs.Known.{prepend_known_nil}
-use Rattle.run_status.proofs.Untolds.{took_none, took_more}
-use Rattle.key_file.proofs.Untolds.{front_more, untold_failed, untold_idled, untold_long, at_most}
+use Rattle.run_status.proofs.RunsBeforeStatus.{took_none, took_more}
+use Rattle.key_file.proofs.RunsBeforeStatus.{front_more, before_status_failed, before_status_idled, before_status_long, at_most}
 use Rattle.key_file.proofs.reading.read_all.Goals as goal
 
 pub loop-count-init : goal.loop-count-init
@@ -34,7 +34,7 @@ loop-count-preserved g c =
 pub returns-in-Idle-clause-halts : goal.returns-in-Idle-clause-halts
 returns-in-Idle-clause-halts g c = λ refusals sent.
     let inv = c.loop-count.invariant in let read = c.in-Idle.ensures in let front = take c.loop-count.count c.loop-count.buf in
-    untold_idled _ (g.S.Source.left c.args.input.now) (g.S.Source.left c.read_on.new.source) sent front
+    before_status_idled _ (g.S.Source.left c.args.input.now) (g.S.Source.left c.read_on.new.source) sent front
     (took_none front (g.S.Source.left c.args.input.now) (g.S.Source.left c.loop-count.input) (g.S.Source.left c.read_on.new.source) inv.took read.bytes)
     (omega (arith, length-take c.loop-count.count c.loop-count.buf, c.loop-count-test.true)) (λ below. omega (arith, read.idled refl below, inv.idles))
 
@@ -62,7 +62,7 @@ returns-in-End-clause-within g c =
 pub returns-in-Failed-clause-halts : goal.returns-in-Failed-clause-halts
 returns-in-Failed-clause-halts g c = λ refusals sent.
     let inv = c.loop-count.invariant in let read = c.in-Failed.ensures in let front = take c.loop-count.count c.loop-count.buf in
-    untold_failed _ (g.S.Source.left c.args.input.now) (g.S.Source.left c.read_on.new.source) sent front
+    before_status_failed _ (g.S.Source.left c.args.input.now) (g.S.Source.left c.read_on.new.source) sent front
     (took_none front (g.S.Source.left c.args.input.now) (g.S.Source.left c.loop-count.input) (g.S.Source.left c.read_on.new.source) inv.took read.bytes)
     (omega (arith, length-take c.loop-count.count c.loop-count.buf, c.loop-count-test.true))
     (subst (λ n. Rose n (g.S.Source.faults c.read_on.new.source)) inv.faults (read.failed refl))
@@ -77,7 +77,7 @@ returns-in-Failed-clause-within g c =
 pub returns-clause-halts : goal.returns-clause-halts
 returns-clause-halts g c = λ refusals sent.
     let inv = c.loop-count.invariant in let front = take c.loop-count.count c.loop-count.buf in
-    untold_long _ (g.S.Source.left c.args.input.now) (g.S.Source.left c.loop-count.input) sent front inv.took
+    before_status_long _ (g.S.Source.left c.args.input.now) (g.S.Source.left c.loop-count.input) sent front inv.took
     (omega (arith, length-take c.loop-count.count c.loop-count.buf, inv.size, c.loop-count-test.false))
 
 pub returns-clause-within : goal.returns-clause-within
