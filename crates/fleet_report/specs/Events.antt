@@ -21,7 +21,7 @@ pub data Event : Type 0 where
   Refused : (station : Name) (why : OpFault) → Event
   Ended : (station : Name) (outcome : Told) → Event
 
--- the whole frame in hexadecimal digits, where frames are printed
+-- the whole frame in hexadecimal digits, if frames are printed
 abbrev pub frame_text : Bool → Packet → List ℕ
 frame_text frames packet = if frames then space ++ encode_lower (encoding packet) ++ newline else []
 
@@ -42,7 +42,7 @@ abbrev pub events_text : Bool → List Event → List ℕ
 events_text frames [] = []
 events_text frames (e ∷ es) = event_text frames e ++ events_text frames es
 
--- a plan as it stands at the end: its line, and one for each item
+-- a plan at the end: its line, and one for each item
 abbrev pub plan_text : Name → ℕ → List Item → List ℕ
 plan_text drone kind items =
     codes "plan " ++ name_text drone ++ space ++ kind_text kind ++ space ++ decimal (length items) ++ newline ++ items_text 0 items

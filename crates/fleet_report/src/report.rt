@@ -27,7 +27,7 @@ use std::marker::Model;
 /// The text that a line, or the end of a scenario, adds to the report. Contracts see its bytes, and whether frames are
 /// printed whole.
 ///
-/// Each call adds the text of one event. After an `Err` part of it may stand there, and the report is given up.
+/// Each call adds the text of one event. After an `Err` it may hold part of that text, and isn't used any more.
 #[derive(Drop)]
 pub struct Report {
     alloc: Global,
@@ -65,13 +65,14 @@ impl Report {
         }
     }
 
+    /// The text so far.
     pub fn bytes(&self) -> &[u8]
         ensures { result.now ≡ self.now.text }
     {
         self.text.as_bytes()
     }
 
-    // The frame in whole, where frames are printed.
+    // The whole frame, if frames are printed.
     fn frame(&mut self, frame: &Frame) -> Result<(), NoMemory>
         ensures { OnOk result (self.new ≡ with_text self.old (frame_text self.old.frames frame.now)) }
     {
@@ -161,7 +162,7 @@ impl Report {
         writeln!(self.text, "{words}{number}")
     }
 
-    /// A plan of a drone as it stands at the end of a scenario.
+    /// A plan of a drone at the end of a scenario.
     pub fn plan(&mut self, drone: Name, kind: PlanKind, plan: &Plan) -> Result<(), NoMemory>
         ensures { OnOk result (self.new ≡ with_text self.old (plan_text drone (number_of kind) (items_of plan.now))) }
     {

@@ -32,7 +32,7 @@ pub station_closed : (view : ViewNode) (name : Name) (start : ReportState) → (
 station_closed view name start other (Drone n) h named = absurd (other n h)
 station_closed view name start other (Station n) h named = sym (with_text-none start)
 
--- ---- the node at a place
+-- ---- the node at an index
 
 closed_by : (nodes : List Node) (seen : List ViewNode) (k : ℕ) (view : ViewNode) (name : Name) (start end : ReportState) → AtPlace nodes seen k → slice_get seen k ≡ Some view → Some name ≡ option_map node_name (slice_get nodes k) → ((node : Node) → IsNode node view → name ≡ node_name node → end ≡ with_text start (closing_of node)) → end ≡ with_text start (closing_at (slice_get nodes k))
 closed_by nodes seen k view name start end (none a b) there named closed = cc
@@ -72,7 +72,7 @@ closing_split (n ∷ ns) (suc k) within =
     let e : suc k + 1 ≡ suc (k + 1) = omega arith in
     ap (λ (j : ℕ). closing_at (slice_get ns k) ++ closing_text (drop j (n ∷ ns))) e ∙ closing_split ns k (omega arith)
 
--- what was told before place `k`, with what the rest tells
+-- what was reported before index `k`, with what the rest reports
 abbrev pub Closed : Fleet → ℕ → ReportState → ReportState → Type 0
 Closed fleet k start now = (nodes : List Node) → IsFleet nodes fleet → with_text now (closing_text (drop k nodes)) ≡ with_text start (closing_text nodes)
 

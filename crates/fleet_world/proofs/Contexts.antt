@@ -1,4 +1,4 @@
--- What lines are read against, by the scene that a world is in.
+-- What lines are read against, by the state that a world is in.
 use Rattle.std.proofs.Common.{◌≡◌, Bool, length}
 use Rattle.fleet_world.specs.WorldState.{WorldState, context_of}
 use Rattle.fleet_world.specs.WorldView.{WorldView, IsState, context_in}

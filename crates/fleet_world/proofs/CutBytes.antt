@@ -34,7 +34,7 @@ cut_stays bytes more p order below =
     ap (λ (part : List ℕ). (p.from, take (p.end - p.start) part)) (drop-append-le p.start bytes more start)
     ∙ ap (λ (part : List ℕ). (p.from, part)) (take-append-le (p.end - p.start) (drop p.start bytes) more fits)
 
--- bytes that come behind change no part
+-- bytes that come after change no part
 pub cuts_stay : (bytes more : List ℕ) (spans : List Span) → AreWithin bytes spans → cuts (bytes ++ more) spans ≡ cuts bytes spans
 cuts_stay bytes more [] all = refl
 cuts_stay bytes more (p ∷ ps) all =
@@ -70,7 +70,7 @@ cut_last from bytes more =
     drop_all [] = refl
     drop_all (x ∷ xs) = drop_all xs
 
--- a part more, behind bytes that come behind
+-- a part more, after bytes that come after
 pub pushed : (from : Name) (bytes more b : List ℕ) (spans ps : List Span) (p : Span) (kept : List Kept) → AreWithin bytes spans → cuts bytes spans ≡ kept → p ≡ behind from bytes more → b ≡ bytes ++ more → ps ≡ spans ++ p ∷ [] → cuts b ps ≡ kept ++ (from, more) ∷ []
 pushed from bytes more b spans ps p kept all view is joined more_spans =
     ap (λ (l : List Span). cuts b l) more_spans
@@ -87,7 +87,7 @@ pushed_within from bytes more b spans ps p all is joined more_spans =
     (subst (λ (l : List ℕ). AreWithin l (spans ++ p ∷ [])) (sym joined)
     (within-push (bytes ++ more) spans p (within_more bytes more spans all) order below))
 
--- bytes that come behind without a part
+-- bytes that come after without a part
 pub kept_within : (bytes more b : List ℕ) (spans ps : List Span) → AreWithin bytes spans → b ≡ bytes ++ more → ps ≡ spans → AreWithin b ps
 kept_within bytes more b spans ps all joined same =
     subst (λ (l : List Span). AreWithin b l) (sym same)

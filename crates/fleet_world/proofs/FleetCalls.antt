@@ -33,7 +33,7 @@ module _ (nodes : List Node) (fleet after : Fleet) (k : ℕ) (call : Node → Ou
       let does : NodeOutcome (call node) new news = did node (subst (IsNode node) same is) in
       subst (λ (o : Option Node). FleetOutcome nodes k o call after news) (sym a) (moved node (call node) (keeps node) f a e does)
 
-  -- the node at a place did what it was asked
+  -- the node at an index did what it was asked
   pub fleet_outcome : ((node : Node) → KeepsName node (call node)) → IsFleet nodes fleet → slice_get fleet.nodes k ≡ Some view → after ≡ record fleet { nodes = slice_set fleet.nodes k new } → ((node : Node) → IsNode node view → NodeOutcome (call node) new news) → FleetOutcome nodes k (slice_get nodes k) call after news
   fleet_outcome keeps f found e did = did_at (at_index nodes fleet.nodes k f.are) keeps f found e did
 
@@ -51,7 +51,7 @@ rests_at : (nodes : List Node) (fleet : Fleet) (k : ℕ) (call : Node → Outcom
 rests_at nodes fleet k call news (none a b) f found e = subst (λ (o : Option Node). FleetOutcome nodes k o call fleet news) (sym a) (f, e)
 rests_at nodes fleet k call news (one node v a b is) f found e = cc
 
--- there is no node at the place
+-- there is no node at the index
 pub fleet_rests : (nodes : List Node) (fleet : Fleet) (k : ℕ) (call : Node → Outcome Node) (news : List News) → IsFleet nodes fleet → slice_get fleet.nodes k ≡ None → news ≡ [] → FleetOutcome nodes k (slice_get nodes k) call fleet news
 fleet_rests nodes fleet k call news f found e = rests_at nodes fleet k call news (at_index nodes fleet.nodes k f.are) f found e
 
@@ -78,7 +78,7 @@ call_rests inside seen call k n news same size past e nodes f =
     let beyond : length inside.nodes ≤ k = omega arith in
     fleet_rests nodes seen k call news f (ap (λ (z : Fleet). slice_get z.nodes k) (sym same) ∙ slice_get_past inside.nodes k beyond) e
 
--- a node joins
+-- a node is added
 pub fleet_joined : {T E : Type 0} (inside seen after : Fleet) (node : Fleet → Node) (view : ViewNode) (result : Result T E) → inside ≡ seen → IsNode (node inside) view → after.nodes ≡ inside.nodes ++ view ∷ [] → OnOk result (after.roster ≡ inside.roster ++ named (node inside) ∷ []) → OnOk result ((nodes : List Node) → IsFleet nodes seen → IsFleet (nodes ++ node seen ∷ []) after)
 fleet_joined inside seen after node view (Err e) same is more names = tt
 fleet_joined inside seen after node view (Ok t) same is more names =

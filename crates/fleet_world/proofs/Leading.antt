@@ -1,4 +1,4 @@
--- Steps one behind the other: what was done so far, and what the rest leads to.
+-- Steps one after another: what was done so far, and what the rest leads to.
 use Rattle.std.proofs.Common.{◌≡◌, ℕ, zero, suc, ◌+◌, ◌-◌, ◌<◌, ◌≤◌, Bool, true, false, cond, List, [], ◌∷◌, ◌++◌, length, slice_get, slice_set, nat_le, Option, Some, None, Result, Ok, Err, refl, sym, ap, ◌∙◌, subst, append_assoc, arith}
 use Rattle.std.proofs.lemmas.List.{append-nil}
 use Rattle.std.proofs.lemmas.Option.{slice_get_past}
@@ -30,7 +30,7 @@ behind_twice : (xs ys : List Event) (r : Result Step StepError) → behind xs (b
 behind_twice xs ys (Ok t) = ap (λ (es : List Event). Ok (record { state = t.state; events = es })) (sym (append_assoc xs ys t.events))
 behind_twice xs ys (Err error) = refl
 
--- `whole` is what was done so far, and then the rest from a scene in which the world is, and of which P holds
+-- `whole` is what was done so far, and then the rest from a state in which the world is, and of which P holds
 pub record Leads (frames : Bool) (whole : Result Step StepError) (rest : WorldState → Result Step StepError) (P : WorldState → Type 0) (world : WorldView) (start now : ReportState) : Type 0 where
   pub state : WorldState
   pub is : IsState state frames world
@@ -95,7 +95,7 @@ front_get [] ys k packet found = cc
 front_get (x ∷ xs) ys zero packet found = found
 front_get (x ∷ xs) ys (suc k) packet found = front_get xs ys k packet found
 
--- where a step is done, the frame is still there
+-- if a step is done, the frame is still there
 abbrev Keeps : ℕ → Packet → Result Step StepError → Type 0
 Keeps number packet (Ok t) = HasFrame number packet t.state
 Keeps number packet (Err error) = Unit {0}
@@ -132,7 +132,7 @@ given_one s k end p h =
     let e : end - k ≡ suc (end - (k + 1)) = omega arith in
     ap (λ (n : ℕ). given_from s k n p) e
 
--- what is done of a frame for all nodes, before place `k`
+-- what is done of a frame for all nodes, before index `k`
 abbrev pub Given : Bool → WorldView → ℕ → ℕ → ℕ → WorldView → ReportState → ReportState → Type 0
 Given frames w number k end now start mid =
     (state : WorldState) (packet : Packet) → IsState state frames w → HasFrame number packet state

@@ -1,4 +1,4 @@
--- News, one piece after another, and what is told of them.
+-- News, one piece after another, and what is reported of them.
 use Rattle.std.proofs.Common.{◌≡◌, ℕ, suc, ◌+◌, ◌<◌, List, [], ◌∷◌, ◌++◌, length, map, take, get_or, Result, Ok, Err, refl, sym, ap, ◌∙◌, subst, append_assoc, arith, length-append}
 use Rattle.std.specs.Prelude.{OnOk}
 use Rattle.std.proofs.lemmas.List.{append-nil, take_more, map-append, length-map}
@@ -41,7 +41,7 @@ reported_by-append name before after (Empties kind ∷ xs) ys e = behind_event _
 reported_by-append name before after (Drops answer ∷ xs) ys e = behind_event _ (reported_by-append name before after xs ys e)
 reported_by-append name before after (Ends outcome ∷ xs) ys e = behind_event _ (reported_by-append name before after xs ys e)
 
--- ---- told
+-- ---- reported
 
 told_none : (name : Name) (kept : List Kept) (report : ReportState) → Reported name [] kept kept report report
 told_none name kept report = record { sent = sym (append-nil kept); report = sym (reports-none report) }
@@ -89,7 +89,7 @@ split (n ∷ ns) piece (x ∷ xs) e = longer (split ns piece xs (tails _ _ _ _ e
       last = s.last;
     }
 
--- what was told of the news so far
+-- what was reported of the news so far
 abbrev pub ReportedOf : Name → List News → List Kept → List Kept → ReportState → ReportState → Type 0
 ReportedOf name news kept now start mid = (events : List NodeEvent) → events_of news ≡ map shown events → Reported name events kept now start mid
 
@@ -109,7 +109,7 @@ told_more name news i piece kept now more start mid end within is front one even
 
 -- ---- a frame
 
--- a frame that was kept and told
+-- a frame that was kept and reported
 pub frame_reported : {T E : Type 0} (r : Result T E) (piece : News) (name : Name) (kept more : List Kept) (number : ℕ) (packet : Packet) (message : Message) (before after : ReportState) → piece ≡ Sent packet message → more ≡ kept ++ kept_as packet ∷ [] → number ≡ length more → OnOk r (after ≡ reported before (SentEvent number packet message)) → OnOk r ((event : NodeEvent) → said_by piece ≡ shown event → Reported name (event ∷ []) kept more before after)
 frame_reported (Err e) piece name kept more number packet message before after is pushed counted is_reported = tt
 frame_reported (Ok t) piece name kept more number packet message before after is pushed counted is_reported = λ event e. by_event event (sym (ap said_by is) ∙ e)

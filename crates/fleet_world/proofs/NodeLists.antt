@@ -8,7 +8,7 @@ use Rattle.fleet_world.specs.WorldView.{IsNode, AreNodes, Fleet, IsFleet}
 
 -- ---- one of them
 
--- the node at a place, if there is one
+-- the node at an index, if there is one
 pub data AtPlace (nodes : List Node) (seen : List ViewNode) (k : ℕ) : Type 0 where
   none : slice_get nodes k ≡ None → slice_get seen k ≡ None → AtPlace nodes seen k
   one : (node : Node) (view : ViewNode) → slice_get nodes k ≡ Some node → slice_get seen k ≡ Some view → IsNode node view → AtPlace nodes seen k
@@ -65,7 +65,7 @@ fleet_push nodes fleet after node view f is more names = record {
   names = names ∙ ap (λ (l : List Named). l ++ named node ∷ []) f.names ∙ sym (names-push nodes node);
 }
 
--- the name of the node at a place
+-- the name of the node at an index
 abbrev name_in : Named → Name
 name_in n = n.name
 

@@ -1,4 +1,4 @@
--- Reports of events, one behind the other.
+-- Reports of events, one after another.
 use Rattle.std.proofs.Common.{◌≡◌, List, [], ◌∷◌, ◌++◌, ℕ, Bool, refl, sym, ap, ◌∙◌, append_assoc}
 use Rattle.std.proofs.lemmas.List.{append-nil}
 use Rattle.fleet_report.specs.Events.{Event, event_text, events_text}

@@ -1,4 +1,4 @@
--- The world after a node was called, and what is told of it.
+-- The world after a node was called, and what is reported of it.
 use Rattle.std.specs.Prelude.{OnOk, IfErr}
 use Rattle.std.proofs.Common.{◌≡◌, ℕ, zero, suc, Result, ◌-◌, ◌<◌, ◌≤◌, Bool, true, false, cond, List, [], ◌∷◌, length, map, slice_get, slice_set, option_map, Option, Some, None, Ok, Err, refl, sym, ap, ◌∙◌, subst, arith}
 use Rattle.std.proofs.lemmas.List.{length-map}
@@ -21,7 +21,7 @@ use Rattle.fleet_world.specs.NodeSteps.{reports_news, called}
 use Rattle.fleet_world.specs.Promises.{Moved, FleetOutcome, WorldOutcome, IsStepError}
 use Rattle.fleet_world.proofs.Reporting.{reports-none, reports-one}
 
--- ---- what a node has told
+-- ---- what a node has reported
 
 pub sent_length : (state : WorldState) (frames : Bool) (w : WorldView) → IsState state frames w → length w.sent ≡ length state.sent
 sent_length state frames w is = ap length is.sent ∙ length-map state.sent kept_as

@@ -45,7 +45,7 @@ AuthenticLine s (Flow k) = Unit {0}
 AuthenticLine s (Tick node) = Unit {0}
 AuthenticLine s (Clock n) = Unit {0}
 
--- what a text says, where there is no reason against it
+-- what a text says, if there is no reason against it
 abbrev pub line_read : List ℕ → Option Reason → Option Line
 line_read text None = Some (line_of text)
 line_read text (Some reason) = None

@@ -16,6 +16,6 @@ abbrev pub AreWithin : List ℕ → List Span → Type 0
 AreWithin bytes [] = Unit {0}
 AreWithin bytes (span ∷ spans) = (span.start ≤ span.end) × (span.end ≤ length bytes) × AreWithin bytes spans
 
--- the part that a frame takes behind all bytes
+-- the part that a frame takes after all bytes
 abbrev pub behind : Name → List ℕ → List ℕ → Span
 behind from bytes frame = record { from = from; start = length bytes; end = length bytes + length frame }

@@ -1,4 +1,4 @@
--- What the world does with what a node did, and what a node is asked.
+-- What a node does at a call or an order, and what the world reports of it.
 use Rattle.std.specs.Prelude.{ℕ, ◌+◌, nat_le, if◌then◌else◌, List, [], ◌∷◌, ◌++◌, length, slice_get, Option, Some, None, Ok, Err}
 use Rattle.std.specs.declared.result.Result.{Result}
 use Rattle.mav_names.specs.declared.names.Name.{Name}
@@ -40,7 +40,7 @@ node_called (Noise bytes) datagram clock node = node_receives clock datagram nod
 node_called Heartbeat datagram clock node = node_beats clock node
 node_called Tick datagram clock node = node_ticks clock node
 
--- the datagram of a call, where these frames were sent
+-- the datagram of a call, after these frames were sent
 abbrev pub datagram_of : List Kept → Call → List ℕ
 datagram_of sent (Take number) = bytes_of (slice_get sent number)
 datagram_of sent (Noise bytes) = bytes
@@ -51,7 +51,7 @@ datagram_of sent Tick = []
 abbrev pub called : WorldView → Call → Node → Outcome Node
 called w call node = node_called call (datagram_of w.sent call) w.fleet.clock node
 
--- the draft where the plan of a refused order is handed back
+-- the draft after the plan of a refused order is handed back
 abbrev pub handed_back : WorldState → Option Plan → WorldState
 handed_back s None = s
 handed_back s (Some plan) = record s { draft = items_of plan }

@@ -1,4 +1,4 @@
--- What calls of a world promise: which scene it is in behind them, and what they report.
+-- What calls of a world promise: which state it is in after them, and what they report.
 use Rattle.std.specs.Prelude.{ℕ, ◌≡◌, ◌≢◌, Bool, List, [], ◌++◌, length, map, slice_set, Option, Some, None, Ok, Err}
 use Rattle.std.specs.declared.result.Result.{Result}
 use Rattle.mav_names.specs.declared.names.Name.{Name}
@@ -31,7 +31,7 @@ use Rattle.fleet_world.specs.NodeSteps.{reports}
 abbrev pub NodeOutcome : Outcome Node → ViewNode → List News → Type 0
 NodeOutcome outcome seen news = Did outcome (λ node. IsNode node seen) [] news
 
--- the node at a place, where there is one, did this
+-- the node at an index, if there is one, did this
 abbrev pub Moved : List Node → ℕ → Outcome Node → Fleet → List News → Type 0
 Moved nodes index None fleet news = ⊥
 Moved nodes index (Some d) fleet news = IsFleet (slice_set nodes index d.node) fleet × (events_of news ≡ map shown d.events)
@@ -45,7 +45,7 @@ abbrev pub IsSpent : Option Node → (Node → Outcome Node) → Type 0
 IsSpent None call = ⊥
 IsSpent (Some node) call = call node ≡ None
 
--- a station refused an order or had no timestamp left for it: `Left` says what holds where nothing changed
+-- a station refused an order or had no timestamp left for it: `Left` is what holds if nothing changed
 abbrev pub Refuses : ℕ → Side StationState → Order → Type 0 → OrderFault → Type 0
 Refuses clock node order Left (BeginFails fault) = (order_refusal node.core order ≡ Some fault.why) × (order_plan order ≡ Some fault.plan) × Left
 Refuses clock node order Left (OpFails why) = (order_fault node.core order ≡ Some why) × Left
@@ -53,14 +53,14 @@ Refuses clock node order Left (StationFails fault) = (order_refusal node.core or
 
 -- ---- of what a node did
 
--- these events of a node were told: its frames are kept, and the report tells them
+-- these events of a node were reported: its frames are kept, and the report has the events
 pub record Reported (name : Name) (events : List NodeEvent) (kept more : List Kept) (before after : ReportState) : Type 0 where
   pub sent : more ≡ kept ++ map kept_as (packets_in events)
   pub report : after ≡ reports before (reported_by name (length kept) events)
 
 -- ---- of a world
 
--- this was done: the world is in that scene, and the report tells the events
+-- this was done: the world is in that state, and the report has the events
 abbrev pub WorldOutcome : Result Step StepError → Bool → WorldView → ReportState → ReportState → Type 0
 WorldOutcome (Ok t) frames world before after = IsState t.state frames world × (after ≡ reports before t.events)
 WorldOutcome (Err error) frames world before after = ⊥
@@ -83,7 +83,7 @@ RefusalReported station (BeginFails fault) w after before report = (after ≡ re
 RefusalReported station (OpFails why) w after before report = (after ≡ w) × (report ≡ reported before (Refused station why)) × (why ≢ NoOpMemory)
 RefusalReported station (StationFails fault) w after before report = ⊥
 
--- why a refusal isn't told
+-- why a refusal isn't reported
 abbrev pub IsGivenUp : OrderFault → WorldFault → Type 0
 IsGivenUp (BeginFails fault) e = e ≡ NoMemory
 IsGivenUp (OpFails why) e = e ≡ NoMemory

@@ -1,4 +1,4 @@
--- A scenario's bytes as lines, and what the lines lead to: the scene, the report, and why it stopped.
+-- A scenario's bytes as lines, and what the lines lead to: the state, the report, and why it stopped.
 use Rattle.std.specs.Prelude.{ℕ, ◌+◌, ◌-◌, ◌==◌, nat_lt, Bool, true, false, if◌then◌else◌, List, [], ◌∷◌, ◌++◌, length, take, slice_index, Option, Some, None, Ok, Err}
 use Rattle.std.specs.declared.result.Result.{Result}
 use Rattle.std.specs.List.{slice_split}
@@ -25,7 +25,7 @@ last_part [] = []
 last_part (part ∷ []) = part
 last_part (part ∷ next ∷ more) = last_part (next ∷ more)
 
--- the whole lines of some bytes, without their LF, and what stands behind the last LF
+-- the whole lines of some bytes, without their LF, and the bytes after the last LF
 abbrev pub whole_lines : List ℕ → List (List ℕ)
 whole_lines bytes = but_last (slice_split is_newline bytes)
 
@@ -82,7 +82,7 @@ lines_played p number (raw ∷ more) = unless_stopped p.stop p (lines_played (li
 abbrev pub at_start : List ℕ → Played
 at_start key = record { state = empty_state key; events = []; stop = None }
 
--- a last line without LF keeps its CR, and counts where it isn't empty
+-- a last line without LF keeps its CR, and counts if it isn't empty
 abbrev pub last_played : Played → ℕ → List ℕ → Played
 last_played p number [] = p
 last_played p number (b ∷ bs) =
@@ -97,7 +97,7 @@ part_played p number part =
     then (if nat_lt most_lines number then stopped p Too_many_lines else stopped p (Bad number Long))
     else p
 
--- what the bytes that were taken lead to; `ended` says whether the input ended behind them
+-- what the bytes that were taken lead to; `ended` says whether the input ended after them
 abbrev pub rest_played : Bool → Played → ℕ → List ℕ → Played
 rest_played true p number rest = last_played p number rest
 rest_played false p number rest = part_played p number rest

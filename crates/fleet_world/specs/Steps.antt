@@ -1,4 +1,4 @@
--- What a scenario line does to the world: the scene after it and its events, or why it isn't done.
+-- What a scenario line does to the world: the state after it and its events, or why it isn't done.
 use Rattle.std.specs.Prelude.{ℕ, pos, zero, suc, ◌+◌, ◌-◌, ◌+ℤ◌, nat_lt, nat_le, if◌then◌else◌, List, [], ◌∷◌, ◌++◌, length, slice_get, slice_set, position, Option, Some, None, Ok, Err}
 use Rattle.std.specs.declared.result.Result.{Result}
 use Rattle.mav_names.specs.declared.names.Name.{Name}
@@ -36,7 +36,7 @@ pub data StepError : Type 0 where
 abbrev pub rests : WorldState → Result Step StepError
 rests s = Ok (record { state = s; events = [] })
 
--- one step behind events that came before it
+-- one step after events that came before it
 abbrev pub behind : List Event → Result Step StepError → Result Step StepError
 behind events (Ok t) = Ok (record { state = t.state; events = events ++ t.events })
 behind events (Err error) = Err error
@@ -66,7 +66,7 @@ packets_in (Empties kind ∷ es) = packets_in es
 packets_in (Drops answer ∷ es) = packets_in es
 packets_in (Ends outcome ∷ es) = packets_in es
 
--- what is told of what happened in a node, where so many frames were sent before
+-- what is reported of what happened in a node, after so many frames were sent
 abbrev pub reported_by : Name → ℕ → List NodeEvent → List Event
 reported_by node before [] = []
 reported_by node before (Sends packet message ∷ es) = Sent (before + 1) packet message ∷ reported_by node (before + 1) es
@@ -95,7 +95,7 @@ abbrev pub node_ticks : ℕ → Node → Outcome Node
 node_ticks clock (Drone n) = as_drone (drone_ticks clock n)
 node_ticks clock (Station n) = as_station (station_ticks clock n)
 
--- the node at place `k` has done this: its frames are the next of the scenario
+-- the node at index `k` has done this: its frames are the next of the scenario
 abbrev pub node_does : WorldState → ℕ → Name → Outcome Node → Result Step StepError
 node_does s k name None = Err Stamps_spent
 node_does s k name (Some d) =
@@ -105,7 +105,7 @@ node_does s k name (Some d) =
     })
     else Err (At_limit Frames)
 
--- the node at a place, and the one of a name, where there is one
+-- the node at an index, and the one of a name, if there is one
 abbrev pub calls_at : WorldState → ℕ → Option Node → (Node → Outcome Node) → Result Step StepError
 calls_at s k None call = rests s
 calls_at s k (Some node) call = node_does s k (node_name node) (call node)
@@ -125,7 +125,7 @@ given_to s k p None = rests s
 given_to s k p (Some node) =
     if same_name (node_name node) p.from then rests s else node_does s k (node_name node) (node_receives s.clock (encoding p) node)
 
--- it is given to `n` nodes, from place `k` on
+-- it is given to `n` nodes, from index `k` on
 abbrev pub given_from : WorldState → ℕ → ℕ → Packet → Result Step StepError
 given_from s k zero p = rests s
 given_from s k (suc n) p = and_then (given_to s k p (slice_get s.nodes k)) (λ t. given_from t (k + 1) n p)
@@ -134,7 +134,7 @@ given_from s k (suc n) p = and_then (given_to s k p (slice_get s.nodes k)) (λ t
 abbrev pub given_to_all : WorldState → Packet → Result Step StepError
 given_to_all s p = given_from s 0 (length s.nodes) p
 
--- the next frame of a flow, where there is one
+-- the next frame of a flow, if there is one
 abbrev pub flow_next : WorldState → Option Packet → (WorldState → Result Step StepError) → Result Step StepError
 flow_next s None next = rests s
 flow_next s (Some p) next = and_then (given_to_all (record s { given = s.given + 1 }) p) next
@@ -169,7 +169,7 @@ upload_begins s k node drone kind (Some why) = refuses s node why
 upload_begins s k node drone kind None =
     node_does (record s { draft = [] }) k (node_of node.link.me) (as_station (station_begins s.clock (stream_of drone) kind s.draft node))
 
--- the station at a place, and the one of a name, where there is one
+-- the station at an index, and the one of a name, if there is one
 abbrev pub orders_at : WorldState → ℕ → Option Node → (ℕ → Side StationState → Result Step StepError) → Result Step StepError
 orders_at s k None order = rests s
 orders_at s k (Some (Drone n)) order = rests s

@@ -20,7 +20,7 @@ pub record WorldState : Type 0 where
   pub key : List ℕ  -- of all nodes
   pub nodes : List Node  -- in the order in which they were named
   pub sent : List Packet  -- the first sent first
-  pub given : ℕ  -- how many of these lie before the latest station line, or were given by a flow since then
+  pub given : ℕ  -- how many of these were sent before the latest station line, or were given by a flow since then
   pub draft : List Item
   pub clock : ℕ  -- in units of 10 microseconds
 

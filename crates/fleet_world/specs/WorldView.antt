@@ -1,4 +1,4 @@
--- What contracts see of a world, and which scene it is.
+-- What contracts see of a world, and which state it is.
 use Rattle.std.specs.Prelude.{ℕ, ◌≡◌, Bool, List, [], ◌∷◌, length, map, Option, Some, None}
 use Rattle.mav_names.specs.declared.names.Name.{Name}
 use Rattle.mav_frame.specs.Packet.{Packet}
@@ -44,7 +44,7 @@ Kept = Name × List ℕ
 abbrev pub kept_as : Packet → Kept
 kept_as packet = (packet.from, encoding packet)
 
--- the bytes of a sent frame, where there is one
+-- the bytes of a sent frame, if there is one
 abbrev pub bytes_of : Option Kept → List ℕ
 bytes_of None = []
 bytes_of (Some kept) = kept.1
@@ -56,7 +56,7 @@ pub record WorldView : Type 0 where
   pub draft : List Item
   pub frames : Bool  -- whether reports print frames whole
 
--- the world is in this scene
+-- the world is in this state
 pub record IsState (state : WorldState) (frames : Bool) (world : WorldView) : Type 0 where
   pub key : world.fleet.key ≡ state.key
   pub fleet : IsFleet state.nodes world.fleet

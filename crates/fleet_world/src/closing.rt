@@ -1,4 +1,4 @@
-// What the end of a scenario tells.
+// What the end of a scenario reports.
 ghost use Rattle.std.specs.Prelude.{◌≡◌, ◌++◌, [], List, OnOk, slice_get};
 ghost use Rattle.fleet_report.specs.Events.{plan_text};
 ghost use Rattle.fleet_report.specs.Reports.{with_text};
@@ -25,7 +25,7 @@ fn put_plans(report: &mut Report, name: Name, drone: &Drone) -> Result<(), NoMem
     report.plan(name, PlanKind::Rally, drone.plan(PlanKind::Rally))
 }
 
-// What the end tells of a node of this name.
+// What the end reports of a node of this name.
 fn close_node(node: &Node, name: Name, report: &mut Report) -> Result<(), NoMemory>
     ensures { OnOk result ((one : StateNode) → IsNode one node.now → name ≡ node_name one
         → report.new ≡ with_text report.old (closing_of one)) }
@@ -37,7 +37,7 @@ fn close_node(node: &Node, name: Name, report: &mut Report) -> Result<(), NoMemo
 }
 
 impl Fleet {
-    // The plans of the node at a place, where it is a drone.
+    // The plans of the node at an index, if it is a drone.
     fn close_at(&self, index: usize, report: &mut Report) -> Result<(), NoMemory>
         ensures { OnOk result ((nodes : List StateNode) → IsFleet nodes self.now
             → report.new ≡ with_text report.old (closing_at (slice_get nodes index))) }

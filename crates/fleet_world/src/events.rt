@@ -1,4 +1,4 @@
-// What is told of a node's news: its frames are kept, and the report tells all of it.
+// The events of a node's news: its frames are kept, and all of it is reported.
 ghost use Rattle.std.specs.Prelude.{◌≡◌, if◌then◌else◌, List, [], ◌∷◌, length, map, OnOk};
 ghost use Rattle.mav_nodes.specs.News.{NodeEvent, shown, said_by, events_of};
 ghost use Rattle.plan_upload.specs.Addresses.{node_of};

@@ -111,7 +111,7 @@ impl Fleet {
         self.clock += by;
     }
 
-    /// A drone of this system joins, at that place.
+    /// A drone of this system is added, at x and y in units of 1e-7 degrees.
     pub(crate) fn add_drone(&mut self, sys: u8, x: i32, y: i32) -> Result<(), NoMemory>
         ensures joins { OnOk result ((nodes : List StateNode) → IsFleet nodes self.old
             → IsFleet (nodes ++ StateDrone (new_drone self.old.key sys) ∷ []) self.new) }
@@ -129,7 +129,7 @@ impl Fleet {
         })
     }
 
-    /// A station of this name joins.
+    /// A station of this name is added.
     pub(crate) fn add_station(&mut self, name: Name) -> Result<(), NoMemory>
         ensures joins { OnOk result ((nodes : List StateNode) → IsFleet nodes self.old
             → IsFleet (nodes ++ StateStation (new_station self.old.key (stream_of name) 0) ∷ []) self.new) }
@@ -143,7 +143,7 @@ impl Fleet {
         })
     }
 
-    /// The name of the node at a place.
+    /// The name of the node at an index.
     pub(crate) fn name_at(&self, index: usize) -> Option<Name>
         ensures { (nodes : List StateNode) → IsFleet nodes self.now → result ≡ option_map node_name (slice_get nodes index) }
     {
@@ -153,7 +153,7 @@ impl Fleet {
         }
     }
 
-    // The node at a place does what it is asked.
+    // The node at an index does what it is asked.
     pub(crate) fn call_at(
         &mut self,
         index: usize,
@@ -173,7 +173,7 @@ impl Fleet {
         }
     }
 
-    // The station at a place follows an order, or refuses it.
+    // The station at an index follows an order, or refuses it.
     pub(crate) fn order_at(&mut self, index: usize, order: Order) -> Result<Vec<News>, OrderFault>
         ensures done { IfOk result (λ news. (nodes : List StateNode) → (node : Side StationState) → IsFleet nodes self.old
             → slice_get nodes index ≡ Some (StateStation node)
@@ -191,14 +191,14 @@ impl Fleet {
         }
     }
 
-    /// The place of the node of a name.
+    /// The index of the node of a name.
     pub(crate) fn index_of(&self, name: Name) -> Option<usize>
         ensures { (nodes : List StateNode) → IsFleet nodes self.now → result ≡ position (is_named name) nodes }
     {
         self.roster.index_of_name(name)
     }
 
-    /// The place of the station of a name.
+    /// The index of the station of a name.
     pub(crate) fn index_of_station(&self, name: Name) -> Option<usize>
         ensures { (nodes : List StateNode) → IsFleet nodes self.now → result ≡ position (is_station_named name) nodes }
     {

@@ -12,7 +12,7 @@ use crate::{World, WorldFault};
 use fleet_report::Report;
 
 impl World {
-    // The node at a place sent the frame of that number.
+    // The node at an index sent the frame of that number.
     fn is_sender(&self, index: usize, number: usize) -> bool
         ensures { (state : WorldState) → (packet : Packet) → IsState state self.now.frames self.now
             → slice_get state.sent number ≡ Some packet → IsSender (slice_get state.nodes index) packet result }
@@ -23,7 +23,7 @@ impl World {
         }
     }
 
-    // The node at a place is given a sent frame, unless it is the frame's own sender.
+    // The node at an index is given a sent frame, unless it is the frame's own sender.
     fn give(&mut self, index: usize, number: usize, report: &mut Report) -> Result<(), WorldFault>
         ensures done { OnOk result ((state : WorldState) → (packet : Packet) → IsState state self.old.frames self.old
             → slice_get state.sent number ≡ Some packet
@@ -67,7 +67,7 @@ impl World {
         Ok(())
     }
 
-    // The place of the next frame that a flow gives, where one is left.
+    // The index of the next frame that a flow gives, if one is left.
     fn next_frame(&mut self) -> Option<usize>
         ensures { IsTaken self.old result self.new }
     {

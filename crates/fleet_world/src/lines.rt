@@ -23,7 +23,7 @@ const MOST_DRONES: usize = 16;
 const MOST_STATIONS: usize = 16;
 
 impl World {
-    /// One line, whose events the report tells.
+    /// Does one line, and reports its events.
     pub(crate) fn act(&mut self, line: Line, report: &mut Report) -> Result<(), WorldFault>
         requires { IsPermitted (context_in self.old) line }
         ensures done { OnOk result ((state : WorldState) → IsState state self.old.frames self.old

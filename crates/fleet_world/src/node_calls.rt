@@ -1,4 +1,4 @@
-// Calls of nodes, and what is told of them.
+// Calls of nodes, and what is reported of them.
 ghost use Rattle.std.specs.Prelude.{◌≡◌, ◌-◌, ◌+◌, nat_le, List, [], map, length, option_map, slice_get, OnOk, IfOk, IfErr};
 ghost use Rattle.mav_nodes.specs.News.{NodeEvent, shown, events_of};
 ghost use Rattle.fleet_world.specs.WorldState.{WorldState, Node as StateNode};
@@ -17,7 +17,7 @@ use mav_nodes::{News, NodeFault};
 
 const MOST_FRAMES: usize = 100_000;
 
-// Behind so many frames there is room for more of them.
+// After so many frames there is room for more of them.
 fn has_room(sent: usize, frames: usize) -> bool
     ensures { result ≡ nat_le (sent + frames) most_frames }
 {
@@ -36,7 +36,7 @@ fn datagram_of<'a>(sent: &'a SentFrames, call: &'a Call) -> &'a [u8]
 }
 
 impl World {
-    // A node of this name has told this: its frames are the next of the scenario.
+    // Reports the news of the node of this name: its frames are the next of the scenario.
     pub(crate) fn report_news(
         &mut self,
         name: Name,
@@ -56,7 +56,7 @@ impl World {
         Ok(())
     }
 
-    // What the node at a place tells of a call.
+    // The news of the node at an index at a call.
     fn news_of(&mut self, index: usize, call: &Call) -> Result<Vec<News>, NodeFault>
         ensures done { IfOk result (λ news. (nodes : List StateNode) → IsFleet nodes self.old.fleet
             → FleetOutcome nodes index (slice_get nodes index) (called self.old call.now) self.new.fleet news.items) }
@@ -68,7 +68,7 @@ impl World {
         self.fleet.call_at(index, call, datagram)
     }
 
-    // The node at a place is called.
+    // The node at an index is called.
     pub(crate) fn call_at(
         &mut self,
         index: usize,

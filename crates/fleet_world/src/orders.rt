@@ -37,7 +37,7 @@ impl World {
         mem::replace(&mut self.draft, Plan::new(self.alloc))
     }
 
-    // A refusal is told, and a plan that is handed back becomes the draft.
+    // A refusal is reported, and a plan that is handed back becomes the draft.
     fn refuse(
         &mut self,
         station: Name,
@@ -62,7 +62,7 @@ impl World {
         }
     }
 
-    // What the station at a place tells of an order.
+    // The news of the station at an index at an order.
     fn news_of_order(&mut self, index: usize, order: Order) -> Result<Vec<News>, OrderFault>
         ensures done { IfOk result (λ news. (nodes : List StateNode) → (node : Side StationState) → IsFleet nodes self.old.fleet
             → slice_get nodes index ≡ Some (StateStation node)
@@ -76,7 +76,7 @@ impl World {
         self.fleet.order_at(index, order)
     }
 
-    // The station at a place follows an order, or refuses it.
+    // The station at an index follows an order, or refuses it.
     fn order_at(
         &mut self,
         index: usize,

@@ -9,7 +9,7 @@ use mav_names::Name;
 use std::alloc::Global;
 use std::marker::Model;
 
-// A frame's sender, and where its bytes stand.
+// A frame's sender, and the offsets of its bytes: from `start`, up to `end`.
 #[derive(Clone, Copy)]
 struct Span {
     from: Name,
@@ -17,7 +17,7 @@ struct Span {
     end: usize,
 }
 
-/// The bytes of the sent frames, one behind the other, with their senders. Contracts see a pair for each frame.
+/// The bytes of the sent frames, one after another, with their senders. Contracts see a pair for each frame.
 #[derive(Drop)]
 pub(crate) struct SentFrames {
     bytes: Vec<u8>,
@@ -50,7 +50,7 @@ fn part(bytes: &[u8], at: Span) -> &[u8]
     &bytes[at.start..at.end]
 }
 
-// The bytes of a sender's frame join the others, and stand there.
+// Appends the bytes of a sender's frame, and returns their span.
 fn append(bytes: &mut Vec<u8>, from: Name, frame: &[u8]) -> Result<Span, NoMemory>
     ensures joined { OnOk result (bytes.new.items ≡ bytes.old.items ++ frame.now) }
     ensures span { IfOk result (λ span. span ≡ behind from bytes.old.items frame.now) }
@@ -82,7 +82,7 @@ impl SentFrames {
         self.spans.len()
     }
 
-    /// Who sent the frame of a place, from 0.
+    /// Who sent the frame of an index, from 0.
     pub(crate) fn sender(&self, index: usize) -> Option<Name>
         ensures { result ≡ option_map (λ (kept : Kept). kept.0) (slice_get self.now index) }
     {
@@ -92,7 +92,7 @@ impl SentFrames {
         }
     }
 
-    /// The bytes of the frame of a place; none where there is no such frame.
+    /// The bytes of the frame of an index; none if there is no such frame.
     pub(crate) fn bytes(&self, index: usize) -> &[u8]
         ensures { result.now ≡ bytes_of (slice_get self.now index) }
     {

@@ -19,7 +19,7 @@ use scenario_lines::{Line, LineFault, read};
 use std::alloc::Global;
 use std::marker::Model;
 
-/// The nodes of a scenario, the frames that they sent, and the draft of a plan. Contracts say which scene it is in.
+/// The nodes of a scenario, the frames that they sent, and the draft of a plan. Contracts say which state it is in.
 #[derive(Drop)]
 pub struct World {
     pub(crate) alloc: Global,
@@ -32,9 +32,9 @@ pub struct World {
 
 impl Model for World {
     ghost use Rattle.plan_items.specs.Plans.{items_of};
-    ghost use Rattle.fleet_world.specs.WorldView.{World};
+    ghost use Rattle.fleet_world.specs.WorldView.{WorldView};
 
-    ghost Value = { World };
+    ghost Value = { WorldView };
 
     ghost view = { λ w. record { fleet = w.fleet; sent = w.sent; given = w.given; draft = items_of w.draft; frames = w.frames } };
 }
@@ -71,7 +71,7 @@ impl World {
         )
     }
 
-    /// One line, and what it prints. After a fault the world is given up.
+    /// One line, and what it prints. After a fault the world isn't used any more.
     pub fn line(&mut self, line: Line) -> Result<Report, WorldFault>
         requires { IsPermitted (context_in self.old) line }
         ensures done { IfOk result (λ report. (state : WorldState) → IsState state self.old.frames self.old

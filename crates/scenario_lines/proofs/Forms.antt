@@ -26,7 +26,7 @@ two_last : {A : Type 0} (bad worse : Bool) (r q : Reason) (v : A)
 two_last true worse r q v = refl
 two_last false worse r q v = at_last worse q v
 
--- the test of the number of words stands first
+-- the test of the number of words comes first
 counted_first : (n : ℕ) (words : List (List ℕ)) (m : Option Reason) (v : Line) (said : Result Line Reason) → said ≡ answered m v
     → answered (if not (length words == n) then Some Count else m) v ≡ of_words n words said
 counted_first n words m v said h =

@@ -1,4 +1,4 @@
--- Lines of items where nothing else is read.
+-- Lines of items, if nothing else is read.
 use Rattle.std.proofs.Common.{◌≡◌, ℕ, Bool, true, false, if◌then◌else◌, List, [], ◌∷◌, codes, refl, sym, subst, Option, Some, None, Ok}
 use Rattle.std.specs.Str.{bytes_eq}
 use Rattle.scenario_lines.specs.declared.faults.Reason.{Reason}

@@ -27,7 +27,7 @@ neither : (m n : Option Reason) → first_reason m n ≡ None → (m ≡ None) �
 neither None n h = (refl, h)
 neither (Some r) n h = cc
 
--- the arguments fit, and nothing known of the world stands against the line
+-- the arguments fit, and nothing known of the world is a reason against the line
 fitted : (s : LineContext) (words : List (List ℕ)) (f : Form) → words_reason s words (Some f) ≡ None
     → (misfit s.nodes (arguments_at f (length words)) words 1 ≡ None) × (state_reason s (line_from words) ≡ None)
 fitted s words f h =

@@ -1,4 +1,4 @@
--- What is read of a line's words, as an answer about the whole line.
+-- What is read of a line's words, as a result for the whole line.
 use Rattle.std.proofs.Common.{◌≡◌, ℕ, ◌≤◌, false, List, length, refl, sym, ◌∙◌, ap, subst, Option, Some, None, Result, Ok, Err, IfOk, IfErr}
 use Rattle.std.proofs.lemmas.Bool.{le-ltb}
 use Rattle.scenario_lines.specs.declared.faults.Reason.{Reason}

@@ -1,4 +1,4 @@
--- What the reader of each form answers, word by word from left to right.
+-- What the reader of each form returns, word by word from left to right.
 use Rattle.std.specs.Prelude.{◌≡◌, ℕ, ℤ, pos, ◌+◌, ◌==◌, ◌||◌, not, nat_lt, Bool, if◌then◌else◌, List, [], ◌∷◌, length, Option, Some, None, Ok, Err}
 use Rattle.std.specs.declared.result.Result.{Result}
 use Rattle.std.specs.Option.{ok_or}
@@ -26,7 +26,7 @@ answered (Some reason) value = Err reason
 abbrev pub reading : LineContext → List (List ℕ) → Result Line Reason
 reading s words = answered (words_reason s words (form_of (word_at words 0))) (line_from words)
 
--- an answer says what was read, unless memory was wanted
+-- a result is what was read, unless memory ran out
 abbrev pub Says : {A : Type 0} → Result A Reason → Result A LineFault → Type 0
 Says said (Ok value) = said ≡ Ok value
 Says said (Err (Bad reason)) = said ≡ Err reason
@@ -90,7 +90,7 @@ read_item words k =
       z = z;
     }))))))))))
 
--- what is read behind the test of the number of words
+-- what is read after the test of the number of words
 abbrev pub of_words : {A : Type 0} → ℕ → List (List ℕ) → Result A Reason → Result A Reason
 of_words count words said = if not (length words == count) then Err Count else said
 

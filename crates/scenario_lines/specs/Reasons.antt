@@ -57,7 +57,7 @@ reason_against s text =
     else if is_blank text then None
     else words_reason s (words_of text) (form_of (word_at (words_of text) 0))
 
--- the first reason against a line where lines of items alone are read, behind so many items
+-- the first reason against a line if lines of items alone are read, after so many items
 abbrev pub is_item_word : List ℕ → Bool
 is_item_word word = bytes_eq word (codes "item") || bytes_eq word (codes "items")
 

@@ -59,7 +59,7 @@ impl Words<'_> {
         kind_or_all(self.at(index)).ok_or(Reason::Kind)
     }
 
-    /// The node that the word at `place` names, in any role.
+    /// The node that the word at `index` names, in any role.
     pub(crate) fn node(&self, index: usize, roster: &Roster) -> Result<Name, Reason>
         ensures { result ≡ named (has_name roster.now) self.now index }
     {
@@ -87,7 +87,7 @@ impl Words<'_> {
         }
     }
 
-    /// The item whose frame is the word at `place`.
+    /// The item whose frame is the word at `index`.
     pub(crate) fn item(&self, index: usize) -> Result<Item, Reason>
         requires { index < 100 }
         ensures { result ≡ read_item self.now index }

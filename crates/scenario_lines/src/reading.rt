@@ -111,7 +111,7 @@ pub fn read(
     faulted(read_words(roster, drafted, clock, &words))
 }
 
-/// The same where lines of items alone are read, as in a file of items, behind `drafted` items: any
+/// The same if lines of items alone are read, as in a file of items, after `drafted` items: any
 /// other first word is `word`.
 pub fn read_item_line(alloc: Global, drafted: usize, text: &[u8]) -> Result<Line, LineFault>
     ensures ok { IfOk result (λ line. (item_reason_against drafted text.now ≡ None) × (line ≡ line_of text.now)) }

@@ -73,7 +73,7 @@ impl Roster {
         }
     }
 
-    /// Adds a node behind the others. Whether its name is taken isn't asked.
+    /// Adds a node after the others. Whether its name is taken isn't asked.
     pub fn push(&mut self, node: Named) -> Result<(), NoMemory>
         ensures ok { OnOk result (self.new ≡ self.old ++ node ∷ []) }
         ensures err { OnErr result (self.new ≡ self.old) }
@@ -82,19 +82,21 @@ impl Roster {
         Ok(())
     }
 
+    /// How many nodes were named.
     pub fn len(&self) -> usize
         ensures { result ≡ length self.now }
     {
         self.nodes.len()
     }
 
+    /// The node of an index, from 0, in the order in which they were named.
     pub fn get(&self, index: usize) -> Option<Named>
         ensures { result ≡ slice_get self.now index }
     {
         self.nodes.get(index).copied()
     }
 
-    /// The place of the first node of this name in this role.
+    /// The index of the first node of this name in this role.
     pub fn index_of(&self, role: Role, name: Name) -> Option<usize>
         ensures { result ≡ position (is_in_role role name) self.now }
     {
@@ -103,7 +105,7 @@ impl Roster {
             .position(|node| is_in_role(*node, role, name))
     }
 
-    /// The place of the first node of this name.
+    /// The index of the first node of this name.
     pub fn index_of_name(&self, name: Name) -> Option<usize>
         ensures { result ≡ position (is_called name) self.now }
     {

@@ -37,7 +37,7 @@ impl<'a> Words<'a> {
         self.words.len()
     }
 
-    /// The word at a place, from 0, and no byte past the last one.
+    /// The word at an index, from 0, and no byte past the last one.
     pub(crate) fn at(&self, index: usize) -> &[u8]
         ensures { result.now ≡ word_at self.now index }
     {

@@ -1,4 +1,4 @@
--- What is said of the words is the answer about the line.
+-- What is read of the words is the result for the line.
 use Rattle.std.proofs.Common.{sym, ◌∙◌}
 use Rattle.scenario_lines.specs.LineContext.{context_of}
 use Rattle.scenario_lines.proofs.FirstWords.{spelled}
