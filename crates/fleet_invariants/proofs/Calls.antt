@@ -1,4 +1,4 @@
--- What one node does leaves a sound scene.
+-- What one node does leaves a sound state.
 use Rattle.std.proofs.Common.{ℕ, ◌+◌, ◌≤◌, [], length, Some, None, refl, sym, subst, arith}
 use Rattle.std.specs.Prelude.{nat_le}
 use Rattle.std.proofs.lemmas.List.{length-append}
@@ -36,7 +36,7 @@ module _ (s : WorldState) (k : ℕ) (name : Name) where
   reads None h = tt
   reads (Some d) h = h.reads
 
--- the scene without its draft
+-- the state without its draft
 abbrev undrafted : WorldState → WorldState
 undrafted s = restated s s.given [] s.clock
 

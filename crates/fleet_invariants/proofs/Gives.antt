@@ -1,4 +1,4 @@
--- Frames that are given leave a sound scene.
+-- Frames that are given leave a sound state.
 use Rattle.std.proofs.Common.{◌≡◌, ℕ, zero, suc, ◌+◌, List, length, slice_get, Option, Some, None, Ok, Err, refl, arith, ◌∙◌}
 use Rattle.std.specs.Prelude.{position}
 use Rattle.std.specs.declared.result.Result.{Result}

@@ -1,4 +1,4 @@
--- What holds of a scene goes on to hold where what was named and sent stays.
+-- What holds of a state goes on to hold if what was named and sent stays.
 use Rattle.std.proofs.Common.{◌≡◌, ℕ, ◌+◌, ◌≤◌, List, length, slice_get, Some, refl, sym, ap, subst, arith, ◌∙◌}
 use Rattle.mav_names.specs.declared.names.Name.{Name}
 use Rattle.mav_names.specs.declared.names.Stream.{Stream}
@@ -22,12 +22,12 @@ named_name (Station n) = refl
 pub same_named : (a b : Node) → named a ≡ named b → node_name a ≡ node_name b
 same_named a b e = sym (named_name a) ∙ ap (λ (n : Named). n.name) e ∙ named_name b
 
--- ---- a scene is kept
+-- ---- a state is kept
 
 pub kept_follows : (s t : WorldState) (i : ℕ) (a : Node) → t.nodes ≡ s.nodes → slice_get s.nodes i ≡ Some a → Follows t.nodes i a
 kept_follows s t i a same e = record { node = a; found = ap (λ (ns : List Node). slice_get ns i) same ∙ e; named_is = refl; me = refl; previous = omega arith }
 
--- where nothing but the rest changed
+-- if nothing but the rest changed
 pub kept_still : (s t : WorldState) → t.key ≡ s.key → t.nodes ≡ s.nodes → t.sent ≡ s.sent → s.clock ≤ t.clock → Kept s t
 kept_still s t key nodes sent clock = record {
   key = key;

@@ -1,4 +1,4 @@
--- One node more leaves a sound scene.
+-- One node more leaves a sound state.
 use Rattle.std.proofs.Common.{◌≡◌, ◌≢◌, ℕ, zero, suc, ◌+◌, ◌<◌, ◌≤◌, inl, inr, true, false, List, [], ◌∷◌, ◌++◌, slice_get, Option, Some, None, refl, sym, ap, subst, arith, ◌∙◌}
 use Rattle.std.proofs.lemmas.List.{length-append, map-append}
 use Rattle.mav_names.specs.declared.names.Name.{Name}
@@ -53,7 +53,7 @@ stations_more [] n = sym (from_none (stations_in (n ∷ [])))
 stations_more (Drone m ∷ ns) n = stations_more ns n
 stations_more (Station m ∷ ns) n = let e = stations_more ns n in omega arith
 
--- ---- the scene with one node more
+-- ---- the state with one node more
 
 abbrev pub joined : WorldState → Node → WorldState
 joined s n = record s { nodes = s.nodes ++ n ∷ [] }

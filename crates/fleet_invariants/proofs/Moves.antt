@@ -1,4 +1,4 @@
--- One node moves, and sends frames: the scene stays steady.
+-- One node moves, and sends frames: the state stays steady.
 use Rattle.std.proofs.Common.{◌≡◌, ℕ, ◌+◌, ◌<◌, ◌≤◌, ◌^◌, inl, inr, true, List, [], ◌∷◌, ◌++◌, length, map, slice_get, slice_set, Some, refl, sym, ap, subst, arith, ◌∙◌}
 use Rattle.std.specs.Prelude.{All, option_map}
 use Rattle.std.proofs.lemmas.Option.{slice_get-map}
@@ -29,7 +29,7 @@ use Rattle.fleet_invariants.proofs.Histories.{previous_local}
 use Rattle.fleet_invariants.proofs.Streams.{streams_among, found_there}
 use Rattle.fleet_invariants.proofs.Growth.{at_most_on, same_named, sent_kept, stamped_kept, link_kept}
 
--- a scene that is sound but for the limit of frames
+-- a state that is sound but for the limit of frames
 pub record Steady (s : WorldState) : Type 0 where
   pub apart : (i j : ℕ) (a b : Node) → slice_get s.nodes i ≡ Some a → slice_get s.nodes j ≡ Some b → node_name a ≡ node_name b → i ≡ j
   pub links : (i : ℕ) (a : Node) → slice_get s.nodes i ≡ Some a → SoundLink s (link_of a)
@@ -165,7 +165,7 @@ module _ (s : WorldState) (k : ℕ) (a b : Node) (packets : List Packet) (found 
   pub names_moved : names_of after.nodes ≡ names_of s.nodes
   names_moved = map_set named s.nodes k a b found m.named_is
 
-  -- where a node was
+  -- the index that a node had
   record Was (i : ℕ) (c : Node) : Type 0 where
     node : Node
     there : slice_get s.nodes i ≡ Some node

@@ -65,7 +65,7 @@ between : (first es last : List NodeEvent) → Silent first → Silent last → 
 between first es last h k =
     packets_more first (es ++ last) ∙ ap (λ ps. ps ++ packets_in (es ++ last)) (silent_none first h) ∙ packets_more es last ∙ ap (λ ps. packets_in es ++ ps) (silent_none last k) ∙ append-nil (packets_in es)
 
--- ---- the scene after what a node did
+-- ---- the state after what a node did
 
 abbrev pub advanced : WorldState → ℕ → Node → List NodeEvent → WorldState
 advanced s k b events = moved s k b (packets_in events)
@@ -99,7 +99,7 @@ node_goes s k a b events g found m reads = record {
   reads = reads;
 }
 
--- behind what was done before
+-- after what was done before
 pub goes_on : (s : WorldState) (k : ℕ) (d e : Done Node) → NodeGoes s k d → NodeGoes (advanced s k d.node d.events) k e → NodeGoes s k (record { node = e.node; events = d.events ++ e.events })
 goes_on s k d e h i =
     let same = advanced_on s k d.node e.node d.events e.events in

@@ -1,4 +1,4 @@
--- A scene whose place of flows, draft or clock changes.
+-- A state whose place of flows, draft or clock changes.
 use Rattle.std.proofs.Common.{ℕ, ◌≤◌, List, length, Ok, Err, refl, arith}
 use Rattle.std.specs.Prelude.{All}
 use Rattle.std.specs.declared.result.Result.{Result}
@@ -39,7 +39,7 @@ sound_restated s given draft clock g few items later soon =
 pub regiven : (s : WorldState) (given : ℕ) → Sound s → given ≤ length s.sent → Sound (record s { given = given })
 regiven s given g few = sound_restated s given s.draft s.clock g few g.draft (omega arith) g.clock
 
--- a step of such a scene, at the same clock, is one of the scene
+-- a step of such a state, at the same clock, is one of the state
 pub restated_keeps : (s : WorldState) (given : ℕ) (draft : List Item) (r : Result Step StepError) → Keeps (restated s given draft s.clock) r → Keeps s r
 restated_keeps s given draft (Ok t) h = record {
   sound = h.sound;

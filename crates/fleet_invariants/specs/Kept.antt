@@ -1,4 +1,4 @@
--- What each step keeps of a sound scene, and how sent frames are heard.
+-- What each step keeps of a sound state, and how sent frames are heard.
 use Rattle.std.specs.Prelude.{ℕ, ◌≡◌, ◌≤◌, List, [], ◌∷◌, ◌++◌, length, slice_get, All, Some, None, Ok, Err}
 use Rattle.std.specs.declared.result.Result.{Result}
 use Rattle.mav_profile.specs.Messages.{extras_of}
@@ -40,7 +40,7 @@ pub record Heard (s : WorldState) (p : Packet) (sent : IsSent s p) : Type 0 wher
   pub verifies : Verifies s.key p p.block
   pub plan : plan_in p.id p.payload ≡ plan_of sent.message
 
--- a frame that is told to be sent carries the plan message of its message
+-- a frame that is reported as sent carries the plan message of its message
 abbrev pub Reads : NodeEvent → Type 0
 Reads (Sends packet message) = plan_in packet.id packet.payload ≡ plan_of message
 Reads (Installs kind items by) = Unit {0}
@@ -56,7 +56,7 @@ abbrev pub OutcomeReads : Outcome Node → Type 0
 OutcomeReads None = Unit {0}
 OutcomeReads (Some d) = AllRead d.events
 
--- a node goes on in its place: its role, its name and its stream are the same, and timestamps only rise
+-- a node keeps its index: its role, its name and its stream are the same, and timestamps only rise
 pub record Follows (nodes : List Node) (index : ℕ) (a : Node) : Type 0 where
   pub node : Node
   pub found : slice_get nodes index ≡ Some node

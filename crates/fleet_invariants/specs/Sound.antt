@@ -1,4 +1,4 @@
--- What holds of the scene of every authentic scenario, after each step: names tell nodes apart, numbers are in their
+-- What holds of the state of every authentic scenario, after each step: names are distinct, numbers are in their
 -- ranges, what was sent is signed and reads back, and every timestamp that was admitted had been sent.
 use Rattle.std.specs.Prelude.{ℕ, ◌≡◌, ◌≤◌, ◌<◌, ◌+◌, ◌^◌, Bool, true, List, length, map, slice_get, All, Some, None, IfSome, is_some}
 use Rattle.std.specs.List.{list_any, IsDistinct}

@@ -1,9 +1,9 @@
-//! What holds of the scene of every authentic scenario, after each of its steps: names tell nodes apart,
+//! What holds of the state of every authentic scenario, after each of its steps: names are distinct,
 //! numbers are in their ranges, what was sent is signed and reads back, and every timestamp that was
 //! admitted had been sent.
 //!
 //! Nothing here runs. Each function has an empty body, and its contract is a law over the definitions
-//! of fleet_world. `specs/Sound` says what a sound scene is, `specs/Kept` what each step keeps of it.
+//! of fleet_world. `specs/Sound` says what a sound state is, `specs/Kept` what each step keeps of it.
 #![tactic(auto)]
 
 mod frames;

@@ -40,7 +40,7 @@ use Rattle.fleet_safety.specs.Causes.{without_waits, AtMostOne, EachEvent, Of, G
 use Rattle.fleet_safety.proofs.Lists.{some_is}
 use Rattle.fleet_safety.proofs.Follows.{events_on}
 
--- ---- the node at the place of a name has that name
+-- ---- the node at the index of a name has that name
 
 passes_there : {A : Type 0} (p : A → Bool) (xs : List A) (x : A) → slice_get xs (position_or_len p xs) ≡ Some x → p x ≡ true
 passes_there p [] x e = nowhere (position_or_len p []) e

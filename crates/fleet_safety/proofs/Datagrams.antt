@@ -88,7 +88,7 @@ receives_is clock bytes (Station a) = station_all clock (frames_of (final_parse 
 
 -- ---- what frames lead to
 
--- the node at place `k` has done this in these actions
+-- the node at index `k` has done this in these actions
 pub record HeardAll (n : Nodes) (s : WorldState) (w : World) (k : ℕ) (a : Node) (actions : List Action) (d : Done Node) : Type 0 where
   pub follows : Follows n w actions
   pub report : report_of actions ≡ reported_by (node_name a) (length s.sent) d.events

@@ -83,7 +83,7 @@ answer_is (Some a) = refl
 abbrev pub stream_at : ℕ → ℕ → ℕ → Stream
 stream_at sys comp link = record { sys = sys; comp = comp; link = link }
 
--- the place from the newest
+-- the index, counted from the newest
 pub one_index : (index other earlier sent frames : ℕ) → index + (earlier + 1) ≡ sent → other + (earlier + 1) ≡ frames → sent ≡ frames → index ≡ other
 one_index index other earlier sent frames a b c = omega arith
 

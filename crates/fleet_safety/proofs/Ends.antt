@@ -1,4 +1,4 @@
--- A station that had no outcome has after a step the one that the step tells.
+-- A station that had no outcome has after a step the one that the step reports.
 use Rattle.std.proofs.Common.{◌≡◌, ℕ, ◌==◌, ◌||◌, ◌&&◌, nat_lt, true, List, [], ◌∷◌, ◌++◌, length, slice_get, Option, Some, None, refl}
 use Rattle.mav_names.specs.declared.names.Stream.{Stream}
 use Rattle.plan_items.specs.declared.items.Item.{Item}
@@ -9,7 +9,7 @@ use Rattle.plan_upload.specs.Addresses.{same_stream, same_name}
 use Rattle.plan_upload.specs.Station.{StationState, StationStep, Operation, Phase, Pinging, Cancelling, Sending, Clearing, Listing_items, Getting, addressee, last_ping, is_synced, is_number, synchronises, resynchronises, upload_acked, item_asked, item_got, counted, phase_step, operation_step, station_step, is_patient, pinged, phase_tick, operation_tick, station_tick, phase_cancel, operation_cancel, station_cancel, begins}
 use Rattle.plan_safety.proofs.Keys.{by_test}
 
--- the outcome that stands is the one that was told
+-- the outcome that is kept is the one that was reported
 abbrev pub ReportsOutcome : StationStep → Type 0
 ReportsOutcome a = a.station.outcome ≡ a.told
 
@@ -124,7 +124,7 @@ module _ (s : StationState) (none : s.outcome ≡ None) where
       of_operation None = none
       of_operation (Some o) = by_test ReportsOutcome o.terminating _ _ (λ _. none) (λ _. gives_up_reports o o.phase)
 
--- an operation that begins tells nothing yet
+-- an operation that begins reports nothing yet
 abbrev Begun : StationStep → Type 0
 Begun a = (a.station.outcome ≡ None) × (a.told ≡ None)
 
@@ -134,7 +134,7 @@ begun_reports s o =
     by_test Begun (is_synced s.synced o.drone) _ _ (λ _. (refl, refl))
     (λ _. by_test Begun (nat_lt s.pings last_ping) _ _ (λ _. (refl, refl)) (λ _. (refl, refl)))
 
--- a cancel tells nothing
+-- a cancel reports nothing
 abbrev IsSilent : StationStep → Type 0
 IsSilent a = a.told ≡ None
 

@@ -63,7 +63,7 @@ each_follows n w [] a later f = f.0
 each_follows n w (b ∷ bs) a later f =
     subst (λ v. Acts n v a) (sym (final_on n w b.events (events_of bs))) (each_follows n (final n w b.events) bs a later f.1)
 
--- all that they tell
+-- all that they report
 pub all_reported : (n : Nodes) (w : World) (actions : List Action) → Follows n w actions → seen (report_of actions) ≡ reported n w (events_of actions)
 all_reported n w [] f = refl
 all_reported n w (a ∷ actions) f =

@@ -46,7 +46,7 @@ pub same_more : (sent packets : List Packet) (fs : List Frame) (f : Option Frame
 same_more sent packets fs None h new = subst (λ (xs : List Packet). SameFrames xs fs) (sym (ap (λ ps. sent ++ ps) new ∙ append-nil sent)) h
 same_more sent packets fs (Some f) h new = (sent, new.0, ap (λ ps. sent ++ ps) new.1, new.2, h)
 
--- the world's frame of the packet with this index, which is counted from the first; the frame's place is from the newest
+-- the world's frame of the packet with this number of earlier ones; the frame's index is counted from the newest
 pub record Found (p : Packet) (i : ℕ) (fs : List Frame) : Type 0 where
   pub index : ℕ
   pub counts : index + (i + 1) ≡ length fs
@@ -72,7 +72,7 @@ found sent (f ∷ fs) i p h e =
     newest : (i j k : ℕ) → i ≡ j → j ≡ k → 0 + (i + 1) ≡ suc k
     newest i j k e f = omega arith
 
--- a packet that was sent, by its index, and the place that its bytes have
+-- a packet that was sent, by the number of earlier ones, and the index that its bytes have
 pub record IsFirst (sent : List Packet) (p : Packet) : Type 0 where
   pub earlier : ℕ
   pub found : slice_get sent earlier ≡ Some p

@@ -1,4 +1,4 @@
--- Each scenario line does in the world of messages what it does in the scene.
+-- Each scenario line does in the world of messages what it does in the state.
 use Rattle.std.proofs.Common.{◌≡◌, ℕ, ◌+◌, ◌-◌, ◌<◌, inl, inr, Bool, true, false, nat_lt, List, [], ◌∷◌, ◌++◌, length, slice_get, None, refl, sym, ap, subst, arith}
 use Rattle.std.specs.declared.result.Result.{Result}
 use Rattle.plan_items.specs.Kinds.{number_of}
@@ -31,13 +31,13 @@ use Rattle.fleet_safety.proofs.Fits.{Stands, Fits, clock_fits}
 use Rattle.fleet_safety.proofs.States.{StateLeads, state_maps, state_rests, Goes, bytes_lead, calls_lead, delivers_lead, flows_lead}
 use Rattle.fleet_safety.proofs.Orders.{ticks_lead, beats_lead, begins_lead, cancels_lead, clears_lead, gets_lead}
 
--- after a line: its nodes are those before and perhaps one more, and where the fleet has them, the scene fits the world
+-- after a line: its nodes are those before and perhaps one more, and if the fleet has them, the state fits the world
 pub record Done (n : Nodes) (s t : WorldState) (v : World) : Type 0 where
   pub kept : Kept s.nodes t.nodes
   pub named : Named t.nodes
   pub fits : Covers n t.nodes → Fits n t.clock t.nodes t.sent v
 
--- no reason is given where its test fails
+-- no reason is given if its test fails
 no_reason : (b : Bool) (r : Reason) → against b r ≡ None → b ≡ false
 no_reason true r e = absurd (cc)
 no_reason false r e = refl

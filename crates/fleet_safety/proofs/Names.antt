@@ -1,4 +1,4 @@
--- The nodes of a scene: their names tell them apart, and stay theirs.
+-- The nodes of a state: their names are distinct, and stay the same.
 use Rattle.std.proofs.Common.{◌≡◌, ◌≢◌, ℕ, zero, suc, ◌<◌, ◌⊎◌, inl, inr, Bool, true, false, ◌==◌, ◌||◌, ◌&&◌, List, [], ◌∷◌, ◌++◌, slice_get, slice_set, Some, refl, sym, ap, subst, arith, ◌∙◌}
 use Rattle.mav_names.specs.declared.names.Name.{Name}
 use Rattle.mav_names.specs.declared.names.Stream.{Stream}
@@ -36,7 +36,7 @@ role_name (DroneNode d) (StationNode t) h = absurd h
 role_name (StationNode s) (DroneNode e) h = absurd h
 role_name (StationNode s) (StationNode t) h = ap node_of h
 
--- its name and its stream tell the same
+-- its name and its stream determine each other
 pub name_in : (a b : Node) → stream_in a ≡ stream_in b → node_name a ≡ node_name b
 name_in (DroneNode d) (DroneNode e) h = ap node_of h
 name_in (DroneNode d) (StationNode t) h = ap node_of h
@@ -66,7 +66,7 @@ pub on_link : (a : Node) → Proper a → (stream_in a).link ≡ 0
 on_link (DroneNode d) p = p.0
 on_link (StationNode t) p = p.0
 
--- names tell nodes apart
+-- names are distinct
 pub record Named (nodes : List Node) : Type 0 where
   pub apart : (i j : ℕ) (a b : Node) → slice_get nodes i ≡ Some a → slice_get nodes j ≡ Some b → node_name a ≡ node_name b → i ≡ j
   pub proper : (i : ℕ) (a : Node) → slice_get nodes i ≡ Some a → Proper a
@@ -103,7 +103,7 @@ role_on (StationNode s) (DroneNode e) c h k = absurd h
 role_on (StationNode s) (StationNode t) (DroneNode e) h k = absurd k
 role_on (StationNode s) (StationNode t) (StationNode u) h k = h ∙ k
 
--- each node stays in its place, in its role
+-- each node keeps its index and its role
 pub record Stays (nodes : List Node) (i : ℕ) (a : Node) : Type 0 where
   pub node : Node
   pub there : slice_get nodes i ≡ Some node
@@ -129,7 +129,7 @@ number_split i k = elim (bool_split (i == k)) [ inl t ↦ inl (eq_true i k t) | 
 
 -- one node replaced by one of its role
 module _ (nodes : List Node) (k : ℕ) (old new : Node) (found : slice_get nodes k ≡ Some old) (alike : SameRole old new) where
-  -- where a node of the new list was
+  -- the index that a node of the new list had
   pub record Was (i : ℕ) (a : Node) : Type 0 where
     pub node : Node
     pub there : slice_get nodes i ≡ Some node
@@ -255,7 +255,7 @@ station_held (DroneNode d ∷ ns) zero t e = absurd (cc)
 station_held (StationNode x ∷ ns) (suc i) t e = rw (station_held ns i t e) (or_true (alike_names (node_of x.link.me) (node_of t.link.me)))
 station_held (DroneNode d ∷ ns) (suc i) t e = station_held ns i t e
 
--- the nodes that were named are in their own fleet, and its names tell them apart
+-- the nodes that were named are in their own fleet, and its names are distinct
 zero_is : (k : ℕ) → k ≡ 0 → (k == 0) ≡ true
 zero_is k e = grind arith
 

@@ -35,7 +35,7 @@ use Rattle.fleet_safety.proofs.Drones as drones
 use Rattle.fleet_safety.proofs.Stations as stations
 use Rattle.fleet_safety.proofs.States.{StateLeads, state_maps, state_rests, Goes, goes_still, does_leads}
 
--- a step that tells nothing of the world's nodes
+-- a step that reports nothing of the world's nodes
 quiet_stands : (clock : ℕ) (w : World) (a : Node) → Stands clock w a → Stands clock (quiet w) a
 quiet_stands clock w (Drone a) h = h
 quiet_stands clock w (Station a) h = h

@@ -1,4 +1,4 @@
--- What the abstract mission store goes through in one action: of one call it is one event, or some that tell no line of their own.
+-- What the abstract mission store goes through in one action: of one call it is one event, or some that report no line of their own.
 use Rattle.std.proofs.Common.{◌≡◌, ◌⊎◌, inl, inr, ◌==◌, List, [], ◌∷◌, ◌++◌, Option, Some, None, refl, sym, ap, subst, ◌∙◌}
 use Rattle.std.proofs.lemmas.List.{append_assoc, append-nil}
 use Rattle.mav_names.specs.declared.names.Stream.{Stream}
@@ -88,7 +88,7 @@ pub tame_reported : (s : Stream) (told : Option Told) → IsTame (outcome_news s
 tame_reported s None = tame_nothing
 tame_reported s (Some told) = record { few = inl (Ended s told, refl); lasting = (tt, tt) }
 
--- an operation begins, and tells nothing
+-- an operation begins, and reports nothing
 pub tame_begun : (e : StoreEvent) (s : Stream) (told : Option Told) → IsLasting e → told ≡ None → IsTame (e ∷ outcome_news s told)
 tame_begun e s told lasts none =
     let is : e ∷ outcome_news s told ≡ e ∷ [] = ap (λ o. e ∷ outcome_news s o) none in

@@ -1,4 +1,4 @@
--- A whole scenario, line by line, up to where it stops.
+-- A whole scenario, line by line, up to the line at which it stops.
 use Rattle.std.proofs.Common.{◌≡◌, ℕ, zero, suc, ◌+◌, Bool, true, false, if◌then◌else◌, nat_lt, List, [], ◌∷◌, ◌++◌, length, slice_get, Option, Some, None, Ok, Err, refl, sym, ap, subst, arith, ◌∙◌}
 use Rattle.std.specs.Prelude.{◌↔◌}
 use Rattle.std.specs.declared.result.Result.{Result}
@@ -67,7 +67,7 @@ stops key p actions stop h = record {
   ran = λ n distinct covers. let r = h.ran n distinct covers in record { follows = r.follows; fits = r.fits };
 }
 
--- the report of a line that is done, whose end tells nothing
+-- the report of a line that is done, whose end reports nothing
 calls_report : (number : ℕ) (calls : List Action) (s : WorldState) → report_of (calls ++ line_end number s ∷ []) ≡ report_of calls
 calls_report number calls s = report_on calls (line_end number s ∷ []) ∙ append-nil (report_of calls)
 
@@ -214,14 +214,14 @@ module _ (key : List ℕ) (p : Played) (actions : List Action) (h : Runs key p a
         uploads = λ s number drone kind plan. subst (λ os. Uploaded (history_of n actions) s number drone kind plan ↔ IsTheUpload os s number drone kind plan) orders_are (the_upload (history_of n actions) s number drone kind plan);
       }
 
--- by what holds of the scenes of authentic scenarios
+-- by what holds of the states of authentic scenarios
 pub every_run : (key : List ℕ) (ended : Bool) (bytes : List ℕ) → Authentic key ended bytes → Runs key (played key ended bytes) (actions_of key ended bytes)
 every_run key ended bytes authentic = all_run sound_does heard.sent_known heard.authentic_known sound_line read_fits key ended bytes (starts key) authentic
 
 pub every_scenario : (key : List ℕ) (ended : Bool) (bytes : List ℕ) → Authentic key ended bytes → Safe key (played key ended bytes) (actions_of key ended bytes)
 every_scenario key ended bytes authentic = safe key (played key ended bytes) (actions_of key ended bytes) (every_run key ended bytes authentic)
 
--- all that the report tells
+-- all that the report says
 pub every_report : (key : List ℕ) (ended : Bool) (bytes : List ℕ) → Authentic key ended bytes → plan_lines (seen (played key ended bytes).events) ≡ steps_reported (history_of (nodes_of (played key ended bytes).state.nodes) (actions_of key ended bytes))
 every_report key ended bytes authentic =
     let actions : List Action = actions_of key ended bytes in

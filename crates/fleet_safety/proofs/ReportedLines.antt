@@ -1,4 +1,4 @@
--- What is told of plans happened, and means what it says.
+-- What is reported of plans happened, and means what it says.
 use Rattle.std.proofs.Common.{◌≡◌, ℕ, zero, suc, ◌+◌, ◌<◌, ◌≤◌, ◌⊎◌, inl, inr, Bool, true, if◌then◌else◌, ◌==◌, ◌&&◌, List, [], ◌∷◌, ◌++◌, length, slice_get, Some, refl, sym, ap, subst, arith, ◌∙◌, length-append}
 use Rattle.mav_names.specs.declared.names.Name.{Name}
 use Rattle.mav_names.specs.declared.names.Stream.{Stream}
@@ -45,7 +45,7 @@ in_either x [] ys h = inr h
 in_either x (z ∷ zs) ys (inl e) = inl (inl e)
 in_either x (z ∷ zs) ys (inr h) = elim (in_either x zs ys h) [ inl a ↦ inl (inr a) | inr b ↦ inr b ]
 
--- what is told of plans is among the plans' lines
+-- what is reported of plans is among the plans' lines
 reported_in_lines : (x : ProtocolEvent) (e : report.Event) → In x (plan_lines (event_seen e)) → (es : List report.Event) (index : ℕ) → slice_get es index ≡ Some e → In x (plan_lines (seen es))
 reported_in_lines x e h [] zero is = absurd (cc)
 reported_in_lines x e h [] (suc index) is = absurd (cc)
@@ -54,9 +54,9 @@ reported_in_lines x e h (d ∷ es) zero is =
 reported_in_lines x e h (d ∷ es) (suc index) is =
     subst (In x) (sym (lines_on (event_seen d) (seen es))) (in_second x (plan_lines (event_seen d)) (plan_lines (seen es)) (reported_in_lines x e h es index is))
 
--- ---- the step of an action that tells a line
+-- ---- the step of an action that reports a line
 
--- plain steps tell neither an end nor an installation
+-- plain steps report neither an end nor an installation
 abbrev IsLine : ProtocolEvent → Type 0
 IsLine (Sent number from m) = ⊥
 IsLine (Installed drone kind items by) = Unit {0}
@@ -87,12 +87,12 @@ plain_report_none : (x : ProtocolEvent) → IsLine x → (h : List Step) → Eac
 plain_report_none x l [] p i = absurd i
 plain_report_none x l (y ∷ h) p i = elim (in_either x (steps_reported h) (change_reported y.event ++ end_reported y.event) i) [ inl a ↦ plain_report_none x l h p.1 a | inr b ↦ plain_reports_none x l y.event p.0 b ]
 
--- so a line is told by one step alone
+-- so a line is reported by one step alone
 one_step : (x : ProtocolEvent) → IsLine x → (h : List Step) → FewSteps h → In x (steps_reported h) → (y : Step) × (h ≡ y ∷ []) × In x (change_reported y.event ++ end_reported y.event)
 one_step x l h (inl one) i = (one.0, one.1, subst (λ g. In x (steps_reported g)) one.1 i)
 one_step x l h (inr plain) i = absurd (plain_report_none x l h plain i)
 
--- an end that is told is that of an operation
+-- an end that is reported is that of an operation
 record EndOf (e : StoreEvent) (station : Name) (told : Told) : Type 0 where
   stream : Stream
   name_is : node_of stream ≡ station
@@ -199,13 +199,13 @@ lasting_on [] s drone l r = absurd r
 lasting_on (x ∷ h) s drone l (inl e) = absurd (subst IsLasting e l.0)
 lasting_on (x ∷ h) s drone l (inr r) = lasting_on h s drone l.1 r.1
 
--- ---- the action that tells what stands at a place
+-- ---- the action that reports the line at an index
 
 record ReportedAt (actions : List Action) (index : ℕ) (e : report.Event) : Type 0 where
   by : ReportedBy actions index
   is : slice_get by.action.report by.offset ≡ Some e
 
--- a place of one list and then another
+-- an index of one list and then another
 either_place : {A : Type 0} (xs ys : List A) (i : ℕ) (x : A) → slice_get (xs ++ ys) i ≡ Some x → ((slice_get xs i ≡ Some x) × (i < length xs)) ⊎ ((j : ℕ) × (i ≡ length xs + j) × (slice_get ys j ≡ Some x))
 either_place [] ys i x e = inr (i, omega arith, e)
 either_place (z ∷ zs) ys zero x e = inl (e, omega arith)
@@ -278,7 +278,7 @@ module _ (key : List ℕ) (p : Played) (actions : List Action) (run : Runs key p
         ∙ history_back n (final n v a.events) (history n v past a.events) (events_of later)
         ∙ ap (λ h. rest ++ h) (history_back n v past a.events ∙ ap (λ h. h ++ past) one)
 
-    -- what it tells of plans is its steps'
+    -- what it says of plans is its steps'
     lines_are : plan_lines (seen a.report) ≡ steps_reported (steps_in n before a)
     lines_are = ap plan_lines acts.report ∙ sym (history_lines n a.events (world_after n before) [])
 
@@ -295,7 +295,7 @@ module _ (key : List ℕ) (p : Played) (actions : List Action) (run : Runs key p
         subst (λ os. newest (uploads_by s os) ≡ Some (upload drone kind plan)) past_orders
         (newest_at (uploads_by s (orders_in past)) z.index (upload drone kind plan) z.is (sym (count_is s past) ∙ z.number_is))
 
-  -- what the report tells at a place
+  -- what the report says at an index
   at : (index : ℕ) (e : report.Event) → slice_get p.events index ≡ Some e → ReportedAt actions index e
   at index e is = told_at actions index e (subst (λ es. slice_get es index ≡ Some e) (sym run.report) is)
 

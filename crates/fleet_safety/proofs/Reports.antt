@@ -1,4 +1,4 @@
--- What events of the world tell, one by one and one after another.
+-- What events of the world report, one by one and one after another.
 use Rattle.std.proofs.Common.{◌≡◌, ℕ, suc, ◌+◌, ◌<◌, ◌≤◌, ◌⊎◌, inl, inr, true, false, ◌==◌, nat_lt, List, [], ◌∷◌, ◌++◌, length, Option, Some, None, refl, sym, ap, subst, arith, ◌∙◌}
 use Rattle.std.proofs.lemmas.List.{append_assoc}
 use Rattle.mav_names.specs.declared.names.Stream.{Stream}
@@ -35,7 +35,7 @@ reported_on n w (e ∷ es) fs =
     ap (λ r. reported_in n w e ++ r) (reported_on n (happens n w e) es fs)
     ∙ sym (append_assoc (reported_in n w e) (reported n (happens n w e) es) (reported n (final n (happens n w e) es) fs))
 
--- frames that were there tell nothing, and a new one is told
+-- frames that were there report nothing, and a new one is reported
 pub frames_before : (before : ℕ) (fs : List Frame) → length fs ≤ before → frames_reported before fs ≡ []
 frames_before before [] l = refl
 frames_before before (f ∷ fs) l = let z : nat_lt before (length (f ∷ fs)) ≡ false = old before (length fs) l in rw z refl
@@ -66,7 +66,7 @@ pub seen_on : (es fs : List report.Event) → seen (es ++ fs) ≡ seen es ++ see
 seen_on [] fs = refl
 seen_on (e ∷ es) fs = ap (λ r. event_seen e ++ r) (seen_on es fs) ∙ sym (append_assoc (event_seen e) (seen es) (seen fs))
 
--- of what happened in a node, where so many frames were sent before
+-- of what happened in a node, after so many frames were sent
 abbrev pub seen_by : Name → ℕ → List NodeEvent → List ProtocolEvent
 seen_by name before es = seen (reported_by name before es)
 
@@ -98,7 +98,7 @@ seen_by_on name before es fs = ap seen (reported_by_on name before es fs) ∙ se
 
 -- ---- a chain of events
 
--- these events lead from one world to another, tell this, and the store goes through this in them
+-- these events lead from one world to another, report this, and the store goes through this in them
 pub record Chain (n : Nodes) (w v : World) (events : List world.Event) (ts : List ProtocolEvent) (past : List Step → List Step) : Type 0 where
   pub ends : final n w events ≡ v
   pub reports : reported n w events ≡ ts
@@ -107,7 +107,7 @@ pub record Chain (n : Nodes) (w v : World) (events : List world.Event) (ts : Lis
 pub chain_end : (n : Nodes) (w : World) → Chain n w w [] [] (λ h. h)
 chain_end n w = record { ends = refl; reports = refl; steps = λ h. refl }
 
--- one event before them, which tells nothing of a refusal
+-- one event before them, which reports nothing of a refusal
 pub chain_on : (n : Nodes) (w u v : World) (e : world.Event) (es : List world.Event) (ts : List ProtocolEvent) (past : List Step → List Step) → happens n w e ≡ u → refused_reported n w e ≡ [] → Chain n u v es ts past → Chain n w v (e ∷ es) (step_reported w u ++ ts) (λ h. past (steps_of u.sent u.news h))
 chain_on n w u v e es ts past is none c = record {
   ends = ap (λ x. final n x es) is ∙ c.ends;
@@ -115,7 +115,7 @@ chain_on n w u v e es ts past is none c = record {
   steps = λ h. ap (λ (x : World). history n x (steps_of x.sent x.news h) es) is ∙ c.steps (steps_of u.sent u.news h);
 }
 
--- an event that tells nothing and sends nothing
+-- an event that reports nothing and sends nothing
 pub silent_step : (w u : World) → u.news ≡ [] → u.sent ≡ w.sent → step_reported w u ≡ []
 silent_step w u news sent =
     ap (λ es. changes_reported es ++ frames_reported (length w.sent) u.sent ++ ends_reported es) news
@@ -127,7 +127,7 @@ kinds : (n : ℕ) → n < 3 → (n ≡ 0) ⊎ ((n ≡ 1) ⊎ (n ≡ 2))
 kinds n h = grind arith
 
 module _ (n : Nodes) (d : DroneState) (x t : Stream) where
-  -- an event of a drone tells what its step changes
+  -- an event of a drone reports what its step changes
   abbrev IsReported : PlanEvent → Plans → Type 0
   IsReported e plans = (before : ℕ) → seen_by (node_of x) before (change_events t plans (change_by e)) ≡ changes_reported (drone_news x e)
 
@@ -166,7 +166,7 @@ no_ends x (Installs by k items) = refl
 no_ends x (Empties by k) = by_test (λ (es : List StoreEvent). ends_reported es ≡ []) (k == every_kind) _ _ (λ _. refl) (λ _. refl)
 no_ends x (Shows to k items) = refl
 
--- a station's outcome is told, and changes no plan
+-- a station's outcome is reported, and changes no plan
 pub ends_are : (s : Stream) (told : Option Told) (before : ℕ) → seen_by (node_of s) before (told_events told) ≡ ends_reported (outcome_news s told)
 ends_are s None before = refl
 ends_are s (Some told) before = refl

@@ -64,7 +64,7 @@ said_seen : (number : ℕ) (s : Stream) (o : Option PlanMsg) → sent_seen numbe
 said_seen number s None = refl
 said_seen number s (Some m) = refl
 
--- what a node's step tells is seen of the world's: changes before the frame, and an end behind it
+-- what a node's step reports is seen of the world's: changes before the frame, and an end after it
 module _ (x : Stream) (before frames : ℕ) (first last : List NodeEvent) (news : List StoreEvent) (none : packets_in first ≡ []) (changes : (k : ℕ) → seen_by (node_of x) k first ≡ changes_reported news) (ends : (k : ℕ) → seen_by (node_of x) k last ≡ ends_reported news) (many : before ≡ frames) where
   count : before + length (packets_in first) ≡ frames
   count = ap (λ (ps : List Packet). before + length ps) none ∙ zero before ∙ many

@@ -1,4 +1,4 @@
--- Steps of a whole scene, in both worlds.
+-- Steps of a whole state, in both worlds.
 use Rattle.std.proofs.Common.{◌≡◌, ℕ, zero, suc, ◌+◌, ◌≤◌, List, [], ◌∷◌, ◌++◌, length, position, slice_get, slice_set, Option, Some, None, Ok, Err, refl, sym, ap, subst, arith, ◌∙◌}
 use Rattle.std.specs.Prelude.{nat_le}
 use Rattle.std.specs.declared.result.Result.{Result}
@@ -35,7 +35,7 @@ use Rattle.fleet_safety.proofs.Follows.{Follows, report_on, final_after, follows
 use Rattle.fleet_safety.proofs.Fits.{Fits, Led, Leads}
 use Rattle.fleet_safety.proofs.Datagrams.{EachKnown, each_known, receives_is, HeardAll, HearsAll, frames_hear}
 
--- a step of the scene, in these actions; what holds then of the scene and the world
+-- a step of the state, in these actions; what holds then of the state and the world
 pub record StateLed (n : Nodes) (w : World) (P : WorldState → World → Type 0) (t : Step) (actions : List Action) : Type 0 where
   pub follows : Follows n w actions
   pub report : report_of actions ≡ t.events
@@ -65,7 +65,7 @@ state_then n w P Q (Ok t) actions next nexts h k = after (next t.state) (k t.sta
       holds = subst (Q u.state) (sym (final_after n w actions (nexts t.state))) l.holds;
     }
 
--- a sound scene that fits a world, with the nodes and the frames of an earlier one
+-- a sound state that fits a world, with the nodes and the frames of an earlier one
 pub record Goes (n : Nodes) (s t : WorldState) (v : World) : Type 0 where
   pub sound : Sound t
   pub fits : Fits n t.clock t.nodes t.sent v
@@ -78,7 +78,7 @@ goes_still n s w sound fits = record { sound = sound; fits = fits; kept = kept s
 pub goes_on : (n : Nodes) (s t u : WorldState) (v z : World) → Goes n s t v → Goes n t u z → Goes n s u z
 goes_on n s t u v z a b = record { sound = b.sound; fits = b.fits; kept = kept_on s.nodes t.nodes u.nodes a.kept b.kept; sent = λ i p e. b.sent i p (a.sent i p e) }
 
--- what the node at place `k` does, in one action; the draft may be another than in the scene before
+-- what the node at index `k` does, in one action; the draft may be another than in the state before
 pub does_leads : (number : ℕ) (n : Nodes) (s from : WorldState) (w : World) (k : ℕ) (old : Node) → slice_get from.nodes k ≡ Some old → ((i : ℕ) (p : Packet) → slice_get from.sent i ≡ Some p → slice_get s.sent i ≡ Some p) → (o : Outcome Node) (es : List world.Event) (os : List Order) → Leads n from.clock from.nodes from.sent w k old (λ x. x) o es os → OutcomeReads o → Keeps s (node_does from k (node_name old) o) → StateLeads n w (Goes n from) (node_does from k (node_name old) o) (acts number es os (node_does from k (node_name old) o))
 does_leads number n s from w k old there same None es os leads reads keeps = tt
 does_leads number n s from w k old there same (Some d) es os leads reads keeps =
@@ -98,7 +98,7 @@ does_leads number n s from w k old there same (Some d) es os leads reads keeps =
     led : Led n from.clock from.nodes from.sent w k old d es os
     led = leads reads
 
--- a datagram comes to the node at place `k`
+-- a datagram comes to the node at index `k`
 hears_lead : (n : Nodes) (s : WorldState) (w : World) (k : ℕ) (old : Node) (actions : List Action) → slice_get s.nodes k ≡ Some old → (o : Outcome Node) → HearsAll n s w k old actions o → OutcomeReads o → Keeps s (node_does s k (node_name old) o) → StateLeads n w (Goes n s) (node_does s k (node_name old) o) actions
 hears_lead n s w k old actions there None hears reads keeps = tt
 hears_lead n s w k old actions there (Some d) hears reads keeps =
@@ -120,7 +120,7 @@ first_sent s sound p h =
     (λ j q e same. same_bytes_same_frame (extras_of profile_definitions) q p (reads_alone s sound q (sound.sent j q e)) (reads_alone s sound p (sound.sent h.index p h.found)) same)
 
 module _ (number : ℕ) (n : Nodes) (distinct : Distinct n) (every_call : EveryCallKeeps) (sent_known : SentKnown) where
-  -- bytes of which each frame that verifies was sent come to the node at place `k`
+  -- bytes of which each frame that verifies was sent come to the node at index `k`
   pub bytes_lead : (s : WorldState) (w : World) → Sound s → Fits n s.clock s.nodes s.sent w → (bytes : List ℕ) → Known s bytes → (k : ℕ) (a : Node) → slice_get s.nodes k ≡ Some a → StateLeads n w (Goes n s) (node_does s k (node_name a) (node_receives s.clock bytes a)) (datagram_heard number bytes s k a)
   bytes_lead s w sound fits bytes known k a there =
       let link = sound.links k a there in

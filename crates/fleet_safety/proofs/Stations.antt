@@ -67,7 +67,7 @@ after_hands v y z = station_after v y (station_node (untold z.state) z.last z.ne
 less : (a b : ℕ) → a < b → nat_lt a b ≡ true
 less a b l = grind arith
 
--- a call's step, with its events in front of an outcome
+-- a call's step, with its events at the start of an outcome
 abbrev called : World → Stream → StationNode → (Stream → ℕ) → ℕ → StationStep → List StoreEvent → World
 called u y z last next a news = station_after u y (says_node (station_node a.station last next) a.answer) (says_frame y next a.answer) (news ++ outcome_news y a.told)
 
@@ -209,7 +209,7 @@ module _ (n : Nodes) (sound : Distinct n) (clock : ℕ) (nodes : List Node) (sen
         stations = λ x far. at_apart (at u.station y z) y x _ far ∙ at_apart u.station y x z far ∙ at_apart w.station y x _ far;
       }
 
-  -- a step of the core: nothing is sent, or a message in one frame, and then an outcome may be told
+  -- a step of the core: nothing is sent, or a message in one frame, and then an outcome may be reported
   module _ (link : Link) (before core : StationState) (last : Stream → ℕ) (next : ℕ) (news : List StoreEvent) (ending : List NodeEvent) (handed : untold before ≡ core) (ready : IsDue clock link.history last next) (range : StationInRange core) (me : y ≡ link.me) (key : a.link.key ≡ link.key) (none : packets_in ending ≡ []) (changeless : changes_reported news ≡ []) (ends : (k : ℕ) → seen_by (node_of y) k ending ≡ ends_reported news) (os : List Order) (tame : IsTame news) (among : orders_among news ≡ os) where
     says_nothing : (e : world.Event) → happens n u e ≡ station_after u y (station_node before last next) None news → refused_reported n u e ≡ [] → Led n clock nodes sent w k (Station a) (record { node = Station (record { link = link; core = core }); events = ending }) (moves clock (Station a) e) os
     says_nothing e is silent =
@@ -237,7 +237,7 @@ module _ (n : Nodes) (sound : Distinct n) (clock : ℕ) (nodes : List Node) (sen
     answers_lead None within e is silent = λ _. says_nothing e is silent
     answers_lead (Some m) within e is silent = in_front (with_core core ending (sends clock (message_of_plan m) link)) e (says e (message_of_plan m) (Some m) within (carried m within) is silent)
 
-  -- a step of the core that tells what stands then as its outcome
+  -- a step of the core that reports what is then its outcome
   step_leads : (link : Link) (act : StationStep) (last : Stream → ℕ) (next : ℕ) (news : List StoreEvent) (e : world.Event) (os : List Order) → IsTame (news ++ outcome_news y act.told) → orders_among (news ++ outcome_news y act.told) ≡ os → IsDue clock link.history last next → y ≡ link.me → a.link.key ≡ link.key → act.station.outcome ≡ act.told → StationStepInRange act → changes_reported (news ++ outcome_news y act.told) ≡ [] → ends_reported (news ++ outcome_news y act.told) ≡ ends_reported (outcome_news y act.told) → happens n u e ≡ called u y waited last next act news → refused_reported n u e ≡ [] → Leads n clock nodes sent w k (Station a) Station (steps clock link (station_does act)) (moves clock (Station a) e) os
   step_leads link act last next news e os tame among ready me key reports range changeless endings is silent =
       answers_lead link act.station (untold act.station) last next (news ++ outcome_news y act.told) (told_events act.station.outcome) refl ready (ranges.untells act.station range.station) me key (no_packets act.station.outcome) changeless

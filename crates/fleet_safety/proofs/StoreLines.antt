@@ -1,4 +1,4 @@
--- What a report tells of plans is what the store goes through.
+-- What a report says of plans is what the store goes through.
 use Rattle.std.proofs.Common.{◌≡◌, ℕ, ◌==◌, nat_lt, max, Bool, List, [], ◌∷◌, ◌++◌, length, slice_get, Option, Some, None, refl, sym, ap, ◌∙◌, ◌&&◌}
 use Rattle.std.proofs.lemmas.List.{append_assoc, append-nil}
 use Rattle.mav_names.specs.declared.names.Stream.{Stream}
@@ -27,7 +27,7 @@ lines_on (report.Emptied drone kind ∷ es) ys = ap (λ z. report.Emptied drone 
 lines_on (report.Refused station why ∷ es) ys = lines_on es ys
 lines_on (report.Ended station told ∷ es) ys = ap (λ z. report.Ended station told ∷ z) (lines_on es ys)
 
--- changes and ends are all told, frames and refusals are not
+-- changes and ends are all reported, frames and refusals are not
 one_change : (e : StoreEvent) → plan_lines (change_reported e) ≡ change_reported e
 one_change (Upload_begun station drone kind plan since drone_since) = refl
 one_change (Installed drone kind plan station) = refl
@@ -102,7 +102,7 @@ event_lines n w e =
     ∙ ap (λ z. z ++ plan_lines (ends_reported v.news)) (lines_on changes frames ∙ ap (λ z. z ++ plan_lines frames) (all_changes v.news) ∙ ap (λ z. changes ++ z) (no_frames (length w.sent) v.sent) ∙ append-nil changes)
     ∙ ap (λ z. changes ++ z) (all_ends v.news)
 
--- what a list of the store's events tells, one by one
+-- what a list of the store's events reports, one by one
 abbrev both_reported : List StoreEvent → List ProtocolEvent
 both_reported [] = []
 both_reported (e ∷ es) = (change_reported e ++ end_reported e) ++ both_reported es
@@ -111,7 +111,7 @@ steps_on : (sent : List Frame) (es : List StoreEvent) (h : List Step) → steps_
 steps_on sent [] h = sym (append-nil (steps_reported h))
 steps_on sent (e ∷ es) h = steps_on sent es (step sent e ∷ h) ∙ append_assoc (steps_reported h) (change_reported e ++ end_reported e) (both_reported es)
 
--- one event tells changes of plans before it tells an end
+-- one event reports changes of plans before it reports an end
 abbrev IsOrdered : List StoreEvent → Type 0
 IsOrdered es = both_reported es ≡ changes_reported es ++ ends_reported es
 

@@ -48,8 +48,8 @@ pub record Action : Type 0 where
   pub number : ℕ  -- of the line that it belongs to
   pub events : List world.Event  -- what happens in the world of messages
   pub orders : List Order  -- the order that it is, if a station accepts it
-  pub report : List Event  -- what the report tells of it
-  pub state : WorldState  -- the scene after it
+  pub report : List Event  -- what the report says of it
+  pub state : WorldState  -- the state after it
 
 -- ---- what a call is in the world of messages
 
@@ -63,12 +63,12 @@ abbrev pub ticks : Node → world.Event
 ticks (Drone a) = Drone_ticks a.link.me
 ticks (Station a) = Station_ticks a.link.me
 
--- the sent frame with this place comes to it (the newest has the place 0); drones keep what they install
+-- the sent frame with this index comes to it (the newest has the index 0); drones keep what they install
 abbrev pub comes_to : Node → ℕ → world.Event
 comes_to (Drone a) index = To_drone index a.link.me true
 comes_to (Station a) index = To_station index a.link.me
 
--- the place of the sent frame with these bytes: how many were sent after it
+-- the index of the sent frame with these bytes: how many were sent after it
 abbrev pub index_of : List ℕ → List Packet → Option ℕ
 index_of bytes [] = None
 index_of bytes (q ∷ qs) = if bytes_eq (encoding q) bytes then Some (length qs) else index_of bytes qs
@@ -113,18 +113,18 @@ abbrev pub cancelled : Stream → Option Operation → List Order
 cancelled station None = []
 cancelled station (Some operation) = Accepts_cancel station ∷ []
 
--- ---- nodes in a scene
+-- ---- nodes in a state
 
 -- one frame at a node
 abbrev pub node_hears : ℕ → Packet → Node → Outcome Node
 node_hears clock p (Drone a) = as_drone (hears drone_core clock p a)
 node_hears clock p (Station a) = as_station (hears station_core clock p a)
 
--- the scene after the node at place `k` has done this
+-- the state after the node at index `k` has done this
 abbrev pub state_with : WorldState → ℕ → Done Node → WorldState
 state_with s k d = record s { nodes = slice_set s.nodes k d.node; sent = s.sent ++ packets_in d.events }
 
--- the node at a place, and the one of a name, if there is one
+-- the node at an index, and the one of a name, if there is one
 abbrev pub at_index : WorldState → ℕ → Option Node → (WorldState → ℕ → Node → List Action) → List Action
 at_index s k None call = []
 at_index s k (Some a) call = call s k a
@@ -136,12 +136,12 @@ if_found s (Some k) call = at_index s k (slice_get s.nodes k) call
 abbrev pub at_node : WorldState → Name → (WorldState → ℕ → Node → List Action) → List Action
 at_node s name call = if_found s (position (is_named name) s.nodes) call
 
--- the actions of a step, and then those from the scene after it
+-- the actions of a step, and then those from the state after it
 abbrev pub and_next : Result Step StepError → List Action → (WorldState → List Action) → List Action
 and_next (Ok t) actions next = actions ++ next t.state
 and_next (Err error) actions next = []
 
--- the station at a place, and the one of a name, if there is one
+-- the station at an index, and the one of a name, if there is one
 abbrev pub at_station : ℕ → Option Node → (ℕ → Side StationState → List Action) → List Action
 at_station k None order = []
 at_station k (Some (Drone a)) order = []
@@ -163,7 +163,7 @@ module _ (number : ℕ) where
   acts events orders (Ok t) = record { number = number; events = events; orders = orders; report = t.events; state = t.state } ∷ []
   acts events orders (Err error) = []
 
-  -- the node at place `k` hears a frame, and then what follows
+  -- the node at index `k` hears a frame, and then what follows
   abbrev pub hears_then : WorldState → ℕ → Node → Packet → Outcome Node → (WorldState → Node → List Action) → List Action
   hears_then s k a p None next = []
   hears_then s k a p (Some d) next = record {
@@ -192,12 +192,12 @@ module _ (number : ℕ) where
 
   -- ---- of frames that are given
 
-  -- a frame comes to the node at place `k`, unless the node is its sender
+  -- a frame comes to the node at index `k`, unless the node is its sender
   abbrev pub frame_given : WorldState → ℕ → Packet → Option Node → List Action
   frame_given s k p None = []
   frame_given s k p (Some a) = if same_name (node_name a) p.from then [] else datagram_heard (encoding p) s k a
 
-  -- to `n` nodes, from place `k` on
+  -- to `n` nodes, from index `k` on
   abbrev pub row_given : WorldState → ℕ → ℕ → Packet → List Action
   row_given s k zero p = []
   row_given s k (suc n) p = and_next (given_to s k p (slice_get s.nodes k)) (frame_given s k p (slice_get s.nodes k)) (λ t. row_given t (k + 1) n p)
@@ -220,7 +220,7 @@ module _ (number : ℕ) where
 
   -- ---- of orders
 
-  -- an upload, of the draft that the scene holds
+  -- an upload, of the draft that the state holds
   abbrev pub upload_at : WorldState → Name → PlanKind → Option OpFault → ℕ → Side StationState → List Action
   upload_at s drone kind why k a =
       acts (ordering s.clock a why (Begins a.link.me (stream_of drone) kind s.draft))

@@ -44,7 +44,7 @@ pub record Of (name : Name) (P : Stream → Event → Type 0) (e : Event) : Type
 abbrev pub Gives : Stream → Event → Type 0
 Gives me e = (index : ℕ) × ((e ≡ To_drone index me true) ⊎ (e ≡ To_station index me))
 
--- the events of a line in a scene
+-- the events of a line in a state
 abbrev pub Causes : WorldState → Line → List Event → Type 0
 -- an order: that one, once, and for an upload of the draft
 Causes s (line.Begin station drone kind) es = AtMostOne (Of station (λ me e. e ≡ Begins me (stream_of drone) kind s.draft)) es

@@ -29,7 +29,7 @@ Means (Told_got plan) whole earlier sent station = GotHeld earlier station plan
 -- the code is one that the drone sent since it began, or 15 after a cancel, or 4 for too long a plan
 Means (Told_ended code) whole earlier sent station = EndedBy earlier sent station code
 
--- the action that tells what stands at a place of the report, and those before and after it
+-- the action that reports the line at an index of the report, and those before and after it
 pub record ReportedBy (actions : List Action) (index : ℕ) : Type 0 where
   pub before : List Action
   pub action : Action
@@ -43,7 +43,7 @@ pub record ReportedBy (actions : List Action) (index : ℕ) : Type 0 where
 abbrev pub IsTheStep : Nodes → List Action → Action → List Frame → StoreEvent → Type 0
 IsTheStep n before action sent event = steps_in n before action ≡ step sent event ∷ []
 
--- a line `outcome` is true: of what the store went through before the action that tells it
+-- a line `outcome` is true: of what the store went through before the action that reports it
 pub record OutcomeIsTrue (n : Nodes) (actions : List Action) (index : ℕ) (station : Name) (told : Told) : Type 0 where
   pub reported_by : ReportedBy actions index
   pub stream : Stream
@@ -75,11 +75,11 @@ pub record InstallIsTrue (n : Nodes) (actions : List Action) (index : ℕ) (dron
 
 -- what an operator may take from the lines of a report; `n` are the nodes of the scenario
 pub record LinesAreTrue (n : Nodes) (events : List report.Event) (actions : List Action) : Type 0 where
-  -- each line `outcome` is true: what is told installed was installed, and in the whole history once; what is told not
-  -- installed never is, before or after; a plan that was got is one that the drone held since the download began
+  -- each line `outcome` is true: what is reported as installed was installed, and in the whole history once; what is reported
+  -- as not installed never is, before or after; a plan that was got is one that the drone held since the download began
   pub outcomes : (index : ℕ) (station : Name) (told : Told) → slice_get events index ≡ Some (report.Ended station told)
       → OutcomeIsTrue n actions index station told
-  -- and none tells that the outcome is unknown
+  -- and none reports that the outcome is unknown
   pub known : (index : ℕ) (station : Name) → slice_get events index ≡ Some (report.Ended station Told_unknown) → ⊥
   -- each line `install` is: the plan is the draft of the station's latest accepted `begin` line, which it has fully transmitted
   pub installs : (index : ℕ) (drone : Name) (kind : ℕ) (plan : List Item) (by : Name) → slice_get events index ≡ Some (report.Installed drone kind plan by)

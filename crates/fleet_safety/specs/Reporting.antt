@@ -1,4 +1,4 @@
--- What a report tells of an execution of the world in which messages alone are exchanged: changes of plans, the
+-- What a report says of an execution of the world in which messages alone are exchanged: changes of plans, the
 -- messages of the mission protocol that were sent, the ends of operations, and calls that were refused.
 -- Nothing here speaks of scenario lines or of datagrams.
 use Rattle.std.specs.Prelude.{ℕ, ◌&&◌, nat_lt, if◌then◌else◌, List, [], ◌∷◌, ◌++◌, length, Option, Some, None}
@@ -20,7 +20,7 @@ use Rattle.mav_messages.specs.Plans.{plan_of}
 use Rattle.fleet_report.specs.Events as report
 use Rattle.fleet_report.specs.Events.{Dropped, Missing}
 
--- what a report tells of the mission protocol
+-- what a report says of the mission protocol
 pub data ProtocolEvent : Type 0 where
   Sent : (number : ℕ) (from : Name) (message : PlanMsg) → ProtocolEvent  -- in the number-th frame
   Installed : (drone : Name) (kind : ℕ) (items : List Item) (by : Name) → ProtocolEvent
@@ -126,7 +126,7 @@ abbrev pub reported : Nodes → World → List world.Event → List ProtocolEven
 reported n w [] = []
 reported n w (e ∷ es) = reported_in n w e ++ reported n (happens n w e) es
 
--- what a report tells of plans: the installations, the clears and the ends of operations, without the frames
+-- what a report says of plans: the installations, the clears and the ends of operations, without the frames
 abbrev pub plan_lines : List ProtocolEvent → List ProtocolEvent
 plan_lines [] = []
 plan_lines (Sent number from m ∷ es) = plan_lines es
@@ -135,7 +135,7 @@ plan_lines (Emptied drone kind ∷ es) = Emptied drone kind ∷ plan_lines es
 plan_lines (Refused station why ∷ es) = plan_lines es
 plan_lines (Ended station told ∷ es) = Ended station told ∷ plan_lines es
 
--- what it tells of the steps of the abstract mission store, which stand here with the newest first
+-- what it says of the steps of the abstract mission store, which come with the newest first
 abbrev pub steps_reported : List Step → List ProtocolEvent
 steps_reported [] = []
 steps_reported (x ∷ h) = steps_reported h ++ (change_reported x.event ++ end_reported x.event)

@@ -32,7 +32,7 @@ start = record { boot = λ s. 0; pings = λ s. 0 }
 
 -- ---- actions, one after another
 
--- their events, what the report tells of them, the orders that they are, and the scene after them
+-- their events, what the report says of them, the orders that they are, and the state after them
 abbrev pub events_of : List Action → List world.Event
 events_of [] = []
 events_of (a ∷ actions) = a.events ++ events_of actions
@@ -107,11 +107,11 @@ pub record IsTheUpload (os : List Order) (s : Stream) (number : ℕ) (drone : St
 
 -- what holds of an action, after those before it
 pub record IsSafe (n : Nodes) (before : List Action) (a : Action) : Type 0 where
-  -- the report shows of it exactly what its events tell;
+  -- the report has of it exactly what its events report;
   pub report : seen a.report ≡ reported n (world_after n before) a.events
   -- what the store begins or cancels in it is the order that a station accepts there, if any;
   pub orders : orders_in (steps_in n before a) ≡ a.orders
-  -- the plans that the drones of the scene have after it are the store's;
+  -- the plans that the drones of the state have after it are the store's;
   pub plans : (index : ℕ) (d : Side DroneState) (kind : ℕ) → slice_get a.state.nodes index ≡ Some (Drone d) → kind < 3
       → plan_at d.core.plans kind ≡ (store_of (history_of n (before ++ a ∷ []))).plan d.link.me kind
   -- and each is empty, or exactly the plan of one upload for that drone and kind, which was installed
@@ -120,7 +120,7 @@ pub record IsSafe (n : Nodes) (before : List Action) (a : Action) : Type 0 where
 
 -- What a scenario leads to under a key is safe, and these are its actions:
 pub record Safe (key : List ℕ) (p : Played) (actions : List Action) : Type 0 where
-  -- the report and the scene are what they lead to;
+  -- the report and the state are what they lead to;
   pub report : report_of actions ≡ p.events
   pub state : state_after (empty_state key) actions ≡ p.state
   -- each of them is safe;

@@ -23,20 +23,20 @@ pub fn every_quiet_scenario()
     ensures { (key : List ℕ) → (ended : Bool) → (bytes : List ℕ) → IsQuiet bytes → Safe key (played key ended bytes) (actions_of key ended bytes) }
 {}
 
-/// So what a report tells of plans and outcomes is, in this order, what the abstract mission store goes
-/// through: nothing is told that doesn't happen there, nothing twice, and nothing is left out.
+/// So what a report says of plans and outcomes is, in this order, what the abstract mission store goes
+/// through: nothing is reported that doesn't happen there, nothing twice, and nothing is left out.
 pub fn every_report()
     ensures { (key : List ℕ) → (ended : Bool) → (bytes : List ℕ) → Authentic key ended bytes → plan_lines (seen (played key ended bytes).events) ≡ steps_reported (history_of (nodes_of (played key ended bytes).state.nodes) (actions_of key ended bytes)) }
 {}
 
-/// The calls of a line, in any scene, are the events that it causes, and no others: a `begin` line is
+/// The calls of a line, in any state, are the events that it causes, and no others: a `begin` line is
 /// one begin of the draft, a `tick` line one tick, frames come to the nodes of a `deliver`, `flow` or
 /// `noise` line, and no line is a restart.
 pub fn every_cause()
     ensures { (number : ℕ) → (s : WorldState) → (line : Line) → Causes s line (without_waits (events_of (calls_of number s line))) }
 {}
 
-/// In the scenes of authentic scenarios a `deliver` line is one giving of a sent frame to that node, or
+/// In the states of authentic scenarios a `deliver` line is one giving of a sent frame to that node, or
 /// nothing.
 pub fn every_delivery()
     ensures { (number : ℕ) → (s : WorldState) → Sound s → (which : ℕ) → (node : Name) → AtMostOne (Of node Gives) (without_waits (events_of (calls_of number s (Deliver which node)))) }

@@ -21,7 +21,7 @@ use Rattle.plan_safety.proofs.Fleet.{All, retold, part, view_transaction, view_o
 use Rattle.plan_safety.proofs.FleetMoves.{Goes}
 use Rattle.plan_safety.proofs.FleetDrone.{Stepped, admitted_node, steps}
 
--- what is shown is seen where it is open, and there alone
+-- what is shown is seen only by a download that is open
 far_sees : (d n : Stream) (k : ℕ) (p : List Item) (c : Option Opening) → d ≢ n → view_opening d (sees c n k p) ≡ view_opening d c
 far_sees d n k p None far = refl
 far_sees d n k p (Some c) far =
@@ -274,7 +274,7 @@ module _ (nodes : Nodes) (sound : Distinct nodes) (w : World) (m : Store) (n : S
       goes nodes sound w m n f.from f.timestamp (max (w.drone n).next f.timestamp) r.drone r.answer all drone r.event (frame_steps keeps k f e (less _ _ h)))
       (λ _. quiet_world nodes w m all)
 
-  -- one with this place, where there is one
+  -- one with this index, if there is one
   pub coming_goes : (keeps : Bool) (k : ℕ) (f : Option Frame) → slice_get w.sent k ≡ f → Goes nodes (to_drone w keeps n f) m
   coming_goes keeps k None e = quiet_world nodes w m all
   coming_goes keeps k (Some f) e = frame_goes keeps k f e

@@ -110,7 +110,7 @@ own_move P e q t o a b c i =
     subst (λ z. P (record q { operation = z; synced = is_synced t.synced e; pings = t.pings })) (a ∙ view_own e t.operation o)
     (subst (λ z. P (record q { synced = z; pings = t.pings })) b (subst (λ z. P (record q { pings = z })) c i))
 
--- no call tells an outcome
+-- no call reports an outcome
 begins_reported : (s : StationState) (o : Operation) → (begins s o).told ≡ None
 begins_reported s o = by_test (λ (a : StationStep). a.told ≡ None) (is_synced s.synced o.drone) _ _ (λ _. refl) (λ _. attempt_reported (record s { outcome = None }) o)
 
@@ -125,7 +125,7 @@ cancel_reported s o = by_test (λ (a : StationStep). a.told ≡ None) o.terminat
     by_phase Listing_items = attempt_reported s (record o { terminating = true })
     by_phase Getting = attempt_reported s (record o { terminating = true })
 
--- a step tells an outcome, or nothing
+-- a step reports an outcome, or nothing
 reported_is : (s e : Stream) (now later : ℕ) (told : Option Told) → store_news s e now later (news_of told) ≡ outcome_news s told
 reported_is s e now later None = refl
 reported_is s e now later (Some told) = refl
@@ -202,7 +202,7 @@ module _ (nodes : Nodes) (sound : Distinct nodes) (w : World) (m : Store) (s : S
   pub hand_goes : Goes nodes (station_calls w s (w.station s) (stays (untold st)) []) m
   hand_goes = rests (record (w.station s) { state = untold st }) refl refl (λ d hd g i. i)
 
-  -- it stays as it is
+  -- it stays unchanged
   idle_goes : Goes nodes (station_does w s (w.station s) (stays st) []) m
   idle_goes = rests (w.station s) refl refl (λ d hd g i. i)
 
@@ -250,7 +250,7 @@ module _ (nodes : Nodes) (sound : Distinct nodes) (w : World) (m : Store) (s : S
       subst (λ d. (let u = with_operation t (Some (record o { drone = d })) in Inv e s (with_station e p u) g → Heeds e s u (with_station e p u) (operation_tick u (Some (record o { drone = d }))))) (sym is)
       (on_tick e s (not_here e hd) p g t o o.work o.phase)
 
-  -- a call that tells no outcome
+  -- a call that reports no outcome
   untold_call : (a : StationStep) (event : StoreEvent) → a.told ≡ None → Goes nodes (station_does w s (w.station s) a (event ∷ [])) m → Goes nodes (station_calls w s (w.station s) a (event ∷ [])) m
   untold_call a event e h = subst (λ x. Goes nodes (station_does w s (w.station s) a (event ∷ outcome_news s x)) m) (sym e) h
 
@@ -382,7 +382,7 @@ module _ (nodes : Nodes) (sound : Distinct nodes) (w : World) (m : Store) (s : S
       (λ l. by_message k f is (less _ _ l) f.message refl)
       (λ _. quiet_world nodes w m all)
 
-  -- one with this place, where there is one
+  -- one with this index, if there is one
   pub coming_goes : (k : ℕ) (f : Option Frame) → slice_get w.sent k ≡ f → Goes nodes (to_station w s f) m
   coming_goes k None e = quiet_world nodes w m all
   coming_goes k (Some f) e = frame_goes k f e

@@ -27,7 +27,7 @@ not_for_drone : (s : Stream) → (s ≡ station_a) ⊎ (s ≡ station_b) → is_
 not_for_drone s (inl a) = subst (λ x. is_for_drone 7 (node_of x) ≡ false) (sym a) refl
 not_for_drone s (inr b) = subst (λ x. is_for_drone 7 (node_of x) ≡ false) (sym b) refl
 
--- names tell the three nodes apart
+-- the names of the three nodes are distinct
 pub distinct : Distinct small_fleet
 distinct = record {
   component = λ d h. ap (λ (x : Stream). x.comp) (stream_eq d drone_7 h);

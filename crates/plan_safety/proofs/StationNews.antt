@@ -14,7 +14,7 @@ use Rattle.plan_safety.proofs.Keys.{flag}
 use Rattle.plan_safety.proofs.Pair.{Pair, Facts, SentByStation}
 use Rattle.plan_safety.proofs.Part.{Seen, Part, Moments, pair_of, subject, Named, Truths, Final, Operates, Inv, Keeps, keeps_truth, truths_keep, gathers_more, shown_of, number_in, job_number, since_of, IsGet, Answered}
 
--- what a step tells: an outcome, that an operation began, or that it was cancelled
+-- what a step reports: an outcome, that an operation began, or that it was cancelled
 pub data StationNews : Type 0 where
   Silent : StationNews
   Reports : (told : Told) → StationNews
@@ -174,7 +174,7 @@ station_said d s ne p g h t x q i is f k n named l o c m ask old = record {
   answers = λ ph. (λ e _. absurd (ne (sym e)), old ph);
 }
 
--- more sent frames tell no less
+-- more sent frames show no less
 pub acked_more : (sent : List Frame) (f : Frame) (d s : Stream) (since code : ℕ) → Acked sent d s since code → Acked (f ∷ sent) d s since code
 acked_more sent f d s since code h = (h.0, inr h.1)
 

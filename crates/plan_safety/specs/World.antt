@@ -22,7 +22,7 @@ pub record Nodes : Type 0 where
   pub is_drone : Stream → Bool
   pub is_station : Stream → Bool
 
--- Names tell nodes apart: a drone is component 1 of its system, and alone there as a drone; stations have
+-- Names are distinct: a drone is component 1 of its system, and alone there as a drone; stations have
 -- names of their own; and no station has a name that a drone takes for its own, (its system, 1) or (its system, 0).
 -- It holds wherever each node has one stream, and no two nodes the same name, none of component 0.
 pub record Distinct (n : Nodes) : Type 0 where
@@ -58,7 +58,7 @@ pub data Event : Type 0 where
   Hands_out : (station : Stream) → Event
   Drone_ticks : (drone : Stream) → Event
   Station_ticks : (station : Stream) → Event
-  -- the sent frame with this place comes to a drone; `keeps` says whether its store keeps new plans
+  -- the sent frame with this index comes to a drone; `keeps` says whether its store keeps new plans
   To_drone : (index : ℕ) (drone : Stream) (keeps : Bool) → Event
   To_station : (index : ℕ) (station : Stream) → Event
   -- it sends a message of another service
@@ -105,7 +105,7 @@ drone_does w d x r = drone_sends (record w { news = drone_news d r.event }) d (r
 abbrev pub station_does : World → Stream → StationNode → StationStep → List StoreEvent → World
 station_does w s y a news = station_sends (record w { news = news }) s (record y { state = a.station }) a.answer
 
--- a call of a station: what it begins or cancels, and what it tells
+-- a call of a station: what it begins or cancels, and what it reports
 abbrev pub station_calls : World → Stream → StationNode → StationStep → List StoreEvent → World
 station_calls w s y a news = station_does w s y a (news ++ outcome_news s a.told)
 
@@ -118,14 +118,14 @@ abbrev pub station_takes : StationState → Stream → Option PlanMsg → Statio
 station_takes y from None = stays y
 station_takes y from (Some m) = station_step y from m
 
--- a frame is admitted where its timestamp is greater than the last one admitted of its stream
+-- a frame is admitted if its timestamp is greater than the last one admitted of its stream
 abbrev pub drone_admits : World → Bool → Stream → DroneNode → Frame → World
 drone_admits w keeps d x f =
     if nat_lt (x.last f.from) f.timestamp
     then drone_does w d (record x { last = at x.last f.from f.timestamp; next = max x.next f.timestamp }) (drone_takes keeps x.state f.from f.message)
     else quiet w
 
--- a step of a station at a frame or a tick: what it tells
+-- a step of a station at a frame or a tick: what it reports
 abbrev pub station_steps : World → Stream → StationNode → StationStep → World
 station_steps w s y a = station_does w s y a (outcome_news s a.told)
 
@@ -167,7 +167,7 @@ clear_number None = every_kind
 clear_number (Some kind) = number_of kind
 
 -- what a drone is after its restart: it admits what is later than the low bound, and sends later than that.
--- Where the low bound is at least all that it admitted and sent, all its last timestamps are the low bound
+-- If the low bound is at least all that it admitted and sent, all its last timestamps are the low bound
 abbrev pub restarted : DroneNode → ℕ → DroneNode
 restarted x low = record { state = restored x.state; last = λ s. max (x.last s) low; next = max x.next (low + 1) }
 

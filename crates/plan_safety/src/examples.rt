@@ -10,7 +10,7 @@ ghost use Rattle.plan_safety.specs.Examples.{drone_7, station_a, station_b, smal
 
 /// By computation, in a fleet of one drone and two stations.
 pub fn small_executions()
-    ensures names_tell_apart { Distinct small_fleet }
+    ensures names_are_distinct { Distinct small_fleet }
     ensures installs { (final small_fleet small_start (upload_of_two station_a)).news ≡ Installed drone_7 0 two_waypoints station_a ∷ [] }
     ensures reports_installed { (final small_fleet small_start (upload_reported station_a)).news ≡ Ended station_a Told_installed ∷ [] }
     ensures clears { (final small_fleet small_start (upload_reported station_a ++ Clears station_a drone_7 None ∷ To_drone 0 drone_7 true ∷ [])).news ≡ Cleared drone_7 0 station_a ∷ Cleared drone_7 1 station_a ∷ Cleared drone_7 2 station_a ∷ [] }

@@ -3,7 +3,7 @@ use Rattle.plan_safety.proofs.examples.small_executions.Goals as goal
 
 pub returns : goal.returns
 returns c = record {
-  names_tell_apart = shown.distinct;
+  names_are_distinct = shown.distinct;
   installs = shown.installs;
   reports_installed = shown.reports;
   clears = shown.clears;
