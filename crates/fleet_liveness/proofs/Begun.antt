@@ -141,7 +141,7 @@ module _ (s : WorldState) (g : Sound s) (dp sp : ℕ) (d : Side DroneState) (t :
   abbrev upload : Upload
   upload = upload_of sys me kind s.draft valid
 
-  -- a flow that is long enough ends the upload, from this scene on
+  -- a flow that is long enough ends the upload, from this state on
   abbrev LeadsOn : WorldState → Type 0
   LeadsOn x = (k : ℕ) → 2 * length s.draft + 6 + drones_in s.nodes ≤ k → IfOk (flows k x) (λ u. Installs upload u.events)
 
@@ -290,7 +290,7 @@ module _ (s : WorldState) (g : Sound s) (dp sp : ℕ) (d : Side DroneState) (t :
       (made ∙ ap (λ z. signed_packet t.link.key z t.link.me t.link.seq stamp (message_of_plan m)) link.extras) reads (is_carried sys me kind s.draft valid g.draft b.stage)))
       (does x from sp name (as_station call) (record { node = Station new; events = events }) (packet ∷ []) whole (ap (λ ps. packet ∷ ps) (no_frames_reported does_so.station.outcome)) keeps.0)
 
-  -- where the station is found
+  -- the index at which the station is found
   index_is : position (is_station_named me) s.nodes ≡ Some sp
   index_is =
       let f = first_of_all (is_station_named me) s.nodes sp (Station t) t_there (ap (λ n. same_name n me) t_named ∙ name_same me) in

@@ -21,7 +21,7 @@ use Rattle.fleet_liveness.specs.Uncontended.{Upload, NextLine, Whole, Last, text
 use Rattle.fleet_liveness.proofs.Begun.{begin_leads}
 use Rattle.fleet_liveness.proofs.Onward.{line_done, last_done, Done, goes_done, Grows, grows_same, grows_then, lines_grow, end_grows, unless_none, one_line, front_and}
 
--- the front of authentic lines is authentic
+-- the prefix of authentic lines is authentic
 unless_so : (stop : Option ScenarioError) (A B : Type 0) → (A → B) → UnlessStopped stop A → UnlessStopped stop B
 unless_so None A B f h = f h
 unless_so (Some stop) A B f h = tt
@@ -47,7 +47,7 @@ flow_goes p number (Whole raw more) frames says e = line_done p number raw e ∙
 flow_goes p number (Last []) frames says e = absurd (cc)
 flow_goes p number (Last (b ∷ bs)) frames says e = last_done p number b bs e ∙ ap (λ l. goes_on p (after_line p.state l)) says
 
--- what comes behind the flow line only adds events
+-- what comes after the flow line only adds events
 later : (key : List ℕ) (ended : Bool) (bytes : List ℕ) (front : List (List ℕ)) (begin : List ℕ) (flow : NextLine) → HaveLines ended bytes front begin flow
     → (let p = lines_played (at_start key) 1 front in p.stop ≡ None → (let b = line_played p (length front + 1) begin in b.stop ≡ None → Grows (next_played b (length front + 2) flow) (played key ended bytes)))
 later key ended bytes front begin (Whole raw more) lines going_on begins =
@@ -85,7 +85,7 @@ abbrev LeadsOn : ℕ → Upload → Step → Type 0
 LeadsOn drones u t = (k : ℕ) → 2 * length u.plan + 6 + drones ≤ k → IfOk (flows k t.state) (λ v. Installs u v.events)
 
 module _ (key : List ℕ) (ended : Bool) (bytes : List ℕ) (authentic : Authentic key ended bytes) (l : Lines) (u : Upload) (h : IsUncontended key ended bytes l u) where
-  -- the scene before the begin line
+  -- the state before the begin line
   abbrev first : Played
   first = before key l
 

@@ -1,4 +1,4 @@
--- What becomes of a scene where a sent frame is given to a node: the node hears it in silence, or sends a frame.
+-- What becomes of a state in which a sent frame is given to a node: the node hears it in silence, or sends a frame.
 use Rattle.std.proofs.Common.{◌≡◌, ◌∙◌, ℕ, ◌⊎◌, inl, inr, List, [], ◌∷◌, ◌++◌, length, slice_get, Some, None, refl, sym, ap, subst}
 use Rattle.std.specs.Prelude.{IfOk}
 use Rattle.mav_names.specs.declared.names.Name.{Name}
@@ -115,14 +115,14 @@ module _ (s : WorldState) (g : Sound s) (i : ℕ) (f : Packet) (found : slice_ge
           })
           (does_moves s j name call (record { node = node; events = events }) (packet ∷ []) whole (one_packet r.first r.last packet answer first last) keeps.0)
 
-  -- it is dropped where it isn't admitted
+  -- it is dropped if it isn't admitted
   pub unless_still : (P : Step → Type 0) → (answer_to y.link.key y.link.history f ≡ Admitted → IfOk (node_does s j name call) P) → ((t : Step) → Still y.core t → P t) → IfOk (node_does s j name call) P
   unless_still P admitted dropped = elim (unless_dropped s.key f stamp m c step s.clock y key extras) [
     | inl e ↦ admitted e
     | inr q ↦ weaker (Still y.core) P (node_does s j name call) dropped (stills y.core q)
   ]
 
-  -- a message that its core takes without an answer, and what is told of it
+  -- a message that its core takes without an answer, and what is reported of it
   pub ends_so : answer_to y.link.key y.link.history f ≡ Admitted → (r : CoreStep Core) → step y.core (stream_of f.from) m ≡ r → r.answer ≡ None → packets_in r.first ≡ [] → packets_in r.last ≡ []
       → IfOk (node_does s j name call) (λ t. t.events ≡ reported_by name (length s.sent) ((r.first ++ r.last) ++ []))
   ends_so admitted r is no_answer first last =

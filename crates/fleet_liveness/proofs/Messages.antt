@@ -17,7 +17,7 @@ use Rattle.fleet_world.specs.WorldState.{stream_of}
 use Rattle.fleet_invariants.proofs.Tests.{number_same, name_same}
 use Rattle.fleet_liveness.proofs.Names.{same}
 
--- what holds of all elements holds of the one behind a front
+-- what holds of all elements holds of the one after a prefix
 pub holds_at : {A : Type 0} (P : A → Type 0) (front : List A) (x : A) (rest : List A) → All P (front ++ x ∷ rest) → P x
 holds_at P front x rest h = subst P (get_or-append_seam front x rest x) (h (length front) x (omega (arith, length-append front (x ∷ rest))))
 

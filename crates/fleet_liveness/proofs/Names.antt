@@ -1,4 +1,4 @@
--- Names and streams that are told apart, and which messages a drone and a station leave alone.
+-- Names and streams that are distinct, and which messages a drone and a station leave alone.
 use Rattle.std.proofs.Common.{◌≡◌, ◌≢◌, ℕ, ◌≤◌, Bool, true, false, ◌==◌, ◌&&◌, ◌||◌, not, Option, Some, None, refl, ap, subst, arith, ◌∙◌}
 use Rattle.std.proofs.lemmas.Bool.{cond-false}
 use Rattle.mav_names.specs.declared.names.Name.{Name}

@@ -1,4 +1,4 @@
--- What lines lead to, one behind the other.
+-- What lines lead to, one after another.
 use Rattle.std.proofs.Common.{◌≡◌, ◌∙◌, ℕ, ◌+◌, Bool, true, false, nat_lt, List, [], ◌∷◌, ◌++◌, length, Option, Some, None, Ok, Err, refl, sym, ap, arith, append_assoc}
 use Rattle.std.specs.Prelude.{IfOk}
 use Rattle.std.specs.declared.result.Result.{Result}
@@ -40,7 +40,7 @@ pub goes_done : (P : Step → Type 0) (p : Played) (r : Result Step StepError) �
 goes_done P p (Ok t) e h = record { step = t; is = refl; holds = h }
 goes_done P p (Err error) e h = absurd (cc)
 
--- events only come behind those that are there
+-- events only come after those that are there
 pub record Grows (p q : Played) : Type 0 where
   pub more : List Event
   pub is : q.events ≡ p.events ++ more
@@ -97,7 +97,7 @@ unless_none (Some stop) p q e = absurd (cc)
 pub one_line : (p : Played) (number : ℕ) (raw : List ℕ) (more : List (List ℕ)) → p.stop ≡ None → lines_played p number (raw ∷ more) ≡ lines_played (line_played p number raw) (number + 1) more
 one_line p number raw more e = unless_none p.stop p (lines_played (line_played p number raw) (number + 1) more) e
 
--- a stopped scenario stays as it is
+-- a stopped scenario stays unchanged
 stays : (p : Played) (number : ℕ) (more : List (List ℕ)) (stop : ScenarioError) → p.stop ≡ Some stop → lines_played p number more ≡ p
 stays p number [] stop e = refl
 stays p number (raw ∷ more) stop e = ap (λ s. unless_stopped s p (lines_played (line_played p number raw) (number + 1) more)) e

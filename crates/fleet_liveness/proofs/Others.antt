@@ -31,7 +31,7 @@ use Rattle.fleet_liveness.proofs.Given.{drones, stations, Still, still}
 use Rattle.fleet_liveness.proofs.Stages.{Stage, is_up, DroneIs, StationIs, station_untold}
 use Rattle.fleet_liveness.proofs.Waits.{IsAside, Waits, sender, listener}
 
--- a frame of another node leaves the last timestamp of a name as it was
+-- a frame of another node leaves the last timestamp of a name unchanged
 pub last_kept : (key : List ℕ) (link : Link) (q : Packet) (name : Name) → name ≢ q.from → (l : ℕ) → last_of (stream_of name) (tries q link).history ≡ Some l → last_of (stream_of name) link.history ≡ Some l
 last_kept key link q name ne l e = by_leaves (leaves link.history q (answer_to link.key link.history q) q.block refl)
   where
@@ -46,7 +46,7 @@ pub no_frames_reported : (told : Option Told) → packets_in (told_events told) 
 no_frames_reported None = refl
 no_frames_reported (Some told) = refl
 
--- one that isn't at the first place
+-- one that isn't at the first index
 pub no_packet : (q : Packet) → IsAt [] q → ⊥
 no_packet q at = nowhere at.index q at.found
 
@@ -57,7 +57,7 @@ only_packet p q at = first at.index at.found
     first zero e = some_is e
     first (suc k) e = absurd (nowhere k q e)
 
--- what a drone's core does where its step rests, and where it answers
+-- what a drone's core does if its step rests, and if it answers
 pub drone_core_rests : (d : DroneState) (from : Stream) (m : PlanMsg) (r : DroneStep) → drone_step true d from m ≡ r → drone_core d from m ≡ record { core = r.drone; first = change_events from r.drone.plans (change_by r.event); answer = r.answer; last = [] }
 drone_core_rests d from m r e = ap (λ (r : DroneStep). record { core = r.drone; first = change_events from r.drone.plans (change_by r.event); answer = r.answer; last = [] }) e
 

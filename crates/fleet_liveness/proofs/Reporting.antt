@@ -1,4 +1,4 @@
--- What is still to be told, by the message that is on its way: the installation and the outcome, or the outcome alone.
+-- What is still to be reported, by the message that is on its way: the installation and the outcome, or the outcome alone.
 use Rattle.std.proofs.Common.{◌≡◌, ◌∙◌, ℕ, ◌+◌, Bool, true, false, List, [], ◌∷◌, ◌++◌, Option, Some, refl, sym, ap, subst, append_assoc}
 use Rattle.mav_names.specs.declared.names.Name.{Name}
 use Rattle.plan_items.specs.declared.items.Item.{Item}
@@ -16,7 +16,7 @@ use Rattle.fleet_world.specs.Steps.{packets_in, reported_by}
 use Rattle.fleet_liveness.specs.Uncontended.{Upload, Installs}
 use Rattle.fleet_liveness.proofs.Stages.{Stage, Pings, Replies, Cancels, Settles, Counts, Asks, Gives, Acks, is_up, is_last, changes}
 
--- the station tells that the upload is installed
+-- the station reports that the upload is installed
 pub record ReportsInstalled (me : Name) (events : List Event) : Type 0 where
   pub first : List Event
   pub rest : List Event

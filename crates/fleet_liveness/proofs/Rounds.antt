@@ -38,7 +38,7 @@ same_or a b = by_bool (a == b) refl
     by_bool true e = inl (eq_true a b e)
     by_bool false e = inr (λ is. differ _ (subst (λ x. (a == x) ≡ true) is (number_same a)) e)
 
--- there is an element at each place in a list
+-- there is an element at each index of a list
 pub record Found {A : Type 0} (xs : List A) (i : ℕ) : Type 0 where
   pub element : A
   pub is : slice_get xs i ≡ Some element
@@ -48,7 +48,7 @@ found_within [] i h = absurd (omega arith)
 found_within (x ∷ xs) zero h = record { element = x; is = refl }
 found_within (x ∷ xs) (suc i) h = let r = found_within xs i (omega arith) in record { element = r.element; is = r.is }
 
--- how many frames more the nodes from a place on send at a PING for all
+-- how many frames more the nodes from an index on send at a PING for all
 abbrev pub role_extra : Role → ℕ
 role_extra DroneRole = 1
 role_extra StationRole = 0
@@ -113,7 +113,7 @@ module _ (sys : ℕ) (me : Name) (kind : PlanKind) (plan : List Item) (valid : I
   pub wanted_behind : (p : Stage plan) (es fs : List Event) → Wanted p fs → Wanted p (es ++ fs)
   wanted_behind p es fs g = goal_behind (upload_of sys me kind plan valid) (is_last p) es fs g
 
-  -- where the one stands that waits for a message, and the one that sent it
+  -- the index of the node that waits for a message, and the one that sent it
   abbrev pub place_to : Bool → ℕ
   place_to true = dp
   place_to false = sp
@@ -148,7 +148,7 @@ module _ (sys : ℕ) (me : Name) (kind : PlanKind) (plan : List Item) (valid : I
     pub sent_on : (s t : WorldState) → Sent s → t.key ≡ s.key → ((i : ℕ) (q : Packet) → slice_get s.sent i ≡ Some q → slice_get t.sent i ≡ Some q) → Sent t
     sent_on s t h key there = record { found = there i f h.found; carries = subst (λ k. Carries k f stamp (says p)) (sym key) h.carries }
 
-    -- how many frames more the node at a place sends
+    -- how many frames more the node at an index sends
     abbrev pub more_at : WorldState → ℕ → ℕ
     more_at s j = named_extra (is_ping p) (slice_get (names_of s.nodes) j)
 
@@ -168,7 +168,7 @@ module _ (sys : ℕ) (me : Name) (kind : PlanKind) (plan : List Item) (valid : I
             subst (λ k. IfOk (node_does s j (node_name y) (node_receives s.clock (encoding f) y)) (Beside s k r q)) (extra_here (is_ping p) s.nodes j y there)
             (others sys me kind plan valid fits dp sp s r q w p i f h.found stamp h.carries (node_name y) from j y there places.0 places.1))
 
-    -- behind the one that it was for
+    -- after the one that it was for
     record After (r : ℕ) (q : Stage plan) (given budget : ℕ) (t : Step) : Type 0 where
       waits : IsWaiting t.state r q
       given_is : t.state.given ≡ given

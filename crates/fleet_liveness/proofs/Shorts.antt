@@ -67,7 +67,7 @@ accepted_local history = left (accepted_in history) _
     left : (a b : ℕ) → a ≤ max a b
     left a b = grind arith
 
--- no frame is among what a core tells
+-- no frame is among what a core reports
 record Quiet {Core : Type 0} (step : Core → Stream → PlanMsg → CoreStep Core) : Type 0 where
   first : (core : Core) (from : Stream) (m : PlanMsg) → packets_in (step core from m).first ≡ []
   last : (core : Core) (from : Stream) (m : PlanMsg) → packets_in (step core from m).last ≡ []
@@ -147,7 +147,7 @@ goes_weaker : (P Q : Step → Type 0) (r : Result Step StepError) → ((t : Step
 goes_weaker P Q (Ok t) f h = f t h
 goes_weaker P Q (Err error) f h = h
 
--- the scene is sound, with at most so many frames more
+-- the state is sound, with at most so many frames more
 record Longer (s : WorldState) (n : ℕ) (t : Step) : Type 0 where
   sound : Sound t.state
   sent : length t.state.sent ≤ length s.sent + n

@@ -1,4 +1,4 @@
--- What a sound scene gives: who is at a place, which timestamps are fresh, and that they are admitted.
+-- What a sound state gives: who is at an index, which timestamps are fresh, and that they are admitted.
 use Rattle.std.proofs.Common.{◌≡◌, ◌≢◌, ◌∙◌, ℕ, ◌+◌, ◌<◌, ◌≤◌, max, true, List, [], ◌∷◌, length, slice_get, Some, refl, sym, ap, subst, arith}
 use Rattle.mav_names.specs.declared.names.Name.{Name}
 use Rattle.mav_names.specs.declared.names.Stream.{Stream}
@@ -26,7 +26,7 @@ both_roles [] = refl
 both_roles (Drone n ∷ ns) = let e = both_roles ns in omega arith
 both_roles (Station n ∷ ns) = let e = both_roles ns in omega arith
 
--- two nodes at one place are one
+-- two nodes at one index are one
 pub same_place : (nodes : List Node) (i j : ℕ) (a b : Node) → slice_get nodes i ≡ Some a → slice_get nodes j ≡ Some b → i ≡ j → a ≡ b
 same_place nodes i j a b ea eb e = some_is (sym ea ∙ ap (slice_get nodes) e ∙ eb)
 
@@ -59,7 +59,7 @@ module _ (s : WorldState) (g : Sound s) where
       own (Drone n) h = (h.0, h.2)
       own (Station n) h = (h.0, h.2)
 
-  -- a message for a node is left alone at every other place
+  -- a message for a node is left alone at every other index
   pub drone_leaves : (to : Name) (h : Holds s.nodes to) (j : ℕ) (y : Side DroneState) → slice_get s.nodes j ≡ Some (Drone y) → j ≢ h.index → (from : Stream) (m : PlanMsg) → addressee m ≡ to → drone_step true y.core from m ≡ rests y.core
   drone_leaves to h j y there ne from m is =
       let some = some_name to h in
@@ -83,7 +83,7 @@ module _ (s : WorldState) (g : Sound s) where
       let sys : y.core.me.sys ≡ y.link.me.sys = ap (λ (n : Name). n.sys) core.1 in
       station_rests y.core from (Ping everyone boot number) (names_apart everyone y.core.me (λ e. let z : 0 ≡ y.core.me.sys = ap (λ (n : Name). n.sys) e in absurd (omega arith)))
 
-  -- a frame that carries a message is admitted where its timestamp is fresh
+  -- a frame that carries a message is admitted if its timestamp is fresh
   pub is_admitted : (i : ℕ) (a : Node) → slice_get s.nodes i ≡ Some a → (p : Packet) (stamp : ℕ) (m : PlanMsg) → Carries s.key p stamp m → s.clock ≤ stamp
       → ((l : ℕ) → last_of (stream_of p.from) (link_of a).history ≡ Some l → l < stamp) → answer_to (link_of a).key (link_of a).history p ≡ Admitted
   is_admitted i a e p stamp m c clock fresh =

@@ -45,7 +45,7 @@ pub ok_given : (P : Step → Type 0) (s : WorldState) (k : ℕ) (p : Packet) (no
     → IfOk (given_to s k p (Some node)) P
 ok_given P s k p node own other = by_test (λ r. IfOk r P) (same_name (node_name node) p.from) _ _ own other
 
--- the node at a place goes on as another, and these frames are sent
+-- the node at an index goes on as another, and these frames are sent
 abbrev pub moved : WorldState → ℕ → Node → List Packet → WorldState
 moved s k node packets = record s { nodes = slice_set s.nodes k node; sent = s.sent ++ packets }
 

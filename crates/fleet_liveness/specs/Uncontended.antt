@@ -23,7 +23,7 @@ pub record Upload : Type 0 where
   pub kind : PlanKind
   pub plan : List Item
 
--- the line behind the begin line: a whole one with more behind it, or the last one, without its LF, of an input that ended
+-- the line after the begin line: a whole one with more after it, or the last one, without its LF, of an input that ended
 pub data NextLine : Type 0 where
   Whole : (raw : List ℕ) (more : List (List ℕ)) → NextLine
   Last : (raw : List ℕ) → NextLine
@@ -38,7 +38,7 @@ pub record Lines : Type 0 where
   pub begin : List ℕ
   pub flow : NextLine
 
--- the bytes have these lines, one right behind the other
+-- the bytes have these lines, one right after the other
 abbrev pub HaveLines : Bool → List ℕ → List (List ℕ) → List ℕ → NextLine → Type 0
 HaveLines ended bytes front begin (Whole raw more) = whole_lines bytes ≡ front ++ begin ∷ raw ∷ more
 HaveLines ended bytes front begin (Last raw) = (ended ≡ true) × ((whole_lines bytes ≡ front ++ begin ∷ []) × (unfinished bytes ≡ raw))
@@ -90,14 +90,14 @@ pub record IsUncontended (key : List ℕ) (ended : Bool) (bytes : List ℕ) (l :
   pub flows : line_of (text_of l.flow) ≡ Flow frames
   pub enough : 2 * length u.plan + 6 + drones_in (before key l).state.nodes ≤ frames
 
--- among these events the drone installs the plan, and behind that its station tells that it is installed
+-- among these events the drone installs the plan, and after that its station reports that it is installed
 pub record Installs (u : Upload) (events : List Event) : Type 0 where
   pub earlier : List Event
   pub between : List Event
   pub later : List Event
   pub is : events ≡ earlier ++ Installed u.drone (number_of u.kind) u.plan u.station ∷ (between ++ Ended u.station Told_installed ∷ later)
 
--- so it is within the flow line, whose events stand so among those of the whole scenario
+-- so it is within the flow line, whose events come among those of the whole scenario
 pub record IsInstalled (key : List ℕ) (ended : Bool) (bytes : List ℕ) (l : Lines) (u : Upload) : Type 0 where
   pub events : List Event
   pub within : (flowed key l).events ≡ (begun key l).events ++ events

@@ -6,7 +6,7 @@ ghost use Rattle.fleet_invariants.specs.Sound.{Sound};
 ghost use Rattle.fleet_liveness.specs.Room.{IsDone};
 
 /// The limit of frames alone: each node sends at most one frame for one that it is given, and no node of a
-/// sound scene runs out of timestamps.
+/// sound state runs out of timestamps.
 pub fn every_flow_with_room()
     ensures { (s : WorldState) → Sound s → (k : ℕ) → length s.sent + k * length s.nodes ≤ most_frames → IsDone (flows k s) }
 {}

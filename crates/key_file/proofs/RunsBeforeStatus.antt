@@ -11,7 +11,7 @@ use Rattle.key_file.specs.KeyText.{key_or_default}
 use Rattle.key_file.specs.Spec.{most_key_bytes, bad_key, refusal_of, key_spec, TookAtMost}
 use Rattle.key_file.proofs.Stays.{stops_long, goes_on}
 
--- the bytes in front of a buffer, with those of one more read behind them
+-- the bytes at the start of a buffer, with those of one more read after them
 pub front_more : (buf piece : List ℕ) (count room more : ℕ) → count ≤ length buf → more ≤ length piece → take (count + more) (put_mid count room buf piece) ≡ take count buf ++ take more piece
 front_more buf piece count room more within fits =
     ap (λ (n : ℕ). take (n + more) (put_mid count room buf piece)) (sym (length-take-le count buf within))

@@ -12,7 +12,7 @@ use Rattle.key_file.specs.KeyText.{key_or_default}
 abbrev pub most_key_bytes : ℕ
 most_key_bytes = 66
 
--- how a key is refused: `bad key: key`
+-- how a bad key is reported: `bad key: key`
 abbrev pub bad_key : InputError
 bad_key = Bad KeyPlace KeyReason
 

@@ -2,7 +2,7 @@
 //!
 //! [`read_key`] reads an input to its end as 64 hexadecimal digits and an optional line end; no
 //! byte at all means [`default_key`]. It takes no memory, and never more than 67 bytes of the
-//! input: a longer one is refused without reading on.
+//! input: a longer one is rejected without reading on.
 #![tactic(auto)]
 
 mod reading;

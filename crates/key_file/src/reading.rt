@@ -35,7 +35,7 @@ pub fn read_key<S: Source>(input: &mut S) -> Result<Key, RunEnd>
     }
 }
 
-// Puts all bytes of an input in front of a buffer, unless they fill it.
+// Puts all bytes of an input at the start of a buffer, unless they fill it.
 fn read_all<S: Source>(input: &mut S, buf: &mut [u8; PIECE_BYTES]) -> Result<usize, RunEnd>
     ensures count { IfOk result (λ count. count ≤ most_key_bytes) }
     ensures taken { IfOk result (λ count.

@@ -26,7 +26,7 @@ fn key_of(text: &[u8]) -> Option<Key>
     }
 }
 
-/// The key where none is given: the bytes 0 to 31.
+/// The key if none is given: the bytes 0 to 31.
 pub fn default_key() -> Key
     ensures { result ≡ default_key }
 {
@@ -36,7 +36,7 @@ pub fn default_key() -> Key
     ])
 }
 
-/// The key of a text, which is the default where the text is empty.
+/// The key of a text, which is the default if the text is empty.
 pub(crate) fn key_or_default(text: &[u8]) -> Option<Key>
     ensures { result ≡ key_or_default text.now }
 {

@@ -45,7 +45,7 @@ usage_at s o lb la sb sa (Some WriteFault) e run = absurd (omega arith)
 usage_at s o lb la sb sa (Some NoMemory) e run = absurd (omega arith)
 usage_at s o lb la sb sa (Some TurnsSpent) e run = absurd (omega arith)
 
--- an input is refused
+-- an input has an error
 bad_at : (s : CommandSpec) (o : PortOutcome) (lb la sb sa : Option (List ℕ)) (end : Option RunEnd) → code_of end ≡ 3 → Run s o lb la sb sa end → (place : Place) × (reason : Reason) × ReportedError s (Bad place reason) o.spent lb la sb sa
 bad_at s o lb la sb sa None e run = absurd (omega arith)
 bad_at s o lb la sb sa (Some Usage) e run = absurd (omega arith)
@@ -81,7 +81,7 @@ stamps_spent_at s o lb la sb sa (Some WriteFault) e run = absurd (omega arith)
 stamps_spent_at s o lb la sb sa (Some NoMemory) e run = absurd (omega arith)
 stamps_spent_at s o lb la sb sa (Some TurnsSpent) e run = absurd (omega arith)
 
--- a run that nothing had stopped where the reading was cut off
+-- a run that nothing had stopped when the reading was cut off
 cut_at : (s : CommandSpec) (text taken : List ℕ) (lb la sb sa : Option (List ℕ)) (ended : Bool) → ended ≡ false → lb ≡ prepend_known taken la → s.stop ended taken ≡ None → sa ≡ append_known sb (s.report ended taken ++ text) → ReportedCutoff s text lb la sb sa
 cut_at s text taken lb la sb sa ended unended took going wrote =
     (taken, took, subst (λ b. s.stop b taken ≡ None) unended going, subst (λ b. sa ≡ append_known sb (s.report b taken ++ text)) unended wrote)
@@ -134,7 +134,7 @@ no_memory_at s o lb la sb sa (Some WriteFault) e run = absurd (omega arith)
 no_memory_at s o lb la sb sa (Some NoMemory) e run = (run.ended, run.taken, (run.took, run.at_end), run.wrote)
 no_memory_at s o lb la sb sa (Some TurnsSpent) e run = absurd (omega arith)
 
--- what a told input has left fixes what was taken
+-- what an input with observable contents has left fixes what was taken
 taken_is : (taken other rest : List ℕ) (la : Option (List ℕ)) → Some (taken ++ rest) ≡ prepend_known other la → la ≡ Some rest → taken ++ rest ≡ other ++ rest
 taken_is taken other rest la took left = let same : Some (taken ++ rest) ≡ Some (other ++ rest) = took ∙ ap (prepend_known other) left in cc
 
@@ -155,7 +155,7 @@ reported_error s steady taken ended stop other code sb sa stops stopped is wrote
       wrote ∙ ap (λ text. append_known sb (text ++ error_text other)) stays.1 ∙ ap (λ t. append_known sb (s.report false taken ++ error_text t)) same,
     )
 
--- where the bytes taken stop a run
+-- if the bytes taken stop a run
 stops_taken : (s : CommandSpec) → Steady s → (o : PortOutcome) (lb la sb sa : Option (List ℕ)) (end : Option RunEnd) (stop : InputError) (run : Run s o lb la sb sa end) → s.stop false run.taken ≡ Some stop → OrFails (error_code stop) (s.report false run.taken ++ error_text stop) (code_of end) sb sa
 stops_taken s steady o lb la sb sa None stop run stops = goes_not s steady run.ended run.taken stop stops run.cause.1
 stops_taken s steady o lb la sb sa (Some Usage) stop run stops = absurd run.cause
@@ -165,14 +165,14 @@ stops_taken s steady o lb la sb sa (Some WriteFault) stop run stops = inr (inl r
 stops_taken s steady o lb la sb sa (Some NoMemory) stop run stops = inr (inr refl)
 stops_taken s steady o lb la sb sa (Some TurnsSpent) stop run stops = goes_not s steady run.ended run.taken stop stops run.cause.2
 
--- the same for an input that tells its bytes
+-- the same for an input with observable contents
 stops_at : (s : CommandSpec) → Steady s → (o : PortOutcome) (lb la sb sa : Option (List ℕ)) (end : Option RunEnd) (stop : InputError) (taken rest : List ℕ) → lb ≡ Some (taken ++ rest) → la ≡ Some rest → s.stop false taken ≡ Some stop → Run s o lb la sb sa end → OrFails (error_code stop) (s.report false taken ++ error_text stop) (code_of end) sb sa
 stops_at s steady o lb la sb sa end stop taken rest reported left stops run =
     let same : taken ≡ run.taken = append_cancel_right taken run.taken rest (taken_is taken run.taken rest la (sym reported ∙ run.took) left) in
     subst (λ bytes. OrFails (error_code stop) (s.report false bytes ++ error_text stop) (code_of end) sb sa) (sym same)
     (stops_taken s steady o lb la sb sa end stop run (subst (λ bytes. s.stop false bytes ≡ Some stop) same stops))
 
--- what is left of a told input
+-- what is left of an input with observable contents
 reported_split : (bytes taken : List ℕ) (after : Option (List ℕ)) → Some bytes ≡ prepend_known taken after → (rest : List ℕ) × (after ≡ Some rest) × (bytes ≡ taken ++ rest)
 reported_split bytes taken None e = cc
 reported_split bytes taken (Some rest) e = (rest, refl, cc)

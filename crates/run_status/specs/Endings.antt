@@ -36,7 +36,7 @@ reason_word Layout = codes "layout"
 reason_word TooMany = codes "too many"
 reason_word Refused = codes "refused"
 
--- a limit as it is told, with its number
+-- a bound as it is printed, with its number
 abbrev pub bound_words : Bound → List ℕ
 bound_words Lines = codes "lines 100000"
 bound_words Frames = codes "frames 100000"
@@ -71,7 +71,7 @@ code_of (Some WriteFault) = 5
 code_of (Some NoMemory) = 7
 code_of (Some TurnsSpent) = 11
 
--- what is printed behind the report
+-- what is printed after the report
 abbrev pub text_of : RunEnd → List ℕ
 text_of Usage = codes "usage\n"
 text_of (Stopped stop) = error_text stop

@@ -14,11 +14,11 @@ use Rattle.run_status.specs.Endings.{code_of, text_of, error_code, error_text}
 
 -- what a command does with the bytes of its input
 pub record CommandSpec : Type 0 where
-  -- why these bytes stop a run, if they do; the flag says whether the input ended behind them
+  -- why these bytes stop a run, if they do; the flag says whether the input ended after them
   pub stop : Bool → List ℕ → Option InputError
   -- what is written of them by then
   pub report : Bool → List ℕ → List ℕ
-  -- what is written behind that once the input ended
+  -- what is written after that once the input ended
   pub closing : List ℕ → List ℕ
 
 -- all that is written of an input that doesn't stop a run
@@ -30,13 +30,13 @@ pub record Steady (s : CommandSpec) : Type 0 where
   pub stays : (ended : Bool) (taken more : List ℕ) (stop : InputError) → s.stop false taken ≡ Some stop
       → (s.stop ended (taken ++ more) ≡ Some stop) × (s.report ended (taken ++ more) ≡ s.report false taken)
 
--- what stands of the outside at the end of the call
+-- what holds of the ports at the end of the call
 pub record PortOutcome : Type 1 where
-  -- the input answered End, so that nothing is left of it
+  -- the input returned End, so that nothing is left of it
   pub spent : Type 0
   -- its count of faults rose
   pub failed : Type 0
-  -- it answered Idle a million times in a row
+  -- it returned Idle a million times in a row
   pub idled : Type 0
   -- the output's count of faults rose
   pub refused : Type 0
@@ -50,7 +50,7 @@ port_outcome spent faults_before faults_after idles_before idles_after refusals_
   refused = Rose refusals_before refusals_after;
 }
 
--- the text of which a front is written at least
+-- the text of which a prefix is written at least
 abbrev pub text_so_far : CommandSpec → Bool → List ℕ → List ℕ
 text_so_far s true taken = whole s taken
 text_so_far s false taken = s.report false taken
@@ -70,8 +70,8 @@ abbrev pub output_of : CommandSpec → Option RunEnd → Bool → List ℕ → L
 output_of s None ended taken = s.report ended taken ++ s.closing taken
 output_of s (Some run_end) ended taken = s.report ended taken ++ text_of run_end
 
--- what was written: all of it, or without memory a front of the report, or at a failed write that or a front of what
--- a run writes that ends for a cause that stands
+-- what was written: all of it, or without memory a prefix of the report, or at a failed write that or a prefix of what
+-- a run writes that ends for a cause that holds
 abbrev pub Wrote : CommandSpec → Option RunEnd → PortOutcome → Bool → List ℕ → Option (List ℕ) → Option (List ℕ) → Type 0
 Wrote s None o ended taken before after = after ≡ append_known before (output_of s None ended taken)
 Wrote s (Some Usage) o ended taken before after = ⊥
@@ -82,7 +82,7 @@ Wrote s (Some WriteFault) o ended taken before after =
 Wrote s (Some NoMemory) o ended taken before after = SentFront before after (text_so_far s ended taken)
 Wrote s (Some TurnsSpent) o ended taken before after = after ≡ append_known before (output_of s (Some TurnsSpent) ended taken)
 
--- one run: the bytes taken from the input, why it ended, and what it wrote; nothing is taken where nothing was read
+-- one run: the bytes taken from the input, why it ended, and what it wrote; nothing is taken if nothing was read
 pub record Run (s : CommandSpec) (o : PortOutcome) (left_before left_after sent_before sent_after : Option (List ℕ)) (end : Option RunEnd) : Type 0 where
   pub taken : List ℕ
   pub ended : Bool
@@ -91,7 +91,7 @@ pub record Run (s : CommandSpec) (o : PortOutcome) (left_before left_after sent_
   pub cause : Cause s end o ended taken
   pub wrote : Wrote s end o ended taken sent_before sent_after
 
--- the same before the halt's own text
+-- the same before the text of the status
 abbrev pub WroteReport : CommandSpec → Option RunEnd → Bool → List ℕ → Option (List ℕ) → Option (List ℕ) → Type 0
 WroteReport s None ended taken before after = after ≡ append_known before (s.report ended taken ++ s.closing taken)
 WroteReport s (Some Usage) ended taken before after = ⊥
@@ -109,23 +109,23 @@ pub record RunBeforeStatus (s : CommandSpec) (o : PortOutcome) (left_before left
   pub cause : Cause s end o ended taken
   pub wrote : WroteReport s end ended taken sent_before sent_after
 
--- these bytes were taken from the input; where it ended behind them, nothing is left of it
+-- these bytes were taken from the input; if it ended after them, nothing is left of it
 abbrev pub Took : Type 0 → Option (List ℕ) → Option (List ℕ) → Bool → List ℕ → Type 0
 Took spent left_before left_after ended taken = (left_before ≡ prepend_known taken left_after) × (IsTrue ended → spent)
 
--- a run that is told to have stopped here
+-- a run that stopped at this error, and printed it
 abbrev pub ReportedError : CommandSpec → InputError → Type 0 → Option (List ℕ) → Option (List ℕ) → Option (List ℕ) → Option (List ℕ) → Type 0
 ReportedError s stop spent left_before left_after sent_before sent_after =
     (ended : Bool) × (taken : List ℕ) × Took spent left_before left_after ended taken × (s.stop ended taken ≡ Some stop)
     × (sent_after ≡ append_known sent_before (s.report ended taken ++ error_text stop))
 
--- a run that was cut off where nothing had stopped it, with this text behind what it had written
+-- a run that was cut off before anything had stopped it, with this text after what it had written
 abbrev pub ReportedCutoff : CommandSpec → List ℕ → Option (List ℕ) → Option (List ℕ) → Option (List ℕ) → Option (List ℕ) → Type 0
 ReportedCutoff s text left_before left_after sent_before sent_after =
     (taken : List ℕ) × (left_before ≡ prepend_known taken left_after) × (s.stop false taken ≡ None)
     × (sent_after ≡ append_known sent_before (s.report false taken ++ text))
 
--- how a run ends over a whole input, where nothing fails
+-- how a run ends over a whole input, if nothing fails
 abbrev pub end_of : Option InputError → Option RunEnd
 end_of None = None
 end_of (Some stop) = Some (Stopped stop)
@@ -134,32 +134,32 @@ end_of (Some stop) = Some (Stopped stop)
 abbrev pub OrFails : ℕ → List ℕ → ℕ → Option (List ℕ) → Option (List ℕ) → Type 0
 OrFails status output code sent_before sent_after = ((code ≡ status) × (sent_after ≡ append_known sent_before output)) ⊎ ((code ≡ 5) ⊎ (code ≡ 7))
 
--- what a command promises of a run that ends with this status, by its script and what stands of the outside
+-- what a command promises of a run that ends with this status, by its specification and the outcome of its ports
 pub record Promises (s : CommandSpec) (o : PortOutcome) (left_before left_after sent_before sent_after : Option (List ℕ)) (code : ℕ) : Type 0 where
   -- 0: the input ended, nothing in it stopped the run, and all of its output was written
   pub done : code ≡ 0 → (taken : List ℕ) × (left_before ≡ prepend_known taken left_after) × o.spent × (s.stop true taken ≡ None)
       × (sent_after ≡ append_known sent_before (whole s taken))
   -- 2 is for words alone
   pub not_usage : code ≢ 2
-  -- 3: the bytes taken have what is refused, at this place and for this reason
+  -- 3: the bytes taken have an error, at this place and for this reason
   pub bad : code ≡ 3 → (place : Place) × (reason : Reason) × ReportedError s (Bad place reason) o.spent left_before left_after sent_before sent_after
   -- 6: they pass this limit
   pub limit : code ≡ 6 → (limit : Bound) × ReportedError s (AtLimit limit) o.spent left_before left_after sent_before sent_after
   -- 13: at them a node has no timestamp left
   pub stamps_spent : code ≡ 13 → ReportedError s StampsSpent o.spent left_before left_after sent_before sent_after
-  -- where the bytes taken stop a run, the status is that of the stop, unless a write failed or memory ran out
+  -- if the bytes taken stop a run, the status is that of their error, unless a write failed or memory ran out
   pub stops : (stop : InputError) (taken rest : List ℕ) → left_before ≡ Some (taken ++ rest) → left_after ≡ Some rest → s.stop false taken ≡ Some stop
       → OrFails (error_code stop) (s.report false taken ++ error_text stop) code sent_before sent_after
   -- 4: a read failed, and nothing had stopped the run
   pub read_fault : code ≡ 4 → o.failed × ReportedCutoff s (codes "read fault\n") left_before left_after sent_before sent_after
   -- 11: the input gave nothing for too long, and nothing had stopped the run
   pub turns_spent : code ≡ 11 → o.idled × ReportedCutoff s (codes "turns spent 1000000\n") left_before left_after sent_before sent_after
-  -- 5: a front of the report was written, or of what a run writes that ends for a cause that stands
+  -- 5: a prefix of the report was written, or of what a run writes that ends for a cause that holds
   pub write_fault : code ≡ 5 → o.refused × (ended : Bool) × (taken : List ℕ) × Took o.spent left_before left_after ended taken
       × (SentFront sent_before sent_after (text_so_far s ended taken) ⊎ ((would : Option RunEnd) × Cause s would o ended taken × SentFront sent_before sent_after (output_of s would ended taken)))
-  -- 7: a front of the report was written
+  -- 7: a prefix of the report was written
   pub no_memory : code ≡ 7 → (ended : Bool) × (taken : List ℕ) × Took o.spent left_before left_after ended taken × SentFront sent_before sent_after (text_so_far s ended taken)
-  -- over an input that tells its bytes and neither fails nor idles too long, the status and the output are those of its
+  -- over an input that has observable contents and neither fails nor idles too long, the status and the output are those of its
   -- bytes, unless a write failed or memory ran out
   pub determined : (bytes : List ℕ) → left_before ≡ Some bytes → ¬ o.failed → ¬ o.idled
       → OrFails (code_of (end_of (s.stop true bytes))) (output_of s (end_of (s.stop true bytes)) true bytes) code sent_before sent_after

@@ -1,21 +1,23 @@
-// What stands in an input that ends a run, and how it is told.
+// What in an input ends a run, and how it is printed.
 ghost use Rattle.std.specs.Prelude.{◌≡◌, IfOk, string_bytes};
 ghost use Rattle.run_status.specs.Endings.{reason_word, bound_words, place_text, error_code, error_text};
 
 use crate::NoMemory;
 use std::alloc::Global;
 
-/// Where an input has what is refused.
+/// Where an input has an error.
 #[derive(Clone, Copy, Debug, PartialEq, Eq)]
 pub enum Place {
     /// A line of the main input, counted from 1.
     Line(usize),
+    /// The key, which `--key` names.
     Key,
+    /// The definitions, which `--defs` names.
     Definitions,
     Operation,
 }
 
-/// Why it is refused.
+/// What is wrong there. Each is printed as one or two words.
 #[derive(Clone, Copy, Debug, PartialEq, Eq)]
 pub enum Reason {
     Long,
@@ -42,7 +44,7 @@ pub enum Reason {
     Refused,
 }
 
-/// What there is at most of something.
+/// A limit of the program, which is printed with its number.
 #[derive(Clone, Copy, Debug, PartialEq, Eq)]
 pub enum Bound {
     Lines,
@@ -55,7 +57,7 @@ pub enum Bound {
     InputBytes,
 }
 
-/// Bytes of an input at which a run stops.
+/// An error of an input, at which a run stops.
 #[derive(Clone, Copy, Debug, PartialEq, Eq)]
 pub enum InputError {
     Bad(Place, Reason),

@@ -1,9 +1,9 @@
 //! How the commands of the program end.
 //!
-//! A [`Halt`] is why a run ends before its work is done; it has an exit status, and a text that
-//! [`tell`] writes behind what the command wrote. [`read_on`] reads an input and gives up after a
-//! million answers without bytes. `specs/Runs.antt` says, for any command, what a run takes, why
-//! it ends and what it writes; a command gives only its script there: which bytes stop it, and
+//! A [`RunEnd`] is why a run ends before its work is done; it has an exit status, and a text that
+//! [`write_status`] writes after what the command wrote. [`read_on`] reads an input and gives up after a
+//! million reads without bytes. `specs/Runs.antt` says, for any command, what a run takes, why
+//! it ends and what it writes; a command gives only its specification: which bytes stop it, and
 //! what it writes of them.
 #![tactic(auto)]
 

@@ -8,7 +8,7 @@ use mav_ports::{Got, Source};
 
 const MOST_IDLES: u32 = 1_000_000;
 
-/// One answer that isn't Idle, or Idle after 1,000,000 of them in a row.
+/// One read that isn't Idle, or Idle after 1,000,000 such reads in a row.
 pub fn read_on<S: Source>(source: &mut S, buf: &mut [u8]) -> Got
     requires { 0 < length buf.old }
     ensures within { GivesWithin result buf.new }

@@ -1,4 +1,4 @@
-// Why a run halts, and what is printed of it.
+// Why a run ends before its work is done, and what is printed of it.
 ghost use Rattle.std.specs.Prelude.{◌≡◌, IfOk, IsOk, Some, string_bytes};
 ghost use Rattle.run_status.specs.Endings.{code_of, text_of};
 
@@ -17,7 +17,7 @@ pub enum RunEnd {
     ReadFault,
     WriteFault,
     NoMemory,
-    /// An input answered Idle as often in a row as it may.
+    /// An input returned Idle 1,000,000 times in a row.
     TurnsSpent,
 }
 
@@ -66,7 +66,7 @@ impl RunEnd {
         }
     }
 
-    /// The line that is printed behind the report.
+    /// The line that is printed after the report; none for a failed write and for want of memory.
     pub fn text(self, alloc: Global) -> Result<String, NoMemory>
         ensures text { IfOk result (λ text. string_bytes text ≡ text_of self) }
         ensures silent { self ≡ RunEnd.WriteFault → IsOk result }

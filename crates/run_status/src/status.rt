@@ -1,4 +1,4 @@
-// A run is told how it ended.
+// The status of a run, and its text.
 ghost use Rattle.std.specs.Prelude.{◌≡◌, ◌⊎◌, OnOk, IfErr, IsErrOf};
 ghost use Rattle.std.specs.Result.{result_err};
 ghost use Rattle.std.specs.Io.KnownBytes.{append_known};
@@ -11,7 +11,7 @@ use crate::run_ends::RunEnd;
 use mav_ports::{Sink, write_all};
 use std::alloc::Global;
 
-// Writes the halt's own line behind the report.
+// Writes the text of the status after the report.
 fn write_text<K: Sink>(alloc: Global, run_end: RunEnd, out: &mut K) -> Result<(), RunEnd>
     ensures reported { OnOk result (K.sent out.new ≡ append_known (K.sent out.old) (text_of run_end)) }
     ensures refused { IsErrOf result RunEnd.WriteFault → Rose (K.faults out.old) (K.faults out.new)
@@ -25,7 +25,7 @@ fn write_text<K: Sink>(alloc: Global, run_end: RunEnd, out: &mut K) -> Result<()
     Ok(write_all(out, text.as_bytes())?)
 }
 
-/// Writes why a run halted, where it did, and answers how the run ends now: a write of that text
+/// Writes why a run halted, if it did, and returns how the run ends now: a write of that text
 /// can fail, and there can be no memory for it.
 pub fn write_status<K: Sink>(
     alloc: Global,
