@@ -37,7 +37,7 @@ pub completed : (key : List ℕ) (frames : Bool) (o : PortOutcome) (left_before 
     → Completes key frames o left_before sent_before sent_after code
 completed key frames o left_before left_after sent_before sent_after code promises bytes reported can authentic sound =
     let going : (fleet_spec key frames).stop true bytes ≡ None = ap (option_map reported_error) (unstopped key bytes can authentic) in
-    elim (promises.reported bytes reported sound.reads sound.gives) [
+    elim (promises.determined bytes reported sound.reads sound.gives) [
       | inl done ↦ inl (
         done.0 ∙ ap (λ (stop : Option InputError). code_of (end_of stop)) going,
         done.1 ∙ ap (λ (stop : Option InputError). append_known sent_before (output_of (fleet_spec key frames) (end_of stop) true bytes)) going,

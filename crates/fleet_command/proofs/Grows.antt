@@ -1,4 +1,4 @@
--- Reports only grow, and a scenario that stopped stays as it is.
+-- Reports only grow, and a scenario that stopped stays unchanged.
 use Rattle.std.proofs.Common.{◌≡◌, ◌∙◌, inl, inr, ℕ, ◌+◌, ◌≤◌, Bool, true, false, List, [], ◌∷◌, ◌++◌, refl, sym, ap, arith, length, length-append, append_assoc, append-nil, Some, None, Option, Result, Ok, Err, cond, ltb, eqb}
 use Rattle.std.proofs.lemmas.Bool.{cases_Bool, cond-true, cond-false, cond_both, ltb-false}
 use Rattle.std.specs.Io.KnownBytes.{append_known}
@@ -80,7 +80,7 @@ module _ (frames : Bool) where
       (λ e. cond_both (ltb most_line_bytes (length part + 1)) (part_played p number held) (plays ended p number held bs) (Grows p)
       (λ f. grows_part p number held) (λ f. grows_plays ended p number held bs))
 
-  -- the front of a report that grows
+  -- the prefix of a report that grows
   pub front_grown : (p q : Played) (before now : Option (List ℕ)) → Grows p q → SentFront before now (report_of frames p) → SentFront before now (report_of frames q)
   front_grown p q before now (more, e) (rest, s) = (
     rest ++ more,
@@ -91,11 +91,11 @@ module _ (frames : Bool) where
     },
   )
 
-  -- a whole report is a front of one that grew from it
+  -- a whole report is a prefix of one that grew from it
   pub front_whole : (p : Played) (before now : Option (List ℕ)) → now ≡ append_known before (report_of frames p) → SentFront before now (report_of frames p)
   front_whole p before now e = ([], record { part = report_of frames p; whole = append-nil (report_of frames p); appended = e })
 
--- where a scenario stopped, more bytes change nothing
+-- once a scenario stopped, more bytes change nothing
 plays_for_good : (ended : Bool) (p : Played) (number : ℕ) (part bytes more : List ℕ) (stop : ScenarioError) → p.stop ≡ None → length part ≤ 4096 → (plays false p number part bytes).stop ≡ Some stop → plays ended p number part (bytes ++ more) ≡ plays false p number part bytes
 plays_for_good ended p number part [] more stop going short stops =
     let none : None ≡ Some stop = sym going ∙ ap (λ (q : Played). q.stop) (sym (part_short p number part short)) ∙ stops in

@@ -45,7 +45,7 @@ whole_none part plain = ap but_last (slice_split_none is_newline part plain)
 rest_none : (part : List ℕ) → All NoEnd part → unfinished part ≡ part
 rest_none part plain = ap last_part (slice_split_none is_newline part plain)
 
--- where a scenario stopped, further lines change nothing
+-- once a scenario stopped, further lines change nothing
 pub lines_after_stop : (p : Played) (stop : ScenarioError) (number : ℕ) (lines : List (List ℕ)) → p.stop ≡ Some stop → lines_played p number lines ≡ p
 lines_after_stop p stop number [] e = refl
 lines_after_stop p stop number (raw ∷ more) e = ap (λ s. unless_stopped s p (lines_played (line_played p number raw) (number + 1) more)) e
@@ -76,7 +76,7 @@ over_stopped ended p stop number lines rest e =
 abbrev from_line : Bool → Played → ℕ → List ℕ → Played
 from_line ended p number bytes = over ended p number (whole_lines bytes) (unfinished bytes)
 
--- the first line ends: the rest is played behind it
+-- the first line ends: the rest is played after it
 from_end : (ended : Bool) (p : Played) (number : ℕ) (part bytes : List ℕ) → p.stop ≡ None → All NoEnd part → from_line ended p number (part ++ 10 ∷ bytes) ≡ from_line ended (line_played p number part) (number + 1) bytes
 from_end ended p number part bytes going plain =
     ap (λ lines. over ended p number lines (unfinished (part ++ 10 ∷ bytes))) (whole_at part bytes plain)

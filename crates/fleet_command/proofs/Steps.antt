@@ -26,7 +26,7 @@ use Rattle.fleet_command.specs.Plays.{plays, long_line_end, Holds, Reading, Stop
 use Rattle.fleet_command.proofs.Lines.{part_short, part_long, too_long, played_plays}
 use Rattle.fleet_command.proofs.Grows.{Grows, events_text-append, grows_judged, grows_plays, grows_unless, front_grown, front_whole}
 
--- what a world's lines are read against is what its scene's are
+-- what a world's lines are read against is what its state's are
 context_same : (state : WorldState) (frames : Bool) (world : WorldView) → IsState state frames world → context_of state ≡ context_in world
 context_same state frames world here =
     ap (λ names. record { nodes = names; drafted = length state.draft; clock = state.clock }) (sym here.fleet.names)
@@ -52,7 +52,7 @@ module _ (key : List ℕ) (frames : Bool) where
   did p old new line report before now holds done =
       subst (λ f. IsStep (after_line p.state line) f new report) holds.here.frames_is (done p.state (own p.state frames old holds.here))
 
-  -- the text of a step was written behind the report
+  -- the text of a step was written after the report
   goes_holds : (p : Played) (step : Result Step StepError) (world : WorldView) (report : ReportState) (before old now : Option (List ℕ)) → old ≡ append_known before (report_of frames p) → IsStep step frames world report → now ≡ append_known old report.text → Holds frames (goes_on p step) world before now
   goes_holds p (Ok t) world report before old now sent (there, reported) wrote = record {
     going = refl;
@@ -65,14 +65,14 @@ module _ (key : List ℕ) (frames : Bool) where
   }
   goes_holds p (Err run_end) world report before old now sent never wrote = absurd never
 
-  -- a front of it was
+  -- a prefix of it was
   goes_front : (p : Played) (step : Result Step StepError) (world : WorldView) (report : ReportState) (before old now : Option (List ℕ)) → old ≡ append_known before (report_of frames p) → IsStep step frames world report → SentFront old now report.text → SentFront before now (report_of frames (goes_on p step))
   goes_front p (Ok t) world report before old now sent (there, reported) (rest, part) =
       let whole : report_of frames p ++ (report.text ++ []) ≡ report_of frames (goes_on p (Ok t)) = ap (λ more. report_of frames p ++ more) (append-nil report.text ∙ reported) ∙ sym (events_text-append frames p.events t.events) in
       (rest ++ [], sent_in before old now (report_of frames (goes_on p (Ok t))) report.text [] rest (record { part = report_of frames p; whole = whole; appended = sent }) part)
   goes_front p (Err run_end) world report before old now sent never front = absurd never
 
-  -- line `number`, in the scene that holds
+  -- line `number`, in the state that holds
   abbrev pub this : Played → ℕ → List ℕ → Played
   this p number text = judged p number text (reason_against (context_of p.state) text)
 
@@ -99,7 +99,7 @@ module _ (key : List ℕ) (frames : Bool) where
   line_halts p world number text line run_end before now holds good said at =
       subst (λ q. StoppedBy frames (reported_error (Not_done run_end)) q before now) (sym (this_good p world number text line holds.here good said ∙ ap (goes_on p) at)) (refl, holds.sent)
 
-  -- where there was no memory, the report so far stands
+  -- if there was no memory, the report so far stays
   pub line_no_memory : (p : Played) (world : WorldView) (number : ℕ) (text : List ℕ) (before now : Option (List ℕ)) → Holds frames p world before now → SentFront before now (report_of frames (this p number text))
   line_no_memory p world number text before now holds = front_grown frames p (this p number text) before now (grows_judged frames p number text (reason_against (context_of p.state) text)) (front_whole frames p before now holds.sent)
 
@@ -175,7 +175,7 @@ module _ (key : List ℕ) (frames : Bool) where
   stopped_stays stop q next None before now never by = absurd (cc never)
   stopped_stays stop q next (Some s) before now is by = by
 
-  -- the line ends, and its halt is that of the whole
+  -- the line ends, and its end of the run is that of the whole
   halted_on : (run_end : RunEnd) (q next : Played) (before now : Option (List ℕ)) → Grows frames q next → HaltedAt frames run_end q (report_of frames q) before now → let end = unless_stopped q.stop q next in HaltedAt frames run_end end (report_of frames end) before now
   halted_on Usage q next before now more never = absurd never
   halted_on (Stopped stop) q next before now more h = stopped_stays stop q next q.stop before now h.0 h
@@ -184,7 +184,7 @@ module _ (key : List ℕ) (frames : Bool) where
   halted_on NoMemory q next before now more front = front_grown frames q (unless_stopped q.stop q next) before now (grows_unless frames q q next q.stop ([], sym (append-nil (report_of frames q))) more) front
   halted_on TurnsSpent q next before now more never = absurd never
 
-  -- what a halt leaves of these bytes
+  -- what a run that halts leaves of these bytes
   abbrev pub HaltedBy : RunEnd → Bool → List ℕ → Option (List ℕ) → Option (List ℕ) → Type 0
   HaltedBy run_end ended bytes before now = HaltedAt frames run_end (played key ended bytes) (report_of frames (played key ended bytes)) before now
 
@@ -216,7 +216,7 @@ module _ (key : List ℕ) (frames : Bool) where
       subst (λ p. HaltedAt frames (long_line_end number) p (report_of frames p) before now) (sym (r.onwards ended (b ∷ rest) ∙ plays_long ended r.soFar number b part rest other long))
       (halted_long r.soFar number before now r.holds.going r.holds.sent)
 
-  -- the report so far is a front of that of the bytes, whatever follows
+  -- the report so far is a prefix of that of the bytes, whatever follows
   pub reading_front : (taken : List ℕ) (world : WorldView) (number : ℕ) (part : List ℕ) (before now : Option (List ℕ)) → Reading key frames taken world number part before now → (ended : Bool) (rest : List ℕ) → SentFront before now (report_of frames (played key ended (taken ++ rest)))
   reading_front taken world number part before now r ended rest =
       subst (λ p. SentFront before now (report_of frames p)) (sym (r.onwards ended rest))
@@ -226,14 +226,14 @@ module _ (key : List ℕ) (frames : Bool) where
   pub reading_start : (world : WorldView) (sent : Option (List ℕ)) → IsState (empty_state key) frames world → Reading key frames [] world 1 [] sent sent
   reading_start world sent here = record { soFar = at_start key; holds = record { going = refl; here = here; sent = append_known_nil sent }; onwards = played_plays key }
 
-  -- behind the bytes taken, where the input ended and where it didn't
+  -- after the bytes taken, if the input ended and if it didn't
   pub reading_end : (taken : List ℕ) (world : WorldView) (number : ℕ) (part : List ℕ) (before now : Option (List ℕ)) (r : Reading key frames taken world number part before now) → played key true taken ≡ last_played r.soFar number part
   reading_end taken world number part before now r = ap (played key true) (sym (append-nil taken)) ∙ r.onwards true []
 
   pub reading_cut : (taken : List ℕ) (world : WorldView) (number : ℕ) (part : List ℕ) (before now : Option (List ℕ)) (r : Reading key frames taken world number part before now) → length part ≤ 4096 → played key false taken ≡ r.soFar
   reading_cut taken world number part before now r short = ap (played key false) (sym (append-nil taken)) ∙ r.onwards false [] ∙ part_short r.soFar number part short
 
-  -- the closing plans are written behind the last line
+  -- the closing plans are written after the last line
   pub finished_by : (q : Played) (world : WorldView) (plans : List ℕ) (before old now : Option (List ℕ)) → Holds frames q world before old → Closes world plans → now ≡ append_known old plans → (q.stop ≡ None) × (now ≡ append_known before (whole_report frames q))
   finished_by q world plans before old now holds closing wrote = (
     holds.going,
@@ -243,7 +243,7 @@ module _ (key : List ℕ) (frames : Bool) where
         ∙ ap (λ text. append_known before (report_of frames q ++ text)) (closing q.state (own q.state frames world holds.here)),
   )
 
-  -- a front of them was
+  -- a prefix of them was
   pub unfinished_by : (q : Played) (world : WorldView) (plans : List ℕ) (before old now : Option (List ℕ)) → Holds frames q world before old → Closes world plans → SentFront old now plans → SentFront before now (whole_report frames q)
   unfinished_by q world plans before old now holds closing (rest, part) =
       let whole : report_of frames q ++ (plans ++ []) ≡ whole_report frames q = ap (λ text. report_of frames q ++ text) (append-nil plans ∙ closing q.state (own q.state frames world holds.here)) in
@@ -259,7 +259,7 @@ module _ (key : List ℕ) (frames : Bool) where
     },
   )
 
-  -- a halt before them leaves a front of the whole
+  -- a run that halts before them leaves a prefix of the whole
   pub halted_before : (run_end : RunEnd) (q : Played) (before now : Option (List ℕ)) → HaltedAt frames run_end q (report_of frames q) before now → HaltedAt frames run_end q (whole_report frames q) before now
   halted_before Usage q before now never = absurd never
   halted_before (Stopped stop) q before now h = h
@@ -268,13 +268,13 @@ module _ (key : List ℕ) (frames : Bool) where
   halted_before NoMemory q before now front = front_closed q before now front
   halted_before TurnsSpent q before now never = absurd never
 
-  -- the halt of the last line is that of the whole
+  -- the end of the run at the last line is that of the whole
   pub finish_halted : (run_end : RunEnd) (taken : List ℕ) (world : WorldView) (number : ℕ) (part : List ℕ) (before old now : Option (List ℕ)) (r : Reading key frames taken world number part before old) → HaltedAt frames run_end (last_played r.soFar number part) (report_of frames (last_played r.soFar number part)) before now → HaltedAt frames run_end (played key true taken) (whole_report frames (played key true taken)) before now
   finish_halted run_end taken world number part before old now r halted =
       subst (λ q. HaltedAt frames run_end q (whole_report frames q) before now) (sym (reading_end taken world number part before old r))
       (halted_before run_end (last_played r.soFar number part) before now halted)
 
-  -- there was no memory behind the last line
+  -- there was no memory after the last line
   pub finish_memory : (taken : List ℕ) (world end : WorldView) (number : ℕ) (part : List ℕ) (before old now : Option (List ℕ)) (r : Reading key frames taken world number part before old) → Holds frames (last_played r.soFar number part) end before now → SentFront before now (whole_report frames (played key true taken))
   finish_memory taken world end number part before old now r holds =
       subst (λ q. SentFront before now (whole_report frames q)) (sym (reading_end taken world number part before old r))
@@ -291,12 +291,12 @@ module _ (key : List ℕ) (frames : Bool) where
       subst (λ q. Finished frames q before now) (sym (reading_end taken world number part before old r))
       (finished_by (last_played r.soFar number part) end plans before middle now holds closing wrote)
 
-  -- what follows from a halt follows from a step that halts
+  -- what follows from an end of the run follows from a step that halts
   pub if_err_leads : {T : Type 0} (r : Result T RunEnd) (q : Played) (world : WorldView) (before now : Option (List ℕ)) (P : RunEnd → Type 0) → Leads frames r q world before now → ((run_end : RunEnd) → HaltedAt frames run_end q (report_of frames q) before now → P run_end) → IfErr r P
   if_err_leads (Ok x) q world before now P leads follows = tt
   if_err_leads (Err run_end) q world before now P leads follows = follows run_end leads
 
-  -- a piece from the byte at a place on
+  -- a piece from the byte at an index on
   pub piece_from : (taken piece : List ℕ) (i : ℕ) → i < length piece → (taken ++ take i piece) ++ get_or piece i 0 ∷ drop (suc i) piece ≡ taken ++ piece
   piece_from taken piece i below =
       ap (λ rest. (taken ++ take i piece) ++ rest) (sym (drop-cons piece i 0 below))

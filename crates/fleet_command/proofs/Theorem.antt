@@ -29,7 +29,7 @@ carried key frames o left_before left_after sent_before sent_after code run = re
   theorem = main_theorem key run.2.ended run.2.taken;
 }
 
--- all bytes that an input had were taken, where nothing is left of it
+-- all bytes that an input had were taken, if nothing is left of it
 taken_whole : (bytes taken : List ℕ) (left : Option (List ℕ)) → Some bytes ≡ prepend_known taken left → IsSpent left → taken ≡ bytes
 taken_whole bytes taken None took spent = absurd (let wrong : ◌≡◌ {A = Option (List ℕ)} (Some bytes) None = took in cc)
 taken_whole bytes taken (Some rest) took spent =

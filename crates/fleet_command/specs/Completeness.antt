@@ -10,7 +10,7 @@ use Rattle.run_status.specs.Runs.{PortOutcome}
 
 -- a scenario of the grammar that keeps to the limits, played under a key
 pub record IsPlayable (key : List ℕ) (bytes : List ℕ) : Type 0 where
-  -- there is no reason against any of its lines, each read where it stands
+  -- there is no reason against any of its lines, each read in the state before it
   pub lines : (line : ℕ) (reason : Reason) → (played key true bytes).stop ≢ Some (Bad line reason)
   -- the lines are not too many
   pub few : (played key true bytes).stop ≢ Some Too_many_lines
@@ -28,7 +28,7 @@ abbrev pub IsComplete : (key : List ℕ) (frames : Bool) (bytes : List ℕ) → 
 IsComplete key frames bytes sent_before sent_after code =
     ((code ≡ 0) × (sent_after ≡ append_known sent_before (whole_report frames (played key true bytes)))) ⊎ (code ≡ 7)
 
--- completeness: where no port fails, an authentic scenario that can be played is played to its end
+-- completeness: if no port fails, an authentic scenario that can be played is played to its end
 abbrev pub Completes : (key : List ℕ) (frames : Bool) (o : PortOutcome) → (left_before sent_before sent_after : Option (List ℕ)) → (code : ℕ) → Type 0
 Completes key frames o left_before sent_before sent_after code =
     (bytes : List ℕ) → left_before ≡ Some bytes → IsPlayable key bytes → Authentic key true bytes → NoFault o → IsComplete key frames bytes sent_before sent_after code

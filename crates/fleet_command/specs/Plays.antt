@@ -1,4 +1,4 @@
--- A scenario that is played byte by byte: what the bytes to come do, behind a line that is held unfinished.
+-- A scenario that is played byte by byte: what the bytes to come do, after a line that is held unfinished.
 use Rattle.std.specs.Prelude.{◌≡◌, ℕ, ◌+◌, ◌-◌, ◌*◌, ◌==◌, nat_lt, Bool, if◌then◌else◌, List, [], ◌∷◌, ◌++◌, length, Option, Some, None, Ok, Err, option_map}
 use Rattle.std.specs.declared.result.Result.{Result}
 use Rattle.std.specs.Io.KnownBytes.{append_known}
@@ -16,7 +16,7 @@ use Rattle.fleet_world.specs.declared.faults.WorldFault.TheVariants.{Limit, Node
 use Rattle.fleet_world.specs.Steps.{At_limit, Stamps_spent}
 use Rattle.fleet_command.specs.Spec.{reported_step_error, reported_error}
 
--- line `number` is held as far as it came, and these bytes follow; `ended` says whether the input ended behind them
+-- line `number` is held unfinished, and these bytes follow; `ended` says whether the input ended after them
 abbrev pub plays : Bool → Played → ℕ → List ℕ → List ℕ → Played
 plays ended p number part [] = rest_played ended p number part
 plays ended p number part (b ∷ bs) =
@@ -24,7 +24,7 @@ plays ended p number part (b ∷ bs) =
     else if nat_lt most_line_bytes (length part + 1) then part_played p number (part ++ b ∷ [])
     else plays ended p number (part ++ b ∷ []) bs
 
--- a scenario goes on in this world, and its report was written behind what was sent before; `frames` says whether it
+-- a scenario goes on in this world, and its report was written after what was sent before; `frames` says whether it
 -- prints frames whole
 pub record Holds (frames : Bool) (p : Played) (world : WorldView) (before now : Option (List ℕ)) : Type 0 where
   pub going : p.stop ≡ None
@@ -41,7 +41,7 @@ pub record Reading (key : List ℕ) (frames : Bool) (taken : List ℕ) (world : 
 abbrev pub StoppedBy : Bool → InputError → Played → Option (List ℕ) → Option (List ℕ) → Type 0
 StoppedBy frames stop q before now = (option_map reported_error q.stop ≡ Some stop) × (now ≡ append_known before (report_of frames q))
 
--- what a halt leaves of a scenario that leads to `q`: it stopped there, or a front of this text was written
+-- what a run that halts leaves of a scenario that leads to `q`: it stopped there, or a prefix of this text was written
 abbrev pub HaltedAt : Bool → RunEnd → Played → List ℕ → Option (List ℕ) → Option (List ℕ) → Type 0
 HaltedAt frames Usage q text before now = ⊥
 HaltedAt frames (Stopped stop) q text before now = StoppedBy frames stop q before now
@@ -59,7 +59,7 @@ Leads frames (Err run_end) q world before now = HaltedAt frames run_end q (repor
 abbrev pub budget : ℕ → List ℕ → ℕ
 budget number part = 4097 * (100002 - number) - length part
 
--- why line `number` halts a scenario as soon as it is too long
+-- why line `number` ends a run as soon as it is too long
 abbrev pub long_line_end : ℕ → RunEnd
 long_line_end number = Stopped (reported_error (if nat_lt most_lines number then Too_many_lines else Bad number Long))
 
@@ -67,7 +67,7 @@ long_line_end number = Stopped (reported_error (if nat_lt most_lines number then
 abbrev pub Finished : Bool → Played → Option (List ℕ) → Option (List ℕ) → Type 0
 Finished frames q before now = (q.stop ≡ None) × (now ≡ append_known before (whole_report frames q))
 
--- how a line that the world doesn't do halts a scenario
+-- how a line that the world doesn't do ends a run
 abbrev pub FailsAs : WorldFault → RunEnd → Type 0
 FailsAs (Limit limit) run_end = run_end ≡ Stopped (reported_step_error (At_limit limit))
 FailsAs (Node NoTimestamp) run_end = run_end ≡ Stopped (reported_step_error Stamps_spent)

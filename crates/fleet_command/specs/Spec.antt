@@ -15,7 +15,7 @@ use Rattle.run_status.specs.declared.input_errors.InputError.{InputError}
 use Rattle.run_status.specs.declared.input_errors.InputError.TheVariants.{Bad, AtLimit, StampsSpent}
 use Rattle.run_status.specs.Runs.{CommandSpec}
 
--- a reason against a line, as it is told
+-- a reason against a line, as a run's status has it
 abbrev pub reported_reason : Reason → StatusReason
 reported_reason Long = IsLong
 reported_reason Word = IsWord
@@ -30,7 +30,7 @@ reported_reason Range = IsRange
 reported_reason Draft = IsDraft
 reported_reason Clock = IsClock
 
--- a limit of the world
+-- a bound of the world, as a run's status has it
 abbrev pub reported_bound : Bound → StatusBound
 reported_bound MostFrames = Frames
 reported_bound MostDrones = Drones
@@ -41,13 +41,13 @@ abbrev pub reported_step_error : StepError → InputError
 reported_step_error (At_limit limit) = AtLimit (reported_bound limit)
 reported_step_error Stamps_spent = StampsSpent
 
--- where a scenario stops
+-- why a scenario stops
 abbrev pub reported_error : ScenarioError → InputError
 reported_error (BadLine line reason) = Bad (Line line) (reported_reason reason)
 reported_error Too_many_lines = AtLimit Lines
 reported_error (Not_done run_end) = reported_step_error run_end
 
--- under a key, the lines are played in their order, and the plans are told at the end; `frames` says whether the report
+-- under a key, the lines are played in their order, and the plans are reported at the end; `frames` says whether the report
 -- prints frames whole
 abbrev pub fleet_spec : List ℕ → Bool → CommandSpec
 fleet_spec key frames = record {

@@ -29,7 +29,7 @@ const MOST_LINE_BYTES: usize = 4096;
 #[derive(Drop)]
 pub struct Player {
     world: World,
-    /// The bytes behind the last LF.
+    /// The bytes after the last LF.
     line: Vec<u8>,
     /// The number of the line that these begin.
     number: usize,

@@ -10,7 +10,7 @@ use Rattle.fleet_command.proofs.player.Player.end_line.Goals as goal
 too_many : (p : Played) (number : ℕ) (raw : List ℕ) → 100000 < number → line_played p number raw ≡ stopped p Too_many_lines
 too_many p number raw many = rw (lt-ltb 100000 number many) refl
 
--- what a line leads to that isn't too long, where there are not too many
+-- what a line leads to that isn't too long, if there are not too many
 in_bounds : (p : Played) (number : ℕ) (raw text : List ℕ) → number ≤ 100000 → length raw ≤ 4096 → text ≡ without_cr raw → judged p number text (reason_against (context_of p.state) text) ≡ line_played p number raw
 in_bounds p number raw text few short is = rw (is, le-ltb 100000 number few, le-ltb 4096 (length raw) short) refl
 
