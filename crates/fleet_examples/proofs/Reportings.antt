@@ -1,4 +1,4 @@
--- What an execution of the world of messages tells, against the report of the scenario that it is an execution of: an upload
+-- What an execution of the world of messages reports, against the report of the scenario that it is an execution of: an upload
 -- of one item, by both definitions.
 use Rattle.std.proofs.Common.{◌≡◌, true, List, [], ◌∷◌, codes, refl}
 use Rattle.hex.specs.Hex.{decode_pairs}
