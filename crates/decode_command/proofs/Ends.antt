@@ -9,11 +9,11 @@ use Rattle.mav_ports.proofs.Known.{sent_all}
 use Rattle.decode_command.specs.declared.known.Known.{Known}
 use Rattle.mav_profile.specs.Messages.{extras_of}
 use Rattle.mav_frame.specs.declared.events.Event.{Event}
-use Rattle.command_ends.specs.declared.halts.Halt.{Halt}
-use Rattle.command_ends.specs.declared.halts.Halt.TheVariants.{Stopped, ReadFault, WriteFault, NoMemory, TurnsSpent}
-use Rattle.command_ends.specs.declared.stops.Limit.TheVariants.{InputBytes}
-use Rattle.command_ends.specs.declared.stops.Stop.TheVariants.{AtLimit}
-use Rattle.command_ends.specs.Runs.{Outside, Untold, text_so_far}
+use Rattle.run_status.specs.declared.run_ends.RunEnd.{RunEnd}
+use Rattle.run_status.specs.declared.run_ends.RunEnd.TheVariants.{Stopped, ReadFault, WriteFault, NoMemory, TurnsSpent}
+use Rattle.run_status.specs.declared.input_errors.Bound.TheVariants.{InputBytes}
+use Rattle.run_status.specs.declared.input_errors.InputError.TheVariants.{AtLimit}
+use Rattle.run_status.specs.Runs.{PortOutcome, RunBeforeStatus, text_so_far}
 use Rattle.decode_command.specs.Parsing.{final_events, incremental_events}
 use Rattle.decode_command.specs.DecodeText.{event_lines, decode_text, last_line}
 use Rattle.decode_command.specs.Script.{most_input_bytes, lines_at, decode_script}
@@ -44,12 +44,12 @@ module _ (known : Known) where
       sent_all before now (event_lines known given) (subst (λ (held : List ℕ). Sent before now (event_lines known given) held) empty d.decoding.sent)
       ∙ ap (λ (es : List Event). append_known before (event_lines known es)) (sym events)
 
-  module _ (o : Outside) (lb la sb sa : Option (List ℕ)) where
+  module _ (o : PortOutcome) (lb la sb sa : Option (List ℕ)) where
     not_ended : IsTrue false → o.spent
     not_ended never = absurd (cc never)
 
     -- a read failed, or the input gave nothing for too long
-    pub untold_fault : (taken : List ℕ) (decoder : Decoder) → lb ≡ prepend_known taken la → length taken ≤ most_input_bytes → decoder.reader.ended ≡ false → decoder.text.items ≡ [] → Drained known taken decoder sb sa → o.failed → Untold (decode_script known) o lb la sb sa (Some ReadFault)
+    pub untold_fault : (taken : List ℕ) (decoder : Decoder) → lb ≡ prepend_known taken la → length taken ≤ most_input_bytes → decoder.reader.ended ≡ false → decoder.text.items ≡ [] → Drained known taken decoder sb sa → o.failed → RunBeforeStatus (decode_script known) o lb la sb sa (Some ReadFault)
     untold_fault taken decoder took fits still empty d failed = record {
       taken = taken;
       ended = false;
@@ -59,7 +59,7 @@ module _ (known : Known) where
       wrote = all_lines taken decoder sb sa still empty d ∙ ap (append_known sb) (sym (report_within false taken fits));
     }
 
-    pub untold_idle : (taken : List ℕ) (decoder : Decoder) → lb ≡ prepend_known taken la → length taken ≤ most_input_bytes → decoder.reader.ended ≡ false → decoder.text.items ≡ [] → Drained known taken decoder sb sa → o.idled → Untold (decode_script known) o lb la sb sa (Some TurnsSpent)
+    pub untold_idle : (taken : List ℕ) (decoder : Decoder) → lb ≡ prepend_known taken la → length taken ≤ most_input_bytes → decoder.reader.ended ≡ false → decoder.text.items ≡ [] → Drained known taken decoder sb sa → o.idled → RunBeforeStatus (decode_script known) o lb la sb sa (Some TurnsSpent)
     untold_idle taken decoder took fits still empty d idled = record {
       taken = taken;
       ended = false;
@@ -70,7 +70,7 @@ module _ (known : Known) where
     }
 
     -- more bytes were read than the limit allows
-    pub untold_limit : (taken : List ℕ) (decoder : Decoder) → lb ≡ prepend_known taken la → most_input_bytes < length taken → decoder.reader.ended ≡ false → decoder.text.items ≡ [] → Drained known (take most_input_bytes taken) decoder sb sa → Untold (decode_script known) o lb la sb sa (Some (Stopped (AtLimit InputBytes)))
+    pub untold_limit : (taken : List ℕ) (decoder : Decoder) → lb ≡ prepend_known taken la → most_input_bytes < length taken → decoder.reader.ended ≡ false → decoder.text.items ≡ [] → Drained known (take most_input_bytes taken) decoder sb sa → RunBeforeStatus (decode_script known) o lb la sb sa (Some (Stopped (AtLimit InputBytes)))
     untold_limit taken decoder took long still empty d = record {
       taken = taken;
       ended = false;
@@ -81,19 +81,19 @@ module _ (known : Known) where
     }
 
     -- the writing halted
-    untold_halted : (taken : List ℕ) (halt : Halt) → lb ≡ prepend_known taken la → (halt ≡ WriteFault) ⊎ (halt ≡ NoMemory) → (halt ≡ WriteFault → o.refused) → SentFront sb sa ((decode_script known).report false taken) → Untold (decode_script known) o lb la sb sa (Some halt)
+    untold_halted : (taken : List ℕ) (halt : RunEnd) → lb ≡ prepend_known taken la → (halt ≡ WriteFault) ⊎ (halt ≡ NoMemory) → (halt ≡ WriteFault → o.refused) → SentFront sb sa ((decode_script known).report false taken) → RunBeforeStatus (decode_script known) o lb la sb sa (Some halt)
     untold_halted taken halt took (inl is) refused front =
-        subst (λ (h : Halt). Untold (decode_script known) o lb la sb sa (Some h)) (sym is)
+        subst (λ (h : RunEnd). RunBeforeStatus (decode_script known) o lb la sb sa (Some h)) (sym is)
         (record { taken = taken; ended = false; took = took; at_end = not_ended; cause = refused is; wrote = front })
     untold_halted taken halt took (inr is) refused front =
-        subst (λ (h : Halt). Untold (decode_script known) o lb la sb sa (Some h)) (sym is)
+        subst (λ (h : RunEnd). RunBeforeStatus (decode_script known) o lb la sb sa (Some h)) (sym is)
         (record { taken = taken; ended = false; took = took; at_end = not_ended; cause = tt; wrote = front })
 
-    pub untold_within : (taken : List ℕ) (halt : Halt) → lb ≡ prepend_known taken la → length taken ≤ most_input_bytes → (halt ≡ WriteFault) ⊎ (halt ≡ NoMemory) → (halt ≡ WriteFault → o.refused) → Front known taken sb sa → Untold (decode_script known) o lb la sb sa (Some halt)
+    pub untold_within : (taken : List ℕ) (halt : RunEnd) → lb ≡ prepend_known taken la → length taken ≤ most_input_bytes → (halt ≡ WriteFault) ⊎ (halt ≡ NoMemory) → (halt ≡ WriteFault → o.refused) → Front known taken sb sa → RunBeforeStatus (decode_script known) o lb la sb sa (Some halt)
     untold_within taken halt took fits error refused front =
         untold_halted taken halt took error refused (subst (SentFront sb sa) (sym (report_within false taken fits)) front)
 
-    pub untold_past : (taken : List ℕ) (halt : Halt) → lb ≡ prepend_known taken la → most_input_bytes < length taken → (halt ≡ WriteFault) ⊎ (halt ≡ NoMemory) → (halt ≡ WriteFault → o.refused) → Front known (take most_input_bytes taken) sb sa → Untold (decode_script known) o lb la sb sa (Some halt)
+    pub untold_past : (taken : List ℕ) (halt : RunEnd) → lb ≡ prepend_known taken la → most_input_bytes < length taken → (halt ≡ WriteFault) ⊎ (halt ≡ NoMemory) → (halt ≡ WriteFault → o.refused) → Front known (take most_input_bytes taken) sb sa → RunBeforeStatus (decode_script known) o lb la sb sa (Some halt)
     untold_past taken halt took long error refused front =
         untold_halted taken halt took error refused (subst (SentFront sb sa) (sym (report_past false taken long)) front)
 
@@ -101,15 +101,15 @@ module _ (known : Known) where
     whole_text : (taken : List ℕ) → length taken ≤ most_input_bytes → text_so_far (decode_script known) true taken ≡ decode_text known (final_events (extras_of known.dialect) taken)
     whole_text taken fits = ap (λ (text : List ℕ). text ++ last_line (final_events (extras_of known.dialect) taken)) (report_within true taken fits)
 
-    untold_unfinished : (taken : List ℕ) (halt : Halt) → lb ≡ prepend_known taken la → o.spent → length taken ≤ most_input_bytes → (halt ≡ WriteFault) ⊎ (halt ≡ NoMemory) → (halt ≡ WriteFault → o.refused) → Unfinished known taken sb sa → Untold (decode_script known) o lb la sb sa (Some halt)
+    untold_unfinished : (taken : List ℕ) (halt : RunEnd) → lb ≡ prepend_known taken la → o.spent → length taken ≤ most_input_bytes → (halt ≡ WriteFault) ⊎ (halt ≡ NoMemory) → (halt ≡ WriteFault → o.refused) → Unfinished known taken sb sa → RunBeforeStatus (decode_script known) o lb la sb sa (Some halt)
     untold_unfinished taken halt took spent fits (inl is) refused front =
-        subst (λ (h : Halt). Untold (decode_script known) o lb la sb sa (Some h)) (sym is)
+        subst (λ (h : RunEnd). RunBeforeStatus (decode_script known) o lb la sb sa (Some h)) (sym is)
         (record { taken = taken; ended = true; took = took; at_end = λ e. spent; cause = refused is; wrote = subst (SentFront sb sa) (sym (whole_text taken fits)) front })
     untold_unfinished taken halt took spent fits (inr is) refused front =
-        subst (λ (h : Halt). Untold (decode_script known) o lb la sb sa (Some h)) (sym is)
+        subst (λ (h : RunEnd). RunBeforeStatus (decode_script known) o lb la sb sa (Some h)) (sym is)
         (record { taken = taken; ended = true; took = took; at_end = λ e. spent; cause = tt; wrote = subst (SentFront sb sa) (sym (whole_text taken fits)) front })
 
-    pub untold_end : (taken : List ℕ) (r : Result (Unit {0}) Halt) → lb ≡ prepend_known taken la → o.spent → length taken ≤ most_input_bytes → OnOk r (Finished known taken sb sa) → IfErr r (λ halt. Unfinished known taken sb sa) → IfErr r (λ halt. (halt ≡ WriteFault) ⊎ (halt ≡ NoMemory)) → (IsErrOf r WriteFault → o.refused) → Untold (decode_script known) o lb la sb sa (result_err r)
+    pub untold_end : (taken : List ℕ) (r : Result (Unit {0}) RunEnd) → lb ≡ prepend_known taken la → o.spent → length taken ≤ most_input_bytes → OnOk r (Finished known taken sb sa) → IfErr r (λ halt. Unfinished known taken sb sa) → IfErr r (λ halt. (halt ≡ WriteFault) ⊎ (halt ≡ NoMemory)) → (IsErrOf r WriteFault → o.refused) → RunBeforeStatus (decode_script known) o lb la sb sa (result_err r)
     untold_end taken (Ok x) took spent fits done unfinished error refused = record {
       taken = taken;
       ended = true;
@@ -129,5 +129,5 @@ up_to_limit taken piece left e =
     ap (λ (n : ℕ). take n (taken ++ piece)) (sym e) ∙ take-append-add taken piece left
 
 -- a run under the same definitions
-pub same_script : (known others : Known) (o : Outside) (lb la sb sa : Option (List ℕ)) (end : Option Halt) → known ≡ others → Untold (decode_script known) o lb la sb sa end → Untold (decode_script others) o lb la sb sa end
-same_script known others o lb la sb sa end same u = subst (λ (d : Known). Untold (decode_script d) o lb la sb sa end) same u
+pub same_script : (known others : Known) (o : PortOutcome) (lb la sb sa : Option (List ℕ)) (end : Option RunEnd) → known ≡ others → RunBeforeStatus (decode_script known) o lb la sb sa end → RunBeforeStatus (decode_script others) o lb la sb sa end
+same_script known others o lb la sb sa end same u = subst (λ (d : Known). RunBeforeStatus (decode_script d) o lb la sb sa end) same u

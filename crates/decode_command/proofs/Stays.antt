@@ -3,10 +3,10 @@ use Rattle.std.proofs.Common.{◌≡◌, ◌∙◌, ◌<◌, ◌≤◌, ℕ, ltb
 use Rattle.std.proofs.lemmas.Bool.{ltb-true}
 use Rattle.std.proofs.lemmas.List.{take-append-le}
 use Rattle.decode_command.specs.declared.known.Known.{Known}
-use Rattle.command_ends.specs.declared.stops.Limit.TheVariants.{InputBytes}
-use Rattle.command_ends.specs.declared.stops.Stop.{Stop}
-use Rattle.command_ends.specs.declared.stops.Stop.TheVariants.{AtLimit}
-use Rattle.command_ends.specs.Runs.{Steady}
+use Rattle.run_status.specs.declared.input_errors.Bound.TheVariants.{InputBytes}
+use Rattle.run_status.specs.declared.input_errors.InputError.{InputError}
+use Rattle.run_status.specs.declared.input_errors.InputError.TheVariants.{AtLimit}
+use Rattle.run_status.specs.Runs.{Steady}
 use Rattle.decode_command.specs.Script.{most_input_bytes, lines_at, decode_script}
 use Rattle.decode_command.proofs.Ends.{stops, report_past}
 
@@ -20,7 +20,7 @@ stays_past known ended taken more long =
     ∙ ap (lines_at known false) (take-append-le most_input_bytes taken more within)
     ∙ sym (report_past known false taken long)
 
-stays_at : (known : Known) (ended : Bool) (taken more : List ℕ) (stop : Stop) (long : Bool) → ltb most_input_bytes (length taken) ≡ long → (if long then Some (AtLimit InputBytes) else None) ≡ Some stop → ((decode_script known).stop ended (taken ++ more) ≡ Some stop) × ((decode_script known).report ended (taken ++ more) ≡ (decode_script known).report false taken)
+stays_at : (known : Known) (ended : Bool) (taken more : List ℕ) (stop : InputError) (long : Bool) → ltb most_input_bytes (length taken) ≡ long → (if long then Some (AtLimit InputBytes) else None) ≡ Some stop → ((decode_script known).stop ended (taken ++ more) ≡ Some stop) × ((decode_script known).report ended (taken ++ more) ≡ (decode_script known).report false taken)
 stays_at known ended taken more stop true is e =
     let long = ltb-true most_input_bytes (length taken) is in
     (stops known ended (taken ++ more) (longer taken more long) ∙ e, stays_past known ended taken more long)

@@ -2,9 +2,9 @@
 use Rattle.std.specs.Prelude.{ℕ, nat_lt, Bool, true, false, if◌then◌else◌, List, length, take, Some, None}
 use Rattle.decode_command.specs.declared.known.Known.{Known}
 use Rattle.mav_profile.specs.Messages.{extras_of}
-use Rattle.command_ends.specs.declared.stops.Limit.TheVariants.{InputBytes}
-use Rattle.command_ends.specs.declared.stops.Stop.TheVariants.{AtLimit}
-use Rattle.command_ends.specs.Runs.{Script}
+use Rattle.run_status.specs.declared.input_errors.Bound.TheVariants.{InputBytes}
+use Rattle.run_status.specs.declared.input_errors.InputError.TheVariants.{AtLimit}
+use Rattle.run_status.specs.Runs.{CommandSpec}
 use Rattle.decode_command.specs.Parsing.{final_events, incremental_events}
 use Rattle.decode_command.specs.DecodeText.{event_lines, last_line}
 
@@ -18,7 +18,7 @@ lines_at known true bytes = event_lines known (final_events (extras_of known.dia
 lines_at known false bytes = event_lines known (incremental_events (extras_of known.dialect) bytes)
 
 -- too many bytes stop a run, and then only those up to the limit are decoded
-abbrev pub decode_script : Known → Script
+abbrev pub decode_script : Known → CommandSpec
 decode_script known = record {
   stop = λ ended bytes. if nat_lt most_input_bytes (length bytes) then Some (AtLimit InputBytes) else None;
   report = λ ended bytes. if nat_lt most_input_bytes (length bytes) then lines_at known false (take most_input_bytes bytes) else lines_at known ended bytes;

@@ -2,17 +2,17 @@
 ghost use Rattle.std.specs.Prelude.{◌≡◌, ◌<◌, ◌≤◌, ◌+◌, [], true, false, length, IsErrOf};
 ghost use Rattle.std.specs.Result.{result_err};
 ghost use Rattle.mav_ports.specs.Gets.{IsSpent};
-ghost use Rattle.command_ends.specs.Runs.{Untold, outside};
+ghost use Rattle.run_status.specs.Runs.{RunBeforeStatus, port_outcome};
 ghost use Rattle.mav_profile.specs.Profile.{profile_definitions};
 ghost use Rattle.decode_command.specs.Decodes.{Drained, IsNew, IsWithin};
 ghost use Rattle.decode_command.specs.Script.{decode_script, most_input_bytes};
 
 use crate::decoder::Decoder;
 use crate::known::Known;
-use command_ends::{Halt, Limit, Stop, read_on};
 use dialect::Dialect;
 use mav_ports::{Got, Sink, Source};
 use mav_sign::Key;
+use run_status::{Bound, InputError, RunEnd, read_on};
 use std::alloc::Global;
 
 // How much is read at once.
@@ -27,13 +27,13 @@ pub fn decode_by<S: Source, K: Sink>(
     known: Known,
     main: &mut S,
     out: &mut K,
-) -> Result<(), Halt>
-    ensures untold { Untold (decode_script known) (outside
+) -> Result<(), RunEnd>
+    ensures untold { RunBeforeStatus (decode_script known) (port_outcome
         (S.has_ended main.new × IsSpent (S.left main.new)) (S.faults main.old) (S.faults main.new)
         (S.idles main.old) (S.idles main.new) (K.faults out.old) (K.faults out.new))
         (S.left main.old) (S.left main.new) (K.sent out.old) (K.sent out.new)
         (result_err result) }
-    ensures sound { ¬ IsErrOf result Halt.WriteFault → K.faults out.new ≡ K.faults out.old }
+    ensures sound { ¬ IsErrOf result RunEnd.WriteFault → K.faults out.new ≡ K.faults out.old }
 {
     let mut decoder = Decoder::new(alloc, known)?;
     decode_pieces(alloc, &mut decoder, main, out)
@@ -45,14 +45,14 @@ fn decode_pieces<S: Source, K: Sink>(
     decoder: &mut Decoder,
     main: &mut S,
     out: &mut K,
-) -> Result<(), Halt>
+) -> Result<(), RunEnd>
     requires { IsNew decoder.old }
-    ensures untold { Untold (decode_script decoder.old.known) (outside
+    ensures untold { RunBeforeStatus (decode_script decoder.old.known) (port_outcome
         (S.has_ended main.new × IsSpent (S.left main.new)) (S.faults main.old) (S.faults main.new)
         (S.idles main.old) (S.idles main.new) (K.faults out.old) (K.faults out.new))
         (S.left main.old) (S.left main.new) (K.sent out.old) (K.sent out.new)
         (result_err result) }
-    ensures sound { ¬ IsErrOf result Halt.WriteFault → K.faults out.new ≡ K.faults out.old }
+    ensures sound { ¬ IsErrOf result RunEnd.WriteFault → K.faults out.new ≡ K.faults out.old }
 {
     decoder.make_room()?;
     let mut buf = vec![in alloc; 0u8; PIECE_BYTES]?;
@@ -65,19 +65,19 @@ fn decode_all<S: Source, K: Sink>(
     main: &mut S,
     buf: &mut [u8],
     out: &mut K,
-) -> Result<(), Halt>
+) -> Result<(), RunEnd>
     requires buf { 0 < length buf.old }
     requires within { IsWithin decoder.old 0 }
     requires start { decoder.old.offset + length decoder.old.reader.bytes ≡ 0 }
     requires still { decoder.old.reader.ended ≡ false }
     requires empty { decoder.old.text.items ≡ [] }
     ensures untold { Drained decoder.old.known [] decoder.old (K.sent out.old) (K.sent out.old)
-        → Untold (decode_script decoder.old.known) (outside
+        → RunBeforeStatus (decode_script decoder.old.known) (port_outcome
         (S.has_ended main.new × IsSpent (S.left main.new)) (S.faults main.old) (S.faults main.new)
         (S.idles main.old) (S.idles main.new) (K.faults out.old) (K.faults out.new))
         (S.left main.old) (S.left main.new) (K.sent out.old) (K.sent out.new)
         (result_err result) }
-    ensures sound { ¬ IsErrOf result Halt.WriteFault → K.faults out.new ≡ K.faults out.old }
+    ensures sound { ¬ IsErrOf result RunEnd.WriteFault → K.faults out.new ≡ K.faults out.old }
 {
     let mut left = MOST_INPUT_BYTES;
     loop {
@@ -85,14 +85,14 @@ fn decode_all<S: Source, K: Sink>(
             Got::Bytes(count) => {
                 if count > left {
                     decoder.take(&buf[..left], out)?;
-                    return Err(Halt::Stopped(Stop::AtLimit(Limit::InputBytes)));
+                    return Err(RunEnd::Stopped(InputError::AtLimit(Bound::InputBytes)));
                 }
                 decoder.take(&buf[..count], out)?;
                 left -= count;
             }
-            Got::Idle => return Err(Halt::TurnsSpent),
+            Got::Idle => return Err(RunEnd::TurnsSpent),
             Got::End => return decoder.finish(out),
-            Got::Failed => return Err(Halt::ReadFault),
+            Got::Failed => return Err(RunEnd::ReadFault),
         }
     }
 }
@@ -103,14 +103,14 @@ pub fn decode<S: Source, K: Sink>(
     key: Option<Key>,
     main: &mut S,
     out: &mut K,
-) -> Result<(), Halt>
-    ensures untold { Untold
-        (decode_script (record { dialect = profile_definitions; key = key })) (outside
+) -> Result<(), RunEnd>
+    ensures untold { RunBeforeStatus
+        (decode_script (record { dialect = profile_definitions; key = key })) (port_outcome
         (S.has_ended main.new × IsSpent (S.left main.new)) (S.faults main.old) (S.faults main.new)
         (S.idles main.old) (S.idles main.new) (K.faults out.old) (K.faults out.new))
         (S.left main.old) (S.left main.new) (K.sent out.old) (K.sent out.new)
         (result_err result) }
-    ensures sound { ¬ IsErrOf result Halt.WriteFault → K.faults out.new ≡ K.faults out.old }
+    ensures sound { ¬ IsErrOf result RunEnd.WriteFault → K.faults out.new ≡ K.faults out.old }
 {
     let dialect = Dialect::profile(alloc)?;
     decode_by(alloc, Known { dialect, key }, main, out)

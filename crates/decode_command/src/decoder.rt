@@ -14,12 +14,12 @@ ghost use Rattle.decode_command.specs.Decodes.{Decoding, Drained, Halted, Front,
 use crate::known::Known;
 use crate::prepared::Prepared;
 use crate::writing::{ENOUGH_BYTES, write, write_enough};
-use command_ends::Halt;
 use dialect::Dialect;
 use mav_frame::Why;
 use mav_ports::{NoMemory, Sink};
 use mav_scan::{Ahead, Scanner};
 use mav_text::{Chunk, put_decimal, put_skips};
+use run_status::RunEnd;
 use std::alloc::Global;
 
 // More than the lines of what stands in front have.
@@ -82,7 +82,7 @@ impl Decoder {
     }
 
     /// Takes bytes that come next, and writes the lines of their events.
-    pub(crate) fn take<K: Sink>(&mut self, piece: &[u8], out: &mut K) -> Result<(), Halt>
+    pub(crate) fn take<K: Sink>(&mut self, piece: &[u8], out: &mut K) -> Result<(), RunEnd>
         requires within { IsWithin self.old (length piece.now) }
         requires room { length self.old.reader.bytes < 280 }
         requires still { self.old.reader.ended ≡ false }
@@ -98,10 +98,10 @@ impl Decoder {
         ensures halted { (known : Known) (taken : List ℕ) (before : Option (List ℕ))
             → Drained known taken self.old before (K.sent out.old)
             → IfErr result (λ _. Front known (taken ++ piece.now) before (K.sent out.new)) }
-        ensures error { IfErr result (λ e. (e ≡ Halt.WriteFault) ⊎ (e ≡ Halt.NoMemory)) }
-        ensures rose { IsErrOf result Halt.WriteFault
+        ensures error { IfErr result (λ e. (e ≡ RunEnd.WriteFault) ⊎ (e ≡ RunEnd.NoMemory)) }
+        ensures rose { IsErrOf result RunEnd.WriteFault
             → Rose (K.faults out.old) (K.faults out.new) }
-        ensures sound { ¬ IsErrOf result Halt.WriteFault
+        ensures sound { ¬ IsErrOf result RunEnd.WriteFault
             → K.faults out.new ≡ K.faults out.old }
     {
         let mut place = 0;
@@ -113,7 +113,7 @@ impl Decoder {
     }
 
     /// The input ended: writes the lines of what is held, and the last line.
-    pub(crate) fn finish<K: Sink>(&mut self, out: &mut K) -> Result<(), Halt>
+    pub(crate) fn finish<K: Sink>(&mut self, out: &mut K) -> Result<(), RunEnd>
         requires { IsWithin self.old 0 }
         ensures done { (known : Known) (taken : List ℕ) (before : Option (List ℕ))
             → Drained known taken self.old before (K.sent out.old)
@@ -121,10 +121,10 @@ impl Decoder {
         ensures halted { (known : Known) (taken : List ℕ) (before : Option (List ℕ))
             → Drained known taken self.old before (K.sent out.old)
             → IfErr result (λ _. Unfinished known taken before (K.sent out.new)) }
-        ensures error { IfErr result (λ e. (e ≡ Halt.WriteFault) ⊎ (e ≡ Halt.NoMemory)) }
-        ensures rose { IsErrOf result Halt.WriteFault
+        ensures error { IfErr result (λ e. (e ≡ RunEnd.WriteFault) ⊎ (e ≡ RunEnd.NoMemory)) }
+        ensures rose { IsErrOf result RunEnd.WriteFault
             → Rose (K.faults out.old) (K.faults out.new) }
-        ensures sound { ¬ IsErrOf result Halt.WriteFault
+        ensures sound { ¬ IsErrOf result RunEnd.WriteFault
             → K.faults out.new ≡ K.faults out.old }
     {
         self.reader.end();
@@ -134,7 +134,7 @@ impl Decoder {
     }
 
     // The lines of the events until the reader needs more bytes.
-    fn drain<K: Sink>(&mut self, out: &mut K) -> Result<(), Halt>
+    fn drain<K: Sink>(&mut self, out: &mut K) -> Result<(), RunEnd>
         requires { IsWithin self.old 0 }
         ensures within { OnOk result (IsWithin self.new 0) }
         ensures sum { OnOk result (self.new.offset + length self.new.reader.bytes
@@ -148,10 +148,10 @@ impl Decoder {
             → Decoding known taken self.old before (K.sent out.old)
             → IfErr result (λ _. Halted known taken self.new before (K.sent out.new)
             × (self.new.reader.ended ≡ self.old.reader.ended)) }
-        ensures error { IfErr result (λ e. (e ≡ Halt.WriteFault) ⊎ (e ≡ Halt.NoMemory)) }
-        ensures rose { IsErrOf result Halt.WriteFault
+        ensures error { IfErr result (λ e. (e ≡ RunEnd.WriteFault) ⊎ (e ≡ RunEnd.NoMemory)) }
+        ensures rose { IsErrOf result RunEnd.WriteFault
             → Rose (K.faults out.old) (K.faults out.new) }
-        ensures sound { ¬ IsErrOf result Halt.WriteFault
+        ensures sound { ¬ IsErrOf result RunEnd.WriteFault
             → K.faults out.new ≡ K.faults out.old }
     {
         loop {
@@ -164,7 +164,7 @@ impl Decoder {
 
     // Puts the lines of what stands in front, and takes its bytes off.
     #[inline]
-    fn pass<K: Sink>(&mut self, ahead: Ahead, out: &mut K) -> Result<(), Halt>
+    fn pass<K: Sink>(&mut self, ahead: Ahead, out: &mut K) -> Result<(), RunEnd>
         requires within { IsWithin self.old 0 }
         requires size { size_ahead ahead ≤ length self.old.reader.bytes }
         requires frame { IfFrame ahead (IsFrameOf self.old.reader.bytes) }
@@ -177,10 +177,10 @@ impl Decoder {
             → Gave known taken (events_ahead self.old.reader.bytes ahead) self.old.reader
             (held_behind self.old.reader ahead)
             → IfErr result (λ _. Halted known taken self.new before (K.sent out.new)) }
-        ensures error { IfErr result (λ e. (e ≡ Halt.WriteFault) ⊎ (e ≡ Halt.NoMemory)) }
-        ensures rose { IsErrOf result Halt.WriteFault
+        ensures error { IfErr result (λ e. (e ≡ RunEnd.WriteFault) ⊎ (e ≡ RunEnd.NoMemory)) }
+        ensures rose { IsErrOf result RunEnd.WriteFault
             → Rose (K.faults out.old) (K.faults out.new) }
-        ensures sound { ¬ IsErrOf result Halt.WriteFault
+        ensures sound { ¬ IsErrOf result RunEnd.WriteFault
             → K.faults out.new ≡ K.faults out.old }
     {
         self.append(ahead)?;

@@ -6,10 +6,10 @@ use Rattle.mav_ports.specs.Puts.{SentFront}
 use Rattle.mav_ports.proofs.Known.{append_known_nil, sent_start}
 use Rattle.field_layout.specs.Definition.{Definition}
 use Rattle.mav_text.specs.LayoutText.{dialect_text}
-use Rattle.command_ends.specs.declared.halts.Halt.{Halt}
-use Rattle.command_ends.specs.declared.halts.Halt.TheVariants.{Usage, Stopped, ReadFault, WriteFault, NoMemory, TurnsSpent}
-use Rattle.command_ends.specs.declared.stops.Stop.{Stop}
-use Rattle.command_ends.specs.Runs.{outside, text_so_far, Untold}
+use Rattle.run_status.specs.declared.run_ends.RunEnd.{RunEnd}
+use Rattle.run_status.specs.declared.run_ends.RunEnd.TheVariants.{Usage, Stopped, ReadFault, WriteFault, NoMemory, TurnsSpent}
+use Rattle.run_status.specs.declared.input_errors.InputError.{InputError}
+use Rattle.run_status.specs.Runs.{port_outcome, text_so_far, RunBeforeStatus}
 use Rattle.dialect_command.specs.Script.{refusal_of, text_of, reading, dialect_script, telling}
 use Rattle.dialect_command.specs.Reads.{of_input, Holds, Halts}
 use Rattle.dialect_command.specs.Ends.{Told}
@@ -24,7 +24,7 @@ nothing_front : (sb sa : Option (List ℕ)) (text : List ℕ) → sa ≡ sb → 
 nothing_front sb sa text same = subst (λ known. SentFront sb known text) (sym same) (text, sent_start sb text)
 
 -- the reading halted, so nothing was written
-pub untold_unread : (closing : List ℕ → List ℕ) (spent : Type 0) (fb fa ib ia rb ra : ℕ) (lb la sb sa : Option (List ℕ)) (halt : Halt) → sa ≡ sb → Halts (of_input spent fb fa ib ia) lb la halt → Untold (reading closing) (outside spent fb fa ib ia rb ra) lb la sb sa (Some halt)
+pub untold_unread : (closing : List ℕ → List ℕ) (spent : Type 0) (fb fa ib ia rb ra : ℕ) (lb la sb sa : Option (List ℕ)) (halt : RunEnd) → sa ≡ sb → Halts (of_input spent fb fa ib ia) lb la halt → RunBeforeStatus (reading closing) (port_outcome spent fb fa ib ia rb ra) lb la sb sa (Some halt)
 untold_unread closing spent fb fa ib ia rb ra lb la sb sa Usage same h = absurd h.cause
 untold_unread closing spent fb fa ib ia rb ra lb la sb sa (Stopped stop) same h = record { taken = h.taken; ended = h.ended; took = h.took; at_end = h.at_end; cause = h.cause; wrote = nothing_sent sb sa same }
 untold_unread closing spent fb fa ib ia rb ra lb la sb sa ReadFault same h = record { taken = h.taken; ended = h.ended; took = h.took; at_end = h.at_end; cause = h.cause; wrote = nothing_sent sb sa same }
@@ -37,7 +37,7 @@ module _ (spent : Type 0) (fb fa ib ia rb ra : ℕ) (lb la sb sa : Option (List 
   is_text : text_of (Ok defs) ≡ dialect_script.closing h.taken
   is_text = ap text_of (sym h.read)
 
-  pub untold_written : (end : Option Halt) → WroteText (dialect_text defs) end rb ra sb sa → Untold dialect_script (outside spent fb fa ib ia rb ra) lb la sb sa end
+  pub untold_written : (end : Option RunEnd) → WroteText (dialect_text defs) end rb ra sb sa → RunBeforeStatus dialect_script (port_outcome spent fb fa ib ia rb ra) lb la sb sa end
   untold_written None wrote = record { taken = h.taken; ended = true; took = h.took; at_end = λ ended. h.at_end; cause = (refl, goes_on true h.taken h.fits ∙ ap refusal_of h.read); wrote = wrote.0 ∙ ap (append_known sb) is_text }
   untold_written (Some Usage) wrote = absurd wrote
   untold_written (Some (Stopped stop)) wrote = absurd wrote
@@ -47,7 +47,7 @@ module _ (spent : Type 0) (fb fa ib ia rb ra : ℕ) (lb la sb sa : Option (List 
   untold_written (Some TurnsSpent) wrote = absurd wrote
 
 -- the same for definitions that are known
-untold_telling : (defs : List Definition) (rb ra : ℕ) (sb sa : Option (List ℕ)) (end : Option Halt) → WroteText (dialect_text defs) end rb ra sb sa → Untold (telling defs) (outside (Unit {0}) 0 0 0 0 rb ra) (Some []) (Some []) sb sa end
+untold_telling : (defs : List Definition) (rb ra : ℕ) (sb sa : Option (List ℕ)) (end : Option RunEnd) → WroteText (dialect_text defs) end rb ra sb sa → RunBeforeStatus (telling defs) (port_outcome (Unit {0}) 0 0 0 0 rb ra) (Some []) (Some []) sb sa end
 untold_telling defs rb ra sb sa None wrote = record { taken = []; ended = true; took = refl; at_end = λ ended. tt; cause = (refl, refl); wrote = wrote.0 }
 untold_telling defs rb ra sb sa (Some Usage) wrote = absurd wrote
 untold_telling defs rb ra sb sa (Some (Stopped stop)) wrote = absurd wrote
@@ -56,16 +56,16 @@ untold_telling defs rb ra sb sa (Some WriteFault) wrote = record { taken = []; e
 untold_telling defs rb ra sb sa (Some NoMemory) wrote = record { taken = []; ended = true; took = refl; at_end = λ ended. tt; cause = tt; wrote = wrote.0 }
 untold_telling defs rb ra sb sa (Some TurnsSpent) wrote = absurd wrote
 
-pub untold_known : (defs known : List Definition) → defs ≡ known → (rb ra : ℕ) (sb sa : Option (List ℕ)) (end : Option Halt) → WroteText (dialect_text defs) end rb ra sb sa → Untold (telling known) (outside (Unit {0}) 0 0 0 0 rb ra) (Some []) (Some []) sb sa end
+pub untold_known : (defs known : List Definition) → defs ≡ known → (rb ra : ℕ) (sb sa : Option (List ℕ)) (end : Option RunEnd) → WroteText (dialect_text defs) end rb ra sb sa → RunBeforeStatus (telling known) (port_outcome (Unit {0}) 0 0 0 0 rb ra) (Some []) (Some []) sb sa end
 untold_known defs known same rb ra sb sa end wrote =
-    subst (λ ds. Untold (telling ds) (outside (Unit {0}) 0 0 0 0 rb ra) (Some []) (Some []) sb sa end) same (untold_telling defs rb ra sb sa end wrote)
+    subst (λ ds. RunBeforeStatus (telling ds) (port_outcome (Unit {0}) 0 0 0 0 rb ra) (Some []) (Some []) sb sa end) same (untold_telling defs rb ra sb sa end wrote)
 
 -- there was no memory before anything was written
-pub untold_early : (known : List Definition) (refusals : ℕ) (sb : Option (List ℕ)) → Untold (telling known) (outside (Unit {0}) 0 0 0 0 refusals refusals) (Some []) (Some []) sb sb (Some NoMemory)
+pub untold_early : (known : List Definition) (refusals : ℕ) (sb : Option (List ℕ)) → RunBeforeStatus (telling known) (port_outcome (Unit {0}) 0 0 0 0 refusals refusals) (Some []) (Some []) sb sb (Some NoMemory)
 untold_early known refusals sb = record { taken = []; ended = false; took = refl; at_end = λ never. absurd (cc never); cause = tt; wrote = ([], sent_start sb []) }
 
 -- the output refused nothing where the writing doesn't end so
-pub sound_written : (text : List ℕ) (rb ra : ℕ) (sb sa : Option (List ℕ)) (r : Result (Unit {0}) Halt) → WroteText text (result_err r) rb ra sb sa → (IsErrOf r WriteFault → ⊥) → ra ≡ rb
+pub sound_written : (text : List ℕ) (rb ra : ℕ) (sb sa : Option (List ℕ)) (r : Result (Unit {0}) RunEnd) → WroteText text (result_err r) rb ra sb sa → (IsErrOf r WriteFault → ⊥) → ra ≡ rb
 sound_written text rb ra sb sa (Ok done) wrote other = wrote.1
 sound_written text rb ra sb sa (Err Usage) wrote other = absurd wrote
 sound_written text rb ra sb sa (Err (Stopped stop)) wrote other = absurd wrote
@@ -75,7 +75,7 @@ sound_written text rb ra sb sa (Err NoMemory) wrote other = wrote.1
 sound_written text rb ra sb sa (Err TurnsSpent) wrote other = absurd wrote
 
 -- nor did it stop there
-pub unstopped_written : {P : Type 0} (text : List ℕ) (rb ra : ℕ) (sb sa : Option (List ℕ)) (r : Result (Unit {0}) Halt) (stop : Stop) → WroteText text (result_err r) rb ra sb sa → IsErrOf r (Stopped stop) → P
+pub unstopped_written : {P : Type 0} (text : List ℕ) (rb ra : ℕ) (sb sa : Option (List ℕ)) (r : Result (Unit {0}) RunEnd) (stop : InputError) → WroteText text (result_err r) rb ra sb sa → IsErrOf r (Stopped stop) → P
 unstopped_written text rb ra sb sa (Ok done) stop wrote e = absurd (cc e)
 unstopped_written text rb ra sb sa (Err Usage) stop wrote e = absurd wrote
 unstopped_written text rb ra sb sa (Err (Stopped other)) stop wrote e = absurd wrote
@@ -85,6 +85,6 @@ unstopped_written text rb ra sb sa (Err NoMemory) stop wrote e = absurd (cc e)
 unstopped_written text rb ra sb sa (Err TurnsSpent) stop wrote e = absurd wrote
 
 -- all of it was written where the writing was done
-pub told_written : (spent : Type 0) (rb ra : ℕ) (lb la sb sa : Option (List ℕ)) (defs : List Definition) (r : Result (Unit {0}) Halt) → Holds spent lb la defs → WroteText (dialect_text defs) (result_err r) rb ra sb sa → OnOk r (Told spent lb la sb sa)
+pub told_written : (spent : Type 0) (rb ra : ℕ) (lb la sb sa : Option (List ℕ)) (defs : List Definition) (r : Result (Unit {0}) RunEnd) → Holds spent lb la defs → WroteText (dialect_text defs) (result_err r) rb ra sb sa → OnOk r (Told spent lb la sb sa)
 told_written spent rb ra lb la sb sa defs (Ok done) holds wrote = record { defs = defs; holds = holds; sent = wrote.0 }
 told_written spent rb ra lb la sb sa defs (Err halt) holds wrote = tt

@@ -7,13 +7,13 @@ use Rattle.dialect.specs.declared.faults.DialectFault.{DialectFault}
 use Rattle.dialect.specs.declared.faults.DialectFault.TheVariants.{NotJson, Shape, BadType, BadName, TwiceId, TwiceName, Layout, TooMany, NoMemory as Unread}
 use Rattle.field_layout.specs.Definition.{Definition}
 use Rattle.dialect.specs.Grammar.{definitions_of}
-use Rattle.command_ends.specs.declared.halts.Halt.TheVariants.{Stopped, ReadFault, NoMemory, TurnsSpent}
-use Rattle.command_ends.specs.declared.stops.Place.TheVariants.{Definitions}
-use Rattle.command_ends.specs.declared.stops.InputReason.{InputReason}
-use Rattle.command_ends.specs.declared.stops.InputReason.TheVariants.{Json, Shape as IsShape, FieldType, Name, TwiceId as IsTwiceId, TwiceName as IsTwiceName, Layout as IsLayout, TooMany as AreTooMany}
-use Rattle.command_ends.specs.declared.stops.Limit.TheVariants.{DefinitionBytes}
-use Rattle.command_ends.specs.declared.stops.Stop.TheVariants.{Bad, AtLimit}
-use Rattle.command_ends.specs.Runs.{Outside}
+use Rattle.run_status.specs.declared.run_ends.RunEnd.TheVariants.{Stopped, ReadFault, NoMemory, TurnsSpent}
+use Rattle.run_status.specs.declared.input_errors.Place.TheVariants.{Definitions}
+use Rattle.run_status.specs.declared.input_errors.Reason.{Reason}
+use Rattle.run_status.specs.declared.input_errors.Reason.TheVariants.{Json, Shape as IsShape, FieldType, Name, TwiceId as IsTwiceId, TwiceName as IsTwiceName, Layout as IsLayout, TooMany as AreTooMany}
+use Rattle.run_status.specs.declared.input_errors.Bound.TheVariants.{DefinitionBytes}
+use Rattle.run_status.specs.declared.input_errors.InputError.TheVariants.{Bad, AtLimit}
+use Rattle.run_status.specs.Runs.{PortOutcome}
 use Rattle.dialect_command.specs.Script.{most_definition_bytes, told_reason, refusal_of}
 use Rattle.dialect_command.specs.Reads.{Holds, Halts, halt_of}
 use Rattle.dialect_command.proofs.Stays.{stops_long, goes_on}
@@ -23,10 +23,10 @@ pub passes : (taken buf : List ℕ) (count : ℕ) → count ≤ length buf → m
 passes taken buf count within many = omega (arith, many, length-append taken (take count buf), length-take-le count buf within)
 
 -- nothing was taken, and there was no memory
-pub halts_unread : (o : Outside) (lb : Option (List ℕ)) → Halts o lb lb NoMemory
+pub halts_unread : (o : PortOutcome) (lb : Option (List ℕ)) → Halts o lb lb NoMemory
 halts_unread o lb = record { taken = []; ended = false; took = sym (prepend_known_nil lb); at_end = λ never. absurd (cc never); cause = tt }
 
-module _ (o : Outside) (lb la : Option (List ℕ)) (taken : List ℕ) (took : lb ≡ prepend_known taken la) where
+module _ (o : PortOutcome) (lb la : Option (List ℕ)) (taken : List ℕ) (took : lb ≡ prepend_known taken la) where
   -- there was no memory for what was taken
   pub halts_memory : Halts o lb la NoMemory
   halts_memory = record { taken = taken; ended = false; took = took; at_end = λ never. absurd (cc never); cause = tt }
@@ -43,13 +43,13 @@ module _ (o : Outside) (lb la : Option (List ℕ)) (taken : List ℕ) (took : lb
   halts_idled short idled = record { taken = taken; ended = false; took = took; at_end = λ never. absurd (cc never); cause = (idled, refl, goes_on false taken short) }
 
   -- the definitions have a fault that is told so
-  halts_told : (fault : DialectFault) (reason : InputReason) → told_reason fault ≡ reason → o.spent → length taken ≤ most_definition_bytes → definitions_of taken ≡ Err fault → Halts o lb la (Stopped (Bad Definitions reason))
+  halts_told : (fault : DialectFault) (reason : Reason) → told_reason fault ≡ reason → o.spent → length taken ≤ most_definition_bytes → definitions_of taken ≡ Err fault → Halts o lb la (Stopped (Bad Definitions reason))
   halts_told fault reason told spent short is = record {
     taken = taken;
     ended = true;
     took = took;
     at_end = λ ended. spent;
-    cause = goes_on true taken short ∙ ap refusal_of is ∙ ap (λ (r : InputReason). Some (Bad Definitions r)) told;
+    cause = goes_on true taken short ∙ ap refusal_of is ∙ ap (λ (r : Reason). Some (Bad Definitions r)) told;
   }
 
   halts_by : (fault : DialectFault) → o.spent → length taken ≤ most_definition_bytes → (fault ≢ Unread → definitions_of taken ≡ Err fault) → Halts o lb la (halt_of fault)

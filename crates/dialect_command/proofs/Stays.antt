@@ -3,10 +3,10 @@ use Rattle.std.proofs.Common.{◌≡◌, ◌∙◌, ◌<◌, ◌≤◌, ℕ, ltb
 use Rattle.std.proofs.lemmas.Bool.{lt-ltb, le-ltb, ltb-true}
 use Rattle.std.proofs.lemmas.List.{length-append}
 use Rattle.field_layout.specs.Definition.{Definition}
-use Rattle.command_ends.specs.declared.stops.Limit.TheVariants.{DefinitionBytes}
-use Rattle.command_ends.specs.declared.stops.Stop.{Stop}
-use Rattle.command_ends.specs.declared.stops.Stop.TheVariants.{AtLimit}
-use Rattle.command_ends.specs.Runs.{Steady}
+use Rattle.run_status.specs.declared.input_errors.Bound.TheVariants.{DefinitionBytes}
+use Rattle.run_status.specs.declared.input_errors.InputError.{InputError}
+use Rattle.run_status.specs.declared.input_errors.InputError.TheVariants.{AtLimit}
+use Rattle.run_status.specs.Runs.{Steady}
 use Rattle.dialect_command.specs.Script.{most_definition_bytes, stop_at, reading, definitions_script, telling}
 
 -- too many bytes stop a run, and no fewer do before the input ended
@@ -20,7 +20,7 @@ goes_on ended taken short = ap (λ b. if b then Some (AtLimit DefinitionBytes) e
 longer : (taken more : List ℕ) → most_definition_bytes < length taken → most_definition_bytes < length (taken ++ more)
 longer taken more long = omega (arith, long, length-append taken more)
 
-stays_at : (ended : Bool) (taken more : List ℕ) (stop : Stop) (long : Bool) → ltb most_definition_bytes (length taken) ≡ long → (if long then Some (AtLimit DefinitionBytes) else None) ≡ Some stop → definitions_script.stop ended (taken ++ more) ≡ Some stop
+stays_at : (ended : Bool) (taken more : List ℕ) (stop : InputError) (long : Bool) → ltb most_definition_bytes (length taken) ≡ long → (if long then Some (AtLimit DefinitionBytes) else None) ≡ Some stop → definitions_script.stop ended (taken ++ more) ≡ Some stop
 stays_at ended taken more stop true is e = stops_long ended (taken ++ more) (longer taken more (ltb-true most_definition_bytes (length taken) is)) ∙ e
 stays_at ended taken more stop false is e = absurd (cc e)
 

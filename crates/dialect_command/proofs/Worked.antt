@@ -2,7 +2,7 @@
 use Rattle.std.proofs.Common.{◌≡◌, [], true, refl}
 use Rattle.std.specs.Fmt.{digits}
 use Rattle.x25_check.specs.Check as check
-use Rattle.command_ends.specs.Runs.{output_of, end_of}
+use Rattle.run_status.specs.Runs.{output_of, end_of}
 use Rattle.dialect_command.specs.Script.{profile_script}
 use Rattle.dialect_command.specs.Examples.{profile_layouts}
 

@@ -9,8 +9,8 @@ use Rattle.mav_ports.specs.Puts.{Sent, SentFront}
 use Rattle.mav_ports.proofs.Known.{sent_in, sent_start, sent_step, sent_all}
 use Rattle.field_layout.specs.Definition.{Definition}
 use Rattle.mav_text.specs.LayoutText.{layout_text}
-use Rattle.command_ends.specs.declared.halts.Halt.{Halt}
-use Rattle.command_ends.specs.declared.halts.Halt.TheVariants.{Usage, Stopped, ReadFault, WriteFault, NoMemory, TurnsSpent}
+use Rattle.run_status.specs.declared.run_ends.RunEnd.{RunEnd}
+use Rattle.run_status.specs.declared.run_ends.RunEnd.TheVariants.{Usage, Stopped, ReadFault, WriteFault, NoMemory, TurnsSpent}
 use Rattle.dialect_command.specs.Writes.{WroteText}
 
 -- the lines of a message stand in front of those of the messages behind it
@@ -37,7 +37,7 @@ module _ (sb sm sa : Option (List ℕ)) (rb rm ra : ℕ) (same : rm ≡ rb) wher
   front_more text next rest sent (more, part) = (more ++ rest, sent_in sb sm sa text next rest more sent part)
 
   -- the next piece was not written whole
-  pub wrote_front : (text next rest : List ℕ) (halt : Halt) → Sent sb sm text (next ++ rest) → WroteText next (Some halt) rm ra sm sa → WroteText text (Some halt) rb ra sb sa
+  pub wrote_front : (text next rest : List ℕ) (halt : RunEnd) → Sent sb sm text (next ++ rest) → WroteText next (Some halt) rm ra sm sa → WroteText text (Some halt) rb ra sb sa
   wrote_front text next rest Usage sent wrote = wrote
   wrote_front text next rest (Stopped stop) sent wrote = wrote
   wrote_front text next rest ReadFault sent wrote = wrote
@@ -46,7 +46,7 @@ module _ (sb sm sa : Option (List ℕ)) (rb rm ra : ℕ) (same : rm ≡ rb) wher
   wrote_front text next rest TurnsSpent sent wrote = wrote
 
   -- the last piece
-  pub wrote_last : (text last : List ℕ) (end : Option Halt) → Sent sb sm text last → WroteText last end rm ra sm sa → WroteText text end rb ra sb sa
+  pub wrote_last : (text last : List ℕ) (end : Option RunEnd) → Sent sb sm text last → WroteText last end rm ra sm sa → WroteText text end rb ra sb sa
   wrote_last text last None sent wrote =
       (sent_all sb sa text (sent_step sb sm sa text last [] (subst (λ rest. Sent sb sm text rest) (sym (append-nil last)) sent) wrote.0), wrote.1 ∙ same)
   wrote_last text last (Some halt) sent wrote = wrote_front text last [] halt (subst (λ rest. Sent sb sm text rest) (sym (append-nil last)) sent) wrote

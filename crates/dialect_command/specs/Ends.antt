@@ -5,7 +5,7 @@ use Rattle.field_layout.specs.Definition.{Definition}
 use Rattle.dialect.specs.declared.faults.DialectFault.{DialectFault}
 use Rattle.dialect.specs.Grammar.{definitions_of}
 use Rattle.mav_text.specs.LayoutText.{dialect_text}
-use Rattle.command_ends.specs.declared.stops.InputReason.{InputReason}
+use Rattle.run_status.specs.declared.input_errors.Reason.{Reason}
 use Rattle.dialect_command.specs.Script.{told_reason, most_definition_bytes}
 use Rattle.dialect_command.specs.Reads.{Holds}
 
@@ -16,7 +16,7 @@ pub record Told (spent : Type 0) (left_before left_after sent_before sent_after 
   pub sent : sent_after ≡ append_known sent_before (dialect_text defs)
 
 -- the definitions that an input holds were refused for this reason, and nothing was written
-pub record Refused (reason : InputReason) (spent : Type 0) (left_before left_after sent_before sent_after : Option (List ℕ)) : Type 0 where
+pub record Refused (reason : Reason) (spent : Type 0) (left_before left_after sent_before sent_after : Option (List ℕ)) : Type 0 where
   pub taken : List ℕ
   pub took : left_before ≡ prepend_known taken left_after
   pub at_end : spent

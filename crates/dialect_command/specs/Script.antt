@@ -7,20 +7,20 @@ use Rattle.dialect.specs.declared.faults.DialectFault.TheVariants.{NotJson, Shap
 use Rattle.dialect.specs.Grammar.{definitions_of}
 use Rattle.mav_profile.specs.Profile.{profile_definitions}
 use Rattle.mav_text.specs.LayoutText.{dialect_text}
-use Rattle.command_ends.specs.declared.stops.Place.TheVariants.{Definitions}
-use Rattle.command_ends.specs.declared.stops.InputReason.{InputReason}
-use Rattle.command_ends.specs.declared.stops.InputReason.TheVariants.{Json, Shape as IsShape, FieldType, Name, TwiceId as IsTwiceId, TwiceName as IsTwiceName, Layout as IsLayout, TooMany as AreTooMany}
-use Rattle.command_ends.specs.declared.stops.Limit.TheVariants.{DefinitionBytes}
-use Rattle.command_ends.specs.declared.stops.Stop.{Stop}
-use Rattle.command_ends.specs.declared.stops.Stop.TheVariants.{Bad, AtLimit}
-use Rattle.command_ends.specs.Runs.{Script}
+use Rattle.run_status.specs.declared.input_errors.Place.TheVariants.{Definitions}
+use Rattle.run_status.specs.declared.input_errors.Reason.{Reason}
+use Rattle.run_status.specs.declared.input_errors.Reason.TheVariants.{Json, Shape as IsShape, FieldType, Name, TwiceId as IsTwiceId, TwiceName as IsTwiceName, Layout as IsLayout, TooMany as AreTooMany}
+use Rattle.run_status.specs.declared.input_errors.Bound.TheVariants.{DefinitionBytes}
+use Rattle.run_status.specs.declared.input_errors.InputError.{InputError}
+use Rattle.run_status.specs.declared.input_errors.InputError.TheVariants.{Bad, AtLimit}
+use Rattle.run_status.specs.Runs.{CommandSpec}
 
 -- the most bytes of definitions
 abbrev pub most_definition_bytes : ℕ
 most_definition_bytes = 16777216
 
 -- a fault of definitions, as it is told; no text has the fault that there is no memory
-abbrev pub told_reason : DialectFault → InputReason
+abbrev pub told_reason : DialectFault → Reason
 told_reason NotJson = Json
 told_reason (Shape at) = IsShape
 told_reason (BadType at) = FieldType
@@ -32,7 +32,7 @@ told_reason TooMany = AreTooMany
 told_reason NoMemory = Json
 
 -- why a text is refused as definitions, if it is
-abbrev pub refusal_of : Result (List Definition) DialectFault → Option Stop
+abbrev pub refusal_of : Result (List Definition) DialectFault → Option InputError
 refusal_of (Ok defs) = None
 refusal_of (Err fault) = Some (Bad Definitions (told_reason fault))
 
@@ -42,12 +42,12 @@ text_of (Ok defs) = dialect_text defs
 text_of (Err fault) = []
 
 -- too many bytes stop a run at once, and a fault once the input ended
-abbrev pub stop_at : Bool → List ℕ → Option Stop
+abbrev pub stop_at : Bool → List ℕ → Option InputError
 stop_at true bytes = refusal_of (definitions_of bytes)
 stop_at false bytes = None
 
 -- definitions are read, and this is told after them
-abbrev pub reading : (List ℕ → List ℕ) → Script
+abbrev pub reading : (List ℕ → List ℕ) → CommandSpec
 reading closing = record {
   stop = λ ended bytes. if nat_lt most_definition_bytes (length bytes) then Some (AtLimit DefinitionBytes) else stop_at ended bytes;
   report = λ ended bytes. [];
@@ -55,20 +55,20 @@ reading closing = record {
 }
 
 -- the layouts are told at the end, in the order read
-abbrev pub dialect_script : Script
+abbrev pub dialect_script : CommandSpec
 dialect_script = reading (λ bytes. text_of (definitions_of bytes))
 
 -- nothing is told of definitions that are read for another command
-abbrev pub definitions_script : Script
+abbrev pub definitions_script : CommandSpec
 definitions_script = reading (λ bytes. [])
 
 -- without definitions those of the profile are told, and nothing is read
-abbrev pub telling : List Definition → Script
+abbrev pub telling : List Definition → CommandSpec
 telling defs = record {
   stop = λ ended bytes. None;
   report = λ ended bytes. [];
   closing = λ bytes. dialect_text defs;
 }
 
-abbrev pub profile_script : Script
+abbrev pub profile_script : CommandSpec
 profile_script = telling profile_definitions

@@ -5,15 +5,15 @@ use Rattle.std.specs.Io.KnownBytes.{append_known}
 use Rattle.mav_ports.specs.Counts.{Rose}
 use Rattle.mav_ports.specs.Puts.{SentFront}
 use Rattle.mav_text.specs.LayoutText.{line}
-use Rattle.command_ends.specs.declared.halts.Halt.{Halt}
-use Rattle.command_ends.specs.declared.halts.Halt.TheVariants.{Usage, Stopped, ReadFault, WriteFault, NoMemory, TurnsSpent}
+use Rattle.run_status.specs.declared.run_ends.RunEnd.{RunEnd}
+use Rattle.run_status.specs.declared.run_ends.RunEnd.TheVariants.{Usage, Stopped, ReadFault, WriteFault, NoMemory, TurnsSpent}
 
 -- the last line of a dialect's text
 abbrev pub count_line : ℕ → List ℕ
 count_line messages = line (codes "messages " ++ decimal messages)
 
 -- all of a text was written, or a front of it where a write failed or there was no memory
-abbrev pub WroteText : List ℕ → Option Halt → ℕ → ℕ → Option (List ℕ) → Option (List ℕ) → Type 0
+abbrev pub WroteText : List ℕ → Option RunEnd → ℕ → ℕ → Option (List ℕ) → Option (List ℕ) → Type 0
 WroteText text None refusals_before refusals_after before after = (after ≡ append_known before text) × (refusals_after ≡ refusals_before)
 WroteText text (Some Usage) refusals_before refusals_after before after = ⊥
 WroteText text (Some (Stopped stop)) refusals_before refusals_after before after = ⊥

@@ -2,15 +2,15 @@
 ghost use Rattle.std.specs.Prelude.{◌≡◌, ⊤, Some, [], OnOk, IsErrOf};
 ghost use Rattle.std.specs.Result.{result_err};
 ghost use Rattle.mav_ports.specs.Gets.{IsSpent};
-ghost use Rattle.command_ends.specs.Runs.{Untold, outside};
+ghost use Rattle.run_status.specs.Runs.{RunBeforeStatus, port_outcome};
 ghost use Rattle.dialect_command.specs.Ends.{Told, Refused, IsTooLong};
 ghost use Rattle.dialect_command.specs.Script.{dialect_script, profile_script};
 
 use crate::definitions::read_definitions;
 use crate::layouts::write_dialect;
-use command_ends::{Halt, InputReason, Limit, Place, Stop};
 use dialect::Dialect;
 use mav_ports::{Sink, Source};
+use run_status::{Bound, InputError, Place, Reason, RunEnd};
 use std::alloc::Global;
 
 /// Tells the layouts of the definitions that an input holds. Why the run halted, if it did, isn't
@@ -19,8 +19,8 @@ pub fn dialect<S: Source, K: Sink>(
     alloc: Global,
     definitions: &mut S,
     out: &mut K,
-) -> Result<(), Halt>
-    ensures untold { Untold dialect_script (outside
+) -> Result<(), RunEnd>
+    ensures untold { RunBeforeStatus dialect_script (port_outcome
         (S.has_ended definitions.new × IsSpent (S.left definitions.new))
         (S.faults definitions.old) (S.faults definitions.new)
         (S.idles definitions.old) (S.idles definitions.new) (K.faults out.old) (K.faults out.new))
@@ -30,24 +30,24 @@ pub fn dialect<S: Source, K: Sink>(
     ensures done { OnOk result (Told (S.has_ended definitions.new × IsSpent (S.left definitions.new))
         (S.left definitions.old) (S.left definitions.new) (K.sent out.old) (K.sent out.new)) }
     // It stops at their first fault, or at one byte too many.
-    ensures bad { (reason : InputReason)
-        → IsErrOf result (Halt.Stopped (Stop.Bad Place.Definitions reason))
+    ensures bad { (reason : Reason)
+        → IsErrOf result (RunEnd.Stopped (InputError.Bad Place.Definitions reason))
         → Refused reason (S.has_ended definitions.new × IsSpent (S.left definitions.new))
         (S.left definitions.old) (S.left definitions.new) (K.sent out.old) (K.sent out.new) }
-    ensures limit { (limit : Limit) → IsErrOf result (Halt.Stopped (Stop.AtLimit limit))
+    ensures limit { (limit : Bound) → IsErrOf result (RunEnd.Stopped (InputError.AtLimit limit))
         → IsTooLong (S.left definitions.old) (S.left definitions.new)
         (K.sent out.old) (K.sent out.new) }
-    ensures sound { ¬ IsErrOf result Halt.WriteFault → K.faults out.new ≡ K.faults out.old }
+    ensures sound { ¬ IsErrOf result RunEnd.WriteFault → K.faults out.new ≡ K.faults out.old }
 {
     let dialect = read_definitions(alloc, definitions)?;
     write_dialect(alloc, &dialect, out)
 }
 
 /// Tells the layouts of the profile, as a command over an input without bytes would.
-pub fn profile<K: Sink>(alloc: Global, out: &mut K) -> Result<(), Halt>
-    ensures untold { Untold profile_script (outside ⊤ 0 0 0 0 (K.faults out.old) (K.faults out.new))
+pub fn profile<K: Sink>(alloc: Global, out: &mut K) -> Result<(), RunEnd>
+    ensures untold { RunBeforeStatus profile_script (port_outcome ⊤ 0 0 0 0 (K.faults out.old) (K.faults out.new))
         (Some []) (Some []) (K.sent out.old) (K.sent out.new) (result_err result) }
-    ensures sound { ¬ IsErrOf result Halt.WriteFault → K.faults out.new ≡ K.faults out.old }
+    ensures sound { ¬ IsErrOf result RunEnd.WriteFault → K.faults out.new ≡ K.faults out.old }
 {
     let dialect = Dialect::profile(alloc)?;
     write_dialect(alloc, &dialect, out)

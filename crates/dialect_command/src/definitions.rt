@@ -5,9 +5,9 @@ ghost use Rattle.mav_ports.specs.Gets.{IsSpent};
 ghost use Rattle.dialect_command.specs.Script.{most_definition_bytes};
 ghost use Rattle.dialect_command.specs.Reads.{Holds, Halts, of_input, halt_of};
 
-use command_ends::{Halt, InputReason, Limit, Place, Stop, read_on};
 use dialect::{Dialect, DialectFault};
 use mav_ports::{Got, Source};
+use run_status::{Bound, InputError, Place, Reason, RunEnd, read_on};
 use std::alloc::Global;
 
 // How much is read at once.
@@ -16,7 +16,7 @@ const PIECE_BYTES: usize = 65_536;
 const MOST_DEFINITION_BYTES: usize = 16_777_216;
 
 /// Reads an input to its end, and its bytes as definitions.
-pub fn read_definitions<S: Source>(alloc: Global, input: &mut S) -> Result<Dialect, Halt>
+pub fn read_definitions<S: Source>(alloc: Global, input: &mut S) -> Result<Dialect, RunEnd>
     ensures holds { IfOk result (Holds (S.has_ended input.new × IsSpent (S.left input.new))
         (S.left input.old) (S.left input.new)) }
     ensures halts { IfErr result (Halts (of_input (S.has_ended input.new × IsSpent (S.left input.new))
@@ -33,25 +33,25 @@ pub fn read_definitions<S: Source>(alloc: Global, input: &mut S) -> Result<Diale
 }
 
 // How a fault halts a run.
-fn halt_of(fault: DialectFault) -> Halt
+fn halt_of(fault: DialectFault) -> RunEnd
     ensures { result ≡ halt_of fault }
 {
     let reason = match fault {
-        DialectFault::NotJson => InputReason::Json,
-        DialectFault::Shape { .. } => InputReason::Shape,
-        DialectFault::BadType { .. } => InputReason::FieldType,
-        DialectFault::BadName { .. } => InputReason::Name,
-        DialectFault::TwiceId { .. } => InputReason::TwiceId,
-        DialectFault::TwiceName { .. } => InputReason::TwiceName,
-        DialectFault::Layout { .. } => InputReason::Layout,
-        DialectFault::TooMany => InputReason::TooMany,
-        DialectFault::NoMemory => return Halt::NoMemory,
+        DialectFault::NotJson => Reason::Json,
+        DialectFault::Shape { .. } => Reason::Shape,
+        DialectFault::BadType { .. } => Reason::FieldType,
+        DialectFault::BadName { .. } => Reason::Name,
+        DialectFault::TwiceId { .. } => Reason::TwiceId,
+        DialectFault::TwiceName { .. } => Reason::TwiceName,
+        DialectFault::Layout { .. } => Reason::Layout,
+        DialectFault::TooMany => Reason::TooMany,
+        DialectFault::NoMemory => return RunEnd::NoMemory,
     };
-    Halt::Stopped(Stop::Bad(Place::Definitions, reason))
+    RunEnd::Stopped(InputError::Bad(Place::Definitions, reason))
 }
 
 // All bytes of an input, unless they are too many.
-fn read_all<S: Source>(alloc: Global, input: &mut S, buf: &mut [u8]) -> Result<Vec<u8>, Halt>
+fn read_all<S: Source>(alloc: Global, input: &mut S, buf: &mut [u8]) -> Result<Vec<u8>, RunEnd>
     requires { 0 < length buf.old }
     ensures taken { IfOk result (λ bytes. S.left input.old ≡ prepend_known bytes.items (S.left input.new)) }
     ensures at_end { IfOk result (λ bytes. S.has_ended input.new × IsSpent (S.left input.new)) }
@@ -65,13 +65,13 @@ fn read_all<S: Source>(alloc: Global, input: &mut S, buf: &mut [u8]) -> Result<V
         match read_on(input, buf) {
             Got::Bytes(count) => {
                 if count > MOST_DEFINITION_BYTES - bytes.len() {
-                    return Err(Halt::Stopped(Stop::AtLimit(Limit::DefinitionBytes)));
+                    return Err(RunEnd::Stopped(InputError::AtLimit(Bound::DefinitionBytes)));
                 }
                 bytes.extend_from_slice(&buf[..count])?;
             }
-            Got::Idle => return Err(Halt::TurnsSpent),
+            Got::Idle => return Err(RunEnd::TurnsSpent),
             Got::End => return Ok(bytes),
-            Got::Failed => return Err(Halt::ReadFault),
+            Got::Failed => return Err(RunEnd::ReadFault),
         }
     }
 }

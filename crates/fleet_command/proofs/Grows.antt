@@ -1,4 +1,4 @@
--- Reports only grow, and a scenario that stopped stays as it is.
+-- Reports only grow, and a scenario that stopped stays unchanged.
 use Rattle.std.proofs.Common.{◌≡◌, ◌∙◌, inl, inr, ℕ, ◌+◌, ◌≤◌, Bool, true, false, List, [], ◌∷◌, ◌++◌, refl, sym, ap, arith, length, length-append, append_assoc, append-nil, Some, None, Option, Result, Ok, Err, cond, ltb, eqb}
 use Rattle.std.proofs.lemmas.Bool.{cases_Bool, cond-true, cond-false, cond_both, ltb-false}
 use Rattle.std.specs.Io.KnownBytes.{append_known}
@@ -8,9 +8,9 @@ use Rattle.scenario_lines.specs.declared.faults.Reason.TheVariants.{Long}
 use Rattle.scenario_lines.specs.Grammar.{line_of, most_line_bytes}
 use Rattle.scenario_lines.specs.Reasons.{reason_against}
 use Rattle.fleet_report.specs.Events.{Event, event_text, events_text}
-use Rattle.fleet_world.specs.Scene.{standing_of}
-use Rattle.fleet_world.specs.Steps.{Step, Halt, after_line}
-use Rattle.fleet_world.specs.Scenario.{Played, Stop, Bad, Too_many_lines, most_lines, stopped, goes_on, judged, without_cr, line_played, last_played, part_played, rest_played, unless_stopped, at_start, played, report_of}
+use Rattle.fleet_world.specs.WorldState.{context_of}
+use Rattle.fleet_world.specs.Steps.{Step, StepError, after_line}
+use Rattle.fleet_world.specs.Scenario.{Played, ScenarioError, Bad, Too_many_lines, most_lines, stopped, goes_on, judged, without_cr, line_played, last_played, part_played, rest_played, unless_stopped, at_start, played, report_of}
 use Rattle.fleet_command.specs.Plays.{plays}
 use Rattle.fleet_command.proofs.Lines.{stop_cases, part_short, too_long, played_plays}
 
@@ -30,30 +30,30 @@ module _ (frames : Bool) where
   pub grows_twice : (p q r : Played) → Grows p q → Grows q r → Grows p r
   grows_twice p q r (xs, e) (ys, f) = (xs ++ ys, f ∙ ap (λ text. text ++ ys) e ∙ append_assoc (report_of frames p) xs ys)
 
-  grows_on : (p : Played) (step : Result Step Halt) → Grows p (goes_on p step)
+  grows_on : (p : Played) (step : Result Step StepError) → Grows p (goes_on p step)
   grows_on p (Ok t) = (events_text frames t.events, events_text-append p.events t.events)
-  grows_on p (Err halt) = grows_not p
+  grows_on p (Err run_end) = grows_not p
 
   pub grows_judged : (p : Played) (number : ℕ) (text : List ℕ) (reason : Option Reason) → Grows p (judged p number text reason)
-  grows_judged p number text None = grows_on p (after_line p.scene (line_of text))
+  grows_judged p number text None = grows_on p (after_line p.state (line_of text))
   grows_judged p number text (Some reason) = grows_not p
 
   pub grows_line : (p : Played) (number : ℕ) (raw : List ℕ) → Grows p (line_played p number raw)
   grows_line p number raw =
       let text = without_cr raw in
-      let done = judged p number text (reason_against (standing_of p.scene) text) in
+      let done = judged p number text (reason_against (context_of p.state) text) in
       let fits = cond (ltb most_line_bytes (length raw)) (stopped p (Bad number Long)) done in
       cond_both (ltb most_lines number) (stopped p Too_many_lines) fits (Grows p) (λ e. grows_not p)
-      (λ e. cond_both (ltb most_line_bytes (length raw)) (stopped p (Bad number Long)) done (Grows p) (λ f. grows_not p) (λ f. grows_judged p number text (reason_against (standing_of p.scene) text)))
+      (λ e. cond_both (ltb most_line_bytes (length raw)) (stopped p (Bad number Long)) done (Grows p) (λ f. grows_not p) (λ f. grows_judged p number text (reason_against (context_of p.state) text)))
 
   pub grows_last : (p : Played) (number : ℕ) (part : List ℕ) → Grows p (last_played p number part)
   grows_last p number [] = grows_not p
   grows_last p number (b ∷ bs) =
       let text = b ∷ bs in
-      let done = judged p number text (reason_against (standing_of p.scene) text) in
+      let done = judged p number text (reason_against (context_of p.state) text) in
       let fits = cond (ltb most_line_bytes (length text)) (stopped p (Bad number Long)) done in
       cond_both (ltb most_lines number) (stopped p Too_many_lines) fits (Grows p) (λ e. grows_not p)
-      (λ e. cond_both (ltb most_line_bytes (length text)) (stopped p (Bad number Long)) done (Grows p) (λ f. grows_not p) (λ f. grows_judged p number text (reason_against (standing_of p.scene) text)))
+      (λ e. cond_both (ltb most_line_bytes (length text)) (stopped p (Bad number Long)) done (Grows p) (λ f. grows_not p) (λ f. grows_judged p number text (reason_against (context_of p.state) text)))
 
   grows_part : (p : Played) (number : ℕ) (part : List ℕ) → Grows p (part_played p number part)
   grows_part p number part =
@@ -64,7 +64,7 @@ module _ (frames : Bool) where
   grows_rest true p number part = grows_last p number part
   grows_rest false p number part = grows_part p number part
 
-  pub grows_unless : (p q next : Played) (stop : Option Stop) → Grows p q → Grows q next → Grows p (unless_stopped stop q next)
+  pub grows_unless : (p q next : Played) (stop : Option ScenarioError) → Grows p q → Grows q next → Grows p (unless_stopped stop q next)
   grows_unless p q next None first second = grows_twice p q next first second
   grows_unless p q next (Some stop) first second = first
 
@@ -80,7 +80,7 @@ module _ (frames : Bool) where
       (λ e. cond_both (ltb most_line_bytes (length part + 1)) (part_played p number held) (plays ended p number held bs) (Grows p)
       (λ f. grows_part p number held) (λ f. grows_plays ended p number held bs))
 
-  -- the front of a report that grows
+  -- the prefix of a report that grows
   pub front_grown : (p q : Played) (before now : Option (List ℕ)) → Grows p q → SentFront before now (report_of frames p) → SentFront before now (report_of frames q)
   front_grown p q before now (more, e) (rest, s) = (
     rest ++ more,
@@ -91,12 +91,12 @@ module _ (frames : Bool) where
     },
   )
 
-  -- a whole report is a front of one that grew from it
+  -- a whole report is a prefix of one that grew from it
   pub front_whole : (p : Played) (before now : Option (List ℕ)) → now ≡ append_known before (report_of frames p) → SentFront before now (report_of frames p)
   front_whole p before now e = ([], record { part = report_of frames p; whole = append-nil (report_of frames p); appended = e })
 
--- where a scenario stopped, more bytes change nothing
-plays_for_good : (ended : Bool) (p : Played) (number : ℕ) (part bytes more : List ℕ) (stop : Stop) → p.stop ≡ None → length part ≤ 4096 → (plays false p number part bytes).stop ≡ Some stop → plays ended p number part (bytes ++ more) ≡ plays false p number part bytes
+-- once a scenario stopped, more bytes change nothing
+plays_for_good : (ended : Bool) (p : Played) (number : ℕ) (part bytes more : List ℕ) (stop : ScenarioError) → p.stop ≡ None → length part ≤ 4096 → (plays false p number part bytes).stop ≡ Some stop → plays ended p number part (bytes ++ more) ≡ plays false p number part bytes
 plays_for_good ended p number part [] more stop going short stops =
     let none : None ≡ Some stop = sym going ∙ ap (λ (q : Played). q.stop) (sym (part_short p number part short)) ∙ stops in
     cc
@@ -136,7 +136,7 @@ plays_for_good ended p number part (b ∷ bs) more stop going short stops =
           ∙ sym (cond-false (eqb b 10) (unless_stopped q.stop q onwards) longer isnt)
     ]
 
-pub stopped_for_good : (key : List ℕ) (ended : Bool) (bytes more : List ℕ) (stop : Stop) → (played key false bytes).stop ≡ Some stop → played key ended (bytes ++ more) ≡ played key false bytes
+pub stopped_for_good : (key : List ℕ) (ended : Bool) (bytes more : List ℕ) (stop : ScenarioError) → (played key false bytes).stop ≡ Some stop → played key ended (bytes ++ more) ≡ played key false bytes
 stopped_for_good key ended bytes more stop stops =
     played_plays key ended (bytes ++ more)
     ∙ plays_for_good ended (at_start key) 1 [] bytes more stop refl (omega arith) (sym (ap (λ (q : Played). q.stop) (played_plays key false bytes)) ∙ stops)

@@ -6,7 +6,7 @@ use Rattle.std.proofs.lemmas.List.Splits.{slice_split_none, slice_split_at}
 use Rattle.std.specs.List.{slice_split, onto_first}
 use Rattle.scenario_lines.specs.declared.faults.Reason.TheVariants.{Long}
 use Rattle.scenario_lines.specs.Grammar.{most_line_bytes}
-use Rattle.fleet_world.specs.Scenario.{Played, Stop, Bad, Too_many_lines, is_newline, but_last, last_part, whole_lines, unfinished, most_lines, stopped, lines_played, line_played, last_played, part_played, rest_played, unless_stopped, at_start, played}
+use Rattle.fleet_world.specs.Scenario.{Played, ScenarioError, Bad, Too_many_lines, is_newline, but_last, last_part, whole_lines, unfinished, most_lines, stopped, lines_played, line_played, last_played, part_played, rest_played, unless_stopped, at_start, played}
 use Rattle.fleet_command.specs.Plays.{plays}
 
 -- a byte that ends no line
@@ -14,7 +14,7 @@ abbrev pub NoEnd : ℕ → Type 0
 NoEnd b = is_newline b ≡ false
 
 -- a scenario goes on, or stopped
-pub stop_cases : (stop : Option Stop) → (stop ≡ None) ⊎ ((s : Stop) × (stop ≡ Some s))
+pub stop_cases : (stop : Option ScenarioError) → (stop ≡ None) ⊎ ((s : ScenarioError) × (stop ≡ Some s))
 stop_cases None = inl refl
 stop_cases (Some s) = inr (s, refl)
 
@@ -45,8 +45,8 @@ whole_none part plain = ap but_last (slice_split_none is_newline part plain)
 rest_none : (part : List ℕ) → All NoEnd part → unfinished part ≡ part
 rest_none part plain = ap last_part (slice_split_none is_newline part plain)
 
--- where a scenario stopped, further lines change nothing
-pub lines_after_stop : (p : Played) (stop : Stop) (number : ℕ) (lines : List (List ℕ)) → p.stop ≡ Some stop → lines_played p number lines ≡ p
+-- once a scenario stopped, further lines change nothing
+pub lines_after_stop : (p : Played) (stop : ScenarioError) (number : ℕ) (lines : List (List ℕ)) → p.stop ≡ Some stop → lines_played p number lines ≡ p
 lines_after_stop p stop number [] e = refl
 lines_after_stop p stop number (raw ∷ more) e = ap (λ s. unless_stopped s p (lines_played (line_played p number raw) (number + 1) more)) e
 
@@ -68,7 +68,7 @@ over_cons ended p number raw lines rest going =
     ap (λ (end : Played). unless_stopped end.stop end (rest_played ended end (length (raw ∷ lines) + number) rest)) first
     ∙ ap (λ n. unless_stopped next.stop next (rest_played ended next n rest)) (omega arith)
 
-over_stopped : (ended : Bool) (p : Played) (stop : Stop) (number : ℕ) (lines : List (List ℕ)) (rest : List ℕ) → p.stop ≡ Some stop → over ended p number lines rest ≡ p
+over_stopped : (ended : Bool) (p : Played) (stop : ScenarioError) (number : ℕ) (lines : List (List ℕ)) (rest : List ℕ) → p.stop ≡ Some stop → over ended p number lines rest ≡ p
 over_stopped ended p stop number lines rest e =
     ap (λ (end : Played). unless_stopped end.stop end (rest_played ended end (length lines + number) rest)) (lines_after_stop p stop number lines e)
     ∙ ap (λ s. unless_stopped s p (rest_played ended p (length lines + number) rest)) e
@@ -76,7 +76,7 @@ over_stopped ended p stop number lines rest e =
 abbrev from_line : Bool → Played → ℕ → List ℕ → Played
 from_line ended p number bytes = over ended p number (whole_lines bytes) (unfinished bytes)
 
--- the first line ends: the rest is played behind it
+-- the first line ends: the rest is played after it
 from_end : (ended : Bool) (p : Played) (number : ℕ) (part bytes : List ℕ) → p.stop ≡ None → All NoEnd part → from_line ended p number (part ++ 10 ∷ bytes) ≡ from_line ended (line_played p number part) (number + 1) bytes
 from_end ended p number part bytes going plain =
     ap (λ lines. over ended p number lines (unfinished (part ++ 10 ∷ bytes))) (whole_at part bytes plain)
@@ -93,11 +93,11 @@ from_rest ended p number part going plain =
 abbrev pub too_long : Played → ℕ → Played
 too_long p number = cond (ltb most_lines number) (stopped p Too_many_lines) (stopped p (Bad number Long))
 
-too_long_stops_at : (p : Played) (number : ℕ) → (ltb most_lines number ≡ true) ⊎ (ltb most_lines number ≡ false) → (s : Stop) × ((too_long p number).stop ≡ Some s)
+too_long_stops_at : (p : Played) (number : ℕ) → (ltb most_lines number ≡ true) ⊎ (ltb most_lines number ≡ false) → (s : ScenarioError) × ((too_long p number).stop ≡ Some s)
 too_long_stops_at p number (inl is) = (Too_many_lines, ap (λ (q : Played). q.stop) (cond-true (ltb most_lines number) (stopped p Too_many_lines) (stopped p (Bad number Long)) is))
 too_long_stops_at p number (inr isnt) = (Bad number Long, ap (λ (q : Played). q.stop) (cond-false (ltb most_lines number) (stopped p Too_many_lines) (stopped p (Bad number Long)) isnt))
 
-pub too_long_stops : (p : Played) (number : ℕ) → (s : Stop) × ((too_long p number).stop ≡ Some s)
+pub too_long_stops : (p : Played) (number : ℕ) → (s : ScenarioError) × ((too_long p number).stop ≡ Some s)
 too_long_stops p number = too_long_stops_at p number (cases_Bool (ltb most_lines number))
 
 pub part_long : (p : Played) (number : ℕ) (part : List ℕ) → 4096 < length part → part_played p number part ≡ too_long p number

@@ -5,24 +5,24 @@ use Rattle.hex.specs.Hex.{encode_with, decode_pairs}
 use Rattle.sha2.specs.Sha256.{first_words, schedule, rounds, compress, hash_after, digest_bytes, sha256}
 use Rattle.x25_check.specs.Check as check
 use Rattle.plan_items.specs.Validation.{item_fault, whole_fault, plan_fault}
-use Rattle.command_ends.specs.Endings.{code_of}
-use Rattle.command_ends.specs.Runs.{Script, output_of, end_of}
-use Rattle.fleet_world.specs.Scene.{stream_of}
+use Rattle.run_status.specs.Endings.{code_of}
+use Rattle.run_status.specs.Runs.{CommandSpec, output_of, end_of}
+use Rattle.fleet_world.specs.WorldState.{stream_of}
 use Rattle.fleet_world.specs.Authentic.{Authentic}
 use Rattle.fleet_safety.specs.Actions.{Accepts_upload, actions_of}
 use Rattle.fleet_safety.specs.Safe.{orders_of}
-use Rattle.fleet_command.specs.Script.{fleet_script}
+use Rattle.fleet_command.specs.Spec.{fleet_spec}
 use Rattle.fleet_command.specs.Theorem.{MainTheorem}
 use Rattle.fleet_command.specs.Examples.{one_item, one_item_installed, the_key, the_drone, the_station, the_plan, IsInstalledOnce}
 
-abbrev pub script : Script
-script = fleet_script the_key false
+abbrev pub spec : CommandSpec
+spec = fleet_spec the_key false
 
-pub one_item_output : output_of script (end_of (script.stop true one_item)) true one_item ≡ one_item_installed
+pub one_item_output : output_of spec (end_of (spec.stop true one_item)) true one_item ≡ one_item_installed
 unfolding digits item_fault whole_fault plan_fault encode_with decode_pairs first_words schedule rounds compress hash_after digest_bytes sha256 check.after_byte
 one_item_output = refl
 
-pub one_item_code : code_of (end_of (script.stop true one_item)) ≡ 0
+pub one_item_code : code_of (end_of (spec.stop true one_item)) ≡ 0
 unfolding digits item_fault whole_fault plan_fault encode_with decode_pairs first_words schedule rounds compress hash_after digest_bytes sha256 check.after_byte
 one_item_code = refl
 
@@ -42,5 +42,5 @@ unfolding item_fault whole_fault plan_fault decode_pairs first_words schedule ro
 installed_once theorem = record {
   safe = theorem.safe;
   installed = theorem.lines.installs 7 the_drone 0 the_plan the_station refl;
-  told = theorem.lines.outcomes 9 the_station _ refl;
+  reported = theorem.lines.outcomes 9 the_station _ refl;
 }

@@ -1,5 +1,5 @@
 pub mod Plays
-pub mod Script
+pub mod Spec
 pub mod Theorem
 pub mod Completeness
 pub mod Examples

@@ -2,8 +2,8 @@
 //! line is written before more is read.
 //!
 //! [`fleet`] does it over any input and output; its contract says what of the scenario was played,
-//! why the run ended and what was written, by the script of `specs/Script.antt`. The text of a
-//! halt isn't written here.
+//! why the run ended and what was written, by the specification in `specs/Spec.antt`. The text of a
+//! status isn't written here.
 #![tactic(auto)]
 
 mod player;

@@ -4,19 +4,19 @@ ghost use Rattle.std.specs.Prelude.{[], List, ℕ, Bool, true, None, length, vec
 ghost use Rattle.std.specs.declared.option.Option.{Option};
 ghost use Rattle.std.specs.Io.KnownBytes.{append_known};
 ghost use Rattle.mav_ports.specs.Counts.{Rose};
-ghost use Rattle.fleet_world.specs.Scene.{empty_scene, standing_of};
-ghost use Rattle.fleet_world.specs.Seen.{IsScene};
+ghost use Rattle.fleet_world.specs.WorldState.{empty_state, context_of};
+ghost use Rattle.fleet_world.specs.WorldView.{IsState};
 ghost use Rattle.scenario_lines.specs.Reasons.{reason_against};
 ghost use Rattle.fleet_world.specs.Scenario.{Played, judged, line_played, last_played, played};
 ghost use Rattle.fleet_world.specs.Scenario.{Bad, report_of, whole_report, without_cr};
-ghost use Rattle.fleet_command.specs.Script.{told_reason, told_limit, told_stop};
-ghost use Rattle.fleet_command.specs.Plays.{Holds, Reading, HaltedAt, Finished, Leads, FailsAs, budget, long_halt};
+ghost use Rattle.fleet_command.specs.Spec.{reported_reason, reported_bound, reported_error};
+ghost use Rattle.fleet_command.specs.Plays.{Holds, Reading, HaltedAt, Finished, Leads, FailsAs, budget, long_line_end};
 
-use command_ends::{Halt, InputReason, Limit, Place, Stop};
 use fleet_world::{Bound, World, WorldFault};
 use mav_nodes::NodeFault;
 use mav_ports::{NoMemory, Sink, write_all};
 use mav_sign::Key;
+use run_status::{Bound as StatusBound, InputError, Place, Reason as StatusReason, RunEnd};
 use scenario_lines::{LineFault, Reason};
 use std::alloc::Global;
 
@@ -29,7 +29,7 @@ const MOST_LINE_BYTES: usize = 4096;
 #[derive(Drop)]
 pub struct Player {
     world: World,
-    /// The bytes behind the last LF.
+    /// The bytes after the last LF.
     line: Vec<u8>,
     /// The number of the line that these begin.
     number: usize,
@@ -40,7 +40,7 @@ pub struct Player {
 impl Player {
     /// All nodes have the key; `frames` says whether the report prints frames whole.
     pub fn new(alloc: Global, key: Key, frames: bool) -> Result<Player, NoMemory>
-        ensures world { IfOk result (λ p. IsScene (empty_scene key) frames p.world) }
+        ensures world { IfOk result (λ p. IsState (empty_state key) frames p.world) }
         ensures first { IfOk result (λ p. (p.number ≡ 1) × (p.line.items ≡ [])) }
     {
         Ok(Player {
@@ -51,7 +51,7 @@ impl Player {
     }
 
     /// Takes bytes that come next. After an error the player is given up.
-    pub fn feed<K: Sink>(&mut self, piece: &[u8], out: &mut K) -> Result<(), Halt>
+    pub fn feed<K: Sink>(&mut self, piece: &[u8], out: &mut K) -> Result<(), RunEnd>
         ensures taken { (key : List ℕ) (frames : Bool) (taken : List ℕ) (before : Option (List ℕ))
             → Reading key frames taken self.old.world self.old.number self.old.line.items before (K.sent out.old)
             → OnOk result (Reading key frames (taken ++ piece.now)
@@ -59,12 +59,12 @@ impl Player {
         ensures halted { (key : List ℕ) (frames : Bool) (taken : List ℕ) (before : Option (List ℕ))
             → Reading key frames taken self.old.world self.old.number self.old.line.items before (K.sent out.old)
             → (ended : Bool) → let end = played key ended (taken ++ piece.now) in
-            IfErr result (λ halt. HaltedAt frames halt end (report_of frames end) before (K.sent out.new)) }
+            IfErr result (λ run_end. HaltedAt frames run_end end (report_of frames end) before (K.sent out.new)) }
         ensures spends { OnOk result (budget self.new.number self.new.line.items + length piece.now
             ≤ budget self.old.number self.old.line.items) }
-        ensures rose { IsErrOf result Halt.WriteFault
+        ensures rose { IsErrOf result RunEnd.WriteFault
             → Rose (K.faults out.old) (K.faults out.new) }
-        ensures sound { ¬ IsErrOf result Halt.WriteFault
+        ensures sound { ¬ IsErrOf result RunEnd.WriteFault
             → K.faults out.new ≡ K.faults out.old }
     {
         for byte in piece {
@@ -74,17 +74,17 @@ impl Player {
     }
 
     /// The input ended: does the last line, and writes the closing plans.
-    pub fn finish<K: Sink>(&mut self, out: &mut K) -> Result<(), Halt>
+    pub fn finish<K: Sink>(&mut self, out: &mut K) -> Result<(), RunEnd>
         ensures done { (key : List ℕ) (frames : Bool) (taken : List ℕ) (before : Option (List ℕ))
             → Reading key frames taken self.old.world self.old.number self.old.line.items before (K.sent out.old)
             → OnOk result (Finished frames (played key true taken) before (K.sent out.new)) }
         ensures halted { (key : List ℕ) (frames : Bool) (taken : List ℕ) (before : Option (List ℕ))
             → Reading key frames taken self.old.world self.old.number self.old.line.items before (K.sent out.old)
             → let end = played key true taken in
-            IfErr result (λ halt. HaltedAt frames halt end (whole_report frames end) before (K.sent out.new)) }
-        ensures rose { IsErrOf result Halt.WriteFault
+            IfErr result (λ run_end. HaltedAt frames run_end end (whole_report frames end) before (K.sent out.new)) }
+        ensures rose { IsErrOf result RunEnd.WriteFault
             → Rose (K.faults out.old) (K.faults out.new) }
-        ensures sound { ¬ IsErrOf result Halt.WriteFault
+        ensures sound { ¬ IsErrOf result RunEnd.WriteFault
             → K.faults out.new ≡ K.faults out.old }
     {
         self.last_line(out)?;
@@ -93,7 +93,7 @@ impl Player {
     }
 
     // Takes the next byte.
-    fn take<K: Sink>(&mut self, byte: u8, out: &mut K) -> Result<(), Halt>
+    fn take<K: Sink>(&mut self, byte: u8, out: &mut K) -> Result<(), RunEnd>
         ensures taken { (key : List ℕ) (frames : Bool) (taken : List ℕ) (before : Option (List ℕ))
             → Reading key frames taken self.old.world self.old.number self.old.line.items before (K.sent out.old)
             → OnOk result (Reading key frames (taken ++ byte ∷ [])
@@ -101,12 +101,12 @@ impl Player {
         ensures halted { (key : List ℕ) (frames : Bool) (taken : List ℕ) (before : Option (List ℕ))
             → Reading key frames taken self.old.world self.old.number self.old.line.items before (K.sent out.old)
             → (ended : Bool) (rest : List ℕ) → let end = played key ended (taken ++ byte ∷ rest) in
-            IfErr result (λ halt. HaltedAt frames halt end (report_of frames end) before (K.sent out.new)) }
+            IfErr result (λ run_end. HaltedAt frames run_end end (report_of frames end) before (K.sent out.new)) }
         ensures spends { OnOk result (budget self.new.number self.new.line.items + 1
             ≤ budget self.old.number self.old.line.items) }
-        ensures rose { IsErrOf result Halt.WriteFault
+        ensures rose { IsErrOf result RunEnd.WriteFault
             → Rose (K.faults out.old) (K.faults out.new) }
-        ensures sound { ¬ IsErrOf result Halt.WriteFault
+        ensures sound { ¬ IsErrOf result RunEnd.WriteFault
             → K.faults out.new ≡ K.faults out.old }
     {
         if byte == b'\n' {
@@ -120,20 +120,20 @@ impl Player {
     }
 
     // The line is whole: it is done, and the next one begins.
-    fn end_line<K: Sink>(&mut self, out: &mut K) -> Result<(), Halt>
+    fn end_line<K: Sink>(&mut self, out: &mut K) -> Result<(), RunEnd>
         ensures played { (frames : Bool) (p : Played) (before : Option (List ℕ))
             → Holds frames p self.old.world before (K.sent out.old)
             → Leads frames result (line_played p self.old.number self.old.line.items)
             self.new.world before (K.sent out.new) }
         ensures next { OnOk result ((self.new.number ≡ self.old.number + 1)
             × (self.new.line.items ≡ []) × (self.old.number ≤ 100000)) }
-        ensures rose { IsErrOf result Halt.WriteFault
+        ensures rose { IsErrOf result RunEnd.WriteFault
             → Rose (K.faults out.old) (K.faults out.new) }
-        ensures sound { ¬ IsErrOf result Halt.WriteFault
+        ensures sound { ¬ IsErrOf result RunEnd.WriteFault
             → K.faults out.new ≡ K.faults out.old }
     {
         if self.number > MOST_LINES {
-            return Err(Halt::Stopped(Stop::AtLimit(Limit::Lines)));
+            return Err(RunEnd::Stopped(InputError::AtLimit(StatusBound::Lines)));
         }
         play_line(&mut self.world, self.number, without_cr(&self.line), out)?;
         self.line.clear();
@@ -142,31 +142,31 @@ impl Player {
     }
 
     // The input ended: what is held is a last line, unless it is empty.
-    fn last_line<K: Sink>(&mut self, out: &mut K) -> Result<(), Halt>
+    fn last_line<K: Sink>(&mut self, out: &mut K) -> Result<(), RunEnd>
         ensures played { (frames : Bool) (p : Played) (before : Option (List ℕ))
             → Holds frames p self.old.world before (K.sent out.old)
             → Leads frames result (last_played p self.old.number self.old.line.items)
             self.new.world before (K.sent out.new) }
-        ensures rose { IsErrOf result Halt.WriteFault
+        ensures rose { IsErrOf result RunEnd.WriteFault
             → Rose (K.faults out.old) (K.faults out.new) }
-        ensures sound { ¬ IsErrOf result Halt.WriteFault
+        ensures sound { ¬ IsErrOf result RunEnd.WriteFault
             → K.faults out.new ≡ K.faults out.old }
     {
         if self.line.is_empty() {
             return Ok(());
         }
         if self.number > MOST_LINES {
-            return Err(Halt::Stopped(Stop::AtLimit(Limit::Lines)));
+            return Err(RunEnd::Stopped(InputError::AtLimit(StatusBound::Lines)));
         }
         play_line(&mut self.world, self.number, &self.line, out)
     }
 
     // Why one more byte is too many for the line.
-    fn too_long(&self) -> Halt
-        ensures { result ≡ long_halt self.now.number }
+    fn too_long(&self) -> RunEnd
+        ensures { result ≡ long_line_end self.now.number }
     {
         if self.number > MOST_LINES {
-            Halt::Stopped(Stop::AtLimit(Limit::Lines))
+            RunEnd::Stopped(InputError::AtLimit(StatusBound::Lines))
         } else {
             bad_line(self.number, Reason::Long)
         }
@@ -179,17 +179,17 @@ fn play_line<K: Sink>(
     number: usize,
     text: &[u8],
     out: &mut K,
-) -> Result<(), Halt>
+) -> Result<(), RunEnd>
     ensures played { (frames : Bool) (p : Played) (before : Option (List ℕ)) → Holds frames p world.old before (K.sent out.old)
-        → Leads frames result (judged p number text.now (reason_against (standing_of p.scene) text.now))
+        → Leads frames result (judged p number text.now (reason_against (context_of p.state) text.now))
         world.new before (K.sent out.new) }
-    ensures rose { IsErrOf result Halt.WriteFault → Rose (K.faults out.old) (K.faults out.new) }
-    ensures sound { ¬ IsErrOf result Halt.WriteFault → K.faults out.new ≡ K.faults out.old }
+    ensures rose { IsErrOf result RunEnd.WriteFault → Rose (K.faults out.old) (K.faults out.new) }
+    ensures sound { ¬ IsErrOf result RunEnd.WriteFault → K.faults out.new ≡ K.faults out.old }
 {
     let line = match world.read(text) {
         Ok(line) => line,
         Err(LineFault::Bad(reason)) => return Err(bad_line(number, reason)),
-        Err(LineFault::NoMemory) => return Err(Halt::NoMemory),
+        Err(LineFault::NoMemory) => return Err(RunEnd::NoMemory),
     };
     match world.line(line) {
         Ok(report) => Ok(write_all(out, report.bytes())?),
@@ -207,49 +207,49 @@ fn without_cr(line: &[u8]) -> &[u8]
     }
 }
 
-fn told_reason(reason: Reason) -> InputReason
-    ensures { result ≡ told_reason reason }
+fn reported_reason(reason: Reason) -> StatusReason
+    ensures { result ≡ reported_reason reason }
 {
     match reason {
-        Reason::Long => InputReason::Long,
-        Reason::Word => InputReason::Word,
-        Reason::Later => InputReason::Later,
-        Reason::Count => InputReason::Count,
-        Reason::Number => InputReason::Number,
-        Reason::Node => InputReason::Node,
-        Reason::Kind => InputReason::Kind,
-        Reason::Hex => InputReason::Hex,
-        Reason::Twice => InputReason::Twice,
-        Reason::Range => InputReason::Range,
-        Reason::Draft => InputReason::Draft,
-        Reason::Clock => InputReason::Clock,
+        Reason::Long => StatusReason::Long,
+        Reason::Word => StatusReason::Word,
+        Reason::Later => StatusReason::Later,
+        Reason::Count => StatusReason::Count,
+        Reason::Number => StatusReason::Number,
+        Reason::Node => StatusReason::Node,
+        Reason::Kind => StatusReason::Kind,
+        Reason::Hex => StatusReason::Hex,
+        Reason::Twice => StatusReason::Twice,
+        Reason::Range => StatusReason::Range,
+        Reason::Draft => StatusReason::Draft,
+        Reason::Clock => StatusReason::Clock,
     }
 }
 
-fn told_limit(limit: Bound) -> Limit
-    ensures { result ≡ told_limit limit }
+fn reported_bound(limit: Bound) -> StatusBound
+    ensures { result ≡ reported_bound limit }
 {
     match limit {
-        Bound::Frames => Limit::Frames,
-        Bound::Drones => Limit::Drones,
-        Bound::Stations => Limit::Stations,
+        Bound::Frames => StatusBound::Frames,
+        Bound::Drones => StatusBound::Drones,
+        Bound::Stations => StatusBound::Stations,
     }
 }
 
 // There is a reason against this line.
-fn bad_line(line: usize, reason: Reason) -> Halt
-    ensures { result ≡ Halt.Stopped (told_stop (Bad line reason)) }
+fn bad_line(line: usize, reason: Reason) -> RunEnd
+    ensures { result ≡ RunEnd.Stopped (reported_error (Bad line reason)) }
 {
-    Halt::Stopped(Stop::Bad(Place::Line(line), told_reason(reason)))
+    RunEnd::Stopped(InputError::Bad(Place::Line(line), reported_reason(reason)))
 }
 
 // The line isn't done.
-fn fails(fault: WorldFault) -> Halt
+fn fails(fault: WorldFault) -> RunEnd
     ensures { FailsAs fault result }
 {
     match fault {
-        WorldFault::Limit(limit) => Halt::Stopped(Stop::AtLimit(told_limit(limit))),
-        WorldFault::Node(NodeFault::StampsSpent) => Halt::Stopped(Stop::StampsSpent),
-        WorldFault::Node(NodeFault::NoMemory) | WorldFault::NoMemory => Halt::NoMemory,
+        WorldFault::Limit(limit) => RunEnd::Stopped(InputError::AtLimit(reported_bound(limit))),
+        WorldFault::Node(NodeFault::StampsSpent) => RunEnd::Stopped(InputError::StampsSpent),
+        WorldFault::Node(NodeFault::NoMemory) | WorldFault::NoMemory => RunEnd::NoMemory,
     }
 }

@@ -2,14 +2,14 @@
 ghost use Rattle.std.specs.Prelude.{◌≡◌, ◌<◌, ℕ, Bool, List, [], length, IsErrOf};
 ghost use Rattle.std.specs.Result.{result_err};
 ghost use Rattle.mav_ports.specs.Gets.{IsSpent};
-ghost use Rattle.command_ends.specs.Runs.{Untold, outside};
+ghost use Rattle.run_status.specs.Runs.{RunBeforeStatus, port_outcome};
 ghost use Rattle.fleet_command.specs.Plays.{Reading};
-ghost use Rattle.fleet_command.specs.Script.{fleet_script};
+ghost use Rattle.fleet_command.specs.Spec.{fleet_spec};
 
 use crate::player::Player;
-use command_ends::{Halt, read_on};
 use mav_ports::{Got, Sink, Source};
 use mav_sign::Key;
+use run_status::{RunEnd, read_on};
 use std::alloc::Global;
 
 // How much is read at once.
@@ -24,13 +24,13 @@ pub fn fleet<S: Source, K: Sink>(
     frames: bool,
     main: &mut S,
     out: &mut K,
-) -> Result<(), Halt>
-    ensures untold { Untold (fleet_script key frames) (outside
+) -> Result<(), RunEnd>
+    ensures before_status { RunBeforeStatus (fleet_spec key frames) (port_outcome
         (S.has_ended main.new × IsSpent (S.left main.new)) (S.faults main.old) (S.faults main.new)
         (S.idles main.old) (S.idles main.new) (K.faults out.old) (K.faults out.new))
         (S.left main.old) (S.left main.new) (K.sent out.old) (K.sent out.new)
         (result_err result) }
-    ensures sound { ¬ IsErrOf result Halt.WriteFault → K.faults out.new ≡ K.faults out.old }
+    ensures sound { ¬ IsErrOf result RunEnd.WriteFault → K.faults out.new ≡ K.faults out.old }
 {
     let mut player = Player::new(alloc, key, frames)?;
     let mut buf = vec![in alloc; 0u8; PIECE_BYTES]?;
@@ -43,23 +43,23 @@ fn play<S: Source, K: Sink>(
     main: &mut S,
     buf: &mut [u8],
     out: &mut K,
-) -> Result<(), Halt>
+) -> Result<(), RunEnd>
     requires { 0 < length buf.old }
-    ensures untold { (key : List ℕ) (frames : Bool) → Reading key frames [] player.old.world player.old.number player.old.line.items
+    ensures before_status { (key : List ℕ) (frames : Bool) → Reading key frames [] player.old.world player.old.number player.old.line.items
         (K.sent out.old) (K.sent out.old)
-        → Untold (fleet_script key frames) (outside
+        → RunBeforeStatus (fleet_spec key frames) (port_outcome
         (S.has_ended main.new × IsSpent (S.left main.new)) (S.faults main.old) (S.faults main.new)
         (S.idles main.old) (S.idles main.new) (K.faults out.old) (K.faults out.new))
         (S.left main.old) (S.left main.new) (K.sent out.old) (K.sent out.new)
         (result_err result) }
-    ensures sound { ¬ IsErrOf result Halt.WriteFault → K.faults out.new ≡ K.faults out.old }
+    ensures sound { ¬ IsErrOf result RunEnd.WriteFault → K.faults out.new ≡ K.faults out.old }
 {
     loop {
         match read_on(main, buf) {
             Got::Bytes(count) => player.feed(&buf[..count], out)?,
-            Got::Idle => return Err(Halt::TurnsSpent),
+            Got::Idle => return Err(RunEnd::TurnsSpent),
             Got::End => return player.finish(out),
-            Got::Failed => return Err(Halt::ReadFault),
+            Got::Failed => return Err(RunEnd::ReadFault),
         }
     }
 }

@@ -1,4 +1,4 @@
 pub mod Scenarios
 pub mod TwoDrones
 pub mod Noise
-pub mod Tellings
+pub mod Reportings

@@ -12,7 +12,7 @@ use Rattle.mav_frame.specs.Packet.{Packet}
 use Rattle.mav_frame.specs.FinalParse.{final_parse}
 use Rattle.mav_sign.specs.Endpoints.{frames_of}
 use Rattle.mav_sign.specs.Signing.{Verifies}
-use Rattle.fleet_world.specs.Scene.{Scene}
+use Rattle.fleet_world.specs.WorldState.{WorldState}
 use Rattle.fleet_world.specs.Scenario.{at_start, lines_played}
 use Rattle.fleet_world.specs.Authentic.{Authentic, AuthenticBytes, WasSent}
 use Rattle.fleet_examples.specs.Scenarios.{the_key, text}
@@ -53,23 +53,23 @@ nothing_sent = codes "drone 1" ∷ codes "station 255 190" ∷ []
 abbrev ping_sent : List (List ℕ)
 ping_sent = codes "drone 1" ∷ codes "station 255 190" ∷ codes "item 6 16 473977420 85455940" ∷ codes "begin 255.190 1.1 mission" ∷ []
 
-abbrev scene_after : List (List ℕ) → Scene
-scene_after lines = (lines_played (at_start the_key) 1 lines).scene
+abbrev state_after : List (List ℕ) → WorldState
+state_after lines = (lines_played (at_start the_key) 1 lines).state
 
-ping_was_sent : WasSent (scene_after ping_sent).sent ping
+ping_was_sent : WasSent (state_after ping_sent).sent ping
 unfolding item_fault whole_fault plan_fault decode_pairs first_words schedule rounds compress hash_after digest_bytes sha256 check.after_byte
 ping_was_sent = inl refl
 
-repeats : (s : Scene) → WasSent s.sent ping → AuthenticBytes s ping_bytes
-repeats s was_sent = λ place p found _. at place p (subst (λ fs. slice_get fs place ≡ Some p) one_frame found)
+repeats : (s : WorldState) → WasSent s.sent ping → AuthenticBytes s ping_bytes
+repeats s was_sent = λ index p found _. at index p (subst (λ fs. slice_get fs index ≡ Some p) one_frame found)
   where
-    at : (place : ℕ) (p : Packet) → slice_get (ping ∷ []) place ≡ Some p → WasSent s.sent p
+    at : (index : ℕ) (p : Packet) → slice_get (ping ∷ []) index ≡ Some p → WasSent s.sent p
     at zero p e = let same : ping ≡ p = cc in subst (WasSent s.sent) same was_sent
-    at (suc place) p e = absurd (cc)
+    at (suc index) p e = absurd (cc)
 
 pub a_sent_frame_again : Authentic the_key true (text (codes "drone 1" ∷ codes "station 255 190" ∷ codes "item 6 16 473977420 85455940" ∷ codes "begin 255.190 1.1 mission" ∷ noise ∷ []))
 unfolding item_fault whole_fault plan_fault decode_pairs first_words schedule rounds compress hash_after digest_bytes sha256 check.after_byte
-a_sent_frame_again = record { lines = (tt, (tt, (tt, (tt, (repeats (scene_after ping_sent) ping_was_sent, tt))))); last = tt }
+a_sent_frame_again = record { lines = (tt, (tt, (tt, (tt, (repeats (state_after ping_sent) ping_was_sent, tt))))); last = tt }
 
 -- the second and the rest of some facts
 rest : {A B : Type 0} → A × B → B
@@ -78,7 +78,7 @@ rest h = h.1
 first : {A B : Type 0} → A × B → A
 first h = h.0
 
-not_sent : AuthenticBytes (scene_after nothing_sent) ping_bytes → ⊥
+not_sent : AuthenticBytes (state_after nothing_sent) ping_bytes → ⊥
 unfolding decode_pairs
 not_sent h = h 0 ping (subst (λ fs. slice_get fs 0 ≡ Some ping) (sym one_frame) refl) verifies
 

@@ -1,4 +1,4 @@
--- What one node does leaves a sound scene.
+-- What one node does leaves a sound state.
 use Rattle.std.proofs.Common.{ℕ, ◌+◌, ◌≤◌, [], length, Some, None, refl, sym, subst, arith}
 use Rattle.std.specs.Prelude.{nat_le}
 use Rattle.std.proofs.lemmas.List.{length-append}
@@ -7,7 +7,7 @@ use Rattle.mav_names.specs.declared.names.Name.{Name}
 use Rattle.mav_nodes.specs.Links.{Done, Outcome}
 use Rattle.mav_nodes.specs.Nodes.{station_begins, station_cancels, station_clears, station_gets}
 use Rattle.plan_ranges.specs.Ranges.{ItemInRange}
-use Rattle.fleet_world.specs.Scene.{Scene, Node, stream_of}
+use Rattle.fleet_world.specs.WorldState.{WorldState, Node, stream_of}
 use Rattle.fleet_world.specs.Steps.{most_frames, packets_in, node_does, node_receives, node_beats, node_ticks, as_station}
 use Rattle.fleet_invariants.specs.Kept.{OutcomeReads, StepKeeps, Keeps}
 use Rattle.fleet_invariants.specs.Laws.{EveryCallKeeps}
@@ -17,7 +17,7 @@ use Rattle.fleet_invariants.proofs.Moves.{steady_of, sound_of}
 use Rattle.fleet_invariants.proofs.Nodes.{NodeDoes, NodeGoes, advanced}
 use Rattle.fleet_invariants.proofs.Doing.{node_receiving, node_ticking, node_beating, station_beginning, station_cancelling, station_clearing, station_getting}
 
-module _ (s : Scene) (k : ℕ) (name : Name) where
+module _ (s : WorldState) (k : ℕ) (name : Name) where
   within : (d : Done Node) → NodeGoes s k d → length s.sent + length (packets_in d.events) ≤ most_frames → StepKeeps s (advanced s k d.node d.events)
   within d h few = record {
     sound = sound_of (advanced s k d.node d.events) h.steady (subst (λ n. n ≤ most_frames) (sym (length-append s.sent (packets_in d.events))) few);
@@ -36,8 +36,8 @@ module _ (s : Scene) (k : ℕ) (name : Name) where
   reads None h = tt
   reads (Some d) h = h.reads
 
--- the scene without its draft
-abbrev undrafted : Scene → Scene
+-- the state without its draft
+abbrev undrafted : WorldState → WorldState
 undrafted s = restated s s.given [] s.clock
 
 pub sound_does : EveryCallKeeps

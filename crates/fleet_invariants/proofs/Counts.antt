@@ -18,7 +18,7 @@ use Rattle.scenario_lines.specs.declared.faults.Reason.TheVariants.{Long}
 use Rattle.scenario_lines.specs.declared.lines.Line.{Line}
 use Rattle.scenario_lines.specs.declared.lines.Line.TheVariants.{Blank, Drone as DroneLine, Station as StationLine, Item as OneItem, Items, Empty, Begin, Cancel, Clear, Get, Heartbeat, Deliver, Flow, Noise, Tick, Clock}
 use Rattle.scenario_lines.specs.Words.{is_space, words_of, word_at, bytes_word}
-use Rattle.scenario_lines.specs.Standing.{Standing}
+use Rattle.scenario_lines.specs.LineContext.{LineContext}
 use Rattle.scenario_lines.specs.Grammar.{bytes_at, line_from, line_of, is_blank, most_line_bytes}
 use Rattle.scenario_lines.specs.Reasons.{reason_against}
 use Rattle.fleet_invariants.proofs.Tests.{by_test, not_less}
@@ -138,7 +138,7 @@ not_long true r o e = absurd (let wrong : ◌≡◌ {A = Option Reason} (Some r)
 not_long false r o e = refl
 
 -- a line that has no reason against it
-pub line_short : (standing : Standing) (text : List ℕ) → reason_against standing text ≡ None → IsShort (line_of text)
-line_short standing text e =
+pub line_short : (context : LineContext) (text : List ℕ) → reason_against context text ≡ None → IsShort (line_of text)
+line_short context text e =
     let within = not_less most_line_bytes (length text) (not_long (nat_lt most_line_bytes (length text)) Long _ e) in
     by_test IsShort (is_blank text) Blank (line_from (words_of text)) (λ _. tt) (λ _. words_short (words_of text) (at_most_on _ _ _ (few_at text 2) within))

@@ -19,7 +19,7 @@ use Rattle.mav_nodes.proofs.Sendings.{heartbeats_fit}
 use Rattle.plan_ranges.specs.Ranges.{InRange, ItemInRange, NameInRange, StreamInRange}
 use Rattle.plan_ranges.proofs.DroneRanges as drones
 use Rattle.plan_ranges.proofs.StationRanges as stations
-use Rattle.fleet_world.specs.Scene.{Scene, Node, Drone, Station, stream_of}
+use Rattle.fleet_world.specs.WorldState.{WorldState, Node, Drone, Station, stream_of}
 use Rattle.fleet_world.specs.Steps.{as_drone, as_station, node_receives, node_beats, node_ticks}
 use Rattle.fleet_invariants.specs.Kept.{Known}
 use Rattle.fleet_invariants.proofs.Roles.{drone_tick_stays, station_tick_stays, station_cancel_stays, begin_stays}
@@ -42,14 +42,14 @@ behind_none : {Core : Type 0} (o : Outcome (Side Core)) → behind [] o ≡ o
 behind_none None = refl
 behind_none (Some d) = refl
 
-pub known_frames : (s : Scene) (bytes : List ℕ) (extras : List (ℕ × ℕ)) → extras ≡ extras_of profile_definitions → Known s bytes → KnownFrames s (frames_of (final_parse extras bytes))
+pub known_frames : (s : WorldState) (bytes : List ℕ) (extras : List (ℕ × ℕ)) → extras ≡ extras_of profile_definitions → Known s bytes → KnownFrames s (frames_of (final_parse extras bytes))
 known_frames s bytes extras same known = subst (λ (x : List (ℕ × ℕ)). KnownFrames s (frames_of (final_parse x bytes))) (sym same) known
 
 ticks_say : (o : Option (Stream × PlanMsg)) → IfSome o (λ (sent : Stream × PlanMsg). StreamInRange sent.0 × InRange sent.1) → IfSome (tick_answer o) InRange
 ticks_say None h = tt
 ticks_say (Some sent) h = h.1
 
-module _ (s : Scene) (k : ℕ) (g : Steady s) where
+module _ (s : WorldState) (k : ℕ) (g : Steady s) where
   -- ---- a drone
   module _ (n : Side DroneState) (found : slice_get s.nodes k ≡ Some (Drone n)) where
     a_drone : (o : Outcome (Side DroneState)) → NodeDoes s k (as_node Drone o) → NodeDoes s k (as_drone o)

@@ -1,4 +1,4 @@
--- What holds of a scene goes on to hold where what was named and sent stays.
+-- What holds of a state goes on to hold if what was named and sent stays.
 use Rattle.std.proofs.Common.{◌≡◌, ℕ, ◌+◌, ◌≤◌, List, length, slice_get, Some, refl, sym, ap, subst, arith, ◌∙◌}
 use Rattle.mav_names.specs.declared.names.Name.{Name}
 use Rattle.mav_names.specs.declared.names.Stream.{Stream}
@@ -8,7 +8,7 @@ use Rattle.mav_frame.specs.Packet.{Packet}
 use Rattle.mav_nodes.specs.Links.{Link}
 use Rattle.mav_nodes.specs.Signed.{signed_packet}
 use Rattle.scenario_lines.specs.declared.roster.Named.{Named}
-use Rattle.fleet_world.specs.Scene.{Scene, Node, Drone, Station, node_name, named, stream_of}
+use Rattle.fleet_world.specs.WorldState.{WorldState, Node, Drone, Station, node_name, named, stream_of}
 use Rattle.fleet_invariants.specs.Sound.{Holds, IsSent, WasStamped, SoundLink}
 use Rattle.fleet_invariants.specs.Kept.{Follows, Kept}
 
@@ -22,13 +22,13 @@ named_name (Station n) = refl
 pub same_named : (a b : Node) → named a ≡ named b → node_name a ≡ node_name b
 same_named a b e = sym (named_name a) ∙ ap (λ (n : Named). n.name) e ∙ named_name b
 
--- ---- a scene is kept
+-- ---- a state is kept
 
-pub kept_follows : (s t : Scene) (i : ℕ) (a : Node) → t.nodes ≡ s.nodes → slice_get s.nodes i ≡ Some a → Follows t.nodes i a
+pub kept_follows : (s t : WorldState) (i : ℕ) (a : Node) → t.nodes ≡ s.nodes → slice_get s.nodes i ≡ Some a → Follows t.nodes i a
 kept_follows s t i a same e = record { node = a; found = ap (λ (ns : List Node). slice_get ns i) same ∙ e; named_is = refl; me = refl; previous = omega arith }
 
--- where nothing but the rest changed
-pub kept_still : (s t : Scene) → t.key ≡ s.key → t.nodes ≡ s.nodes → t.sent ≡ s.sent → s.clock ≤ t.clock → Kept s t
+-- if nothing but the rest changed
+pub kept_still : (s t : WorldState) → t.key ≡ s.key → t.nodes ≡ s.nodes → t.sent ≡ s.sent → s.clock ≤ t.clock → Kept s t
 kept_still s t key nodes sent clock = record {
   key = key;
   nodes = λ i a e. kept_follows s t i a nodes e;
@@ -47,7 +47,7 @@ follows_on nodes i a before f g = record {
   previous = at_most_on _ _ _ f.previous g.previous;
 }
 
-pub kept_on : (s t u : Scene) → Kept s t → Kept t u → Kept s u
+pub kept_on : (s t u : WorldState) → Kept s t → Kept t u → Kept s u
 kept_on s t u h k = record {
   key = k.key ∙ h.key;
   nodes = λ i a e. let f = h.nodes i a e in follows_on u.nodes i a t.nodes f (k.nodes i f.node f.found);
@@ -59,22 +59,22 @@ kept_on s t u h k = record {
 
 -- ---- what was sent
 
-pub holds_kept : (s t : Scene) → Kept s t → (name : Name) → Holds s.nodes name → Holds t.nodes name
+pub holds_kept : (s t : WorldState) → Kept s t → (name : Name) → Holds s.nodes name → Holds t.nodes name
 holds_kept s t k name h =
-    let f = k.nodes h.place h.node h.found in
-    record { place = h.place; node = f.node; found = f.found; name_is = same_named f.node h.node f.named_is ∙ h.name_is }
+    let f = k.nodes h.index h.node h.found in
+    record { index = h.index; node = f.node; found = f.found; name_is = same_named f.node h.node f.named_is ∙ h.name_is }
 
 -- a sent frame, with its timestamp
-pub record SentAt (s : Scene) (p : Packet) (stamp : ℕ) : Type 0 where
+pub record SentAt (s : WorldState) (p : Packet) (stamp : ℕ) : Type 0 where
   pub sent : IsSent s p
   pub stamp_is : sent.stamp ≡ stamp
 
-pub sent_kept : (s t : Scene) → Kept s t → (p : Packet) (q : IsSent s p) → SentAt t p q.stamp
+pub sent_kept : (s t : WorldState) → Kept s t → (p : Packet) (q : IsSent s p) → SentAt t p q.stamp
 sent_kept s t k p q =
-    let f = k.nodes q.from.place q.from.node q.from.found in
+    let f = k.nodes q.from.index q.from.node q.from.found in
     record {
       sent = record {
-        from = record { place = q.from.place; node = f.node; found = f.found; name_is = same_named f.node q.from.node f.named_is ∙ q.from.name_is };
+        from = record { index = q.from.index; node = f.node; found = f.found; name_is = same_named f.node q.from.node f.named_is ∙ q.from.name_is };
         seq = q.seq;
         stamp = q.stamp;
         message = q.message;
@@ -89,13 +89,13 @@ sent_kept s t k p q =
       stamp_is = refl;
     }
 
-pub stamped_kept : (s t : Scene) → Kept s t → (stream : Stream) (stamp : ℕ) → WasStamped s stream stamp → WasStamped t stream stamp
+pub stamped_kept : (s t : WorldState) → Kept s t → (stream : Stream) (stamp : ℕ) → WasStamped s stream stamp → WasStamped t stream stamp
 stamped_kept s t k stream stamp w =
     let r = sent_kept s t k w.packet w.sent in
     record {
-      place = w.place;
+      index = w.index;
       packet = w.packet;
-      found = k.sent w.place w.packet w.found;
+      found = k.sent w.index w.packet w.found;
       sent = r.sent;
       stream_is = w.stream_is;
       stamp_is = r.stamp_is ∙ w.stamp_is;
@@ -104,7 +104,7 @@ stamped_kept s t k stream stamp w =
 more_room : (a b c d local : ℕ) → local ≤ a + b → a ≤ c → b ≤ d → local ≤ c + d
 more_room a b c d local h i j = omega arith
 
-pub link_kept : (s t : Scene) → Kept s t → (link : Link) → SoundLink s link → SoundLink t link
+pub link_kept : (s t : WorldState) → Kept s t → (link : Link) → SoundLink s link → SoundLink t link
 link_kept s t k link h = record {
   key = h.key ∙ sym k.key;
   extras = h.extras;

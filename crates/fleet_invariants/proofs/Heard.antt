@@ -15,7 +15,7 @@ use Rattle.mav_sign.specs.Signing.{Verifies, signature_of}
 use Rattle.mav_sign.specs.Endpoints.{frames_of}
 use Rattle.mav_nodes.specs.Laws.{ReadsAlone, sent_packet}
 use Rattle.mav_nodes.proofs.Sendings.{parses_alone, every_sending_reads_back, every_frame_reads_alone, same_bytes_same_frame}
-use Rattle.fleet_world.specs.Scene.{Scene, stream_of}
+use Rattle.fleet_world.specs.WorldState.{WorldState, stream_of}
 use Rattle.fleet_world.specs.Authentic.{WasSent}
 use Rattle.fleet_invariants.specs.Sound.{IsSent, Sound}
 use Rattle.fleet_invariants.specs.Kept.{IsAmong}
@@ -30,7 +30,7 @@ frames_in extras bytes = frames_of (final_parse extras bytes)
 
 -- ---- each sent frame reads alone, and verifies
 
-pub reads_alone : (s : Scene) → Sound s → (p : Packet) (q : IsSent s p) → ReadsAlone (extras_of profile_definitions) p
+pub reads_alone : (s : WorldState) → Sound s → (p : Packet) (q : IsSent s p) → ReadsAlone (extras_of profile_definitions) p
 reads_alone s sound p q =
     let range = from_in_range s (steady_of s sound) p q in
     let stream : IsStream (stream_of p.from) = record { sys = range.sys; comp = range.comp; link = small } in
@@ -43,7 +43,7 @@ reads_alone s sound p q =
 verifying : (key : List ℕ) (p : Packet) (signed : Packet) → p ≡ signed → Verifies key signed signed.block → Verifies key p p.block
 verifying key p signed e h = subst (λ (x : Packet). Verifies key x x.block) (sym e) h
 
-pub verifies : (s : Scene) (p : Packet) → IsSent s p → Verifies s.key p p.block
+pub verifies : (s : WorldState) (p : Packet) → IsSent s p → Verifies s.key p p.block
 verifies s p q = verifying s.key p (sent_packet s.key (stream_of p.from) q.seq q.stamp q.message) q.is refl
 
 -- the only frame of some events
@@ -67,48 +67,48 @@ only xs p q i e f = first i (sym (ap (λ (l : List Packet). slice_get l i) e) �
     first zero h = some_is h
     first (suc i) h = absurd (nowhere i q h)
 
-among_sent : (s : Scene) (i : ℕ) (p q : Packet) → slice_get s.sent i ≡ Some p → p ≡ q → IsAmong s.sent q
-among_sent s i p q found e = record { place = i; found = found ∙ ap Some e }
+among_sent : (s : WorldState) (i : ℕ) (p q : Packet) → slice_get s.sent i ≡ Some p → p ≡ q → IsAmong s.sent q
+among_sent s i p q found e = record { index = i; found = found ∙ ap Some e }
 
 pub sent_known : SentKnown
-sent_known s sound i p found place q e v =
-    among_sent s i p q found (only _ p q place (heard_is s sound p (sound.sent i p found)).frames e)
+sent_known s sound i p found index q e v =
+    among_sent s i p q found (only _ p q index (heard_is s sound p (sound.sent i p found)).frames e)
 
 -- a frame whose bytes were sent
 pub record SentBytes (sent : List Packet) (p : Packet) : Type 0 where
-  pub place : ℕ
+  pub index : ℕ
   pub packet : Packet
-  pub found : slice_get sent place ≡ Some packet
+  pub found : slice_get sent index ≡ Some packet
   pub same : encoding packet ≡ encoding p
 
 where_sent : (sent : List Packet) (p : Packet) → WasSent sent p → SentBytes sent p
 where_sent [] p h = absurd h
-where_sent (q ∷ qs) p (inl same) = record { place = 0; packet = q; found = refl; same = same }
-where_sent (q ∷ qs) p (inr h) = let r = where_sent qs p h in record { place = suc r.place; packet = r.packet; found = r.found; same = r.same }
+where_sent (q ∷ qs) p (inl same) = record { index = 0; packet = q; found = refl; same = same }
+where_sent (q ∷ qs) p (inr h) = let r = where_sent qs p h in record { index = suc r.index; packet = r.packet; found = r.found; same = r.same }
 
 was_sent : (sent : List Packet) (p : Packet) (i : ℕ) → slice_get sent i ≡ Some p → WasSent sent p
 was_sent [] p i e = absurd (nowhere i p e)
 was_sent (q ∷ qs) p zero e = inl (ap encoding (some_is e))
 was_sent (q ∷ qs) p (suc i) e = inr (was_sent qs p i e)
 
-each_alone : (extras : List (ℕ × ℕ)) (packets : List Packet) → All (ReadsAlone extras) packets → (place : ℕ) (p : Packet) → slice_get packets place ≡ Some p → ReadsAlone extras p
-each_alone extras packets all place p e =
-    subst (ReadsAlone extras) (get_or_from_slice_get packets place p p e) (All-get_or (ReadsAlone extras) packets place p (within packets place p e) all)
+each_alone : (extras : List (ℕ × ℕ)) (packets : List Packet) → All (ReadsAlone extras) packets → (index : ℕ) (p : Packet) → slice_get packets index ≡ Some p → ReadsAlone extras p
+each_alone extras packets all index p e =
+    subst (ReadsAlone extras) (get_or_from_slice_get packets index p p e) (All-get_or (ReadsAlone extras) packets index p (within packets index p e) all)
 
 pub authentic_known : AuthenticKnown
-authentic_known s sound bytes small authentic place p e v =
-    let r = where_sent s.sent p (authentic place p e v) in
-    among_sent s r.place r.packet p r.found
-    (same_bytes_same_frame (extras_of profile_definitions) r.packet p (reads_alone s sound r.packet (sound.sent r.place r.packet r.found)) (each_alone (extras_of profile_definitions) _ (every_frame_reads_alone (extras_of profile_definitions) bytes small) place p e) r.same)
+authentic_known s sound bytes small authentic index p e v =
+    let r = where_sent s.sent p (authentic index p e v) in
+    among_sent s r.index r.packet p r.found
+    (same_bytes_same_frame (extras_of profile_definitions) r.packet p (reads_alone s sound r.packet (sound.sent r.index r.packet r.found)) (each_alone (extras_of profile_definitions) _ (every_frame_reads_alone (extras_of profile_definitions) bytes small) index p e) r.same)
 
 pub sent_authentic : SentAuthentic
-sent_authentic s sound i p found place q e v =
-    was_sent s.sent q i (found ∙ ap Some (only _ p q place (heard_is s sound p (sound.sent i p found)).frames e))
+sent_authentic s sound i p found index q e v =
+    was_sent s.sent q i (found ∙ ap Some (only _ p q index (heard_is s sound p (sound.sent i p found)).frames e))
 
 pub unsent_foreign : UnsentForeign
 unsent_foreign s sound p fits sealed v unsent authentic =
     let alone : ReadsAlone (extras_of profile_definitions) p = record { fits = fits; sealed = sealed; parses = parses_alone (extras_of profile_definitions) p fits sealed } in
     let frames = one_frame _ p alone.parses in
     let r = where_sent s.sent p (authentic 0 p (ap (λ (l : List Packet). slice_get l 0) frames) v) in
-    let same = same_bytes_same_frame (extras_of profile_definitions) r.packet p (reads_alone s sound r.packet (sound.sent r.place r.packet r.found)) alone r.same in
-    unsent r.place (r.found ∙ ap Some same)
+    let same = same_bytes_same_frame (extras_of profile_definitions) r.packet p (reads_alone s sound r.packet (sound.sent r.index r.packet r.found)) alone r.same in
+    unsent r.index (r.found ∙ ap Some same)

@@ -25,7 +25,7 @@ use Rattle.mav_nodes.proofs.Sendings.{plan_reads_back}
 use Rattle.plan_ranges.specs.Ranges.{InRange, NameInRange, StreamInRange, StationStepInRange}
 use Rattle.plan_ranges.proofs.DroneRanges as drones
 use Rattle.plan_ranges.proofs.StationRanges as stations
-use Rattle.fleet_world.specs.Scene.{Scene, Node, Drone, Station, node_name}
+use Rattle.fleet_world.specs.WorldState.{WorldState, Node, Drone, Station, node_name}
 use Rattle.fleet_world.specs.Steps.{packets_in}
 use Rattle.fleet_invariants.specs.Sound.{link_of, has_heard, IsSent}
 use Rattle.fleet_invariants.specs.Kept.{IsAmong}
@@ -40,20 +40,20 @@ use Rattle.fleet_invariants.proofs.Nodes.{Silent, advanced, NodeGoes, NodeDoes, 
 -- ---- what comes in
 
 -- the stream of a sent frame, and its plan message, are in range
-pub from_in_range : (s : Scene) → Steady s → (p : Packet) (q : IsSent s p) → NameInRange p.from
+pub from_in_range : (s : WorldState) → Steady s → (p : Packet) (q : IsSent s p) → NameInRange p.from
 from_in_range s g p q =
-    let l = g.links q.from.place q.from.node q.from.found in
+    let l = g.links q.from.index q.from.node q.from.found in
     subst NameInRange (own_name q.from.node ∙ q.from.name_is) (record { sys = l.me.1; comp = l.me.3 })
   where
     own_name : (n : Node) → (record { sys = (link_of n).me.sys; comp = (link_of n).me.comp }) ≡ node_name n
     own_name (Drone n) = refl
     own_name (Station n) = refl
 
-pub carries : (s : Scene) (p : Packet) (q : IsSent s p) → plan_in p.id p.payload ≡ plan_of q.message
+pub carries : (s : WorldState) (p : Packet) (q : IsSent s p) → plan_in p.id p.payload ≡ plan_of q.message
 carries s p q =
     ap (λ (x : Packet). plan_in x.id x.payload) q.is ∙ plan_reads_back q.message q.fits q.item_fits (payload_small q.message)
 
-message_in_range : (s : Scene) (p : Packet) (q : IsSent s p) → IfSome (plan_in p.id p.payload) InRange
+message_in_range : (s : WorldState) (p : Packet) (q : IsSent s p) → IfSome (plan_in p.id p.payload) InRange
 message_in_range s p q =
     subst (λ (o : Option PlanMsg). IfSome o InRange) (sym (carries s p q)) (carried_in_range q.message q.fits q.item_fits)
 
@@ -65,20 +65,20 @@ changes_silent by plans (Install kind) = tt
 changes_silent by plans (Empty None) = tt
 changes_silent by plans (Empty (Some kind)) = tt
 
-told_silent : (o : Option Told) → Silent (told_events o)
-told_silent None = tt
-told_silent (Some t) = tt
+reported_silent : (o : Option Told) → Silent (told_events o)
+reported_silent None = tt
+reported_silent (Some t) = tt
 
 -- ---- a station's core
 
-module _ (s : Scene) (k : ℕ) (n : Side StationState) (g : Steady s) (found : slice_get s.nodes k ≡ Some (Station n)) where
+module _ (s : WorldState) (k : ℕ) (n : Side StationState) (g : Steady s) (found : slice_get s.nodes k ≡ Some (Station n)) where
   pub station_goes : (step : StationStep) → StationStepInRange step → step.station.me ≡ n.core.me → NodeDoes s k (as_node Station (steps s.clock n.link (station_does step)))
   station_goes step range same =
-      station_steps s k n g found (station_does step) tt (told_silent step.station.outcome) (stations.untells step.station range.station) same refl range.answer
+      station_steps s k n g found (station_does step) tt (reported_silent step.station.outcome) (stations.untells step.station range.station) same refl range.answer
 
 -- ---- one frame
 
-module _ (s : Scene) (k : ℕ) (packet : Packet) (g : Steady s) (known : Verifies s.key packet packet.block → IsAmong s.sent packet) where
+module _ (s : WorldState) (k : ℕ) (packet : Packet) (g : Steady s) (known : Verifies s.key packet packet.block → IsAmong s.sent packet) where
   after_first : (n1 : Node) (o : Outcome Node) → NodeGoes s k (record { node = n1; events = [] }) → NodeDoes (advanced s k n1 []) k o → NodeDoes s k o
   after_first n1 None first then_ = tt
   after_first n1 (Some d) first then_ = goes_on s k (record { node = n1; events = [] }) d first then_
@@ -103,7 +103,7 @@ module _ (s : Scene) (k : ℕ) (packet : Packet) (g : Steady s) (known : Verifie
     drone_admits Admitted None sent heard = dropped (Drone drone_tried) Admitted (drone_tries s k n g found packet known)
     drone_admits Admitted (Some block) sent heard =
         let at = sent refl in
-        let q = g.sent at.place packet at.found in
+        let q = g.sent at.index packet at.found in
         let from = from_in_range s g packet q in
         drone_takes q (stream_of packet block) from (heard refl block refl) (plan_in packet.id packet.payload) (message_in_range s packet q)
     drone_admits Unsigned block sent heard = dropped (Drone drone_tried) Unsigned (drone_tries s k n g found packet known)
@@ -136,7 +136,7 @@ module _ (s : Scene) (k : ℕ) (packet : Packet) (g : Steady s) (known : Verifie
     station_admits Admitted None sent = dropped (Station station_tried) Admitted (station_tries s k n g found packet known)
     station_admits Admitted (Some block) sent =
         let at = sent refl in
-        let q = g.sent at.place packet at.found in
+        let q = g.sent at.index packet at.found in
         station_takes q (stream_of packet block) (plan_in packet.id packet.payload) (message_in_range s packet q)
     station_admits Unsigned block sent = dropped (Station station_tried) Unsigned (station_tries s k n g found packet known)
     station_admits BadSignature block sent = dropped (Station station_tried) BadSignature (station_tries s k n g found packet known)
@@ -152,27 +152,27 @@ module _ (s : Scene) (k : ℕ) (packet : Packet) (g : Steady s) (known : Verifie
 -- ---- frames
 
 -- each that verifies was sent
-abbrev pub KnownFrames : Scene → List Packet → Type 0
-KnownFrames s packets = (place : ℕ) (p : Packet) → slice_get packets place ≡ Some p → Verifies s.key p p.block → IsAmong s.sent p
+abbrev pub KnownFrames : WorldState → List Packet → Type 0
+KnownFrames s packets = (index : ℕ) (p : Packet) → slice_get packets index ≡ Some p → Verifies s.key p p.block → IsAmong s.sent p
 
-still_known : (s : Scene) (sent more : List Packet) (p : Packet) (packets : List Packet) → sent ≡ s.sent → KnownFrames s (p ∷ packets) → (place : ℕ) (q : Packet) → slice_get packets place ≡ Some q → Verifies s.key q q.block → IsAmong (s.sent ++ more) q
-still_known s sent more p packets same known place q e v =
-    let at = known (suc place) q e v in
-    record { place = at.place; found = more_there s.sent more q at.place at.found }
+still_known : (s : WorldState) (sent more : List Packet) (p : Packet) (packets : List Packet) → sent ≡ s.sent → KnownFrames s (p ∷ packets) → (index : ℕ) (q : Packet) → slice_get packets index ≡ Some q → Verifies s.key q q.block → IsAmong (s.sent ++ more) q
+still_known s sent more p packets same known index q e v =
+    let at = known (suc index) q e v in
+    record { index = at.index; found = more_there s.sent more q at.index at.found }
 
 -- one thing and then another
-then_behind : {Core : Type 0} (wrap : Side Core → Node) (s : Scene) (k : ℕ) (d : Done (Side Core)) (o : Outcome (Side Core)) → NodeGoes s k (record { node = wrap d.node; events = d.events }) → NodeDoes (advanced s k (wrap d.node) d.events) k (as_node wrap o) → NodeDoes s k (as_node wrap (behind d.events o))
+then_behind : {Core : Type 0} (wrap : Side Core → Node) (s : WorldState) (k : ℕ) (d : Done (Side Core)) (o : Outcome (Side Core)) → NodeGoes s k (record { node = wrap d.node; events = d.events }) → NodeDoes (advanced s k (wrap d.node) d.events) k (as_node wrap o) → NodeDoes s k (as_node wrap (behind d.events o))
 then_behind wrap s k d None first next = tt
 then_behind wrap s k d (Some e) first next =
     goes_on s k (record { node = wrap d.node; events = d.events }) (record { node = wrap e.node; events = e.events }) first next
 
-then_next : {Core : Type 0} (wrap : Side Core → Node) (s : Scene) (k : ℕ) (o : Outcome (Side Core)) (next : Side Core → Outcome (Side Core)) → NodeDoes s k (as_node wrap o)
+then_next : {Core : Type 0} (wrap : Side Core → Node) (s : WorldState) (k : ℕ) (o : Outcome (Side Core)) (next : Side Core → Outcome (Side Core)) → NodeDoes s k (as_node wrap o)
     → ((d : Done (Side Core)) → NodeGoes s k (record { node = wrap d.node; events = d.events }) → NodeDoes (advanced s k (wrap d.node) d.events) k (as_node wrap (next d.node)))
     → NodeDoes s k (as_node wrap (and_then o next))
 then_next wrap s k None next first each = tt
 then_next wrap s k (Some d) next first each = then_behind wrap s k d (next d.node) first (each d first)
 
-rests : (s : Scene) (k : ℕ) (a : Node) → Steady s → slice_get s.nodes k ≡ Some a → NodeGoes s k (record { node = a; events = [] })
+rests : (s : WorldState) (k : ℕ) (a : Node) → Steady s → slice_get s.nodes k ≡ Some a → NodeGoes s k (record { node = a; events = [] })
 rests s k a g found =
     let l = g.links k a found in
     node_goes s k a a [] g found
@@ -187,19 +187,19 @@ rests s k a g found =
         rises = omega arith;
         lasts = l.lasts;
         heard = λ q h. h;
-        sends = λ p e. absurd (nowhere e.place p e.found);
+        sends = λ p e. absurd (nowhere e.index p e.found);
       };
       core = g.cores k a found;
     }) tt
 
-pub drone_hears_all : (packets : List Packet) (s : Scene) (k : ℕ) (n : Side DroneState) → Steady s → slice_get s.nodes k ≡ Some (Drone n) → KnownFrames s packets → NodeDoes s k (as_node Drone (hears_all drone_core s.clock packets n))
+pub drone_hears_all : (packets : List Packet) (s : WorldState) (k : ℕ) (n : Side DroneState) → Steady s → slice_get s.nodes k ≡ Some (Drone n) → KnownFrames s packets → NodeDoes s k (as_node Drone (hears_all drone_core s.clock packets n))
 drone_hears_all [] s k n g found known = rests s k (Drone n) g found
 drone_hears_all (p ∷ packets) s k n g found known =
     then_next Drone s k (hears drone_core s.clock p n) (hears_all drone_core s.clock packets) (drone_hears s k p g (known 0 p refl) n found) (λ d first.
-    drone_hears_all packets (advanced s k (Drone d.node) d.events) k d.node first.steady first.there (λ place q e v. still_known s s.sent (packets_in d.events) p packets refl known place q e v))
+    drone_hears_all packets (advanced s k (Drone d.node) d.events) k d.node first.steady first.there (λ index q e v. still_known s s.sent (packets_in d.events) p packets refl known index q e v))
 
-pub station_hears_all : (packets : List Packet) (s : Scene) (k : ℕ) (n : Side StationState) → Steady s → slice_get s.nodes k ≡ Some (Station n) → KnownFrames s packets → NodeDoes s k (as_node Station (hears_all station_core s.clock packets n))
+pub station_hears_all : (packets : List Packet) (s : WorldState) (k : ℕ) (n : Side StationState) → Steady s → slice_get s.nodes k ≡ Some (Station n) → KnownFrames s packets → NodeDoes s k (as_node Station (hears_all station_core s.clock packets n))
 station_hears_all [] s k n g found known = rests s k (Station n) g found
 station_hears_all (p ∷ packets) s k n g found known =
     then_next Station s k (hears station_core s.clock p n) (hears_all station_core s.clock packets) (station_hears s k p g (known 0 p refl) n found) (λ d first.
-    station_hears_all packets (advanced s k (Station d.node) d.events) k d.node first.steady first.there (λ place q e v. still_known s s.sent (packets_in d.events) p packets refl known place q e v))
+    station_hears_all packets (advanced s k (Station d.node) d.events) k d.node first.steady first.there (λ index q e v. still_known s s.sent (packets_in d.events) p packets refl known index q e v))

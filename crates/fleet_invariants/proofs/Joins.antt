@@ -1,4 +1,4 @@
--- One node more leaves a sound scene.
+-- One node more leaves a sound state.
 use Rattle.std.proofs.Common.{◌≡◌, ◌≢◌, ℕ, zero, suc, ◌+◌, ◌<◌, ◌≤◌, inl, inr, true, false, List, [], ◌∷◌, ◌++◌, slice_get, Option, Some, None, refl, sym, ap, subst, arith, ◌∙◌}
 use Rattle.std.proofs.lemmas.List.{length-append, map-append}
 use Rattle.mav_names.specs.declared.names.Name.{Name}
@@ -7,9 +7,9 @@ use Rattle.mav_profile.specs.Messages.{extras_of}
 use Rattle.mav_profile.specs.Profile.{profile_definitions}
 use Rattle.mav_nodes.specs.Links.{new_link}
 use Rattle.mav_nodes.specs.Nodes.{new_drone, new_station}
-use Rattle.scenario_lines.specs.Standing.{is_called, has_name}
-use Rattle.scenario_lines.specs.Standing as standing
-use Rattle.fleet_world.specs.Scene.{Scene, Node, Drone, Station, node_name, named, names_of, stream_of, drones_in, stations_in}
+use Rattle.scenario_lines.specs.LineContext.{is_called, has_name}
+use Rattle.scenario_lines.specs.LineContext as context
+use Rattle.fleet_world.specs.WorldState.{WorldState, Node, Drone, Station, node_name, named, names_of, stream_of, drones_in, stations_in}
 use Rattle.fleet_world.specs.Steps.{most_drones, most_stations}
 use Rattle.plan_upload.specs.Plans.{no_plans}
 use Rattle.fleet_invariants.proofs.Rooms.{roomy_fresh}
@@ -25,14 +25,14 @@ use Rattle.plan_ranges.proofs.StationRanges as stations
 abbrev pub Unnamed : List Node → Name → Type 0
 Unnamed nodes name = (i : ℕ) (a : Node) → slice_get nodes i ≡ Some a → node_name a ≢ name
 
-same_name_same : (name : Name) → standing.same_name name name ≡ true
+same_name_same : (name : Name) → context.same_name name name ≡ true
 same_name_same name = name_same name
 
 pub unnamed : (nodes : List Node) (name : Name) → has_name (names_of nodes) name ≡ false → Unnamed nodes name
 unnamed [] name h i a e is = nowhere i a e
 unnamed (n ∷ ns) name h zero a e is =
-    let called : standing.same_name (named n).name name ≡ true = ap (λ (m : Name). standing.same_name m name) (named_name n ∙ ap node_name (some_is e) ∙ is) ∙ same_name_same name in
-    differ (standing.same_name (named n).name name) called (neither _ _ h).0
+    let called : context.same_name (named n).name name ≡ true = ap (λ (m : Name). context.same_name m name) (named_name n ∙ ap node_name (some_is e) ∙ is) ∙ same_name_same name in
+    differ (context.same_name (named n).name name) called (neither _ _ h).0
 unnamed (n ∷ ns) name h (suc i) a e is = unnamed ns name (neither _ _ h).1 i a e is
 
 -- ---- counts
@@ -53,12 +53,12 @@ stations_more [] n = sym (from_none (stations_in (n ∷ [])))
 stations_more (Drone m ∷ ns) n = stations_more ns n
 stations_more (Station m ∷ ns) n = let e = stations_more ns n in omega arith
 
--- ---- the scene with one node more
+-- ---- the state with one node more
 
-abbrev pub joined : Scene → Node → Scene
+abbrev pub joined : WorldState → Node → WorldState
 joined s n = record s { nodes = s.nodes ++ n ∷ [] }
 
-pub kept_joined : (s : Scene) (n : Node) → Kept s (joined s n)
+pub kept_joined : (s : WorldState) (n : Node) → Kept s (joined s n)
 kept_joined s n = record {
   key = refl;
   nodes = λ i a e. record { node = a; found = more_there s.nodes (n ∷ []) a i e; named_is = refl; me = refl; previous = omega arith };
@@ -68,7 +68,7 @@ kept_joined s n = record {
   clock = omega arith;
 }
 
-pub sound_joined : (s : Scene) (n : Node) → Sound s → Unnamed s.nodes (node_name n) → SoundLink s (link_of n) → SoundCore n → drones_in s.nodes + drones_in (n ∷ []) ≤ most_drones → stations_in s.nodes + stations_in (n ∷ []) ≤ most_stations → Sound (joined s n)
+pub sound_joined : (s : WorldState) (n : Node) → Sound s → Unnamed s.nodes (node_name n) → SoundLink s (link_of n) → SoundCore n → drones_in s.nodes + drones_in (n ∷ []) ≤ most_drones → stations_in s.nodes + stations_in (n ∷ []) ≤ most_stations → Sound (joined s n)
 sound_joined s n g none link core drones stations =
     let k = kept_joined s n in
     record {
@@ -99,14 +99,14 @@ sound_joined s n g none link core drones stations =
       clock = g.clock;
     }
 
-pub names_joined_are : (s : Scene) (n : Node) → names_of (s.nodes ++ n ∷ []) ≡ names_of s.nodes ++ named n ∷ []
+pub names_joined_are : (s : WorldState) (n : Node) → names_of (s.nodes ++ n ∷ []) ≡ names_of s.nodes ++ named n ∷ []
 names_joined_are s n = map-append named s.nodes (n ∷ [])
 
 -- a link that has heard and sent nothing
 no_stamp : (stamp : ℕ) → ◌≡◌ {A = Option ℕ} None (Some stamp) → ⊥
 no_stamp stamp e = cc
 
-pub fresh_link : (s : Scene) (me : Stream) → (1 ≤ me.sys) × (me.sys < 256) × (1 ≤ me.comp) × (me.comp < 256) × (me.link ≡ 0) → SoundLink s (new_link s.key me (extras_of profile_definitions))
+pub fresh_link : (s : WorldState) (me : Stream) → (1 ≤ me.sys) × (me.sys < 256) × (1 ≤ me.comp) × (me.comp < 256) × (me.link ≡ 0) → SoundLink s (new_link s.key me (extras_of profile_definitions))
 fresh_link s me h = record {
   key = refl;
   extras = refl;
@@ -118,10 +118,10 @@ fresh_link s me h = record {
   streams = omega arith;
 }
 
-pub drone_joins : (s : Scene) (sys : ℕ) → Sound s → 1 ≤ sys → sys < 256 → has_name (names_of s.nodes) (record { sys = sys; comp = 1 }) ≡ false → drones_in s.nodes < most_drones → Sound (joined s (Drone (new_drone s.key sys)))
+pub drone_joins : (s : WorldState) (sys : ℕ) → Sound s → 1 ≤ sys → sys < 256 → has_name (names_of s.nodes) (record { sys = sys; comp = 1 }) ≡ false → drones_in s.nodes < most_drones → Sound (joined s (Drone (new_drone s.key sys)))
 drone_joins s sys g some small none few =
     sound_joined s (Drone (new_drone s.key sys)) g (unnamed s.nodes (record { sys = sys; comp = 1 }) none) (fresh_link s (record { sys = sys; comp = 1; link = 0 }) (some, small, omega arith, omega arith, refl)) (drones.fresh sys small, refl, refl, roomy_fresh (has_heard (new_link s.key (record { sys = sys; comp = 1; link = 0 }) (extras_of profile_definitions))) sys no_plans) (omega (arith, few)) (let h = g.stations in omega (arith, h))
 
-pub station_joins : (s : Scene) (name : Name) → Sound s → 1 ≤ name.sys → name.sys < 256 → 1 ≤ name.comp → name.comp < 256 → has_name (names_of s.nodes) name ≡ false → stations_in s.nodes < most_stations → Sound (joined s (Station (new_station s.key (stream_of name) 0)))
+pub station_joins : (s : WorldState) (name : Name) → Sound s → 1 ≤ name.sys → name.sys < 256 → 1 ≤ name.comp → name.comp < 256 → has_name (names_of s.nodes) name ≡ false → stations_in s.nodes < most_stations → Sound (joined s (Station (new_station s.key (stream_of name) 0)))
 station_joins s name g some small part short none few =
     sound_joined s (Station (new_station s.key (stream_of name) 0)) g (unnamed s.nodes name none) (fresh_link s (stream_of name) (some, small, part, short, refl)) (stations.fresh name.sys name.comp 0 0 small short (omega arith) (omega arith), refl, refl) (let h = g.drones in omega (arith, h)) (omega (arith, few))

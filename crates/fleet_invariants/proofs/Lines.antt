@@ -1,4 +1,4 @@
--- Lines leave a sound scene.
+-- Lines leave a sound state.
 use Rattle.std.proofs.Common.{◌≡◌, ℕ, suc, ◌+◌, ◌-◌, ◌<◌, Bool, true, false, inl, inr, nat_lt, IsTrue, List, [], ◌∷◌, ◌++◌, length, slice_get, Option, Some, None, Ok, Err, refl, sym, ap, subst, arith, ◌∙◌}
 use Rattle.std.specs.Prelude.{All, position}
 use Rattle.std.specs.declared.result.Result.{Result}
@@ -20,11 +20,11 @@ use Rattle.plan_ranges.specs.Ranges.{Is8, NameInRange, ItemInRange}
 use Rattle.scenario_lines.specs.declared.faults.Reason.{Reason}
 use Rattle.scenario_lines.specs.declared.lines.Line.{Line}
 use Rattle.scenario_lines.specs.declared.lines.Line.TheVariants.{Blank, Drone as DroneLine, Station as StationLine, Item as OneItem, Items, Empty, Begin, Cancel, Clear, Get, Heartbeat, Deliver, Flow, Noise, Tick, Clock}
-use Rattle.scenario_lines.specs.Standing.{is_in_role, has_name, has_drone}
-use Rattle.scenario_lines.specs.Standing as standing
+use Rattle.scenario_lines.specs.LineContext.{is_in_role, has_name, has_drone}
+use Rattle.scenario_lines.specs.LineContext as context
 use Rattle.scenario_lines.specs.Grammar.{against, first_reason}
-use Rattle.fleet_world.specs.Scene.{Scene, Node, Drone, Station, node_name, names_of, stream_of, is_station_named, drones_in, stations_in}
-use Rattle.fleet_world.specs.Steps.{Step, Halt, rests, most_drones, most_stations, node_receives, node_beats, node_ticks, node_does, as_station, station_line, orders, upload_begins, orders_at, orders_placed, orders_to, begins, cancels, clears, gets, delivers, items_from, after_line}
+use Rattle.fleet_world.specs.WorldState.{WorldState, Node, Drone, Station, node_name, names_of, stream_of, is_station_named, drones_in, stations_in}
+use Rattle.fleet_world.specs.Steps.{Step, StepError, rests, most_drones, most_stations, node_receives, node_beats, node_ticks, node_does, as_station, station_line, orders, upload_begins, orders_at, orders_found, orders_to, begins, cancels, clears, gets, delivers, items_from, after_line}
 use Rattle.fleet_invariants.specs.Sound.{link_of, Sound}
 use Rattle.fleet_invariants.specs.Kept.{StepKeeps, Keeps, names_joined, KeepsLine}
 use Rattle.fleet_invariants.specs.Laws.{EveryLineKeeps}
@@ -38,13 +38,13 @@ use Rattle.fleet_invariants.proofs.Gives.{rests_so, sound_calls, sound_flows, so
 
 -- ---- a step that names no node
 
-line_of_step : (s : Scene) (line : Line) (r : Result Step Halt) → names_joined line ≡ [] → Keeps s r → KeepsLine s line r
+line_of_step : (s : WorldState) (line : Line) (r : Result Step StepError) → names_joined line ≡ [] → Keeps s r → KeepsLine s line r
 line_of_step s line (Ok t) none h = record {
   sound = h.sound;
   kept = h.kept;
   names = h.names ∙ sym (ap (λ more. names_of s.nodes ++ more) none ∙ append-nil (names_of s.nodes));
 }
-line_of_step s line (Err halt) none h = tt
+line_of_step s line (Err error) none h = tt
 
 -- ---- no reason against it
 
@@ -59,35 +59,35 @@ no_first (Some reason) b e = absurd (let wrong : ◌≡◌ {A = Option Reason} (
 -- ---- a node that was named
 
 pub record NamedDrone (nodes : List Node) (name : Name) : Type 0 where
-  pub place : ℕ
+  pub index : ℕ
   pub node : Node
-  pub found : slice_get nodes place ≡ Some node
+  pub found : slice_get nodes index ≡ Some node
   pub name_is : node_name node ≡ name
 
-name_same : (a b : Name) → standing.same_name a b ≡ true → a ≡ b
+name_same : (a b : Name) → context.same_name a b ≡ true → a ≡ b
 name_same a b e =
     let x = both_true _ _ e in
     name_is a b (eq_true _ _ x.0) (eq_true _ _ x.1)
 
 a_drone : (nodes : List Node) (name : Name) → has_drone (names_of nodes) name ≡ true → NamedDrone nodes name
 a_drone [] name h = absurd (cc)
-a_drone (Drone d ∷ ns) name h = elim (either_true (standing.same_name (node_name (Drone d)) name) (has_drone (names_of ns) name) h) [
-  | inl x ↦ record { place = 0; node = Drone d; found = refl; name_is = name_same (node_name (Drone d)) name x }
-  | inr y ↦ (let z = a_drone ns name y in record { place = suc z.place; node = z.node; found = z.found; name_is = z.name_is })
+a_drone (Drone d ∷ ns) name h = elim (either_true (context.same_name (node_name (Drone d)) name) (has_drone (names_of ns) name) h) [
+  | inl x ↦ record { index = 0; node = Drone d; found = refl; name_is = name_same (node_name (Drone d)) name x }
+  | inr y ↦ (let z = a_drone ns name y in record { index = suc z.index; node = z.node; found = z.found; name_is = z.name_is })
 ]
-a_drone (Station t ∷ ns) name h = let z = a_drone ns name h in record { place = suc z.place; node = z.node; found = z.found; name_is = z.name_is }
+a_drone (Station t ∷ ns) name h = let z = a_drone ns name h in record { index = suc z.index; node = z.node; found = z.found; name_is = z.name_is }
 
-node_range : (s : Scene) → Sound s → (i : ℕ) (n : Node) → slice_get s.nodes i ≡ Some n → NameInRange (node_name n)
+node_range : (s : WorldState) → Sound s → (i : ℕ) (n : Node) → slice_get s.nodes i ≡ Some n → NameInRange (node_name n)
 node_range s g i n e = let l = g.links i n e in named_range n l.me.1 l.me.3
   where
     named_range : (n : Node) → (link_of n).me.sys < 256 → (link_of n).me.comp < 256 → NameInRange (node_name n)
     named_range (Drone d) a b = record { sys = a; comp = b }
     named_range (Station t) a b = record { sys = a; comp = b }
 
-drone_range : (s : Scene) → Sound s → (name : Name) → IsTrue (has_drone (names_of s.nodes) name) → NameInRange name
+drone_range : (s : WorldState) → Sound s → (name : Name) → IsTrue (has_drone (names_of s.nodes) name) → NameInRange name
 drone_range s g name h =
     let d = a_drone s.nodes name h in
-    subst NameInRange d.name_is (node_range s g d.place d.node d.found)
+    subst NameInRange d.name_is (node_range s g d.index d.node d.found)
 
 -- ---- kinds
 
@@ -102,54 +102,54 @@ clear_small (Some kind) = kind_small kind
 
 -- ---- orders
 
-at_node : (s : Scene) → Sound s → (order : ℕ → Side StationState → Result Step Halt) → ((k : ℕ) (node : Side StationState) → slice_get s.nodes k ≡ Some (Station node) → Keeps s (order k node)) → (k : ℕ) (o : Option Node) → slice_get s.nodes k ≡ o → Keeps s (orders_at s k o order)
+at_node : (s : WorldState) → Sound s → (order : ℕ → Side StationState → Result Step StepError) → ((k : ℕ) (node : Side StationState) → slice_get s.nodes k ≡ Some (Station node) → Keeps s (order k node)) → (k : ℕ) (o : Option Node) → slice_get s.nodes k ≡ o → Keeps s (orders_at s k o order)
 at_node s g order each k None found = rests_so s g
 at_node s g order each k (Some (Drone n)) found = rests_so s g
 at_node s g order each k (Some (Station n)) found = each k n found
 
-order_placed : (s : Scene) → Sound s → (order : ℕ → Side StationState → Result Step Halt) → ((k : ℕ) (node : Side StationState) → slice_get s.nodes k ≡ Some (Station node) → Keeps s (order k node)) → (k : Option ℕ) → Keeps s (orders_placed s k order)
+order_placed : (s : WorldState) → Sound s → (order : ℕ → Side StationState → Result Step StepError) → ((k : ℕ) (node : Side StationState) → slice_get s.nodes k ≡ Some (Station node) → Keeps s (order k node)) → (k : Option ℕ) → Keeps s (orders_found s k order)
 order_placed s g order each None = rests_so s g
 order_placed s g order each (Some k) = at_node s g order each k (slice_get s.nodes k) refl
 
-pub sound_orders : (s : Scene) → Sound s → (order : ℕ → Side StationState → Result Step Halt) → ((k : ℕ) (node : Side StationState) → slice_get s.nodes k ≡ Some (Station node) → Keeps s (order k node)) → (name : Name) → Keeps s (orders_to s name order)
+pub sound_orders : (s : WorldState) → Sound s → (order : ℕ → Side StationState → Result Step StepError) → ((k : ℕ) (node : Side StationState) → slice_get s.nodes k ≡ Some (Station node) → Keeps s (order k node)) → (name : Name) → Keeps s (orders_to s name order)
 sound_orders s g order each name = order_placed s g order each (position (is_station_named name) s.nodes)
 
-refused_or : (s : Scene) → Sound s → (k : ℕ) (node : Side StationState) (why : Option OpFault) (outcome : Outcome (Side StationState)) → (why ≡ None → Keeps s (node_does s k (node_name (Station node)) (as_station outcome))) → Keeps s (orders s k node why outcome)
+refused_or : (s : WorldState) → Sound s → (k : ℕ) (node : Side StationState) (why : Option OpFault) (outcome : Outcome (Side StationState)) → (why ≡ None → Keeps s (node_does s k (node_name (Station node)) (as_station outcome))) → Keeps s (orders s k node why outcome)
 refused_or s g k node (Some why) outcome h = rests_so s g
 refused_or s g k node None outcome h = h refl
 
-begin_or : (s : Scene) → Sound s → (k : ℕ) (node : Side StationState) → slice_get s.nodes k ≡ Some (Station node) → (drone : Name) → NameInRange drone → (kind : ℕ) → Is8 kind → (why : Option OpFault) → upload_refusal node.core kind s.draft ≡ why → Keeps s (upload_begins s k node drone kind why)
+begin_or : (s : WorldState) → Sound s → (k : ℕ) (node : Side StationState) → slice_get s.nodes k ≡ Some (Station node) → (drone : Name) → NameInRange drone → (kind : ℕ) → Is8 kind → (why : Option OpFault) → upload_refusal node.core kind s.draft ≡ why → Keeps s (upload_begins s k node drone kind why)
 begin_or s g k node found drone range kind small (Some why) e = rests_so s g
 begin_or s g k node found drone range kind small None e = ((sound_does s g).begins k node drone kind range small e (node_name (Station node)) found).0
 
 -- a station line sets the place of flows
-at_line : (s : Scene) → Sound s → Sound (station_line s)
+at_line : (s : WorldState) → Sound s → Sound (station_line s)
 at_line s g = sound_restated s (length s.sent) s.draft s.clock g (omega arith) g.draft (omega arith) g.clock
 
-from_line : (s : Scene) (r : Result Step Halt) → Keeps (station_line s) r → Keeps s r
+from_line : (s : WorldState) (r : Result Step StepError) → Keeps (station_line s) r → Keeps s r
 from_line s r h = restated_keeps s (length s.sent) s.draft r h
 
-pub sound_begins : (s : Scene) → Sound s → (station drone : Name) (kind : ℕ) → NameInRange drone → Is8 kind → Keeps s (begins s station drone kind)
+pub sound_begins : (s : WorldState) → Sound s → (station drone : Name) (kind : ℕ) → NameInRange drone → Is8 kind → Keeps s (begins s station drone kind)
 sound_begins s g station drone kind range small =
     sound_orders s g (λ k node. upload_begins s k node drone kind (upload_refusal node.core kind s.draft)) (λ k node found. begin_or s g k node found drone range kind small (upload_refusal node.core kind s.draft) refl) station
 
-pub sound_cancels : (s : Scene) → Sound s → (station : Name) → Keeps s (cancels s station)
+pub sound_cancels : (s : WorldState) → Sound s → (station : Name) → Keeps s (cancels s station)
 sound_cancels s g station =
     sound_orders s g (λ k node. orders s k node None (station_cancels s.clock node)) (λ k node found. ((sound_does s g).cancels k node (node_name (Station node)) found).0) station
 
-pub sound_clears : (s : Scene) → Sound s → (station drone : Name) (kind : ℕ) → NameInRange drone → Is8 kind → Keeps s (clears s station drone kind)
+pub sound_clears : (s : WorldState) → Sound s → (station drone : Name) (kind : ℕ) → NameInRange drone → Is8 kind → Keeps s (clears s station drone kind)
 sound_clears s g station drone kind range small =
     sound_orders s g (λ k node. orders s k node (refusal node.core) (station_clears s.clock (stream_of drone) kind node))
     (λ k node found. refused_or s g k node (refusal node.core) (station_clears s.clock (stream_of drone) kind node) (λ free. ((sound_does s g).clears k node drone kind range small free (node_name (Station node)) found).0)) station
 
-pub sound_gets : (s : Scene) → Sound s → (station drone : Name) (kind : ℕ) → NameInRange drone → Is8 kind → Keeps s (gets s station drone kind)
+pub sound_gets : (s : WorldState) → Sound s → (station drone : Name) (kind : ℕ) → NameInRange drone → Is8 kind → Keeps s (gets s station drone kind)
 sound_gets s g station drone kind range small =
     sound_orders s g (λ k node. orders s k node (refusal node.core) (station_gets s.clock (stream_of drone) kind node))
     (λ k node found. refused_or s g k node (refusal node.core) (station_gets s.clock (stream_of drone) kind node) (λ free. ((sound_does s g).gets k node drone kind range small free (node_name (Station node)) found).0)) station
 
 -- ---- lines
 
-drafts : (s : Scene) → Sound s → (draft : _) → All ItemInRange draft → StepKeeps s (restated s s.given draft s.clock)
+drafts : (s : WorldState) → Sound s → (draft : _) → All ItemInRange draft → StepKeeps s (restated s s.given draft s.clock)
 drafts s g draft items = record {
   sound = sound_restated s s.given draft s.clock g g.given items (omega arith) g.clock;
   kept = kept_restated s s.given draft s.clock (omega arith);
@@ -157,7 +157,7 @@ drafts s g draft items = record {
   clock = refl;
 }
 
-delivered : (s : Scene) → Sound s → (number : ℕ) (name : Name) (o : Option Packet) → slice_get s.sent (number - 1) ≡ o → Keeps s (delivers s number name o)
+delivered : (s : WorldState) → Sound s → (number : ℕ) (name : Name) (o : Option Packet) → slice_get s.sent (number - 1) ≡ o → Keeps s (delivers s number name o)
 delivered s g number name None e = rests_so s g
 delivered s g number name (Some p) e = (sound_gives s g).again (number - 1) p e name
 

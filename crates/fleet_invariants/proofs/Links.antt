@@ -19,7 +19,7 @@ use Rattle.mav_nodes.specs.Laws.{FitsMessage}
 use Rattle.mav_nodes.proofs.Bounds.{payload_small}
 use Rattle.mav_nodes.proofs.Sendings.{plan_reads_back}
 use Rattle.plan_ranges.specs.Ranges.{InRange}
-use Rattle.fleet_world.specs.Scene.{Scene}
+use Rattle.fleet_world.specs.WorldState.{WorldState}
 use Rattle.fleet_world.specs.Steps.{packets_in}
 use Rattle.fleet_invariants.specs.Sound.{IsSent, WasStamped, SoundLink}
 use Rattle.fleet_invariants.specs.Kept.{IsAmong, AllRead}
@@ -52,17 +52,17 @@ pub record BlockIs (block : SignatureBlock) (stamp : ℕ) : Type 0 where
   pub link : block.link ≡ 0
   pub stamp_is : block.stamp ≡ stamp
 
-pub block_is : (s : Scene) (p : Packet) (q : IsSent s p) (block : SignatureBlock) → p.block ≡ Some block → BlockIs block q.stamp
+pub block_is : (s : WorldState) (p : Packet) (q : IsSent s p) (block : SignatureBlock) → p.block ≡ Some block → BlockIs block q.stamp
 block_is s p q block e =
     let both = sym e ∙ ap (λ (x : Packet). x.block) q.is in
     record { link = ap (λ (b : SignatureBlock). b.link) (some_is both); stamp_is = ap (λ (b : SignatureBlock). b.stamp) (some_is both) }
 
-pub stamp_near : (s : Scene) → Steady s → (p : Packet) (q : IsSent s p) → q.stamp ≤ s.clock + length s.sent
+pub stamp_near : (s : WorldState) → Steady s → (p : Packet) (q : IsSent s p) → q.stamp ≤ s.clock + length s.sent
 stamp_near s g p q =
-    let l = g.links q.from.place q.from.node q.from.found in
+    let l = g.links q.from.index q.from.node q.from.found in
     at_most_on _ _ _ q.by_latest (at_most_on _ _ _ l.previous l.local)
 
-module _ (s : Scene) (g : Steady s) (link : Link) (l : SoundLink s link) (packet : Packet) where
+module _ (s : WorldState) (g : Steady s) (link : Link) (l : SoundLink s link) (packet : Packet) where
   abbrev with_answer : Admit → Link
   with_answer answer = record link { history = link.history ++ tried packet answer ∷ [] }
 
@@ -78,7 +78,7 @@ module _ (s : Scene) (g : Steady s) (link : Link) (l : SoundLink s link) (packet
     rises = (let e = trying_previous link.history packet answer in omega arith);
     lasts = lasts;
     heard = λ q e. heard_more link.history (tried packet answer) q e;
-    sends = λ p e. absurd (nowhere e.place p e.found);
+    sends = λ p e. absurd (nowhere e.index p e.found);
   }
 
   by_answer : (answer : Admit) → (answer ≡ Admitted → IsAmong s.sent packet) → Leaves link.history (link.history ++ tried packet answer ∷ []) packet answer → LinkMoves s link (with_answer answer) []
@@ -87,14 +87,14 @@ module _ (s : Scene) (g : Steady s) (link : Link) (l : SoundLink s link) (packet
       moves answer (subst (λ n. n ≤ s.clock + length s.sent) (sym same) l.local) (λ stream stamp e. l.lasts stream stamp (sym (none.lasts stream) ∙ e))
   by_answer answer known (Stamp block is signed last accepted) =
       let at = known is in
-      let q = g.sent at.place packet at.found in
+      let q = g.sent at.index packet at.found in
       let b = block_is s packet q block signed in
       moves answer
       (admitting_near link.history (link.history ++ tried packet answer ∷ []) block.stamp (s.clock + length s.sent) (trying_sends link.history packet answer) accepted l.local (subst (λ n. n ≤ s.clock + length s.sent) (sym b.stamp_is) (stamp_near s g packet q)))
       (λ stream stamp e. elim (last stream stamp e) [
         | inl old ↦ l.lasts stream stamp old
         | inr new ↦ record {
-          place = at.place;
+          index = at.index;
           packet = packet;
           found = at.found;
           sent = q;
@@ -111,11 +111,11 @@ module _ (s : Scene) (g : Steady s) (link : Link) (l : SoundLink s link) (packet
 
 -- ---- a message is sent
 
-pub record LinkGoes (s : Scene) (a : Link) (d : Done Link) : Type 0 where
+pub record LinkGoes (s : WorldState) (a : Link) (d : Done Link) : Type 0 where
   pub moves : LinkMoves s a d.node (packets_in d.events)
   pub reads : AllRead d.events
 
-abbrev pub LinkDoes : Scene → Link → Outcome Link → Type 0
+abbrev pub LinkDoes : WorldState → Link → Outcome Link → Type 0
 LinkDoes s a None = Unit {0}
 LinkDoes s a (Some d) = LinkGoes s a d
 
@@ -126,7 +126,7 @@ one_of : (p q : Packet) (i : ℕ) → slice_get (p ∷ []) i ≡ Some q → p �
 one_of p q zero e = some_is e
 one_of p q (suc i) e = absurd (nowhere i q e)
 
-module _ (s : Scene) (link : Link) (l : SoundLink s link) where
+module _ (s : WorldState) (link : Link) (l : SoundLink s link) where
   sending : (message : Message) → FitsMessage message → next_in link.history s.clock ≤ greatest_stamp → Sending s (sent_at (next_in link.history s.clock) link) (signed_packet link.key link.extras link.me link.seq (next_in link.history s.clock) message)
   sending message fits small =
       let stamp = next_in link.history s.clock in
@@ -159,7 +159,7 @@ module _ (s : Scene) (link : Link) (l : SoundLink s link) where
           rises = (let later = next_later link.history s.clock in let is = sending_is link.history stamp in omega (arith, later, is));
           lasts = λ stream t h. l.lasts stream t (sym ((sending_admits link.history stamp).lasts stream) ∙ h);
           heard = λ q h. heard_more link.history (sent stamp) q h;
-          sends = λ p h. subst (Sending s (sent_at stamp link)) (one_of packet p h.place h.found) (sending message fits (not_less _ _ e));
+          sends = λ p h. subst (Sending s (sent_at stamp link)) (one_of packet p h.index h.found) (sending message fits (not_less _ _ e));
         };
         reads = (plan_reads_back message fits.values fits.item (payload_small message), tt);
       })
@@ -175,7 +175,7 @@ module _ (s : Scene) (link : Link) (l : SoundLink s link) where
       rises = omega arith;
       lasts = l.lasts;
       heard = λ q h. h;
-      sends = λ p e. absurd (nowhere e.place p e.found);
+      sends = λ p e. absurd (nowhere e.index p e.found);
     };
     reads = tt;
   }

@@ -37,7 +37,7 @@ set_length [] (suc k) x = refl
 set_length (z ∷ zs) zero x = refl
 set_length (z ∷ zs) (suc k) x = ap suc (set_length zs k x)
 
--- what stands there again
+-- the element there again
 pub set_same : {A : Type 0} (xs : List A) (k : ℕ) (x : A) → slice_get xs k ≡ Some x → slice_set xs k x ≡ xs
 set_same [] k x e = absurd (nowhere k x e)
 set_same (z ∷ zs) zero x e = let same : z ≡ x = cc in ap (λ u. u ∷ zs) (sym same)
@@ -49,7 +49,7 @@ map_set f [] k x y e same = absurd (nowhere k x e)
 map_set f (z ∷ zs) zero x y e same = let is : z ≡ x = cc in ap (λ u. u ∷ map f zs) (same ∙ sym (ap f is))
 map_set f (z ∷ zs) (suc k) x y e same = ap (λ u. f z ∷ u) (map_set f zs k x y e same)
 
--- where an element of a list with one replaced was
+-- the index that an element of a list with one replaced had
 pub which : {A : Type 0} (xs : List A) (k : ℕ) (x y : A) → slice_get xs k ≡ Some x → (i : ℕ) (a : A) → slice_get (slice_set xs k y) i ≡ Some a → ((i ≡ k) × (a ≡ y)) ⊎ ((i ≢ k) × (slice_get xs i ≡ Some a))
 which [] k x y here i a e = absurd (nowhere k x here)
 which (z ∷ zs) zero x y here zero a e = inl (refl, sym (some_is e))
@@ -78,15 +78,15 @@ more_there (z ∷ zs) ys x zero e = e
 more_there (z ∷ zs) ys x (suc i) e = more_there zs ys x i e
 
 pub record IsAt {A : Type 0} (xs : List A) (x : A) : Type 0 where
-  pub place : ℕ
-  pub found : slice_get xs place ≡ Some x
+  pub index : ℕ
+  pub found : slice_get xs index ≡ Some x
 
 pub behind_there : {A : Type 0} (xs ys : List A) (x : A) → IsAt ys x → IsAt (xs ++ ys) x
 behind_there [] ys x h = h
-behind_there (z ∷ zs) ys x h = let r = behind_there zs ys x h in record { place = suc r.place; found = r.found }
+behind_there (z ∷ zs) ys x h = let r = behind_there zs ys x h in record { index = suc r.index; found = r.found }
 
 pub in_either : {A : Type 0} (xs ys : List A) (x : A) (i : ℕ) → slice_get (xs ++ ys) i ≡ Some x → (slice_get xs i ≡ Some x) ⊎ IsAt ys x
-in_either [] ys x i e = inr (record { place = i; found = e })
+in_either [] ys x i e = inr (record { index = i; found = e })
 in_either (z ∷ zs) ys x zero e = inl e
 in_either (z ∷ zs) ys x (suc i) e = in_either zs ys x i e
 
@@ -101,7 +101,7 @@ at_end [] x y (suc i) e = absurd (nowhere i y e)
 at_end (z ∷ zs) x y zero e = inl e
 at_end (z ∷ zs) x y (suc i) e = elim (at_end zs x y i e) [ inl h ↦ inl h | inr h ↦ inr (ap suc h.0, h.1) ]
 
--- a place in a list
+-- an index of a list
 pub within : {A : Type 0} (xs : List A) (i : ℕ) (x : A) → slice_get xs i ≡ Some x → i < length xs
 within [] i x e = absurd (nowhere i x e)
 within (y ∷ ys) zero x e = omega arith

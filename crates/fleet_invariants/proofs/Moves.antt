@@ -1,4 +1,4 @@
--- One node moves, and sends frames: the scene stays steady.
+-- One node moves, and sends frames: the state stays steady.
 use Rattle.std.proofs.Common.{◌≡◌, ℕ, ◌+◌, ◌<◌, ◌≤◌, ◌^◌, inl, inr, true, List, [], ◌∷◌, ◌++◌, length, map, slice_get, slice_set, Some, refl, sym, ap, subst, arith, ◌∙◌}
 use Rattle.std.specs.Prelude.{All, option_map}
 use Rattle.std.proofs.lemmas.Option.{slice_get-map}
@@ -20,7 +20,7 @@ use Rattle.plan_ranges.specs.Ranges.{ItemInRange}
 use Rattle.scenario_lines.specs.declared.roster.Named.{Named}
 use Rattle.scenario_lines.specs.declared.roster.Role.{Role}
 use Rattle.scenario_lines.specs.declared.roster.Role.TheVariants.{Drone as DroneRole, Station as StationRole}
-use Rattle.fleet_world.specs.Scene.{Scene, Node, Drone, Station, node_name, named, names_of, stream_of, drones_in, stations_in}
+use Rattle.fleet_world.specs.WorldState.{WorldState, Node, Drone, Station, node_name, named, names_of, stream_of, drones_in, stations_in}
 use Rattle.fleet_world.specs.Steps.{most_frames, most_drones, most_stations}
 use Rattle.fleet_invariants.specs.Sound.{link_of, has_heard, IsSent, WasStamped, SoundLink, SoundCore, Sound}
 use Rattle.fleet_invariants.specs.Kept.{Follows, Kept}
@@ -29,8 +29,8 @@ use Rattle.fleet_invariants.proofs.Histories.{previous_local}
 use Rattle.fleet_invariants.proofs.Streams.{streams_among, found_there}
 use Rattle.fleet_invariants.proofs.Growth.{at_most_on, same_named, sent_kept, stamped_kept, link_kept}
 
--- a scene that is sound but for the limit of frames
-pub record Steady (s : Scene) : Type 0 where
+-- a state that is sound but for the limit of frames
+pub record Steady (s : WorldState) : Type 0 where
   pub apart : (i j : ℕ) (a b : Node) → slice_get s.nodes i ≡ Some a → slice_get s.nodes j ≡ Some b → node_name a ≡ node_name b → i ≡ j
   pub links : (i : ℕ) (a : Node) → slice_get s.nodes i ≡ Some a → SoundLink s (link_of a)
   pub cores : (i : ℕ) (a : Node) → slice_get s.nodes i ≡ Some a → SoundCore a
@@ -41,14 +41,14 @@ pub record Steady (s : Scene) : Type 0 where
   pub draft : All ItemInRange s.draft
   pub clock : s.clock ≤ 140737488355328
 
-pub steady_of : (s : Scene) → Sound s → Steady s
+pub steady_of : (s : WorldState) → Sound s → Steady s
 steady_of s g = record { apart = g.apart; links = g.links; cores = g.cores; sent = g.sent; given = g.given; drones = g.drones; stations = g.stations; draft = g.draft; clock = g.clock }
 
-pub sound_of : (s : Scene) → Steady s → length s.sent ≤ most_frames → Sound s
+pub sound_of : (s : WorldState) → Steady s → length s.sent ≤ most_frames → Sound s
 sound_of s g frames = record { apart = g.apart; links = g.links; cores = g.cores; sent = g.sent; frames = frames; given = g.given; drones = g.drones; stations = g.stations; draft = g.draft; clock = g.clock }
 
 -- a frame that a node sends
-pub record Sending (s : Scene) (b : Link) (p : Packet) : Type 0 where
+pub record Sending (s : WorldState) (b : Link) (p : Packet) : Type 0 where
   pub seq : ℕ
   pub stamp : ℕ
   pub message : Message
@@ -61,7 +61,7 @@ pub record Sending (s : Scene) (b : Link) (p : Packet) : Type 0 where
   pub item_fits : ItemFits (plan_of message)
 
 -- a node's end of the links goes on
-pub record LinkMoves (s : Scene) (a b : Link) (packets : List Packet) : Type 0 where
+pub record LinkMoves (s : WorldState) (a b : Link) (packets : List Packet) : Type 0 where
   pub me : b.me ≡ a.me
   pub key : b.key ≡ s.key
   pub extras : b.extras ≡ extras_of profile_definitions
@@ -72,12 +72,12 @@ pub record LinkMoves (s : Scene) (a b : Link) (packets : List Packet) : Type 0 w
   pub heard : (stream : Stream) → has_heard a stream ≡ true → has_heard b stream ≡ true
   pub sends : (p : Packet) → IsAt packets p → Sending s b p
 
-pub record Moves (s : Scene) (a b : Node) (packets : List Packet) : Type 0 where
+pub record Moves (s : WorldState) (a b : Node) (packets : List Packet) : Type 0 where
   pub named_is : named b ≡ named a
   pub link : LinkMoves s (link_of a) (link_of b) packets
   pub core : SoundCore b
 
-abbrev pub moved : Scene → ℕ → Node → List Packet → Scene
+abbrev pub moved : WorldState → ℕ → Node → List Packet → WorldState
 moved s k b packets = record s { nodes = slice_set s.nodes k b; sent = s.sent ++ packets }
 
 -- ---- how many there are of a role
@@ -116,14 +116,14 @@ same_stations xs ys e = stations_named xs ∙ ap (among StationRole) e ∙ sym (
 
 -- ---- no more streams than nodes
 
-pub streams_few : (s : Scene) (history : List Entry) → ((stream : Stream) (stamp : ℕ) → last_of stream history ≡ Some stamp → WasStamped s stream stamp) → length (streams_of history) ≤ length s.nodes
+pub streams_few : (s : WorldState) (history : List Entry) → ((stream : Stream) (stamp : ℕ) → last_of stream history ≡ Some stamp → WasStamped s stream stamp) → length (streams_of history) ≤ length s.nodes
 streams_few s history lasts =
     let streams = map (λ (n : Node). stream_of (node_name n)) s.nodes in
     subst (λ n. length (streams_of history) ≤ n) (length-map s.nodes (λ (n : Node). stream_of (node_name n)))
     (streams_among history streams (λ stream stamp e.
     let w = lasts stream stamp e in
     let from = w.sent.from in
-    found_there streams from.place stream (slice_get-map (λ (n : Node). stream_of (node_name n)) s.nodes from.place ∙ ap (option_map (λ (n : Node). stream_of (node_name n))) from.found ∙ ap Some (ap stream_of from.name_is ∙ w.stream_is))))
+    found_there streams from.index stream (slice_get-map (λ (n : Node). stream_of (node_name n)) s.nodes from.index ∙ ap (option_map (λ (n : Node). stream_of (node_name n))) from.found ∙ ap Some (ap stream_of from.name_is ∙ w.stream_is))))
 
 -- ---- one node moves
 
@@ -133,8 +133,8 @@ stream a b c = record { sys = a; comp = b; link = c }
 node_streams : (b : Link) (name : Name) → b.me.link ≡ 0 → (record { sys = b.me.sys; comp = b.me.comp }) ≡ name → b.me ≡ stream_of name
 node_streams b name zero is = ap (λ l. stream b.me.sys b.me.comp l) zero ∙ ap stream_of is
 
-module _ (s : Scene) (k : ℕ) (a b : Node) (packets : List Packet) (found : slice_get s.nodes k ≡ Some a) (m : Moves s a b packets) where
-  abbrev after : Scene
+module _ (s : WorldState) (k : ℕ) (a b : Node) (packets : List Packet) (found : slice_get s.nodes k ≡ Some a) (m : Moves s a b packets) where
+  abbrev after : WorldState
   after = moved s k b packets
 
   follows : (i : ℕ) (c : Node) → slice_get s.nodes i ≡ Some c → Follows after.nodes i c
@@ -165,7 +165,7 @@ module _ (s : Scene) (k : ℕ) (a b : Node) (packets : List Packet) (found : sli
   pub names_moved : names_of after.nodes ≡ names_of s.nodes
   names_moved = map_set named s.nodes k a b found m.named_is
 
-  -- where a node was
+  -- the index that a node had
   record Was (i : ℕ) (c : Node) : Type 0 where
     node : Node
     there : slice_get s.nodes i ≡ Some node
@@ -198,7 +198,7 @@ module _ (s : Scene) (k : ℕ) (a b : Node) (packets : List Packet) (found : sli
       let from : (record { sys = (link_of b).me.sys; comp = (link_of b).me.comp }) ≡ p.from = sym (ap (λ (x : Packet). x.from) q.is) in
       let me : (link_of b).me ≡ stream_of p.from = node_streams (link_of b) p.from (ap (λ (x : Stream). x.link) m.link.me ∙ old.me.4) from in
       record {
-        from = record { place = k; node = b; found = there; name_is = own_name b ∙ from };
+        from = record { index = k; node = b; found = there; name_is = own_name b ∙ from };
         seq = q.seq;
         stamp = q.stamp;
         message = q.message;

@@ -12,7 +12,7 @@ use Rattle.mav_nodes.specs.News.{NodeEvent, Sends, Installs, Empties, Drops, End
 use Rattle.mav_nodes.specs.Links.{Link, Done, Outcome, done, behind, tries}
 use Rattle.mav_nodes.specs.Steps.{Side, CoreStep, answers, with_core, steps}
 use Rattle.plan_ranges.specs.Ranges.{InRange, DroneInRange, StationInRange}
-use Rattle.fleet_world.specs.Scene.{Scene, Node, Drone, Station, named, names_of}
+use Rattle.fleet_world.specs.WorldState.{WorldState, Node, Drone, Station, named, names_of}
 use Rattle.fleet_world.specs.Steps.{packets_in}
 use Rattle.fleet_invariants.specs.Sound.{Roomy, has_heard}
 use Rattle.fleet_invariants.specs.Kept.{IsAmong, AllRead, Kept}
@@ -65,32 +65,32 @@ between : (first es last : List NodeEvent) → Silent first → Silent last → 
 between first es last h k =
     packets_more first (es ++ last) ∙ ap (λ ps. ps ++ packets_in (es ++ last)) (silent_none first h) ∙ packets_more es last ∙ ap (λ ps. packets_in es ++ ps) (silent_none last k) ∙ append-nil (packets_in es)
 
--- ---- the scene after what a node did
+-- ---- the state after what a node did
 
-abbrev pub advanced : Scene → ℕ → Node → List NodeEvent → Scene
+abbrev pub advanced : WorldState → ℕ → Node → List NodeEvent → WorldState
 advanced s k b events = moved s k b (packets_in events)
 
-abbrev scene_with : Scene → List Node → List Packet → Scene
-scene_with s nodes sent = record s { nodes = nodes; sent = sent }
+abbrev state_with : WorldState → List Node → List Packet → WorldState
+state_with s nodes sent = record s { nodes = nodes; sent = sent }
 
-pub advanced_on : (s : Scene) (k : ℕ) (b c : Node) (es fs : List NodeEvent) → advanced (advanced s k b es) k c fs ≡ advanced s k c (es ++ fs)
+pub advanced_on : (s : WorldState) (k : ℕ) (b c : Node) (es fs : List NodeEvent) → advanced (advanced s k b es) k c fs ≡ advanced s k c (es ++ fs)
 advanced_on s k b c es fs =
-    ap (λ nodes. scene_with s nodes ((s.sent ++ packets_in es) ++ packets_in fs)) (set_twice s.nodes k b c) ∙ ap (scene_with s (slice_set s.nodes k c)) (append_assoc s.sent (packets_in es) (packets_in fs) ∙ ap (λ ps. s.sent ++ ps) (sym (packets_more es fs)))
+    ap (λ nodes. state_with s nodes ((s.sent ++ packets_in es) ++ packets_in fs)) (set_twice s.nodes k b c) ∙ ap (state_with s (slice_set s.nodes k c)) (append_assoc s.sent (packets_in es) (packets_in fs) ∙ ap (λ ps. s.sent ++ ps) (sym (packets_more es fs)))
 
 -- ---- outcomes
 
-pub record NodeGoes (s : Scene) (k : ℕ) (d : Done Node) : Type 0 where
+pub record NodeGoes (s : WorldState) (k : ℕ) (d : Done Node) : Type 0 where
   pub steady : Steady (advanced s k d.node d.events)
   pub kept : Kept s (advanced s k d.node d.events)
   pub names : names_of (slice_set s.nodes k d.node) ≡ names_of s.nodes
   pub there : slice_get (slice_set s.nodes k d.node) k ≡ Some d.node
   pub reads : AllRead d.events
 
-abbrev pub NodeDoes : Scene → ℕ → Outcome Node → Type 0
+abbrev pub NodeDoes : WorldState → ℕ → Outcome Node → Type 0
 NodeDoes s k None = Unit {0}
 NodeDoes s k (Some d) = NodeGoes s k d
 
-pub node_goes : (s : Scene) (k : ℕ) (a b : Node) (events : List NodeEvent) → Steady s → slice_get s.nodes k ≡ Some a → Moves s a b (packets_in events) → AllRead events → NodeGoes s k (record { node = b; events = events })
+pub node_goes : (s : WorldState) (k : ℕ) (a b : Node) (events : List NodeEvent) → Steady s → slice_get s.nodes k ≡ Some a → Moves s a b (packets_in events) → AllRead events → NodeGoes s k (record { node = b; events = events })
 node_goes s k a b events g found m reads = record {
   steady = steady_moved s k a b (packets_in events) found m g;
   kept = kept_moved s k a b (packets_in events) found m;
@@ -99,8 +99,8 @@ node_goes s k a b events g found m reads = record {
   reads = reads;
 }
 
--- behind what was done before
-pub goes_on : (s : Scene) (k : ℕ) (d e : Done Node) → NodeGoes s k d → NodeGoes (advanced s k d.node d.events) k e → NodeGoes s k (record { node = e.node; events = d.events ++ e.events })
+-- after what was done before
+pub goes_on : (s : WorldState) (k : ℕ) (d e : Done Node) → NodeGoes s k d → NodeGoes (advanced s k d.node d.events) k e → NodeGoes s k (record { node = e.node; events = d.events ++ e.events })
 goes_on s k d e h i =
     let same = advanced_on s k d.node e.node d.events e.events in
     record {
@@ -118,7 +118,7 @@ abbrev pub as_node : {Core : Type 0} → (Side Core → Node) → Outcome (Side 
 as_node wrap None = None
 as_node wrap (Some d) = done (wrap d.node) d.events
 
-module _ (s : Scene) (k : ℕ) (n : Side DroneState) (g : Steady s) (found : slice_get s.nodes k ≡ Some (Drone n)) where
+module _ (s : WorldState) (k : ℕ) (n : Side DroneState) (g : Steady s) (found : slice_get s.nodes k ≡ Some (Drone n)) where
   drone_moves : (link : Link) (core : DroneState) (packets : List Packet) → DroneInRange core → core.sys ≡ n.core.sys → Roomy (has_heard n.link) core → LinkMoves s n.link link packets → Moves s (Drone n) (Drone (record { link = link; core = core })) packets
   drone_moves link core packets range same room m =
       let own = g.cores k (Drone n) found in
@@ -147,7 +147,7 @@ module _ (s : Scene) (k : ℕ) (n : Side DroneState) (g : Steady s) (found : sli
       node_goes s k (Drone n) (Drone (record n { link = tries packet n.link })) [] g found
       (drone_moves (tries packet n.link) n.core [] (g.cores k (Drone n) found).0 refl (g.cores k (Drone n) found).3 (link_tries s g n.link (g.links k (Drone n) found) packet known)) tt
 
-module _ (s : Scene) (k : ℕ) (n : Side StationState) (g : Steady s) (found : slice_get s.nodes k ≡ Some (Station n)) where
+module _ (s : WorldState) (k : ℕ) (n : Side StationState) (g : Steady s) (found : slice_get s.nodes k ≡ Some (Station n)) where
   station_moves : (link : Link) (core : StationState) (packets : List Packet) → StationInRange core → core.me ≡ n.core.me → core.outcome ≡ None → LinkMoves s n.link link packets → Moves s (Station n) (Station (record { link = link; core = core })) packets
   station_moves link core packets range same told m =
       let own = g.cores k (Station n) found in

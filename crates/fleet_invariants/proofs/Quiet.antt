@@ -7,13 +7,13 @@ use Rattle.scenario_lines.specs.declared.lines.Line.TheVariants.{Blank}
 use Rattle.scenario_lines.specs.Words.{words_of, word_at}
 use Rattle.scenario_lines.specs.Grammar.{line_from, line_of, is_blank, most_line_bytes}
 use Rattle.scenario_lines.specs.Reasons.{reason_against}
-use Rattle.fleet_world.specs.Scene.{Scene, standing_of}
-use Rattle.fleet_world.specs.Scenario.{Stop, Played, most_lines, whole_lines, unfinished, without_cr, line_played, lines_played, at_start}
+use Rattle.fleet_world.specs.WorldState.{WorldState, context_of}
+use Rattle.fleet_world.specs.Scenario.{ScenarioError, Played, most_lines, whole_lines, unfinished, without_cr, line_played, lines_played, at_start}
 use Rattle.fleet_world.specs.Authentic.{AuthenticLine, line_read, line_done, AuthenticDone, UnlessStopped, AuthenticLines, AuthenticLast}
 use Rattle.fleet_invariants.specs.Laws.{is_noise, EveryQuietAuthentic}
 use Rattle.fleet_invariants.proofs.Tests.{by_test, differ}
 
-module _ (s : Scene) where
+module _ (s : WorldState) where
   abbrev Own : Line → Type 0
   Own line = AuthenticLine s line
 
@@ -48,21 +48,21 @@ module _ (s : Scene) where
   when_done number raw text quiet =
       by_test (AuthenticDone s) (nat_lt most_lines number) None _ (λ _. tt) (λ _.
       by_test (AuthenticDone s) (nat_lt most_line_bytes (length raw)) None _ (λ _. tt) (λ _.
-      when_read text (reason_against (standing_of s) text) quiet))
+      when_read text (reason_against (context_of s) text) quiet))
 
-unless : (o : Option Stop) (T : Type 0) → T → UnlessStopped o T
+unless : (o : Option ScenarioError) (T : Type 0) → T → UnlessStopped o T
 unless None T h = h
 unless (Some stop) T h = tt
 
 all_lines : (lines : List (List ℕ)) (p : Played) (number : ℕ) → ((i : ℕ) (raw : List ℕ) → slice_get lines i ≡ Some raw → is_noise (without_cr raw) ≡ false) → AuthenticLines p number lines
 all_lines [] p number quiet = tt
 all_lines (raw ∷ more) p number quiet =
-    unless p.stop _ (when_done p.scene number raw (without_cr raw) (quiet 0 raw refl), all_lines more (line_played p number raw) (number + 1) (λ i line e. quiet (suc i) line e))
+    unless p.stop _ (when_done p.state number raw (without_cr raw) (quiet 0 raw refl), all_lines more (line_played p number raw) (number + 1) (λ i line e. quiet (suc i) line e))
 
 last_line : (ended : Bool) (p : Played) (number : ℕ) (rest : List ℕ) → is_noise rest ≡ false → AuthenticLast ended p number rest
 last_line false p number rest quiet = tt
 last_line true p number [] quiet = tt
-last_line true p number (b ∷ bs) quiet = unless p.stop _ (when_done p.scene number (b ∷ bs) (b ∷ bs) quiet)
+last_line true p number (b ∷ bs) quiet = unless p.stop _ (when_done p.state number (b ∷ bs) (b ∷ bs) quiet)
 
 pub quiet_authentic : EveryQuietAuthentic
 quiet_authentic key ended bytes quiet = record {

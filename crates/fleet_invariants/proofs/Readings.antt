@@ -5,7 +5,7 @@ use Rattle.scenario_lines.specs.declared.faults.Reason.{Reason}
 use Rattle.scenario_lines.specs.declared.lines.Line.{Line}
 use Rattle.scenario_lines.specs.declared.lines.Line.TheVariants.{Blank}
 use Rattle.scenario_lines.specs.Words.{words_of, word_at}
-use Rattle.scenario_lines.specs.Standing.{Standing}
+use Rattle.scenario_lines.specs.LineContext.{LineContext}
 use Rattle.scenario_lines.specs.Grammar.{Form, form, Argument, Whole, Signed, Wire, A_station, A_drone, form_of, counts, arguments_at, misfit, item_words, first_reason, line_from, is_blank, most_line_bytes, whole_at}
 use Rattle.scenario_lines.specs.Reasons.{words_reason, is_unbuilt}
 use Rattle.scenario_lines.proofs.Permitted.{read_is_permitted}
@@ -28,7 +28,7 @@ fits_first : (b : Bool) (r : Reason) (m : Option Reason) → (if b then m else S
 fits_first true r m h = (refl, h)
 fits_first false r m h = absurd (let wrong : ◌≡◌ {A = Option Reason} (Some r) None = h in cc)
 
-fitted : (s : Standing) (words : List (List ℕ)) (f : Form) → words_reason s words (Some f) ≡ None → misfit s.nodes (arguments_at f (length words)) words 1 ≡ None
+fitted : (s : LineContext) (words : List (List ℕ)) (f : Form) → words_reason s words (Some f) ≡ None → misfit s.nodes (arguments_at f (length words)) words 1 ≡ None
 fitted s words f h =
     let built = no_reason (is_unbuilt (word_at words 0)) _ _ h in
     let counted = no_reason (not (counts f (length words))) _ _ built in
@@ -65,16 +65,16 @@ later : (b : Bool) (r : Reason) (m : Option Reason) → b ≡ true → (if b the
 later true r m e h = absurd (let wrong : ◌≡◌ {A = Option Reason} (Some r) None = h in cc)
 later false r m e h = absurd (let wrong : false ≡ true = e in cc)
 
-no_line : (s : Standing) (words : List (List ℕ)) (args : List Argument) (P : Type 0) → is_unbuilt (word_at words 0) ≡ true → words_reason s words (form args) ≡ None → P
+no_line : (s : LineContext) (words : List (List ℕ)) (args : List Argument) (P : Type 0) → is_unbuilt (word_at words 0) ≡ true → words_reason s words (form args) ≡ None → P
 no_line s words args P is h = absurd (later (is_unbuilt (word_at words 0)) _ _ is h)
 
-abbrev Fits : Standing → List (List ℕ) → Option Form → Line → Type 0
+abbrev Fits : LineContext → List (List ℕ) → Option Form → Line → Type 0
 Fits s words form line = words_reason s words form ≡ None → LineFits line
 
 small : (n : ℕ) → n ≤ 255 → n < 256
 small n h = omega arith
 
-module _ (s : Standing) (words : List (List ℕ)) where
+module _ (s : LineContext) (words : List (List ℕ)) where
   of_drone : (further : List (List Argument)) → words_reason s words (Some (record { needed = Whole 1 255 ∷ []; further = further })) ≡ None → Is8 (whole_at words 1)
   of_drone further h =
       let sys = fits_first _ _ _ (fitted s words (record { needed = Whole 1 255 ∷ []; further = further }) h) in
@@ -123,7 +123,7 @@ module _ (s : Standing) (words : List (List ℕ)) where
       (unbuilt (Fits s words) (bytes_eq w (codes "where")) _ _ Blank (λ is h. no_line s words (A_drone ∷ []) _ (rw is (fourth (bytes_eq w (codes "command")) (bytes_eq w (codes "params")) (bytes_eq w (codes "sim")))) h)
       (λ h. tt)))))))))))))))))))
 
-text_fits : (s : Standing) (text : List ℕ) (blank : Bool) → (if blank then None else words_reason s (words_of text) (form_of (word_at (words_of text) 0))) ≡ None → LineFits (if blank then Blank else line_from (words_of text))
+text_fits : (s : LineContext) (text : List ℕ) (blank : Bool) → (if blank then None else words_reason s (words_of text) (form_of (word_at (words_of text) 0))) ≡ None → LineFits (if blank then Blank else line_from (words_of text))
 text_fits s text true h = tt
 text_fits s text false h = words_fit s (words_of text) h
 

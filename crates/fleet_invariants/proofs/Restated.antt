@@ -1,23 +1,23 @@
--- A scene whose place of flows, draft or clock changes.
+-- A state whose place of flows, draft or clock changes.
 use Rattle.std.proofs.Common.{ℕ, ◌≤◌, List, length, Ok, Err, refl, arith}
 use Rattle.std.specs.Prelude.{All}
 use Rattle.std.specs.declared.result.Result.{Result}
 use Rattle.plan_items.specs.declared.items.Item.{Item}
 use Rattle.plan_ranges.specs.Ranges.{ItemInRange}
-use Rattle.fleet_world.specs.Scene.{Scene}
-use Rattle.fleet_world.specs.Steps.{Step, Halt}
+use Rattle.fleet_world.specs.WorldState.{WorldState}
+use Rattle.fleet_world.specs.Steps.{Step, StepError}
 use Rattle.fleet_invariants.specs.Sound.{link_of, Sound}
 use Rattle.fleet_invariants.specs.Kept.{Kept, Keeps}
 use Rattle.fleet_invariants.proofs.Growth.{kept_on, kept_still, sent_kept, link_kept}
 use Rattle.fleet_invariants.proofs.Moves.{Steady, steady_of, sound_of}
 
-abbrev pub restated : Scene → ℕ → List Item → ℕ → Scene
+abbrev pub restated : WorldState → ℕ → List Item → ℕ → WorldState
 restated s given draft clock = record s { given = given; draft = draft; clock = clock }
 
-pub kept_restated : (s : Scene) (given : ℕ) (draft : List Item) (clock : ℕ) → s.clock ≤ clock → Kept s (restated s given draft clock)
+pub kept_restated : (s : WorldState) (given : ℕ) (draft : List Item) (clock : ℕ) → s.clock ≤ clock → Kept s (restated s given draft clock)
 kept_restated s given draft clock h = kept_still s (restated s given draft clock) refl refl refl h
 
-pub steady_restated : (s : Scene) (given : ℕ) (draft : List Item) (clock : ℕ) → Steady s → given ≤ length s.sent → All ItemInRange draft → s.clock ≤ clock → clock ≤ 140737488355328 → Steady (restated s given draft clock)
+pub steady_restated : (s : WorldState) (given : ℕ) (draft : List Item) (clock : ℕ) → Steady s → given ≤ length s.sent → All ItemInRange draft → s.clock ≤ clock → clock ≤ 140737488355328 → Steady (restated s given draft clock)
 steady_restated s given draft clock g few items later soon =
     let k = kept_restated s given draft clock later in
     record {
@@ -32,19 +32,19 @@ steady_restated s given draft clock g few items later soon =
       clock = soon;
     }
 
-pub sound_restated : (s : Scene) (given : ℕ) (draft : List Item) (clock : ℕ) → Sound s → given ≤ length s.sent → All ItemInRange draft → s.clock ≤ clock → clock ≤ 140737488355328 → Sound (restated s given draft clock)
+pub sound_restated : (s : WorldState) (given : ℕ) (draft : List Item) (clock : ℕ) → Sound s → given ≤ length s.sent → All ItemInRange draft → s.clock ≤ clock → clock ≤ 140737488355328 → Sound (restated s given draft clock)
 sound_restated s given draft clock g few items later soon =
     sound_of (restated s given draft clock) (steady_restated s given draft clock (steady_of s g) few items later soon) g.frames
 
-pub regiven : (s : Scene) (given : ℕ) → Sound s → given ≤ length s.sent → Sound (record s { given = given })
+pub regiven : (s : WorldState) (given : ℕ) → Sound s → given ≤ length s.sent → Sound (record s { given = given })
 regiven s given g few = sound_restated s given s.draft s.clock g few g.draft (omega arith) g.clock
 
--- a step of such a scene, at the same clock, is one of the scene
-pub restated_keeps : (s : Scene) (given : ℕ) (draft : List Item) (r : Result Step Halt) → Keeps (restated s given draft s.clock) r → Keeps s r
+-- a step of such a state, at the same clock, is one of the state
+pub restated_keeps : (s : WorldState) (given : ℕ) (draft : List Item) (r : Result Step StepError) → Keeps (restated s given draft s.clock) r → Keeps s r
 restated_keeps s given draft (Ok t) h = record {
   sound = h.sound;
-  kept = kept_on s (restated s given draft s.clock) t.scene (kept_restated s given draft s.clock (omega arith)) h.kept;
+  kept = kept_on s (restated s given draft s.clock) t.state (kept_restated s given draft s.clock (omega arith)) h.kept;
   names = h.names;
   clock = h.clock;
 }
-restated_keeps s given draft (Err halt) h = tt
+restated_keeps s given draft (Err error) h = tt

@@ -36,9 +36,9 @@ is_one a b same =
     let link = eq_true _ _ rest.1 in
     λ i. record { sys = sys i; comp = comp i; link = link i }
 
--- a stream is told apart from one that the other test tells apart
-told_apart : (a b : Stream) → is_stream a b ≡ false → same_stream b a ≡ false
-told_apart a b e = elim (same_stream b a) as (λ t. same_stream b a ≡ t → t ≡ false) [
+-- two tests for one stream agree on other streams
+streams_differ : (a b : Stream) → is_stream a b ≡ false → same_stream b a ≡ false
+streams_differ a b e = elim (same_stream b a) as (λ t. same_stream b a ≡ t → t ≡ false) [
   | true ↦ λ same. absurd (differ _ (subst (λ x. is_stream x b ≡ true) (same_is b a same) (self b)) e)
   | false ↦ λ same. refl
 ] refl
@@ -49,14 +49,14 @@ told_apart a b e = elim (same_stream b a) as (λ t. same_stream b a ≡ t → t 
         number_same : (n : ℕ) → (n == n) ≡ true
         number_same n = grind arith
 
--- the streams with a result, with one more: it is one of them, or behind them
+-- the streams with a result, with one more: it is one of them, or after them
 data More (s : Stream) (before after : List Stream) : Type 0 where
   Known : after ≡ before → More s before after
   New : list_any (same_stream s) before ≡ false → after ≡ before ++ s ∷ [] → More s before after
 
 keys_more : (rs : List UploadResult) (s : Stream) (b : Bool) → More s (keys rs) (keys (with_result rs s b))
 keys_more [] s b = New refl refl
-keys_more (r ∷ rs) s b = by_test (λ qs. More s (keys (r ∷ rs)) (keys qs)) (is_stream r.stream s) _ _ (λ _. Known refl) (λ e. other (told_apart r.stream s e) (keys_more rs s b))
+keys_more (r ∷ rs) s b = by_test (λ qs. More s (keys (r ∷ rs)) (keys qs)) (is_stream r.stream s) _ _ (λ _. Known refl) (λ e. other (streams_differ r.stream s e) (keys_more rs s b))
   where
     other : same_stream s r.stream ≡ false → More s (keys rs) (keys (with_result rs s b)) → More s (r.stream ∷ keys rs) (r.stream ∷ keys (with_result rs s b))
     other e (Known same) = Known (ap (λ ks. r.stream ∷ ks) same)

@@ -48,7 +48,7 @@ pub streams_among : (history : List Entry) (streams : List Stream) → ((stream 
 streams_among history streams each =
     length-le_from_is_member laws (streams_of history) streams (distinct history) (λ q kept. let last = value_of (last_of q history) (sym (is_kept q history) ∙ kept) in each q last.0 last.1)
 
--- a place in a list
+-- an index of a list
 pub found_there : (streams : List Stream) (i : ℕ) (stream : Stream) → slice_get streams i ≡ Some stream → list_any (same_stream stream) streams ≡ true
 found_there [] i stream e = absurd (nowhere i stream e)
 found_there (x ∷ xs) zero stream e = rw (ap (same_stream stream) (some_is e) ∙ same_self stream) refl

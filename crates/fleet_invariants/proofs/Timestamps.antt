@@ -130,10 +130,10 @@ module _ {Core : Type 0} (step : Core → Stream → PlanMsg → CoreStep Core) 
   then_done n (Some d) next h each = behind_done d.events (next d.node) (each d.node h)
 
   -- all frames of a datagram
-  pub all_done : (packets : List Packet) (base n : ℕ) (node : Side Core) → base ≤ n → Near clock key n node.link → ((place : ℕ) (p : Packet) → slice_get packets place ≡ Some p → NearFrame clock key base p)
+  pub all_done : (packets : List Packet) (base n : ℕ) (node : Side Core) → base ≤ n → Near clock key n node.link → ((index : ℕ) (p : Packet) → slice_get packets index ≡ Some p → NearFrame clock key base p)
       → clock + (n + length packets) ≤ greatest_stamp → IsDone (hears_all step clock packets node)
   all_done [] base n node few h near room = tt
   all_done (p ∷ packets) base n node few h near room =
       then_done (n + 1) (hears step clock p node) (hears_all step clock packets)
       (hears_near n node p h (λ v block signed. at_most_on _ _ _ (near 0 p refl v block signed) (omega arith)) (omega arith))
-      (λ next k. all_done packets base (n + 1) next (omega arith) k (λ place q e. near (suc place) q e) (omega arith))
+      (λ next k. all_done packets base (n + 1) next (omega arith) k (λ index q e. near (suc index) q e) (omega arith))

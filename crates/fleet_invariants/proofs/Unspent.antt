@@ -30,9 +30,9 @@ use Rattle.scenario_lines.specs.declared.lines.Line.TheVariants.{Blank, Drone as
 use Rattle.scenario_lines.specs.Grammar.{line_of, most_line_bytes}
 use Rattle.scenario_lines.specs.Reasons.{reason_against}
 use Rattle.fleet_report.specs.Events.{Event}
-use Rattle.fleet_world.specs.Scene.{Scene, Node, Drone, Station, node_name, is_named, is_station_named, stream_of, standing_of, drones_in, stations_in}
-use Rattle.fleet_world.specs.Steps.{Step, Halt, At_limit, Stamps_spent, most_frames, most_drones, most_stations, behind, and_then, packets_in, as_drone, as_station, node_receives, node_beats, node_ticks, node_does, calls_at, calls_placed, calls, given_to, given_from, given_to_all, flow_next, flows, delivers, station_line, orders, upload_begins, orders_at, orders_placed, orders_to, begins, cancels, clears, gets, after_line}
-use Rattle.fleet_world.specs.Scenario.{Stop, Bad, Too_many_lines, Halted, Played, most_lines, whole_lines, unfinished, without_cr, stopped, goes_on, judged, line_played, unless_stopped, lines_played, at_start, last_played, rest_played, played}
+use Rattle.fleet_world.specs.WorldState.{WorldState, Node, Drone, Station, node_name, is_named, is_station_named, stream_of, context_of, drones_in, stations_in}
+use Rattle.fleet_world.specs.Steps.{Step, StepError, At_limit, Stamps_spent, most_frames, most_drones, most_stations, behind, and_then, packets_in, as_drone, as_station, node_receives, node_beats, node_ticks, node_does, calls_at, calls_found, calls, given_to, given_from, given_to_all, flow_next, flows, delivers, station_line, orders, upload_begins, orders_at, orders_found, orders_to, begins, cancels, clears, gets, after_line}
+use Rattle.fleet_world.specs.Scenario.{ScenarioError, Bad, Too_many_lines, Not_done, Played, most_lines, whole_lines, unfinished, without_cr, stopped, goes_on, judged, line_played, unless_stopped, lines_played, at_start, last_played, rest_played, played}
 use Rattle.fleet_world.specs.Authentic.{AuthenticLine, line_read, line_done, AuthenticDone, UnlessStopped, AuthenticLines, AuthenticLast}
 use Rattle.fleet_invariants.specs.Sound.{link_of, Sound}
 use Rattle.fleet_invariants.specs.Kept.{Known, StepKeeps, Keeps, LineFits}
@@ -66,17 +66,17 @@ station_done (Some d) h = tt
 abbrev HasFew : List ℕ → Type 0
 HasFew bytes = length (frames_of (final_parse (extras_of profile_definitions) bytes)) ≤ 4096
 
-module _ (s : Scene) (g : Sound s) where
+module _ (s : WorldState) (g : Sound s) where
   abbrev NearNow : Link → Type 0
   NearNow link = Near s.clock s.key (length s.sent) link
 
   near_at : (k : ℕ) (a : Node) → slice_get s.nodes k ≡ Some a → NearNow (link_of a)
   near_at k a found = let l = g.links k a found in record { key_is = l.key; local = l.local }
 
-  near_known : (packets : List Packet) → KnownFrames s packets → (place : ℕ) (p : Packet) → slice_get packets place ≡ Some p → NearFrame s.clock s.key (length s.sent) p
-  near_known packets known place p e v block signed =
-      let at = known place p e v in
-      let q = g.sent at.place p at.found in
+  near_known : (packets : List Packet) → KnownFrames s packets → (index : ℕ) (p : Packet) → slice_get packets index ≡ Some p → NearFrame s.clock s.key (length s.sent) p
+  near_known packets known index p e v block signed =
+      let at = known index p e v in
+      let q = g.sent at.index p at.found in
       subst (λ n. n ≤ s.clock + length s.sent) (sym (block_is s p q block signed).stamp_is) (stamp_near s (steady_of s g) p q)
 
   room : s.clock + (length s.sent + 1) ≤ greatest_stamp
@@ -125,33 +125,33 @@ module _ (s : Scene) (g : Sound s) where
 -- ---- steps
 
 -- if a step isn't done, it isn't for want of a timestamp
-abbrev Unspent : Result Step Halt → Type 0
+abbrev Unspent : Result Step StepError → Type 0
 Unspent (Ok t) = Unit {0}
 Unspent (Err (At_limit limit)) = Unit {0}
 Unspent (Err Stamps_spent) = ⊥
 
-behind_unspent : (events : List Event) (r : Result Step Halt) → Unspent r → Unspent (behind events r)
+behind_unspent : (events : List Event) (r : Result Step StepError) → Unspent r → Unspent (behind events r)
 behind_unspent events (Ok t) h = tt
 behind_unspent events (Err (At_limit limit)) h = tt
 behind_unspent events (Err Stamps_spent) h = h
 
-then_unspent : (s : Scene) (r : Result Step Halt) (next : Scene → Result Step Halt) → Keeps s r → Unspent r → ((t : Scene) → StepKeeps s t → Unspent (next t)) → Unspent (and_then r next)
-then_unspent s (Ok t) next keeps h each = behind_unspent t.events (next t.scene) (each t.scene keeps)
+then_unspent : (s : WorldState) (r : Result Step StepError) (next : WorldState → Result Step StepError) → Keeps s r → Unspent r → ((t : WorldState) → StepKeeps s t → Unspent (next t)) → Unspent (and_then r next)
+then_unspent s (Ok t) next keeps h each = behind_unspent t.events (next t.state) (each t.state keeps)
 then_unspent s (Err (At_limit limit)) next keeps h each = tt
 then_unspent s (Err Stamps_spent) next keeps h each = h
 
-does : (s : Scene) (k : ℕ) (name : Name) (o : Outcome Node) → IsDone o → Unspent (node_does s k name o)
+does : (s : WorldState) (k : ℕ) (name : Name) (o : Outcome Node) → IsDone o → Unspent (node_does s k name o)
 does s k name None h = h
 does s k name (Some d) h = by_test Unspent (nat_le (length s.sent + length (packets_in d.events)) most_frames) _ _ (λ _. tt) (λ _. tt)
 
-module _ (s : Scene) (g : Sound s) where
-  at_place : (call : Node → Outcome Node) → EachDone s g call → (k : ℕ) (o : Option Node) → slice_get s.nodes k ≡ o → Unspent (calls_at s k o call)
-  at_place call each k None found = tt
-  at_place call each k (Some node) found = does s k (node_name node) (call node) (each k node found)
+module _ (s : WorldState) (g : Sound s) where
+  at_index : (call : Node → Outcome Node) → EachDone s g call → (k : ℕ) (o : Option Node) → slice_get s.nodes k ≡ o → Unspent (calls_at s k o call)
+  at_index call each k None found = tt
+  at_index call each k (Some node) found = does s k (node_name node) (call node) (each k node found)
 
-  placed : (call : Node → Outcome Node) → EachDone s g call → (k : Option ℕ) → Unspent (calls_placed s k call)
+  placed : (call : Node → Outcome Node) → EachDone s g call → (k : Option ℕ) → Unspent (calls_found s k call)
   placed call each None = tt
-  placed call each (Some k) = at_place call each k (slice_get s.nodes k) refl
+  placed call each (Some k) = at_index call each k (slice_get s.nodes k) refl
 
   calls_unspent : (name : Name) (call : Node → Outcome Node) → EachDone s g call → Unspent (calls s name call)
   calls_unspent name call each = placed call each (position (is_named name) s.nodes)
@@ -165,12 +165,12 @@ module _ (s : Scene) (g : Sound s) where
   delivered number name None found = tt
   delivered number name (Some p) found = calls_unspent name (node_receives s.clock (encoding p)) (sent_done s g (number - 1) p found)
 
-given_some : (n : ℕ) (s : Scene) → Sound s → (i : ℕ) (p : Packet) → slice_get s.sent i ≡ Some p → (k : ℕ) → Unspent (given_from s k n p)
+given_some : (n : ℕ) (s : WorldState) → Sound s → (i : ℕ) (p : Packet) → slice_get s.sent i ≡ Some p → (k : ℕ) → Unspent (given_from s k n p)
 given_some zero s g i p sent k = tt
 given_some (suc n) s g i p sent k =
     then_unspent s (given_to s k p (slice_get s.nodes k)) (λ t. given_from t (k + 1) n p) ((sound_gives s g).one i p sent k) (given_one s g i p sent k (slice_get s.nodes k) refl) (λ t h. given_some n t h.sound i p (h.kept.sent i p sent) (k + 1))
 
-flow_unspent : (s : Scene) → Sound s → (o : Option Packet) → slice_get s.sent s.given ≡ o → (next : Scene → Result Step Halt) → ((t : Scene) → Sound t → Unspent (next t)) → Unspent (flow_next s o next)
+flow_unspent : (s : WorldState) → Sound s → (o : Option Packet) → slice_get s.sent s.given ≡ o → (next : WorldState → Result Step StepError) → ((t : WorldState) → Sound t → Unspent (next t)) → Unspent (flow_next s o next)
 flow_unspent s g None e next each = tt
 flow_unspent s g (Some p) e next each =
     let inside = within s.sent s.given p e in
@@ -178,26 +178,26 @@ flow_unspent s g (Some p) e next each =
     let sound = sound_restated s (s.given + 1) s.draft s.clock g (omega arith) g.draft (omega arith) g.clock in
     then_unspent t (given_to_all t p) next ((sound_gives t sound).all s.given p e) (given_some (length s.nodes) t sound s.given p e 0) (λ u h. each u h.sound)
 
-flows_unspent : (k : ℕ) (s : Scene) → Sound s → Unspent (flows k s)
+flows_unspent : (k : ℕ) (s : WorldState) → Sound s → Unspent (flows k s)
 flows_unspent zero s g = tt
 flows_unspent (suc k) s g = flow_unspent s g (slice_get s.sent s.given) refl (flows k) (λ t h. flows_unspent k t h)
 
 -- ---- orders
 
-module _ (s : Scene) (g : Sound s) where
-  abbrev EachOrder : (ℕ → Side StationState → Result Step Halt) → Type 0
+module _ (s : WorldState) (g : Sound s) where
+  abbrev EachOrder : (ℕ → Side StationState → Result Step StepError) → Type 0
   EachOrder order = (k : ℕ) (node : Side StationState) → slice_get s.nodes k ≡ Some (Station node) → Unspent (order k node)
 
-  order_at : (order : ℕ → Side StationState → Result Step Halt) → EachOrder order → (k : ℕ) (o : Option Node) → slice_get s.nodes k ≡ o → Unspent (orders_at s k o order)
+  order_at : (order : ℕ → Side StationState → Result Step StepError) → EachOrder order → (k : ℕ) (o : Option Node) → slice_get s.nodes k ≡ o → Unspent (orders_at s k o order)
   order_at order each k None found = tt
   order_at order each k (Some (Drone n)) found = tt
   order_at order each k (Some (Station n)) found = each k n found
 
-  order_placed : (order : ℕ → Side StationState → Result Step Halt) → EachOrder order → (k : Option ℕ) → Unspent (orders_placed s k order)
+  order_placed : (order : ℕ → Side StationState → Result Step StepError) → EachOrder order → (k : Option ℕ) → Unspent (orders_found s k order)
   order_placed order each None = tt
   order_placed order each (Some k) = order_at order each k (slice_get s.nodes k) refl
 
-  order_unspent : (order : ℕ → Side StationState → Result Step Halt) → EachOrder order → (name : Name) → Unspent (orders_to s name order)
+  order_unspent : (order : ℕ → Side StationState → Result Step StepError) → EachOrder order → (name : Name) → Unspent (orders_to s name order)
   order_unspent order each name = order_placed order each (position (is_station_named name) s.nodes)
 
   -- a station's step is done
@@ -233,10 +233,10 @@ module _ (s : Scene) (g : Sound s) where
 
 -- ---- lines
 
-at_line : (s : Scene) → Sound s → Sound (station_line s)
+at_line : (s : WorldState) → Sound s → Sound (station_line s)
 at_line s g = sound_restated s (length s.sent) s.draft s.clock g (omega arith) g.draft (omega arith) g.clock
 
-line_unspent : (s : Scene) → Sound s → (line : Line) → LineFits line → AuthenticLine s line → IsShort line → Unspent (after_line s line)
+line_unspent : (s : WorldState) → Sound s → (line : Line) → LineFits line → AuthenticLine s line → IsShort line → Unspent (after_line s line)
 line_unspent s g Blank fits authentic short = tt
 line_unspent s g (DroneLine sys x y) fits authentic short = by_test Unspent (nat_lt (drones_in s.nodes) most_drones) _ _ (λ _. tt) (λ _. tt)
 line_unspent s g (StationLine sys comp) fits authentic short = by_test Unspent (nat_lt (stations_in s.nodes) most_stations) _ _ (λ _. tt) (λ _. tt)
@@ -259,66 +259,66 @@ line_unspent s g (Clock n) fits authentic short = tt
 -- ---- a scenario
 
 -- it isn't for want of a timestamp that it stopped, if it did
-abbrev HasNext : Option Stop → Type 0
+abbrev HasNext : Option ScenarioError → Type 0
 HasNext None = Unit {0}
 HasNext (Some (Bad line reason)) = Unit {0}
 HasNext (Some Too_many_lines) = Unit {0}
-HasNext (Some (Halted (At_limit limit))) = Unit {0}
-HasNext (Some (Halted Stamps_spent)) = ⊥
+HasNext (Some (Not_done (At_limit limit))) = Unit {0}
+HasNext (Some (Not_done Stamps_spent)) = ⊥
 
 abbrev Goes : Played → Type 0
 Goes p = HasNext p.stop
 
-went_on : (p : Played) (r : Result Step Halt) → Unspent r → Goes (goes_on p r)
+went_on : (p : Played) (r : Result Step StepError) → Unspent r → Goes (goes_on p r)
 went_on p (Ok t) h = tt
 went_on p (Err (At_limit limit)) h = tt
 went_on p (Err Stamps_spent) h = h
 
-judging : (p : Played) → Sound p.scene → (number : ℕ) (text : List ℕ) (reason : Option Reason) → reason_against (standing_of p.scene) text ≡ reason → AuthenticDone p.scene (line_read text reason) → Goes (judged p number text reason)
+judging : (p : Played) → Sound p.state → (number : ℕ) (text : List ℕ) (reason : Option Reason) → reason_against (context_of p.state) text ≡ reason → AuthenticDone p.state (line_read text reason) → Goes (judged p number text reason)
 judging p g number text (Some reason) e authentic = tt
 judging p g number text None e authentic =
-    went_on p (after_line p.scene (line_of text)) (line_unspent p.scene g (line_of text) (read_fits (standing_of p.scene) text e).1 authentic (line_short (standing_of p.scene) text e))
+    went_on p (after_line p.state (line_of text)) (line_unspent p.state g (line_of text) (read_fits (context_of p.state) text e).1 authentic (line_short (context_of p.state) text e))
 
-line_goes : (p : Played) → Sound p.scene → (number : ℕ) (raw text : List ℕ) → AuthenticDone p.scene (line_done p.scene number raw text)
-    → Goes (if nat_lt most_lines number then stopped p Too_many_lines else if nat_lt most_line_bytes (length raw) then stopped p (Bad number Long) else judged p number text (reason_against (standing_of p.scene) text))
+line_goes : (p : Played) → Sound p.state → (number : ℕ) (raw text : List ℕ) → AuthenticDone p.state (line_done p.state number raw text)
+    → Goes (if nat_lt most_lines number then stopped p Too_many_lines else if nat_lt most_line_bytes (length raw) then stopped p (Bad number Long) else judged p number text (reason_against (context_of p.state) text))
 line_goes p g number raw text authentic =
-    choosing Goes (AuthenticDone p.scene) (nat_lt most_lines number) (stopped p Too_many_lines) _ None _ (λ _. tt)
-    (choosing Goes (AuthenticDone p.scene) (nat_lt most_line_bytes (length raw)) (stopped p (Bad number Long)) _ None _ (λ _. tt)
-    (judging p g number text (reason_against (standing_of p.scene) text) refl))
+    choosing Goes (AuthenticDone p.state) (nat_lt most_lines number) (stopped p Too_many_lines) _ None _ (λ _. tt)
+    (choosing Goes (AuthenticDone p.state) (nat_lt most_line_bytes (length raw)) (stopped p (Bad number Long)) _ None _ (λ _. tt)
+    (judging p g number text (reason_against (context_of p.state) text) refl))
     authentic
 
-unless : (o : Option Stop) (p next : Played) (T : Type 0) → Goes p → UnlessStopped o T → (T → Goes next) → Goes (unless_stopped o p next)
+unless : (o : Option ScenarioError) (p next : Played) (T : Type 0) → Goes p → UnlessStopped o T → (T → Goes next) → Goes (unless_stopped o p next)
 unless None p next T h each on = on each
 unless (Some stop) p next T h each on = h
 
-lines_go : (lines : List (List ℕ)) (p : Played) → Sound p.scene → Goes p → (number : ℕ) → AuthenticLines p number lines → Goes (lines_played p number lines)
+lines_go : (lines : List (List ℕ)) (p : Played) → Sound p.state → Goes p → (number : ℕ) → AuthenticLines p number lines → Goes (lines_played p number lines)
 lines_go [] p g h number authentic = h
 lines_go (raw ∷ more) p g h number authentic =
     unless p.stop p (lines_played (line_played p number raw) (number + 1) more) _ h authentic (λ each.
     lines_go more (line_played p number raw) (one_line p g number raw (without_cr raw) each.0) (line_goes p g number raw (without_cr raw) each.0) (number + 1) each.1)
 
-last_goes : (p : Played) → Sound p.scene → Goes p → (number : ℕ) (rest : List ℕ) → p.stop ≡ None → AuthenticLast true p number rest → Goes (last_played p number rest)
+last_goes : (p : Played) → Sound p.state → Goes p → (number : ℕ) (rest : List ℕ) → p.stop ≡ None → AuthenticLast true p number rest → Goes (last_played p number rest)
 last_goes p g h number [] e authentic = h
 last_goes p g h number (b ∷ bs) e authentic =
-    line_goes p g number (b ∷ bs) (b ∷ bs) (subst (λ (o : Option Stop). UnlessStopped o (AuthenticDone p.scene (line_done p.scene number (b ∷ bs) (b ∷ bs)))) e authentic)
+    line_goes p g number (b ∷ bs) (b ∷ bs) (subst (λ (o : Option ScenarioError). UnlessStopped o (AuthenticDone p.state (line_done p.state number (b ∷ bs) (b ∷ bs)))) e authentic)
 
-rest_goes : (ended : Bool) (p : Played) → Sound p.scene → Goes p → (number : ℕ) (rest : List ℕ) → p.stop ≡ None → AuthenticLast ended p number rest → Goes (rest_played ended p number rest)
+rest_goes : (ended : Bool) (p : Played) → Sound p.state → Goes p → (number : ℕ) (rest : List ℕ) → p.stop ≡ None → AuthenticLast ended p number rest → Goes (rest_played ended p number rest)
 rest_goes true p g h number rest e authentic = last_goes p g h number rest e authentic
 rest_goes false p g h number rest e authentic =
     by_test Goes (nat_lt most_line_bytes (length rest)) _ p
     (λ _. by_test Goes (nat_lt most_lines number) _ _ (λ _. tt) (λ _. tt)) (λ _. h)
 
-finished : (o : Option Stop) (p next : Played) → Goes p → p.stop ≡ o → (p.stop ≡ None → Goes next) → Goes (unless_stopped o p next)
+finished : (o : Option ScenarioError) (p next : Played) → Goes p → p.stop ≡ o → (p.stop ≡ None → Goes next) → Goes (unless_stopped o p next)
 finished None p next h e each = each e
 finished (Some stop) p next h e each = h
 
-not_spent : (o : Option Stop) → HasNext o → o ≢ Some (Halted Stamps_spent)
+not_spent : (o : Option ScenarioError) → HasNext o → o ≢ Some (Not_done Stamps_spent)
 not_spent o h e = subst HasNext e h
 
 pub none_spent : NoneSpent
 none_spent key ended bytes authentic =
     let lines = lines_played (at_start key) 1 (whole_lines bytes) in
-    let g : Sound lines.scene = sound_lines (at_start key) (sound_start key) 1 (whole_lines bytes) authentic.lines in
+    let g : Sound lines.state = sound_lines (at_start key) (sound_start key) 1 (whole_lines bytes) authentic.lines in
     let h : Goes lines = lines_go (whole_lines bytes) (at_start key) (sound_start key) tt 1 authentic.lines in
     not_spent (played key ended bytes).stop
     (finished lines.stop lines (rest_played ended lines (length (whole_lines bytes) + 1) (unfinished bytes)) h refl (λ e.

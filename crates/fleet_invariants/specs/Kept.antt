@@ -1,4 +1,4 @@
--- What each step keeps of a sound scene, and how sent frames are heard.
+-- What each step keeps of a sound state, and how sent frames are heard.
 use Rattle.std.specs.Prelude.{ℕ, ◌≡◌, ◌≤◌, List, [], ◌∷◌, ◌++◌, length, slice_get, All, Some, None, Ok, Err}
 use Rattle.std.specs.declared.result.Result.{Result}
 use Rattle.mav_profile.specs.Messages.{extras_of}
@@ -18,29 +18,29 @@ use Rattle.scenario_lines.specs.declared.lines.Line.TheVariants.{Blank, Drone as
 use Rattle.scenario_lines.specs.declared.roster.Named.{Named}
 use Rattle.scenario_lines.specs.declared.roster.Role.TheVariants.{Drone as DroneRole, Station as StationRole}
 use Rattle.plan_ranges.specs.Ranges.{Is8, ItemInRange}
-use Rattle.fleet_world.specs.Scene.{Scene, Node, named, names_of}
-use Rattle.fleet_world.specs.Steps.{Step, Halt}
+use Rattle.fleet_world.specs.WorldState.{WorldState, Node, named, names_of}
+use Rattle.fleet_world.specs.Steps.{Step, StepError}
 use Rattle.fleet_invariants.specs.Sound.{link_of, IsSent, Sound}
 
 -- a frame is one of those that were sent
 pub record IsAmong (sent : List Packet) (p : Packet) : Type 0 where
-  pub place : ℕ
-  pub found : slice_get sent place ≡ Some p
+  pub index : ℕ
+  pub found : slice_get sent index ≡ Some p
 
 -- each frame of some bytes that verifies is one of those that were sent
-abbrev pub Known : Scene → List ℕ → Type 0
+abbrev pub Known : WorldState → List ℕ → Type 0
 Known s bytes =
-    (place : ℕ) (p : Packet) → slice_get (frames_of (final_parse (extras_of profile_definitions) bytes)) place ≡ Some p
+    (index : ℕ) (p : Packet) → slice_get (frames_of (final_parse (extras_of profile_definitions) bytes)) index ≡ Some p
     → Verifies s.key p p.block → IsAmong s.sent p
 
 -- a sent frame is heard as it was sent: alone in its bytes, on link 0, at its timestamp, signed, with its message
-pub record Heard (s : Scene) (p : Packet) (sent : IsSent s p) : Type 0 where
+pub record Heard (s : WorldState) (p : Packet) (sent : IsSent s p) : Type 0 where
   pub frames : frames_of (final_parse (extras_of profile_definitions) (encoding p)) ≡ p ∷ []
   pub block : p.block ≡ Some (record { link = 0; stamp = sent.stamp; sig = signature_of s.key p 0 sent.stamp })
   pub verifies : Verifies s.key p p.block
   pub plan : plan_in p.id p.payload ≡ plan_of sent.message
 
--- a frame that is told to be sent carries the plan message of its message
+-- a frame that is reported as sent carries the plan message of its message
 abbrev pub Reads : NodeEvent → Type 0
 Reads (Sends packet message) = plan_in packet.id packet.payload ≡ plan_of message
 Reads (Installs kind items by) = Unit {0}
@@ -56,16 +56,16 @@ abbrev pub OutcomeReads : Outcome Node → Type 0
 OutcomeReads None = Unit {0}
 OutcomeReads (Some d) = AllRead d.events
 
--- a node goes on in its place: its role, its name and its stream are the same, and timestamps only rise
-pub record Follows (nodes : List Node) (place : ℕ) (a : Node) : Type 0 where
+-- a node keeps its index: its role, its name and its stream are the same, and timestamps only rise
+pub record Follows (nodes : List Node) (index : ℕ) (a : Node) : Type 0 where
   pub node : Node
-  pub found : slice_get nodes place ≡ Some node
+  pub found : slice_get nodes index ≡ Some node
   pub named_is : named node ≡ named a
   pub me : (link_of node).me ≡ (link_of a).me
   pub previous : previous_in (link_of a).history ≤ previous_in (link_of node).history
 
 -- what was named and sent stays
-pub record Kept (s t : Scene) : Type 0 where
+pub record Kept (s t : WorldState) : Type 0 where
   pub key : t.key ≡ s.key
   pub nodes : (i : ℕ) (a : Node) → slice_get s.nodes i ≡ Some a → Follows t.nodes i a
   pub many : length s.nodes ≤ length t.nodes
@@ -74,15 +74,15 @@ pub record Kept (s t : Scene) : Type 0 where
   pub clock : s.clock ≤ t.clock
 
 -- a step that names no node and moves no clock
-pub record StepKeeps (s t : Scene) : Type 0 where
+pub record StepKeeps (s t : WorldState) : Type 0 where
   pub sound : Sound t
   pub kept : Kept s t
   pub names : names_of t.nodes ≡ names_of s.nodes
   pub clock : t.clock ≡ s.clock
 
-abbrev pub Keeps : Scene → Result Step Halt → Type 0
-Keeps s (Ok t) = StepKeeps s t.scene
-Keeps s (Err halt) = Unit {0}
+abbrev pub Keeps : WorldState → Result Step StepError → Type 0
+Keeps s (Ok t) = StepKeeps s t.state
+Keeps s (Err error) = Unit {0}
 
 -- a line: the nodes that it names are the last ones
 abbrev pub names_joined : Line → List Named
@@ -103,14 +103,14 @@ names_joined (Noise node bytes) = []
 names_joined (Tick node) = []
 names_joined (Clock n) = []
 
-pub record LineKeeps (s : Scene) (line : Line) (t : Scene) : Type 0 where
+pub record LineKeeps (s : WorldState) (line : Line) (t : WorldState) : Type 0 where
   pub sound : Sound t
   pub kept : Kept s t
   pub names : names_of t.nodes ≡ names_of s.nodes ++ names_joined line
 
-abbrev pub KeepsLine : Scene → Line → Result Step Halt → Type 0
-KeepsLine s line (Ok t) = LineKeeps s line t.scene
-KeepsLine s line (Err halt) = Unit {0}
+abbrev pub KeepsLine : WorldState → Line → Result Step StepError → Type 0
+KeepsLine s line (Ok t) = LineKeeps s line t.state
+KeepsLine s line (Err error) = Unit {0}
 
 -- the numbers of a line are in the ranges of their types
 abbrev pub LineFits : Line → Type 0

@@ -1,4 +1,4 @@
--- The laws of sound scenes.
+-- The laws of sound states.
 use Rattle.std.specs.Prelude.{ℕ, ◌≡◌, ◌≢◌, Bool, false, List, [], slice_get, codes, All, Some, None}
 use Rattle.std.specs.Str.{bytes_eq}
 use Rattle.mav_names.specs.declared.names.Name.{Name}
@@ -15,13 +15,13 @@ use Rattle.mav_nodes.specs.Steps.{Side}
 use Rattle.mav_nodes.specs.Nodes.{station_begins, station_cancels, station_clears, station_gets}
 use Rattle.scenario_lines.specs.declared.lines.Line.{Line}
 use Rattle.scenario_lines.specs.Words.{words_of, word_at}
-use Rattle.scenario_lines.specs.Standing.{Standing}
+use Rattle.scenario_lines.specs.LineContext.{LineContext}
 use Rattle.scenario_lines.specs.Grammar.{line_of}
 use Rattle.scenario_lines.specs.Reasons.{reason_against}
 use Rattle.scenario_lines.specs.Permits.{IsPermitted}
-use Rattle.fleet_world.specs.Scene.{Scene, Node, Station, stream_of, standing_of}
+use Rattle.fleet_world.specs.WorldState.{WorldState, Node, Station, stream_of, context_of}
 use Rattle.fleet_world.specs.Steps.{node_receives, node_beats, node_ticks, node_does, as_station, given_to, given_from, given_to_all, flows, calls, after_line, Stamps_spent}
-use Rattle.fleet_world.specs.Scenario.{Played, Halted, played, lines_played, whole_lines, unfinished, without_cr}
+use Rattle.fleet_world.specs.Scenario.{Played, Not_done, played, lines_played, whole_lines, unfinished, without_cr}
 use Rattle.fleet_world.specs.Authentic.{AuthenticBytes, AuthenticLine, AuthenticLines, Authentic}
 use Rattle.fleet_invariants.specs.Sound.{IsSent, Sound}
 use Rattle.fleet_invariants.specs.Kept.{Known, Heard, OutcomeReads, Keeps, KeepsLine, LineFits}
@@ -30,38 +30,38 @@ use Rattle.fleet_invariants.specs.Kept.{Known, Heard, OutcomeReads, Keeps, Keeps
 
 -- each sent frame is heard as it was sent
 abbrev pub EachHeard : Type 0
-EachHeard = (s : Scene) → Sound s → (p : Packet) (sent : IsSent s p) → Heard s p sent
+EachHeard = (s : WorldState) → Sound s → (p : Packet) (sent : IsSent s p) → Heard s p sent
 
 -- the bytes of a sent frame, and authentic bytes, bring nothing that wasn't sent
 abbrev pub SentKnown : Type 0
-SentKnown = (s : Scene) → Sound s → (i : ℕ) (p : Packet) → slice_get s.sent i ≡ Some p → Known s (encoding p)
+SentKnown = (s : WorldState) → Sound s → (i : ℕ) (p : Packet) → slice_get s.sent i ≡ Some p → Known s (encoding p)
 
 abbrev pub AuthenticKnown : Type 0
-AuthenticKnown = (s : Scene) → Sound s → (bytes : List ℕ) → All Is8 bytes → AuthenticBytes s bytes → Known s bytes
+AuthenticKnown = (s : WorldState) → Sound s → (bytes : List ℕ) → All Is8 bytes → AuthenticBytes s bytes → Known s bytes
 
 -- noise that repeats a sent frame is authentic
 abbrev pub SentAuthentic : Type 0
-SentAuthentic = (s : Scene) → Sound s → (i : ℕ) (p : Packet) → slice_get s.sent i ≡ Some p → AuthenticBytes s (encoding p)
+SentAuthentic = (s : WorldState) → Sound s → (i : ℕ) (p : Packet) → slice_get s.sent i ≡ Some p → AuthenticBytes s (encoding p)
 
 -- and a frame that verifies under the key and wasn't sent is not
 abbrev pub UnsentForeign : Type 0
 UnsentForeign =
-    (s : Scene) → Sound s → (p : Packet) → FitsFrame p → IsSealed (extras_of profile_definitions) p → Verifies s.key p p.block
+    (s : WorldState) → Sound s → (p : Packet) → FitsFrame p → IsSealed (extras_of profile_definitions) p → Verifies s.key p p.block
     → ((i : ℕ) → slice_get s.sent i ≡ Some p → ⊥) → AuthenticBytes s (encoding p) → ⊥
 
 -- ---- what one node does
 
-abbrev pub CallKeeps : Scene → (Node → Outcome Node) → Type 0
+abbrev pub CallKeeps : WorldState → (Node → Outcome Node) → Type 0
 CallKeeps s call =
     (k : ℕ) (node : Node) (name : Name) → slice_get s.nodes k ≡ Some node
     → Keeps s (node_does s k name (call node)) × OutcomeReads (call node)
 
-abbrev pub OrderKeeps : Scene → Scene → ℕ → Side StationState → Outcome (Side StationState) → Type 0
+abbrev pub OrderKeeps : WorldState → WorldState → ℕ → Side StationState → Outcome (Side StationState) → Type 0
 OrderKeeps s from k node outcome =
     (name : Name) → slice_get s.nodes k ≡ Some (Station node)
     → Keeps s (node_does from k name (as_station outcome)) × OutcomeReads (as_station outcome)
 
-pub record EachCallKeeps (s : Scene) : Type 0 where
+pub record EachCallKeeps (s : WorldState) : Type 0 where
   pub receives : (bytes : List ℕ) → Known s bytes → CallKeeps s (node_receives s.clock bytes)
   pub beats : CallKeeps s (node_beats s.clock)
   pub ticks : CallKeeps s (node_ticks s.clock)
@@ -74,11 +74,11 @@ pub record EachCallKeeps (s : Scene) : Type 0 where
       → OrderKeeps s s k node (station_gets s.clock (stream_of drone) kind node)
 
 abbrev pub EveryCallKeeps : Type 0
-EveryCallKeeps = (s : Scene) → Sound s → EachCallKeeps s
+EveryCallKeeps = (s : WorldState) → Sound s → EachCallKeeps s
 
 -- ---- what frames that are given do
 
-pub record EachGivingKeeps (s : Scene) : Type 0 where
+pub record EachGivingKeeps (s : WorldState) : Type 0 where
   pub one : (i : ℕ) (p : Packet) → slice_get s.sent i ≡ Some p → (k : ℕ) → Keeps s (given_to s k p (slice_get s.nodes k))
   pub some : (i : ℕ) (p : Packet) → slice_get s.sent i ≡ Some p → (k n : ℕ) → Keeps s (given_from s k n p)
   pub all : (i : ℕ) (p : Packet) → slice_get s.sent i ≡ Some p → Keeps s (given_to_all s p)
@@ -86,32 +86,32 @@ pub record EachGivingKeeps (s : Scene) : Type 0 where
   pub again : (i : ℕ) (p : Packet) → slice_get s.sent i ≡ Some p → (name : Name) → Keeps s (calls s name (node_receives s.clock (encoding p)))
 
 abbrev pub EveryGivingKeeps : Type 0
-EveryGivingKeeps = (s : Scene) → Sound s → EachGivingKeeps s
+EveryGivingKeeps = (s : WorldState) → Sound s → EachGivingKeeps s
 
 -- ---- lines
 
 abbrev pub EveryLineKeeps : Type 0
 EveryLineKeeps =
-    (s : Scene) → Sound s → (line : Line) → IsPermitted (standing_of s) line → LineFits line → AuthenticLine s line
+    (s : WorldState) → Sound s → (line : Line) → IsPermitted (context_of s) line → LineFits line → AuthenticLine s line
     → KeepsLine s line (after_line s line)
 
 -- a line that has no reason against it may be asked for, and its numbers are in range
 abbrev pub EveryReadLineFits : Type 0
 EveryReadLineFits =
-    (standing : Standing) (text : List ℕ) → reason_against standing text ≡ None → IsPermitted standing (line_of text) × LineFits (line_of text)
+    (context : LineContext) (text : List ℕ) → reason_against context text ≡ None → IsPermitted context (line_of text) × LineFits (line_of text)
 
 -- ---- scenarios
 
 abbrev pub EveryLinesSound : Type 0
 EveryLinesSound =
-    (p : Played) → Sound p.scene → (number : ℕ) (lines : List (List ℕ)) → AuthenticLines p number lines → Sound (lines_played p number lines).scene
+    (p : Played) → Sound p.state → (number : ℕ) (lines : List (List ℕ)) → AuthenticLines p number lines → Sound (lines_played p number lines).state
 
-abbrev pub EverySceneSound : Type 0
-EverySceneSound = (key : List ℕ) (ended : Bool) (bytes : List ℕ) → Authentic key ended bytes → Sound (played key ended bytes).scene
+abbrev pub EveryStateSound : Type 0
+EveryStateSound = (key : List ℕ) (ended : Bool) (bytes : List ℕ) → Authentic key ended bytes → Sound (played key ended bytes).state
 
 -- an authentic scenario never stops for want of a timestamp
 abbrev pub NoneSpent : Type 0
-NoneSpent = (key : List ℕ) (ended : Bool) (bytes : List ℕ) → Authentic key ended bytes → (played key ended bytes).stop ≢ Some (Halted Stamps_spent)
+NoneSpent = (key : List ℕ) (ended : Bool) (bytes : List ℕ) → Authentic key ended bytes → (played key ended bytes).stop ≢ Some (Not_done Stamps_spent)
 
 -- the first word of a line is `noise`
 abbrev pub is_noise : List ℕ → Bool

@@ -1,4 +1,4 @@
--- What holds of the scene of every authentic scenario, after each step: names tell nodes apart, numbers are in their
+-- What holds of the state of every authentic scenario, after each step: names are distinct, numbers are in their
 -- ranges, what was sent is signed and reads back, and every timestamp that was admitted had been sent.
 use Rattle.std.specs.Prelude.{ℕ, ◌≡◌, ◌≤◌, ◌<◌, ◌+◌, ◌^◌, Bool, true, List, length, map, slice_get, All, Some, None, IfSome, is_some}
 use Rattle.std.specs.List.{list_any, IsDistinct}
@@ -18,7 +18,7 @@ use Rattle.plan_ranges.specs.Ranges.{ItemInRange, DroneInRange, StationInRange}
 use Rattle.mav_nodes.specs.Links.{Link}
 use Rattle.mav_nodes.specs.Payloads.{ItemFits}
 use Rattle.mav_nodes.specs.Signed.{signed_packet}
-use Rattle.fleet_world.specs.Scene.{Scene, Node, Drone, Station, node_name, stream_of, drones_in, stations_in}
+use Rattle.fleet_world.specs.WorldState.{WorldState, Node, Drone, Station, node_name, stream_of, drones_in, stations_in}
 use Rattle.fleet_world.specs.Steps.{most_frames, most_drones, most_stations}
 
 abbrev pub link_of : Node → Link
@@ -27,13 +27,13 @@ link_of (Station n) = n.link
 
 -- the node of this name
 pub record Holds (nodes : List Node) (name : Name) : Type 0 where
-  pub place : ℕ
+  pub index : ℕ
   pub node : Node
-  pub found : slice_get nodes place ≡ Some node
+  pub found : slice_get nodes index ≡ Some node
   pub name_is : node_name node ≡ name
 
 -- what a node of the fleet has sent: a message whose values fit, signed at a timestamp that is not above its latest
-pub record IsSent (s : Scene) (p : Packet) : Type 0 where
+pub record IsSent (s : WorldState) (p : Packet) : Type 0 where
   pub from : Holds s.nodes p.from
   pub seq : ℕ
   pub stamp : ℕ
@@ -47,16 +47,16 @@ pub record IsSent (s : Scene) (p : Packet) : Type 0 where
   pub item_fits : ItemFits (plan_of message)
 
 -- a frame of this stream was sent at this timestamp
-pub record WasStamped (s : Scene) (stream : Stream) (stamp : ℕ) : Type 0 where
-  pub place : ℕ
+pub record WasStamped (s : WorldState) (stream : Stream) (stamp : ℕ) : Type 0 where
+  pub index : ℕ
   pub packet : Packet
-  pub found : slice_get s.sent place ≡ Some packet
+  pub found : slice_get s.sent index ≡ Some packet
   pub sent : IsSent s packet
   pub stream_is : stream_of packet.from ≡ stream
   pub stamp_is : sent.stamp ≡ stamp
 
 -- a node's end of the links
-pub record SoundLink (s : Scene) (link : Link) : Type 0 where
+pub record SoundLink (s : WorldState) (link : Link) : Type 0 where
   pub key : link.key ≡ s.key
   pub extras : link.extras ≡ extras_of profile_definitions
   pub me : (1 ≤ link.me.sys) × (link.me.sys < 256) × (1 ≤ link.me.comp) × (link.me.comp < 256) × (link.me.link ≡ 0)
@@ -83,7 +83,7 @@ abbrev pub SoundCore : Node → Type 0
 SoundCore (Drone n) = DroneInRange n.core × (n.core.sys ≡ n.link.me.sys) × (n.link.me.comp ≡ 1) × Roomy (has_heard n.link) n.core
 SoundCore (Station n) = StationInRange n.core × (n.core.me ≡ node_of n.link.me) × (n.core.outcome ≡ None)
 
-pub record Sound (s : Scene) : Type 0 where
+pub record Sound (s : WorldState) : Type 0 where
   pub apart : (i j : ℕ) (a b : Node) → slice_get s.nodes i ≡ Some a → slice_get s.nodes j ≡ Some b → node_name a ≡ node_name b → i ≡ j
   pub links : (i : ℕ) (a : Node) → slice_get s.nodes i ≡ Some a → SoundLink s (link_of a)
   pub cores : (i : ℕ) (a : Node) → slice_get s.nodes i ≡ Some a → SoundCore a

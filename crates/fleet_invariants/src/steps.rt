@@ -1,8 +1,8 @@
 // What each step keeps.
 ghost use Rattle.fleet_invariants.specs.Laws.{EveryCallKeeps, EveryGivingKeeps, EveryLineKeeps, EveryReadLineFits};
 
-/// Whatever a node of a sound scene does, at a datagram that brings nothing else than sent frames, at a
-/// tick, a heartbeat or an order, it leaves a sound scene. Names, roles and streams stay.
+/// Whatever a node of a sound state does, at a datagram that brings nothing else than sent frames, at a
+/// tick, a heartbeat or an order, it leaves a sound state. Names, roles and streams stay.
 pub fn every_call()
     ensures { EveryCallKeeps }
 {}

@@ -27,9 +27,9 @@ use Rattle.mav_nodes.specs.Steps.{Side, CoreStep, with_core, steps}
 use Rattle.mav_nodes.specs.Nodes.{station_does, station_begins, told_events}
 use Rattle.scenario_lines.specs.declared.roster.Named.{Named}
 use Rattle.scenario_lines.specs.declared.lines.Line.TheVariants.{Begin}
-use Rattle.scenario_lines.specs.Standing.{drone_name}
-use Rattle.fleet_world.specs.Scene.{Scene, Node, Drone, Station, node_name, named, stream_of, names_of, drones_in, is_station_named}
-use Rattle.fleet_world.specs.Steps.{Step, told_by, as_station, node_does, flows, station_line, upload_begins, orders_at, orders_placed, after_line}
+use Rattle.scenario_lines.specs.LineContext.{drone_name}
+use Rattle.fleet_world.specs.WorldState.{WorldState, Node, Drone, Station, node_name, named, stream_of, names_of, drones_in, is_station_named}
+use Rattle.fleet_world.specs.Steps.{Step, reported_by, as_station, node_does, flows, station_line, upload_begins, orders_at, orders_found, after_line}
 use Rattle.fleet_invariants.specs.Sound.{Sound}
 use Rattle.fleet_invariants.specs.Kept.{StepKeeps, OutcomeReads}
 use Rattle.fleet_invariants.proofs.Lists.{some_is, nowhere, within, set_there, set_elsewhere, last_there, at_end}
@@ -40,22 +40,22 @@ use Rattle.fleet_invariants.proofs.Restated.{sound_restated}
 use Rattle.fleet_invariants.proofs.Calls.{sound_does}
 use Rattle.fleet_liveness.specs.Uncontended.{Upload, Installs}
 use Rattle.fleet_liveness.proofs.Hearing.{Carries}
-use Rattle.fleet_liveness.proofs.Scenes.{same_place, few_streams, last_before, next_recent}
+use Rattle.fleet_liveness.proofs.States.{same_place, few_streams, last_before, next_recent}
 use Rattle.fleet_liveness.proofs.Sendings.{reads_at, carries_last}
 use Rattle.fleet_liveness.proofs.Steps.{moved, does, does_nothing, weaker}
 use Rattle.fleet_liveness.proofs.Stages.{Stage, Pings, Counts, is_up, is_ping, message_of, costs, DroneIs, StationIs, station_untold, is_carried}
-use Rattle.fleet_liveness.proofs.Telling.{upload_of, goal_of, up_not_last}
+use Rattle.fleet_liveness.proofs.Reporting.{upload_of, goal_of, up_not_last}
 use Rattle.fleet_liveness.proofs.Waits.{Waits, sender, listener}
-use Rattle.fleet_liveness.proofs.Others.{no_frames_told}
+use Rattle.fleet_liveness.proofs.Others.{no_frames_reported}
 use Rattle.fleet_liveness.proofs.Rounds.{named_extra, extra, all_extra, no_extra}
 use Rattle.fleet_liveness.proofs.Landing.{lands}
 
 -- the first element that a test holds of
 record First {A : Type 0} (test : A → Bool) (xs : List A) : Type 0 where
-  place : ℕ
+  index : ℕ
   element : A
-  is : position test xs ≡ Some place
-  there : slice_get xs place ≡ Some element
+  is : position test xs ≡ Some index
+  there : slice_get xs index ≡ Some element
   holds : test element ≡ true
 
 record Finds {A : Type 0} (test : A → Bool) (xs : List A) : Type 0 where
@@ -77,7 +77,7 @@ first_of_all test xs k x e h =
     let f = finds test xs k x e h in
     let there : slice_get xs (position_or_len test xs) ≡ Some f.element = sym (find_at test xs) ∙ f.found in
     record {
-      place = position_or_len test xs;
+      index = position_or_len test xs;
       element = f.element;
       is = cond-true (nat_lt (position_or_len test xs) (length xs)) _ _ (lt-ltb _ _ (within xs (position_or_len test xs) f.element there));
       there = there;
@@ -121,7 +121,7 @@ orders_say clock link r answer is =
     (λ _ e. Said (signed_packet link.key link.extras link.me link.seq stamp (message_of_plan answer)) refl e)
     (ap (λ z. steps clock link (record r { answer = z })) is)
 
-module _ (s : Scene) (g : Sound s) (dp sp : ℕ) (d : Side DroneState) (t : Side StationState) (d_there : slice_get s.nodes dp ≡ Some (Drone d)) (t_there : slice_get s.nodes sp ≡ Some (Station t))
+module _ (s : WorldState) (g : Sound s) (dp sp : ℕ) (d : Side DroneState) (t : Side StationState) (d_there : slice_get s.nodes dp ≡ Some (Drone d)) (t_there : slice_get s.nodes sp ≡ Some (Station t))
     (kind : PlanKind) (valid : IsValid (number_of kind) s.draft) (accepted : upload_refusal t.core (number_of kind) s.draft ≡ None) (free : is_other d.core.upload (stream_of t.core.me) ≡ false) where
   abbrev sys : ℕ
   sys = d.core.sys
@@ -141,8 +141,8 @@ module _ (s : Scene) (g : Sound s) (dp sp : ℕ) (d : Side DroneState) (t : Side
   abbrev upload : Upload
   upload = upload_of sys me kind s.draft valid
 
-  -- a flow that is long enough ends the upload, from this scene on
-  abbrev LeadsOn : Scene → Type 0
+  -- a flow that is long enough ends the upload, from this state on
+  abbrev LeadsOn : WorldState → Type 0
   LeadsOn x = (k : ℕ) → 2 * length s.draft + 6 + drones_in s.nodes ≤ k → IfOk (flows k x) (λ u. Installs upload u.events)
 
   room : has_no_room d.core (stream_of me) ≡ false
@@ -190,10 +190,10 @@ module _ (s : Scene) (g : Sound s) (dp sp : ℕ) (d : Side DroneState) (t : Side
         cost = omega arith;
       }))
 
-  abbrev x : Scene
+  abbrev x : WorldState
   x = station_line s
 
-  abbrev from : Scene
+  abbrev from : WorldState
   from = record x { draft = [] }
 
   x_sound : Sound x
@@ -219,7 +219,7 @@ module _ (s : Scene) (g : Sound s) (dp sp : ℕ) (d : Side DroneState) (t : Side
       roles e = absurd (cc)
 
   module _ (b : Begins does_so) (packet : Packet) (made : packet ≡ signed_packet t.link.key t.link.extras t.link.me t.link.seq stamp (message_of_plan (message_of sys me kind s.draft valid b.stage))) where
-    abbrev after : Scene
+    abbrev after : WorldState
     after = moved from sp (Station new) (packet ∷ [])
 
     waits : Sound after → Carries s.key packet stamp (message_of sys me kind s.draft valid b.stage) → Waits sys me kind s.draft valid dp sp after (length s.sent) b.stage
@@ -255,12 +255,12 @@ module _ (s : Scene) (g : Sound s) (dp sp : ℕ) (d : Side DroneState) (t : Side
             omega arith
         fresh false e l h = absurd (cc)
 
-    leads : (u : Step) → StepKeeps x u.scene → u.scene ≡ after → Carries u.scene.key packet stamp (message_of sys me kind s.draft valid b.stage) → LeadsOn u.scene
+    leads : (u : Step) → StepKeeps x u.state → u.state ≡ after → Carries u.state.key packet stamp (message_of sys me kind s.draft valid b.stage) → LeadsOn u.state
     leads u keeps is carries k enough =
-        let key : u.scene.key ≡ s.key = ap (λ (y : Scene). y.key) is in
+        let key : u.state.key ≡ s.key = ap (λ (y : WorldState). y.key) is in
         let w = waits (subst Sound is keeps.sound) (subst (λ z. Carries z packet stamp (message_of sys me kind s.draft valid b.stage)) key carries) in
         let sent : length after.sent ≡ length s.sent + 1 = length-append s.sent (packet ∷ []) in
-        let names : names_of after.nodes ≡ names_of s.nodes = ap (λ (y : Scene). names_of y.nodes) (sym is) ∙ keeps.names in
+        let names : names_of after.nodes ≡ names_of s.nodes = ap (λ (y : WorldState). names_of y.nodes) (sym is) ∙ keeps.names in
         let more : all_extra (is_ping b.stage) (names_of after.nodes) ≡ all_extra (is_ping b.stage) (names_of s.nodes) = ap (all_extra (is_ping b.stage)) names in
         let cost = b.cost in
         subst (λ y. IfOk (flows k y) (λ v. Installs upload v.events)) (sym is)
@@ -268,8 +268,8 @@ module _ (s : Scene) (g : Sound s) (dp sp : ℕ) (d : Side DroneState) (t : Side
         (lands sys me kind s.draft valid g.draft dp sp k after (length s.sent) b.stage w (omega arith) (omega arith)))
 
   -- its order
-  order_leads : (b : Begins does_so) → Says s.clock t.link (station_does does_so) (message_of sys me kind s.draft valid b.stage) → IfOk (node_does from sp (node_of t.link.me) (as_station call)) (λ u. LeadsOn u.scene)
-  order_leads b (Spent e) = does_nothing (λ u. LeadsOn u.scene) from sp (node_of t.link.me) (as_station call) (ap as_station e)
+  order_leads : (b : Begins does_so) → Says s.clock t.link (station_does does_so) (message_of sys me kind s.draft valid b.stage) → IfOk (node_does from sp (node_of t.link.me) (as_station call)) (λ u. LeadsOn u.state)
+  order_leads b (Spent e) = does_nothing (λ u. LeadsOn u.state) from sp (node_of t.link.me) (as_station call) (ap as_station e)
   order_leads b (Said packet made e) =
       let m = message_of sys me kind s.draft valid b.stage in
       let name = node_of t.link.me in
@@ -284,29 +284,29 @@ module _ (s : Scene) (g : Sound s) (dp sp : ℕ) (d : Side DroneState) (t : Side
       let keeps = (sound_does x x_sound).begins sp t (drone_name sys) number known (omega arith) accepted name t_there in
       let whole : as_station call ≡ done (Station new) events = ap as_station e in
       let reads = reads_at [] last packet (message_of_plan m) (subst OutcomeReads whole keeps.1) in
-      weaker (λ u. StepKeeps x u.scene × ((u.scene ≡ moved from sp (Station new) (packet ∷ [])) × (u.events ≡ told_by name (length s.sent) events))) (λ u. LeadsOn u.scene) (node_does from sp name (as_station call))
+      weaker (λ u. StepKeeps x u.state × ((u.state ≡ moved from sp (Station new) (packet ∷ [])) × (u.events ≡ reported_by name (length s.sent) events))) (λ u. LeadsOn u.state) (node_does from sp name (as_station call))
       (λ u h. leads b packet made u h.0 h.1.0
-      (carries_last u.scene s.sent t.link.key t.link.me t.link.seq stamp (message_of_plan m) m packet h.0.sound (ap (λ (y : Scene). y.sent) h.1.0)
+      (carries_last u.state s.sent t.link.key t.link.me t.link.seq stamp (message_of_plan m) m packet h.0.sound (ap (λ (y : WorldState). y.sent) h.1.0)
       (made ∙ ap (λ z. signed_packet t.link.key z t.link.me t.link.seq stamp (message_of_plan m)) link.extras) reads (is_carried sys me kind s.draft valid g.draft b.stage)))
-      (does x from sp name (as_station call) (record { node = Station new; events = events }) (packet ∷ []) whole (ap (λ ps. packet ∷ ps) (no_frames_told does_so.station.outcome)) keeps.0)
+      (does x from sp name (as_station call) (record { node = Station new; events = events }) (packet ∷ []) whole (ap (λ ps. packet ∷ ps) (no_frames_reported does_so.station.outcome)) keeps.0)
 
-  -- where the station is found
-  place_is : position (is_station_named me) s.nodes ≡ Some sp
-  place_is =
+  -- the index at which the station is found
+  index_is : position (is_station_named me) s.nodes ≡ Some sp
+  index_is =
       let f = first_of_all (is_station_named me) s.nodes sp (Station t) t_there (ap (λ n. same_name n me) t_named ∙ name_same me) in
-      f.is ∙ ap Some (g.apart f.place sp f.element (Station t) f.there t_there (called f.element f.holds ∙ sym t_named))
+      f.is ∙ ap Some (g.apart f.index sp f.element (Station t) f.there t_there (called f.element f.holds ∙ sym t_named))
     where
       called : (y : Node) → is_station_named me y ≡ true → node_name y ≡ me
       called (Drone y) e = absurd (cc)
       called (Station y) e = name_eq (node_of y.link.me) me e
 
   -- the begin line itself
-  pub begin_leads : IfOk (after_line s (Begin me (drone_name sys) kind)) (λ u. LeadsOn u.scene)
+  pub begin_leads : IfOk (after_line s (Begin me (drone_name sys) kind)) (λ u. LeadsOn u.state)
   begin_leads =
-      let P : Step → Type 0 = λ u. LeadsOn u.scene in
+      let P : Step → Type 0 = λ u. LeadsOn u.state in
       let order = λ (k : ℕ) (node : Side StationState). upload_begins x k node (drone_name sys) number (upload_refusal node.core number x.draft) in
       let b = begin_is in
-      subst (λ p. IfOk (orders_placed x p order) P) (sym place_is)
+      subst (λ p. IfOk (orders_found x p order) P) (sym index_is)
       (subst (λ o. IfOk (orders_at x sp o order) P) (sym t_there)
       (subst (λ why. IfOk (upload_begins x sp t (drone_name sys) number why) P) (sym accepted)
       (order_leads b (orders_say s.clock t.link (station_does does_so) (message_of sys me kind s.draft valid b.stage) b.answer))))

@@ -9,10 +9,10 @@ use Rattle.plan_upload.specs.Drone.{is_other}
 use Rattle.plan_upload.specs.Refusals.{upload_refusal}
 use Rattle.scenario_lines.specs.declared.lines.Line.TheVariants.{Begin, Flow}
 use Rattle.scenario_lines.specs.Grammar.{line_of}
-use Rattle.scenario_lines.specs.Standing.{drone_name}
-use Rattle.fleet_world.specs.Scene.{Drone, Station, node_name, stream_of, drones_in}
+use Rattle.scenario_lines.specs.LineContext.{drone_name}
+use Rattle.fleet_world.specs.WorldState.{Drone, Station, node_name, stream_of, drones_in}
 use Rattle.fleet_world.specs.Steps.{Step, flows, after_line}
-use Rattle.fleet_world.specs.Scenario.{Stop, Played, at_start, goes_on, line_played, last_played, rest_played, unless_stopped, lines_played, played, whole_lines, unfinished}
+use Rattle.fleet_world.specs.Scenario.{ScenarioError, Played, at_start, goes_on, line_played, last_played, rest_played, unless_stopped, lines_played, played, whole_lines, unfinished}
 use Rattle.fleet_world.specs.Authentic.{UnlessStopped, AuthenticLines, Authentic}
 use Rattle.fleet_invariants.specs.Sound.{Sound}
 use Rattle.fleet_invariants.proofs.Tests.{name_is}
@@ -21,8 +21,8 @@ use Rattle.fleet_liveness.specs.Uncontended.{Upload, NextLine, Whole, Last, text
 use Rattle.fleet_liveness.proofs.Begun.{begin_leads}
 use Rattle.fleet_liveness.proofs.Onward.{line_done, last_done, Done, goes_done, Grows, grows_same, grows_then, lines_grow, end_grows, unless_none, one_line, front_and}
 
--- the front of authentic lines is authentic
-unless_so : (stop : Option Stop) (A B : Type 0) → (A → B) → UnlessStopped stop A → UnlessStopped stop B
+-- the prefix of authentic lines is authentic
+unless_so : (stop : Option ScenarioError) (A B : Type 0) → (A → B) → UnlessStopped stop A → UnlessStopped stop B
 unless_so None A B f h = f h
 unless_so (Some stop) A B f h = tt
 
@@ -42,12 +42,12 @@ upload_is u station drone plan a b c =
     ∙ ap (λ x. record { station = u.station; drone = u.drone; kind = u.kind; plan = x }) c
 
 -- the flow line was done
-flow_goes : (p : Played) (number : ℕ) (flow : NextLine) (frames : ℕ) → line_of (text_of flow) ≡ Flow frames → (next_played p number flow).stop ≡ None → next_played p number flow ≡ goes_on p (flows frames p.scene)
-flow_goes p number (Whole raw more) frames says e = line_done p number raw e ∙ ap (λ l. goes_on p (after_line p.scene l)) says
+flow_goes : (p : Played) (number : ℕ) (flow : NextLine) (frames : ℕ) → line_of (text_of flow) ≡ Flow frames → (next_played p number flow).stop ≡ None → next_played p number flow ≡ goes_on p (flows frames p.state)
+flow_goes p number (Whole raw more) frames says e = line_done p number raw e ∙ ap (λ l. goes_on p (after_line p.state l)) says
 flow_goes p number (Last []) frames says e = absurd (cc)
-flow_goes p number (Last (b ∷ bs)) frames says e = last_done p number b bs e ∙ ap (λ l. goes_on p (after_line p.scene l)) says
+flow_goes p number (Last (b ∷ bs)) frames says e = last_done p number b bs e ∙ ap (λ l. goes_on p (after_line p.state l)) says
 
--- what comes behind the flow line only adds events
+-- what comes after the flow line only adds events
 later : (key : List ℕ) (ended : Bool) (bytes : List ℕ) (front : List (List ℕ)) (begin : List ℕ) (flow : NextLine) → HaveLines ended bytes front begin flow
     → (let p = lines_played (at_start key) 1 front in p.stop ≡ None → (let b = line_played p (length front + 1) begin in b.stop ≡ None → Grows (next_played b (length front + 2) flow) (played key ended bytes)))
 later key ended bytes front begin (Whole raw more) lines going_on begins =
@@ -82,47 +82,47 @@ later key ended bytes front begin (Last raw) lines going_on begins =
 
 -- from this step on, a flow that is long enough ends the upload
 abbrev LeadsOn : ℕ → Upload → Step → Type 0
-LeadsOn drones u t = (k : ℕ) → 2 * length u.plan + 6 + drones ≤ k → IfOk (flows k t.scene) (λ v. Installs u v.events)
+LeadsOn drones u t = (k : ℕ) → 2 * length u.plan + 6 + drones ≤ k → IfOk (flows k t.state) (λ v. Installs u v.events)
 
 module _ (key : List ℕ) (ended : Bool) (bytes : List ℕ) (authentic : Authentic key ended bytes) (l : Lines) (u : Upload) (h : IsUncontended key ended bytes l u) where
-  -- the scene before the begin line
+  -- the state before the begin line
   abbrev first : Played
   first = before key l
 
-  sound : Sound first.scene
+  sound : Sound first.state
   sound =
       let f = front_is ended bytes l.front l.begin l.flow h.lines in
       sound_lines (at_start key) (sound_start key) 1 l.front (front_authentic l.front f.0 (at_start key) 1 (subst (AuthenticLines (at_start key) 1) f.1 authentic.lines))
 
   -- the begin line was done
-  begin_goes : begun key l ≡ goes_on first (after_line first.scene (Begin u.station u.drone u.kind))
-  begin_goes = line_done first (length l.front + 1) l.begin h.begin_done ∙ ap (λ x. goes_on first (after_line first.scene x)) h.begins
+  begin_goes : begun key l ≡ goes_on first (after_line first.state (Begin u.station u.drone u.kind))
+  begin_goes = line_done first (length l.front + 1) l.begin h.begin_done ∙ ap (λ x. goes_on first (after_line first.state x)) h.begins
 
-  begin_on : IfOk (after_line first.scene (Begin u.station u.drone u.kind)) (LeadsOn (drones_in first.scene.nodes) u)
+  begin_on : IfOk (after_line first.state (Begin u.station u.drone u.kind)) (LeadsOn (drones_in first.state.nodes) u)
   begin_on =
-      let s = first.scene in
+      let s = first.state in
       let t = h.accepts.station in
       let d = h.is_free.drone in
       let drones = drones_in s.nodes in
-      let d_core = sound.cores h.is_free.place (Drone d) h.is_free.found in
-      let t_core = sound.cores h.accepts.place (Station t) h.accepts.found in
+      let d_core = sound.cores h.is_free.index (Drone d) h.is_free.found in
+      let t_core = sound.cores h.accepts.index (Station t) h.accepts.found in
       let station_is : t.core.me ≡ u.station = t_core.1 ∙ h.accepts.named in
       let drone_is : drone_name d.core.sys ≡ u.drone = name_is (drone_name d.core.sys) (node_name (Drone d)) d_core.1 (sym d_core.2) ∙ h.is_free.named in
       let valid : IsValid (number_of u.kind) s.draft = subst (IsValid (number_of u.kind)) (sym h.plan_is) h.valid in
       let accepted : upload_refusal t.core (number_of u.kind) s.draft ≡ None = subst (λ x. upload_refusal t.core (number_of u.kind) x ≡ None) (sym h.plan_is) h.accepts.accepted in
       let free : is_other d.core.upload (stream_of t.core.me) ≡ false = subst (λ x. is_other d.core.upload (stream_of x) ≡ false) (sym station_is) h.is_free.free in
       subst (λ v. IfOk (after_line s (Begin v.station v.drone v.kind)) (LeadsOn drones v)) (upload_is u t.core.me (drone_name d.core.sys) s.draft station_is drone_is h.plan_is)
-      (begin_leads s sound h.is_free.place h.accepts.place d t h.is_free.found h.accepts.found u.kind valid accepted free)
+      (begin_leads s sound h.is_free.index h.accepts.index d t h.is_free.found h.accepts.found u.kind valid accepted free)
 
-  begin_line : Done (LeadsOn (drones_in first.scene.nodes) u) first (after_line first.scene (Begin u.station u.drone u.kind))
-  begin_line = goes_done (LeadsOn (drones_in first.scene.nodes) u) first (after_line first.scene (Begin u.station u.drone u.kind)) (ap (λ (q : Played). q.stop) (sym begin_goes) ∙ h.begin_done) begin_on
+  begin_line : Done (LeadsOn (drones_in first.state.nodes) u) first (after_line first.state (Begin u.station u.drone u.kind))
+  begin_line = goes_done (LeadsOn (drones_in first.state.nodes) u) first (after_line first.state (Begin u.station u.drone u.kind)) (ap (λ (q : Played). q.stop) (sym begin_goes) ∙ h.begin_done) begin_on
 
   -- and the flow line
-  flow_line : Done (λ v. Installs u v.events) (begun key l) (flows h.frames (begun key l).scene)
+  flow_line : Done (λ v. Installs u v.events) (begun key l) (flows h.frames (begun key l).state)
   flow_line =
       let goes = flow_goes (begun key l) (length l.front + 2) l.flow h.frames h.flows h.flow_done in
-      goes_done (λ v. Installs u v.events) (begun key l) (flows h.frames (begun key l).scene) (ap (λ (q : Played). q.stop) (sym goes) ∙ h.flow_done)
-      (subst (λ (q : Played). IfOk (flows h.frames q.scene) (λ v. Installs u v.events)) (sym (begin_goes ∙ begin_line.is)) (begin_line.holds h.frames h.enough))
+      goes_done (λ v. Installs u v.events) (begun key l) (flows h.frames (begun key l).state) (ap (λ (q : Played). q.stop) (sym goes) ∙ h.flow_done)
+      (subst (λ (q : Played). IfOk (flows h.frames q.state) (λ v. Installs u v.events)) (sym (begin_goes ∙ begin_line.is)) (begin_line.holds h.frames h.enough))
 
   pub uploads : IsInstalled key ended bytes l u
   uploads =

@@ -1,4 +1,4 @@
--- What becomes of a scene where a sent frame is given to a node: the node hears it in silence, or sends a frame.
+-- What becomes of a state in which a sent frame is given to a node: the node hears it in silence, or sends a frame.
 use Rattle.std.proofs.Common.{◌≡◌, ◌∙◌, ℕ, ◌⊎◌, inl, inr, List, [], ◌∷◌, ◌++◌, length, slice_get, Some, None, refl, sym, ap, subst}
 use Rattle.std.specs.Prelude.{IfOk}
 use Rattle.mav_names.specs.declared.names.Name.{Name}
@@ -18,8 +18,8 @@ use Rattle.mav_nodes.specs.Signed.{signed_packet}
 use Rattle.mav_nodes.specs.Steps.{Side, CoreStep, receives}
 use Rattle.mav_nodes.specs.Nodes.{drone_core, station_core}
 use Rattle.fleet_report.specs.Events.{Event}
-use Rattle.fleet_world.specs.Scene.{Scene, Node, Drone, Station, stream_of}
-use Rattle.fleet_world.specs.Steps.{Step, packets_in, told_by, as_drone, as_station, node_receives, node_does}
+use Rattle.fleet_world.specs.WorldState.{WorldState, Node, Drone, Station, stream_of}
+use Rattle.fleet_world.specs.Steps.{Step, packets_in, reported_by, as_drone, as_station, node_receives, node_does}
 use Rattle.fleet_invariants.specs.Sound.{link_of, Sound}
 use Rattle.fleet_invariants.specs.Kept.{Keeps, OutcomeReads}
 use Rattle.fleet_invariants.proofs.Calls.{sound_does}
@@ -43,7 +43,7 @@ drones = record { as_node = Drone; as_outcome = as_drone; none = refl; some = λ
 abbrev pub stations : Role station_core
 stations = record { as_node = Station; as_outcome = as_station; none = refl; some = λ y events. refl; receives_is = λ clock bytes y. refl; link_is = λ y. refl }
 
-module _ (s : Scene) (g : Sound s) (i : ℕ) (f : Packet) (found : slice_get s.sent i ≡ Some f) (stamp : ℕ) (m : PlanMsg) (c : Carries s.key f stamp m)
+module _ (s : WorldState) (g : Sound s) (i : ℕ) (f : Packet) (found : slice_get s.sent i ≡ Some f) (stamp : ℕ) (m : PlanMsg) (c : Carries s.key f stamp m)
     {Core : Type 0} (step : Core → Stream → PlanMsg → CoreStep Core) (role : Role step) (j : ℕ) (y : Side Core) (there : slice_get s.nodes j ≡ Some (role.as_node y)) (name : Name) where
   abbrev call : Outcome Node
   call = node_receives s.clock (encoding f) (role.as_node y)
@@ -71,8 +71,8 @@ module _ (s : Scene) (g : Sound s) (i : ℕ) (f : Packet) (found : slice_get s.s
   stills : (core : Core) → Quiet s.key f stamp m c step s.clock y key extras core → IfOk (node_does s j name call) (Still core)
   stills core q =
       let node = become core in
-      weaker (Moves s j node [] (told_by name (length s.sent) q.events)) (Still core) (node_does s j name call)
-      (λ t h. record { events = told_by name (length s.sent) q.events; moves = h })
+      weaker (Moves s j node [] (reported_by name (length s.sent) q.events)) (Still core) (node_does s j name call)
+      (λ t h. record { events = reported_by name (length s.sent) q.events; moves = h })
       (does_moves s j name call (record { node = node; events = q.events }) [] (role.receives_is s.clock (encoding f) y ∙ ap role.as_outcome q.is ∙ role.some _ q.events) q.none keeps.0)
 
   -- a message that its core doesn't answer
@@ -86,7 +86,7 @@ module _ (s : Scene) (g : Sound s) (i : ℕ) (f : Packet) (found : slice_get s.s
   pub record Said (r : CoreStep Core) (answer : PlanMsg) (t : Step) : Type 0 where
     pub packet : Packet
     pub from : packet.from ≡ node_of y.link.me
-    pub moves : Moves s j (role.as_node (record { link = sent_at (next_in after.history s.clock) after; core = r.core })) (packet ∷ []) (told_by name (length s.sent) (r.first ++ Sends packet (message_of_plan answer) ∷ r.last)) t
+    pub moves : Moves s j (role.as_node (record { link = sent_at (next_in after.history s.clock) after; core = r.core })) (packet ∷ []) (reported_by name (length s.sent) (r.first ++ Sends packet (message_of_plan answer) ∷ r.last)) t
     pub carries : Carries s.key packet (next_in after.history s.clock) answer
 
   one_packet : (first last : List NodeEvent) (packet : Packet) (answer : PlanMsg) → packets_in first ≡ [] → packets_in last ≡ [] → packets_in (first ++ Sends packet (message_of_plan answer) ∷ last) ≡ packet ∷ []
@@ -104,31 +104,31 @@ module _ (s : Scene) (g : Sound s) (i : ℕ) (f : Packet) (found : slice_get s.s
           let events = r.first ++ Sends packet (message_of_plan answer) ∷ r.last in
           let whole : call ≡ done node events = role.receives_is s.clock (encoding f) y ∙ ap role.as_outcome e ∙ role.some _ events in
           let reads = reads_at r.first r.last packet (message_of_plan answer) (subst OutcomeReads whole keeps.1) in
-          weaker (Moves s j node (packet ∷ []) (told_by name (length s.sent) events)) (Said r answer) (node_does s j name call)
+          weaker (Moves s j node (packet ∷ []) (reported_by name (length s.sent) events)) (Said r answer) (node_does s j name call)
           (λ t h. record {
             packet = packet;
             from = ap (λ (p : Packet). p.from) made;
             moves = h;
-            carries = subst (λ k. Carries k packet (next_in after.history s.clock) answer) (ap (λ (x : Scene). x.key) h.is)
-                (carries_last t.scene s.sent y.link.key y.link.me y.link.seq (next_in after.history s.clock) (message_of_plan answer) answer packet h.keeps.sound (ap (λ (x : Scene). x.sent) h.is)
+            carries = subst (λ k. Carries k packet (next_in after.history s.clock) answer) (ap (λ (x : WorldState). x.key) h.is)
+                (carries_last t.state s.sent y.link.key y.link.me y.link.seq (next_in after.history s.clock) (message_of_plan answer) answer packet h.keeps.sound (ap (λ (x : WorldState). x.sent) h.is)
                 (made ∙ ap (λ x. signed_packet y.link.key x y.link.me y.link.seq (next_in after.history s.clock) (message_of_plan answer)) extras) reads carried);
           })
           (does_moves s j name call (record { node = node; events = events }) (packet ∷ []) whole (one_packet r.first r.last packet answer first last) keeps.0)
 
-  -- it is dropped where it isn't admitted
+  -- it is dropped if it isn't admitted
   pub unless_still : (P : Step → Type 0) → (answer_to y.link.key y.link.history f ≡ Admitted → IfOk (node_does s j name call) P) → ((t : Step) → Still y.core t → P t) → IfOk (node_does s j name call) P
   unless_still P admitted dropped = elim (unless_dropped s.key f stamp m c step s.clock y key extras) [
     | inl e ↦ admitted e
     | inr q ↦ weaker (Still y.core) P (node_does s j name call) dropped (stills y.core q)
   ]
 
-  -- a message that its core takes without an answer, and what is told of it
+  -- a message that its core takes without an answer, and what is reported of it
   pub ends_so : answer_to y.link.key y.link.history f ≡ Admitted → (r : CoreStep Core) → step y.core (stream_of f.from) m ≡ r → r.answer ≡ None → packets_in r.first ≡ [] → packets_in r.last ≡ []
-      → IfOk (node_does s j name call) (λ t. t.events ≡ told_by name (length s.sent) ((r.first ++ r.last) ++ []))
+      → IfOk (node_does s j name call) (λ t. t.events ≡ reported_by name (length s.sent) ((r.first ++ r.last) ++ []))
   ends_so admitted r is no_answer first last =
       let events = (r.first ++ r.last) ++ [] in
       let node = become r.core in
-      weaker (Moves s j node [] (told_by name (length s.sent) events)) (λ t. t.events ≡ told_by name (length s.sent) events) (node_does s j name call) (λ t h. h.events_are)
+      weaker (Moves s j node [] (reported_by name (length s.sent) events)) (λ t. t.events ≡ reported_by name (length s.sent) events) (node_does s j name call) (λ t h. h.events_are)
       (does_moves s j name call (record { node = node; events = events }) []
       (role.receives_is s.clock (encoding f) y ∙ ap role.as_outcome (ended s.key f stamp m c step s.clock y key extras r is no_answer admitted) ∙ role.some _ events)
       (none_of s.key f stamp m c step s.clock y key extras r.first r.last first last) keeps.0)

@@ -21,7 +21,7 @@ use Rattle.mav_nodes.specs.Payloads.{plan_in}
 use Rattle.mav_nodes.specs.Links.{Link, Outcome, done, behind, and_then, tries, sent_at, sends}
 use Rattle.mav_nodes.specs.Signed.{signed_packet}
 use Rattle.mav_nodes.specs.Steps.{Side, CoreStep, with_core, steps, takes, admits, hears, hears_all, receives}
-use Rattle.fleet_world.specs.Scene.{stream_of}
+use Rattle.fleet_world.specs.WorldState.{stream_of}
 use Rattle.fleet_world.specs.Steps.{packets_in}
 use Rattle.fleet_invariants.proofs.Tests.{by_test, number_same}
 
@@ -54,7 +54,7 @@ bytes_same : (xs : List ℕ) → bytes_eq xs xs ≡ true
 bytes_same [] = refl
 bytes_same (x ∷ xs) = rw (number_same x) (bytes_same xs)
 
--- the frames of events, one behind the other
+-- the frames of events, one after another
 pub packets_append : (es fs : List NodeEvent) → packets_in (es ++ fs) ≡ packets_in es ++ packets_in fs
 packets_append [] fs = refl
 packets_append (Sends packet message ∷ es) fs = ap (λ ps. packet ∷ ps) (packets_append es fs)
@@ -67,7 +67,7 @@ module _ (key : List ℕ) (p : Packet) (stamp : ℕ) (m : PlanMsg) (c : Carries 
   abbrev block : SignatureBlock
   block = record { link = 0; stamp = stamp; sig = signature_of key p 0 stamp }
 
-  -- the answer is by the timestamp
+  -- the result is by the timestamp
   pub answer_is : (history : List Entry) → answer_to key history p ≡ stamp_answer (stream_of p.from) stamp history
   answer_is history =
       ap (block_answer key (λ stream t. stamp_answer stream t history) p) c.block

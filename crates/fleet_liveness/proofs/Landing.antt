@@ -15,29 +15,29 @@ use Rattle.plan_upload.specs.Station.{stays, station_step}
 use Rattle.plan_ranges.specs.Ranges.{ItemInRange}
 use Rattle.mav_frame.specs.Packet.{Packet}
 use Rattle.mav_frame.specs.Encoding.{encoding}
-use Rattle.scenario_lines.specs.Standing.{drone_name}
+use Rattle.scenario_lines.specs.LineContext.{drone_name}
 use Rattle.fleet_report.specs.Events.{Event}
-use Rattle.fleet_world.specs.Scene.{Scene, Node, Drone, Station, node_name, named, stream_of, names_of}
+use Rattle.fleet_world.specs.WorldState.{WorldState, Node, Drone, Station, node_name, named, stream_of, names_of}
 use Rattle.fleet_world.specs.Steps.{Step, node_receives, node_does, given_to, given_from, given_to_all, flow_next, flows}
 use Rattle.fleet_invariants.proofs.Lists.{some_is, within}
 use Rattle.fleet_invariants.proofs.Tests.{differ}
 use Rattle.fleet_invariants.proofs.Restated.{sound_restated}
 use Rattle.fleet_liveness.proofs.Names.{names_apart, streams_apart, station_deaf}
 use Rattle.fleet_liveness.proofs.Hearing.{Carries}
-use Rattle.fleet_liveness.proofs.Scenes.{same_place, drone_leaves}
+use Rattle.fleet_liveness.proofs.States.{same_place, drone_leaves}
 use Rattle.fleet_liveness.proofs.Steps.{always, weaker, ok_then, ok_given, step_behind}
 use Rattle.fleet_liveness.proofs.Stages.{Stage, Acks, is_up, is_last, is_ping, message_of, costs, is_busy}
-use Rattle.fleet_liveness.proofs.Telling.{Goal}
+use Rattle.fleet_liveness.proofs.Reporting.{Goal}
 use Rattle.fleet_liveness.proofs.Waits.{IsAside, Waits, sender}
-use Rattle.fleet_liveness.proofs.Others.{Near, near_same, own_drone, own_station, apart_places, station_holds}
+use Rattle.fleet_liveness.proofs.Others.{Near, near_same, own_drone, own_station, apart_indices, station_holds}
 use Rattle.fleet_liveness.proofs.Turns.{left_alone, station_end}
 use Rattle.fleet_liveness.proofs.Rounds.{same_or, found_within, extra, all_extra, no_extra, last_is, wanted_behind, names_differ, here, Sent, sent_on, more_at, other_place, frame_is, Taken, give_first}
 
 module _ (sys : ℕ) (me : Name) (kind : PlanKind) (plan : List Item) (valid : IsValid (number_of kind) plan) (fits : All ItemInRange plan) (dp sp : ℕ) where
-  abbrev IsWaiting : Scene → ℕ → Stage plan → Type 0
+  abbrev IsWaiting : WorldState → ℕ → Stage plan → Type 0
   IsWaiting = Waits sys me kind plan valid dp sp
 
-  abbrev Beside : Scene → ℕ → ℕ → Stage plan → Step → Type 0
+  abbrev Beside : WorldState → ℕ → ℕ → Stage plan → Step → Type 0
   Beside = Near sys me kind plan valid dp sp
 
   abbrev sends_it : Bool → Name
@@ -57,13 +57,13 @@ module _ (sys : ℕ) (me : Name) (kind : PlanKind) (plan : List Item) (valid : I
 
   -- the acknowledgement
   module _ (i : ℕ) (f : Packet) (stamp : ℕ) (from : f.from ≡ drone_name sys) where
-    abbrev IsSent : Scene → Type 0
+    abbrev IsSent : WorldState → Type 0
     IsSent = Sent sys me kind plan valid fits dp sp Acks i f stamp from
 
     abbrev Told : Step → Type 0
     Told t = (es : List Event) → Wanted Acks (t.events ++ es)
 
-    its_end : (s : Scene) (w : IsWaiting s i Acks) → IsSent s → IfOk (given_to s sp f (slice_get s.nodes sp)) Told
+    its_end : (s : WorldState) (w : IsWaiting s i Acks) → IsSent s → IfOk (given_to s sp f (slice_get s.nodes sp)) Told
     its_end s w h =
         subst (λ o. IfOk (given_to s sp f o) Told) (sym w.station_there)
         (ok_given Told s sp f (Station w.station)
@@ -71,28 +71,28 @@ module _ (sys : ℕ) (me : Name) (kind : PlanKind) (plan : List Item) (valid : I
         (λ other. subst (λ x. IfOk (node_does s sp (node_name (Station w.station)) (node_receives s.clock (encoding x) (Station w.station))) Told) (frame_is sys me kind plan valid fits dp sp Acks i f stamp from s w h)
         (station_end sys me kind plan valid fits dp sp s i w)))
 
-    told_behind : (es : List Event) (t : Step) → Told t → Told (step_behind es t)
-    told_behind es t h fs = subst (Wanted Acks) (sym (append_assoc es t.events fs)) (wanted_behind sys me kind plan valid fits dp sp Acks es (t.events ++ fs) (h fs))
+    reported_behind : (es : List Event) (t : Step) → Told t → Told (step_behind es t)
+    reported_behind es t h fs = subst (Wanted Acks) (sym (append_assoc es t.events fs)) (wanted_behind sys me kind plan valid fits dp sp Acks es (t.events ++ fs) (h fs))
 
-    told_before : (t u : Step) → Told t → Told (step_behind t.events u)
-    told_before t u h fs = subst (Wanted Acks) (sym (append_assoc t.events u.events fs)) (h (u.events ++ fs))
+    reported_before : (t u : Step) → Told t → Told (step_behind t.events u)
+    reported_before t u h fs = subst (Wanted Acks) (sym (append_assoc t.events u.events fs)) (h (u.events ++ fs))
 
-    give_last : (n j : ℕ) (s : Scene) → IsWaiting s i Acks → IsSent s → j ≤ sp → sp < j + n → IfOk (given_from s j n f) Told
+    give_last : (n j : ℕ) (s : WorldState) → IsWaiting s i Acks → IsSent s → j ≤ sp → sp < j + n → IfOk (given_from s j n f) Told
     give_last zero j s w h before here = absurd (omega arith)
     give_last (suc n) j s w h before here = elim (same_or j sp) [
       | inl is ↦
           let first = given_to s j f (slice_get s.nodes j) in
           ok_then Told first (λ t. given_from t (j + 1) n f)
-          (weaker Told (λ t. IfOk (given_from t.scene (j + 1) n f) (λ u. Told (step_behind t.events u))) first
-          (λ t h. always (λ u. Told (step_behind t.events u)) (given_from t.scene (j + 1) n f) (λ u. told_before t u h))
+          (weaker Told (λ t. IfOk (given_from t.state (j + 1) n f) (λ u. Told (step_behind t.events u))) first
+          (λ t h. always (λ u. Told (step_behind t.events u)) (given_from t.state (j + 1) n f) (λ u. reported_before t u h))
           (subst (λ k. IfOk (given_to s k f (slice_get s.nodes k)) Told) (sym is) (its_end s w h)))
       | inr not ↦
           let first = given_to s j f (slice_get s.nodes j) in
           let one = more_at sys me kind plan valid fits dp sp Acks i f stamp from s j in
           ok_then Told first (λ t. given_from t (j + 1) n f)
-          (weaker (Beside s one i Acks) (λ t. IfOk (given_from t.scene (j + 1) n f) (λ u. Told (step_behind t.events u))) first
-          (λ t near. weaker Told (λ u. Told (step_behind t.events u)) (given_from t.scene (j + 1) n f) (λ u h. told_behind t.events u h)
-          (give_last n (j + 1) t.scene near.waits (sent_on sys me kind plan valid fits dp sp Acks i f stamp from s t.scene h near.key near.there) (next_place j sp not before) (omega arith)))
+          (weaker (Beside s one i Acks) (λ t. IfOk (given_from t.state (j + 1) n f) (λ u. Told (step_behind t.events u))) first
+          (λ t near. weaker Told (λ u. Told (step_behind t.events u)) (given_from t.state (j + 1) n f) (λ u h. reported_behind t.events u h)
+          (give_last n (j + 1) t.state near.waits (sent_on sys me kind plan valid fits dp sp Acks i f stamp from s t.state h near.key near.there) (next_place j sp not before) (omega arith)))
           (other_place sys me kind plan valid fits dp sp Acks i f stamp from s i Acks w h j not))
     ]
       where
@@ -105,10 +105,10 @@ module _ (sys : ℕ) (me : Name) (kind : PlanKind) (plan : List Item) (valid : I
     not_sender key a true = a.not_station
     not_sender key a false = a.not_drone
 
-    aside_place : (s : Scene) (r : ℕ) (q : Stage plan) → IsWaiting s r q → slice_get s.sent i ≡ Some f → Aside s.key f → (j : ℕ) → IfOk (given_to s j f (slice_get s.nodes j)) (Beside s 0 r q)
+    aside_place : (s : WorldState) (r : ℕ) (q : Stage plan) → IsWaiting s r q → slice_get s.sent i ≡ Some f → Aside s.key f → (j : ℕ) → IfOk (given_to s j f (slice_get s.nodes j)) (Beside s 0 r q)
     aside_place s r q w found a j = at (slice_get s.nodes j) refl
       where
-        rests_here : Beside s 0 r q (record { scene = s; events = [] })
+        rests_here : Beside s 0 r q (record { state = s; events = [] })
         rests_here = near_same sys me kind plan valid dp sp s r q [] w
 
         deaf : station_step w.station.core (stream_of f.from) (Ping me a.boot a.number) ≡ stays w.station.core
@@ -118,7 +118,7 @@ module _ (sys : ℕ) (me : Name) (kind : PlanKind) (plan : List Item) (valid : I
 
         alone : drone_step true w.drone.core (stream_of f.from) (Ping me a.boot a.number) ≡ rests w.drone.core
         alone =
-            drone_leaves s w.sound me (station_holds sys me kind plan valid dp sp s r q w) dp w.drone w.drone_there (apart_places sys me kind plan valid dp sp s r q w) (stream_of f.from) (Ping me a.boot a.number) refl
+            drone_leaves s w.sound me (station_holds sys me kind plan valid dp sp s r q w) dp w.drone w.drone_there (apart_indices sys me kind plan valid dp sp s r q w) (stream_of f.from) (Ping me a.boot a.number) refl
 
         by_place : (y : Node) → slice_get s.nodes j ≡ Some y → (j ≡ dp) ⊎ (j ≢ dp) → (j ≡ sp) ⊎ (j ≢ sp) → IfOk (node_does s j (node_name y) (node_receives s.clock (encoding f) y)) (Beside s 0 r q)
         by_place y there (inl is) t =
@@ -136,13 +136,13 @@ module _ (sys : ℕ) (me : Name) (kind : PlanKind) (plan : List Item) (valid : I
         at None there = rests_here
         at (Some y) there = ok_given (Beside s 0 r q) s j f y (λ _. rests_here) (λ _. by_place y there (same_or j dp) (same_or j sp))
 
-    give_aside : (n j : ℕ) (s : Scene) (r : ℕ) (q : Stage plan) → IsWaiting s r q → slice_get s.sent i ≡ Some f → Aside s.key f → IfOk (given_from s j n f) (Beside s 0 r q)
+    give_aside : (n j : ℕ) (s : WorldState) (r : ℕ) (q : Stage plan) → IsWaiting s r q → slice_get s.sent i ≡ Some f → Aside s.key f → IfOk (given_from s j n f) (Beside s 0 r q)
     give_aside zero j s r q w found a = near_same sys me kind plan valid dp sp s r q [] w
     give_aside (suc n) j s r q w found a =
         let first = given_to s j f (slice_get s.nodes j) in
         ok_then (Beside s 0 r q) first (λ t. given_from t (j + 1) n f)
-        (weaker (Beside s 0 r q) (λ t. IfOk (given_from t.scene (j + 1) n f) (λ u. Beside s 0 r q (step_behind t.events u))) first
-        (λ t near. weaker (Beside t.scene 0 r q) (λ u. Beside s 0 r q (step_behind t.events u)) (given_from t.scene (j + 1) n f)
+        (weaker (Beside s 0 r q) (λ t. IfOk (given_from t.state (j + 1) n f) (λ u. Beside s 0 r q (step_behind t.events u))) first
+        (λ t near. weaker (Beside t.state 0 r q) (λ u. Beside s 0 r q (step_behind t.events u)) (given_from t.state (j + 1) n f)
         (λ u more.
         let a = near.sent in
         let b = more.sent in
@@ -154,14 +154,14 @@ module _ (sys : ℕ) (me : Name) (kind : PlanKind) (plan : List Item) (valid : I
           there = λ i q e. more.there i q (near.there i q e);
           key = more.key ∙ near.key;
         })
-        (give_aside n (j + 1) t.scene r q near.waits (near.there i f found) (subst (λ k. Aside k f) (sym near.key) a)))
+        (give_aside n (j + 1) t.state r q near.waits (near.there i f found) (subst (λ k. Aside k f) (sym near.key) a)))
         (aside_place s r q w found a j))
 
   -- one frame more counts as given
-  abbrev counted : Scene → Scene
+  abbrev counted : WorldState → WorldState
   counted s = record s { given = s.given + 1 }
 
-  waits_counted : (s : Scene) (r : ℕ) (p : Stage plan) → IsWaiting s r p → s.given + 1 ≤ length s.sent → IsWaiting (counted s) r p
+  waits_counted : (s : WorldState) (r : ℕ) (p : Stage plan) → IsWaiting s r p → s.given + 1 ≤ length s.sent → IsWaiting (counted s) r p
   waits_counted s r p w few = record {
     sound = sound_restated s (s.given + 1) s.draft s.clock w.sound few w.sound.draft (omega arith) w.sound.clock;
     drone = w.drone;
@@ -184,7 +184,7 @@ module _ (sys : ℕ) (me : Name) (kind : PlanKind) (plan : List Item) (valid : I
     asides = λ j q le e ne. w.asides j q (omega arith) e ne;
   }
 
-  size_of : (s : Scene) → length (names_of s.nodes) ≡ length s.nodes
+  size_of : (s : WorldState) → length (names_of s.nodes) ≡ length s.nodes
   size_of s = length-map s.nodes named
 
   one_below : (a b : ℕ) → a ≢ b → a ≤ b → a + 1 ≤ b
@@ -192,26 +192,26 @@ module _ (sys : ℕ) (me : Name) (kind : PlanKind) (plan : List Item) (valid : I
 
   -- what a flow of so many frames leads to
   abbrev Leads : ℕ → Type 0
-  Leads k = (s : Scene) (r : ℕ) (p : Stage plan) → IsWaiting s r p → s.given ≤ r → length s.sent + cost p + all_extra (is_ping p) (names_of s.nodes) ≤ s.given + k → IfOk (flows k s) (λ u. Wanted p u.events)
+  Leads k = (s : WorldState) (r : ℕ) (p : Stage plan) → IsWaiting s r p → s.given ≤ r → length s.sent + cost p + all_extra (is_ping p) (names_of s.nodes) ≤ s.given + k → IfOk (flows k s) (λ u. Wanted p u.events)
 
-  module _ (k : ℕ) (on : Leads k) (s : Scene) (r : ℕ) (p : Stage plan) (w : IsWaiting s r p) (le : s.given ≤ r) (enough : length s.sent + cost p + all_extra (is_ping p) (names_of s.nodes) ≤ s.given + suc k) where
+  module _ (k : ℕ) (on : Leads k) (s : WorldState) (r : ℕ) (p : Stage plan) (w : IsWaiting s r p) (le : s.given ≤ r) (enough : length s.sent + cost p + all_extra (is_ping p) (names_of s.nodes) ≤ s.given + suc k) where
     few : s.given + 1 ≤ length s.sent
     few = let inside = within s.sent r w.flies.frame w.flies.found in omega arith
 
     abbrev leads_on : Packet → Type 0
-    leads_on f = IfOk (given_to_all (counted s) f) (λ t. IfOk (flows k t.scene) (λ u. Wanted p (t.events ++ u.events)))
+    leads_on f = IfOk (given_to_all (counted s) f) (λ t. IfOk (flows k t.state) (λ u. Wanted p (t.events ++ u.events)))
 
     all_nodes : extra (is_ping p) (names_of s.nodes) 0 (length s.nodes) ≡ all_extra (is_ping p) (names_of s.nodes)
     all_nodes = ap (extra (is_ping p) (names_of s.nodes) 0) (sym (size_of s))
 
     -- the acknowledgement
-    acknowledged : (f : Packet) → slice_get s.sent r ≡ Some f → (w : IsWaiting s r Acks) → IfOk (given_to_all (counted s) f) (λ t. IfOk (flows k t.scene) (λ u. Wanted Acks (t.events ++ u.events)))
+    acknowledged : (f : Packet) → slice_get s.sent r ≡ Some f → (w : IsWaiting s r Acks) → IfOk (given_to_all (counted s) f) (λ t. IfOk (flows k t.state) (λ u. Wanted Acks (t.events ++ u.events)))
     acknowledged f found w =
         let same : w.flies.frame ≡ f = some_is (sym w.flies.found ∙ found) in
         let from : f.from ≡ drone_name sys = ap (λ (q : Packet). q.from) (sym same) ∙ w.flies.from in
-        let place = here sys me kind plan valid fits dp sp s r Acks w false in
-        weaker (λ t. (es : List Event) → Wanted Acks (t.events ++ es)) (λ t. IfOk (flows k t.scene) (λ u. Wanted Acks (t.events ++ u.events))) (given_to_all (counted s) f)
-        (λ t h. always (λ u. Wanted Acks (t.events ++ u.events)) (flows k t.scene) (λ u. h u.events))
+        let index = here sys me kind plan valid fits dp sp s r Acks w false in
+        weaker (λ t. (es : List Event) → Wanted Acks (t.events ++ es)) (λ t. IfOk (flows k t.state) (λ u. Wanted Acks (t.events ++ u.events))) (given_to_all (counted s) f)
+        (λ t h. always (λ u. Wanted Acks (t.events ++ u.events)) (flows k t.state) (λ u. h u.events))
         (give_last r f w.flies.stamp from (length s.nodes) 0 (counted s) (waits_counted s r Acks w few)
         (record { found = found; carries = subst (λ q. Carries s.key q w.flies.stamp (says Acks)) same w.flies.carries }) (omega arith) (omega arith))
 
@@ -221,33 +221,33 @@ module _ (sys : ℕ) (me : Name) (kind : PlanKind) (plan : List Item) (valid : I
         let same : w.flies.frame ≡ f = some_is (sym w.flies.found ∙ found) in
         let from : f.from ≡ sends_it (is_up p) = ap (λ (q : Packet). q.from) (sym same) ∙ w.flies.from in
         let budget = s.given + suc k in
-        let place = here sys me kind plan valid fits dp sp s r p w (is_up p) in
-        weaker (Taken sys me kind plan valid fits dp sp p r f w.flies.stamp from (counted s).given budget) (λ t. IfOk (flows k t.scene) (λ u. Wanted p (t.events ++ u.events))) (given_to_all (counted s) f)
+        let index = here sys me kind plan valid fits dp sp s r p w (is_up p) in
+        weaker (Taken sys me kind plan valid fits dp sp p r f w.flies.stamp from (counted s).given budget) (λ t. IfOk (flows k t.state) (λ u. Wanted p (t.events ++ u.events))) (given_to_all (counted s) f)
         (λ t x.
         let given = x.given_is in
         let later = x.later in
         let bound = x.bound in
-        let none : all_extra (is_ping x.next) (names_of t.scene.nodes) ≡ 0 = ap (λ b. all_extra b (names_of t.scene.nodes)) x.not_ping ∙ no_extra (names_of t.scene.nodes) 0 (length (names_of t.scene.nodes)) in
-        weaker (λ u. Wanted x.next u.events) (λ u. Wanted p (t.events ++ u.events)) (flows k t.scene) (λ u g. x.wanted u.events g)
-        (on t.scene x.place x.next x.waits (omega arith) (omega arith)))
+        let none : all_extra (is_ping x.next) (names_of t.state.nodes) ≡ 0 = ap (λ b. all_extra b (names_of t.state.nodes)) x.not_ping ∙ no_extra (names_of t.state.nodes) 0 (length (names_of t.state.nodes)) in
+        weaker (λ u. Wanted x.next u.events) (λ u. Wanted p (t.events ++ u.events)) (flows k t.state) (λ u g. x.wanted u.events g)
+        (on t.state x.index x.next x.waits (omega arith) (omega arith)))
         (give_first sys me kind plan valid fits dp sp p r f w.flies.stamp from goes_on (length s.nodes) 0 (counted s) (waits_counted s r p w few)
         (record { found = found; carries = subst (λ q. Carries s.key q w.flies.stamp (says p)) same w.flies.carries })
         (omega arith) (omega arith) (omega arith) budget (omega (arith, all_nodes)))
     own_frame f found is true last =
         let stage : p ≡ Acks = last_is p last in
-        subst (λ q. IsWaiting s r q → IfOk (given_to_all (counted s) f) (λ t. IfOk (flows k t.scene) (λ u. Wanted q (t.events ++ u.events)))) (sym stage) (λ w. acknowledged f found w) w
+        subst (λ q. IsWaiting s r q → IfOk (given_to_all (counted s) f) (λ t. IfOk (flows k t.state) (λ u. Wanted q (t.events ++ u.events)))) (sym stage) (λ w. acknowledged f found w) w
 
     -- a late reply of another drone
     other_frame : (f : Packet) → slice_get s.sent s.given ≡ Some f → s.given ≢ r → leads_on f
     other_frame f found not =
-        weaker (Beside (counted s) 0 r p) (λ t. IfOk (flows k t.scene) (λ u. Wanted p (t.events ++ u.events))) (given_to_all (counted s) f)
+        weaker (Beside (counted s) 0 r p) (λ t. IfOk (flows k t.state) (λ u. Wanted p (t.events ++ u.events))) (given_to_all (counted s) f)
         (λ t near.
         let given = near.given in
         let sent = near.sent in
         let later = one_below s.given r not le in
-        let same : all_extra (is_ping p) (names_of t.scene.nodes) ≡ all_extra (is_ping p) (names_of s.nodes) = ap (all_extra (is_ping p)) near.names in
-        weaker (λ u. Wanted p u.events) (λ u. Wanted p (t.events ++ u.events)) (flows k t.scene) (λ u g. wanted_behind sys me kind plan valid fits dp sp p t.events u.events g)
-        (on t.scene r p near.waits (omega arith) (omega arith)))
+        let same : all_extra (is_ping p) (names_of t.state.nodes) ≡ all_extra (is_ping p) (names_of s.nodes) = ap (all_extra (is_ping p)) near.names in
+        weaker (λ u. Wanted p u.events) (λ u. Wanted p (t.events ++ u.events)) (flows k t.state) (λ u g. wanted_behind sys me kind plan valid fits dp sp p t.events u.events g)
+        (on t.state r p near.waits (omega arith) (omega arith)))
         (give_aside s.given f (length s.nodes) 0 (counted s) r p (waits_counted s r p w few) found (w.asides s.given f (omega arith) found not))
 
     one_more : IfOk (flows (suc k) s) (λ u. Wanted p u.events)

@@ -3,13 +3,13 @@ mod Messages
 mod Stages
 mod Hearing
 mod Steps
-mod Scenes
+mod States
 mod Sendings
 mod Waits
 mod Lists
 mod Given
 mod Others
-mod Telling
+mod Reporting
 mod Turns
 mod Rounds
 mod Landing

@@ -12,12 +12,12 @@ use Rattle.plan_items.specs.Validation.{item_fault, plan_fault}
 use Rattle.plan_upload.specs.Addresses.{same_stream, same_name, everyone, is_for_drone}
 use Rattle.plan_upload.specs.Drone.{DroneState, Installs, Upload, answers, ask, opened, installed, is_other, has_no_room, heard, count_comes, item_comes, item_fits, last_item, cancel_comes, drone_step}
 use Rattle.plan_upload.specs.Station.{StationState, Operation, Phase, Pinging, Cancelling, Sending, Uploads, Told_installed, addressee, item_asked, sends, ends, starts, synchronised, phase_step, station_step}
-use Rattle.scenario_lines.specs.Standing.{drone_name}
-use Rattle.fleet_world.specs.Scene.{stream_of}
+use Rattle.scenario_lines.specs.LineContext.{drone_name}
+use Rattle.fleet_world.specs.WorldState.{stream_of}
 use Rattle.fleet_invariants.proofs.Tests.{number_same, name_same}
 use Rattle.fleet_liveness.proofs.Names.{same}
 
--- what holds of all elements holds of the one behind a front
+-- what holds of all elements holds of the one after a prefix
 pub holds_at : {A : Type 0} (P : A → Type 0) (front : List A) (x : A) (rest : List A) → All P (front ++ x ∷ rest) → P x
 holds_at P front x rest h = subst P (get_or-append_seam front x rest x) (h (length front) x (omega (arith, length-append front (x ∷ rest))))
 
@@ -76,26 +76,26 @@ module _ (sys : ℕ) (me : Name) where
         ∙ cond-false (has_no_room b (stream_of me)) _ _ room
 
     -- an item of the right number without a fault
-    item_taken : (b : DroneState) (items : List Item) (place : ℕ) (x : Item) → place ≡ length items → item_fault kind x ≡ None
-        → drone_step true (drone_with b (Some (gathering items))) (stream_of me) (Give (drone_name sys) place kind x) ≡ item_fits true (drone_with b (Some (gathering items))) (stream_of me) (gathering items) x None
-    item_taken b items place x here sound =
+    item_taken : (b : DroneState) (items : List Item) (index : ℕ) (x : Item) → index ≡ length items → item_fault kind x ≡ None
+        → drone_step true (drone_with b (Some (gathering items))) (stream_of me) (Give (drone_name sys) index kind x) ≡ item_fits true (drone_with b (Some (gathering items))) (stream_of me) (gathering items) x None
+    item_taken b items index x here sound =
         let d = drone_with b (Some (gathering items)) in
-        ap (λ c. heard d c (item_comes true d (stream_of me) (Some (gathering items)) place kind x)) for_drone
+        ap (λ c. heard d c (item_comes true d (stream_of me) (Some (gathering items)) index kind x)) for_drone
         ∙ cond-false (not (same_stream (stream_of me) (stream_of me))) _ _ (ap not (same (stream_of me)))
-        ∙ cond-false (not ((kind == kind) && (place == length items))) _ _ (ap not (and_from _ _ (number_same kind) (ap (λ n. n == length items) here ∙ number_same (length items))))
+        ∙ cond-false (not ((kind == kind) && (index == length items))) _ _ (ap not (and_from _ _ (number_same kind) (ap (λ n. n == length items) here ∙ number_same (length items))))
         ∙ ap (item_fits true d (stream_of me) (gathering items) x) sound
 
     -- one that isn't the last: the next one is asked for
-    pub gave : (b : DroneState) (items : List Item) (place : ℕ) (x : Item) → place ≡ length items → item_fault kind x ≡ None → length items + 1 < length plan
-        → drone_step true (drone_with b (Some (gathering items))) (stream_of me) (Give (drone_name sys) place kind x) ≡ answers (drone_with b (Some (gathering (items ++ x ∷ [])))) (ask (stream_of me) kind (length items + 1))
-    gave b items place x here sound more = item_taken b items place x here sound ∙ cond-true (nat_lt (length items + 1) (length plan)) _ _ (lt-ltb _ _ more)
+    pub gave : (b : DroneState) (items : List Item) (index : ℕ) (x : Item) → index ≡ length items → item_fault kind x ≡ None → length items + 1 < length plan
+        → drone_step true (drone_with b (Some (gathering items))) (stream_of me) (Give (drone_name sys) index kind x) ≡ answers (drone_with b (Some (gathering (items ++ x ∷ [])))) (ask (stream_of me) kind (length items + 1))
+    gave b items index x here sound more = item_taken b items index x here sound ∙ cond-true (nat_lt (length items + 1) (length plan)) _ _ (lt-ltb _ _ more)
 
     -- the last: the plan is installed
-    pub gave_last : (b : DroneState) (items : List Item) (place : ℕ) (x : Item) → place ≡ length items → item_fault kind x ≡ None → plan ≡ items ++ x ∷ [] → length plan ≤ length items + 1 → plan_fault kind plan ≡ None
-        → drone_step true (drone_with b (Some (gathering items))) (stream_of me) (Give (drone_name sys) place kind x)
+    pub gave_last : (b : DroneState) (items : List Item) (index : ℕ) (x : Item) → index ≡ length items → item_fault kind x ≡ None → plan ≡ items ++ x ∷ [] → length plan ≤ length items + 1 → plan_fault kind plan ≡ None
+        → drone_step true (drone_with b (Some (gathering items))) (stream_of me) (Give (drone_name sys) index kind x)
         ≡ record { drone = installed (drone_with b (Some (gathering items))) (stream_of me) kind plan; answer = Some (Ack me 0 kind); event = Installs (stream_of me) kind plan }
-    gave_last b items place x here sound whole last fine =
-        item_taken b items place x here sound ∙ cond-false (nat_lt (length items + 1) (length plan)) _ _ (le-ltb _ _ last)
+    gave_last b items index x here sound whole last fine =
+        item_taken b items index x here sound ∙ cond-false (nat_lt (length items + 1) (length plan)) _ _ (le-ltb _ _ last)
         ∙ ap (last_item true (drone_with b (Some (gathering items))) (stream_of me) kind) (sym whole)
         ∙ cond-false (is_some (plan_fault kind plan)) _ _ (ap is_some fine)
 
@@ -121,13 +121,13 @@ module _ (sys : ℕ) (me : Name) where
         ∙ cond-true ((code == 0) || ((code == 1) || (code == 15))) _ _ known
 
     -- at a request it sends the item
-    pub asked : (c : StationState) (idle place : ℕ) (seen final : Bool) (number : Option ℕ) (x : Item) → slice_get plan place ≡ Some x
-        → station_step (station_with c (uploading Sending idle seen final number)) (stream_of (drone_name sys)) (Request me place kind)
-        ≡ sends (station_with c (uploading Sending idle seen final number)) (uploading Sending 0 true (final || (place + 1 == length plan)) number) (Give (drone_name sys) place kind x)
-    asked c idle place seen final number x there =
-        heeds c (uploading Sending idle seen final number) (Request me place kind) (same (stream_of (drone_name sys))) (name_same me)
+    pub asked : (c : StationState) (idle index : ℕ) (seen final : Bool) (number : Option ℕ) (x : Item) → slice_get plan index ≡ Some x
+        → station_step (station_with c (uploading Sending idle seen final number)) (stream_of (drone_name sys)) (Request me index kind)
+        ≡ sends (station_with c (uploading Sending idle seen final number)) (uploading Sending 0 true (final || (index + 1 == length plan)) number) (Give (drone_name sys) index kind x)
+    asked c idle index seen final number x there =
+        heeds c (uploading Sending idle seen final number) (Request me index kind) (same (stream_of (drone_name sys))) (name_same me)
         ∙ cond-true (kind == kind) _ _ (number_same kind)
-        ∙ ap (item_asked (station_with c (uploading Sending idle seen final number)) (uploading Sending idle seen final number) place) there
+        ∙ ap (item_asked (station_with c (uploading Sending idle seen final number)) (uploading Sending idle seen final number) index) there
 
     -- at the acknowledgement of the last item the operation ends installed
     pub told : (c : StationState) (idle : ℕ) (number : Option ℕ)

@@ -1,4 +1,4 @@
--- Names and streams that are told apart, and which messages a drone and a station leave alone.
+-- Names and streams that are distinct, and which messages a drone and a station leave alone.
 use Rattle.std.proofs.Common.{◌≡◌, ◌≢◌, ℕ, ◌≤◌, Bool, true, false, ◌==◌, ◌&&◌, ◌||◌, not, Option, Some, None, refl, ap, subst, arith, ◌∙◌}
 use Rattle.std.proofs.lemmas.Bool.{cond-false}
 use Rattle.mav_names.specs.declared.names.Name.{Name}
@@ -8,8 +8,8 @@ use Rattle.plan_items.specs.declared.messages.PlanMsg.TheVariants.{Count, Reques
 use Rattle.plan_upload.specs.Addresses.{same_stream, same_name, everyone, is_for_drone}
 use Rattle.plan_upload.specs.Drone.{DroneState, DroneStep, rests, heard, count_comes, item_comes, ack_comes, clear_comes, list_comes, request_comes, drone_step}
 use Rattle.plan_upload.specs.Station.{StationState, Operation, stays, addressee, phase_step, operation_step, station_step}
-use Rattle.scenario_lines.specs.Standing.{drone_name}
-use Rattle.fleet_world.specs.Scene.{stream_of}
+use Rattle.scenario_lines.specs.LineContext.{drone_name}
+use Rattle.fleet_world.specs.WorldState.{stream_of}
 use Rattle.fleet_invariants.proofs.Tests.{number_same, eq_true, both_true, differ, name_eq, name_same, name_is}
 
 pub not_true : (b : Bool) → (b ≡ true → ⊥) → b ≡ false

@@ -19,19 +19,19 @@ use Rattle.mav_nodes.specs.Links.{Link, tries}
 use Rattle.mav_nodes.specs.Nodes.{drone_core, station_core, change_events, station_does, told_events}
 use Rattle.mav_nodes.specs.Steps.{Side, CoreStep}
 use Rattle.fleet_report.specs.Events.{Event}
-use Rattle.fleet_world.specs.Scene.{Scene, Node, Drone, Station, stream_of, names_of}
+use Rattle.fleet_world.specs.WorldState.{WorldState, Node, Drone, Station, stream_of, names_of}
 use Rattle.fleet_world.specs.Steps.{Step, packets_in, node_receives, node_does}
 use Rattle.fleet_invariants.specs.Sound.{Holds, Sound}
 use Rattle.fleet_invariants.proofs.Lists.{set_there, set_elsewhere, more_there, in_either, some_is, nowhere, IsAt}
 use Rattle.fleet_invariants.proofs.Histories.{Leaves, Nothing, Stamp, leaves}
 use Rattle.fleet_liveness.proofs.Hearing.{Carries}
-use Rattle.fleet_liveness.proofs.Scenes.{same_place}
+use Rattle.fleet_liveness.proofs.States.{same_place}
 use Rattle.fleet_liveness.proofs.Steps.{Moves, moved, weaker}
 use Rattle.fleet_liveness.proofs.Given.{drones, stations, Still, still}
 use Rattle.fleet_liveness.proofs.Stages.{Stage, is_up, DroneIs, StationIs, station_untold}
 use Rattle.fleet_liveness.proofs.Waits.{IsAside, Waits, sender, listener}
 
--- a frame of another node leaves the last timestamp of a name as it was
+-- a frame of another node leaves the last timestamp of a name unchanged
 pub last_kept : (key : List ℕ) (link : Link) (q : Packet) (name : Name) → name ≢ q.from → (l : ℕ) → last_of (stream_of name) (tries q link).history ≡ Some l → last_of (stream_of name) link.history ≡ Some l
 last_kept key link q name ne l e = by_leaves (leaves link.history q (answer_to link.key link.history q) q.block refl)
   where
@@ -42,27 +42,27 @@ last_kept key link q name ne l e = by_leaves (leaves link.history q (answer_to l
       | inr new ↦ absurd (ne (ap node_of new.0))
     ]
 
-pub no_frames_told : (told : Option Told) → packets_in (told_events told) ≡ []
-no_frames_told None = refl
-no_frames_told (Some told) = refl
+pub no_frames_reported : (told : Option Told) → packets_in (told_events told) ≡ []
+no_frames_reported None = refl
+no_frames_reported (Some told) = refl
 
--- one that isn't at the first place
+-- one that isn't at the first index
 pub no_packet : (q : Packet) → IsAt [] q → ⊥
-no_packet q at = nowhere at.place q at.found
+no_packet q at = nowhere at.index q at.found
 
 pub only_packet : (p q : Packet) → IsAt (p ∷ []) q → p ≡ q
-only_packet p q at = first at.place at.found
+only_packet p q at = first at.index at.found
   where
     first : (k : ℕ) → slice_get (p ∷ []) k ≡ Some q → p ≡ q
     first zero e = some_is e
     first (suc k) e = absurd (nowhere k q e)
 
--- what a drone's core does where its step rests, and where it answers
+-- what a drone's core does if its step rests, and if it answers
 pub drone_core_rests : (d : DroneState) (from : Stream) (m : PlanMsg) (r : DroneStep) → drone_step true d from m ≡ r → drone_core d from m ≡ record { core = r.drone; first = change_events from r.drone.plans (change_by r.event); answer = r.answer; last = [] }
 drone_core_rests d from m r e = ap (λ (r : DroneStep). record { core = r.drone; first = change_events from r.drone.plans (change_by r.event); answer = r.answer; last = [] }) e
 
 module _ (sys : ℕ) (me : Name) (kind : PlanKind) (plan : List Item) (valid : IsValid (number_of kind) plan) (dp sp : ℕ) where
-  abbrev IsWaiting : Scene → ℕ → Stage plan → Type 0
+  abbrev IsWaiting : WorldState → ℕ → Stage plan → Type 0
   IsWaiting = Waits sys me kind plan valid dp sp
 
   abbrev Aside : List ℕ → Packet → Type 0
@@ -75,32 +75,32 @@ module _ (sys : ℕ) (me : Name) (kind : PlanKind) (plan : List Item) (valid : I
   hears_it = listener sys me kind plan valid dp sp
 
   -- the message is still on its way, with at most so many frames more
-  pub record Near (s : Scene) (extra r : ℕ) (p : Stage plan) (t : Step) : Type 0 where
-    pub waits : IsWaiting t.scene r p
-    pub given : t.scene.given ≡ s.given
-    pub names : names_of t.scene.nodes ≡ names_of s.nodes
-    pub sent : length t.scene.sent ≤ length s.sent + extra
-    pub there : (i : ℕ) (q : Packet) → slice_get s.sent i ≡ Some q → slice_get t.scene.sent i ≡ Some q
-    pub key : t.scene.key ≡ s.key
+  pub record Near (s : WorldState) (extra r : ℕ) (p : Stage plan) (t : Step) : Type 0 where
+    pub waits : IsWaiting t.state r p
+    pub given : t.state.given ≡ s.given
+    pub names : names_of t.state.nodes ≡ names_of s.nodes
+    pub sent : length t.state.sent ≤ length s.sent + extra
+    pub there : (i : ℕ) (q : Packet) → slice_get s.sent i ≡ Some q → slice_get t.state.sent i ≡ Some q
+    pub key : t.state.key ≡ s.key
 
-  pub near_same : (s : Scene) (r : ℕ) (p : Stage plan) (events : List Event) → IsWaiting s r p → Near s 0 r p (record { scene = s; events = events })
+  pub near_same : (s : WorldState) (r : ℕ) (p : Stage plan) (events : List Event) → IsWaiting s r p → Near s 0 r p (record { state = s; events = events })
   near_same s r p events w = record { waits = w; given = refl; names = refl; sent = omega arith; there = λ i q e. e; key = refl }
 
-  pub near_more : (s : Scene) (a b r : ℕ) (p : Stage plan) (t : Step) → a ≤ b → Near s a r p t → Near s b r p t
+  pub near_more : (s : WorldState) (a b r : ℕ) (p : Stage plan) (t : Step) → a ≤ b → Near s a r p t → Near s b r p t
   near_more s a b r p t le n = let z = n.sent in record { waits = n.waits; given = n.given; names = n.names; sent = omega arith; there = n.there; key = n.key }
 
-  module _ (s : Scene) (r : ℕ) (p : Stage plan) (w : IsWaiting s r p) where
-    pub apart_places : dp ≢ sp
-    apart_places e = differ (same_place s.nodes dp sp _ _ w.drone_there w.station_there e)
+  module _ (s : WorldState) (r : ℕ) (p : Stage plan) (w : IsWaiting s r p) where
+    pub apart_indices : dp ≢ sp
+    apart_indices e = differ (same_place s.nodes dp sp _ _ w.drone_there w.station_there e)
       where
         differ : Drone w.drone ≡ Station w.station → ⊥
         differ e = absurd (cc)
 
     abbrev pub drone_holds : Holds s.nodes (sends_it false)
-    drone_holds = record { place = dp; node = Drone w.drone; found = w.drone_there; name_is = w.drone_named }
+    drone_holds = record { index = dp; node = Drone w.drone; found = w.drone_there; name_is = w.drone_named }
 
     abbrev pub station_holds : Holds s.nodes me
-    station_holds = record { place = sp; node = Station w.station; found = w.station_there; name_is = w.station_named }
+    station_holds = record { index = sp; node = Station w.station; found = w.station_there; name_is = w.station_named }
 
     -- with these nodes and frames
     goes_on : (j : ℕ) (b : Node) (packets : List Packet) → Sound (moved s j b packets)
@@ -133,11 +133,11 @@ module _ (sys : ℕ) (me : Name) (kind : PlanKind) (plan : List Item) (valid : I
     near_moved : (j : ℕ) (b : Node) (packets : List Packet) (events : List Event) (t : Step) → Moves s j b packets events t → (Sound (moved s j b packets) → IsWaiting (moved s j b packets) r p) → Near s (length packets) r p t
     near_moved j b packets events t h on = record {
       waits = subst (λ x. IsWaiting x r p) (sym h.is) (on (subst Sound h.is h.keeps.sound));
-      given = ap (λ (x : Scene). x.given) h.is;
+      given = ap (λ (x : WorldState). x.given) h.is;
       names = h.keeps.names;
-      sent = (let z : length t.scene.sent ≡ length s.sent + length packets = ap (λ (x : Scene). length x.sent) h.is ∙ length-append s.sent packets in omega arith);
+      sent = (let z : length t.state.sent ≡ length s.sent + length packets = ap (λ (x : WorldState). length x.sent) h.is ∙ length-append s.sent packets in omega arith);
       there = h.keeps.kept.sent;
-      key = ap (λ (x : Scene). x.key) h.is;
+      key = ap (λ (x : WorldState). x.key) h.is;
     }
 
     -- another node
@@ -173,7 +173,7 @@ module _ (sys : ℕ) (me : Name) (kind : PlanKind) (plan : List Item) (valid : I
       station_still : (j : ℕ) (y : Side StationState) (there : slice_get s.nodes j ≡ Some (Station y)) → station_step y.core (stream_of f.from) m ≡ stays y.core
           → IfOk (node_does s j name (node_receives s.clock (encoding f) (Station y))) (λ t. StillStation j y there y.core t ⊎ StillStation j y there (untold y.core) t)
       station_still j y there is =
-          still s w.sound i f found stamp m c station_core stations j y there name (station_does (stays y.core)) (ap station_does is) refl refl (no_frames_told y.core.outcome)
+          still s w.sound i f found stamp m c station_core stations j y there name (station_does (stays y.core)) (ap station_does is) refl refl (no_frames_reported y.core.outcome)
 
       pub other_drone : (j : ℕ) (y : Side DroneState) → slice_get s.nodes j ≡ Some (Drone y) → j ≢ dp → j ≢ sp → drone_step true y.core (stream_of f.from) m ≡ rests y.core → Given j (Drone y) 0
       other_drone j y there nd ns is =
@@ -203,7 +203,7 @@ module _ (sys : ℕ) (me : Name) (kind : PlanKind) (plan : List Item) (valid : I
           (λ t h. let d : Side DroneState = record { link = tries f w.drone.link; core = w.drone.core } in
           near_moved dp (Drone d) [] h.events t h.moves (λ sound.
           goes_on dp (Drone d) [] sound d (set_there s.nodes dp (Drone w.drone) (Drone d) w.drone_there) refl refl
-          w.station (set_elsewhere s.nodes dp sp (Drone d) (λ e. apart_places (sym e)) ∙ w.station_there) refl w.station_is
+          w.station (set_elsewhere s.nodes dp sp (Drone d) (λ e. apart_indices (sym e)) ∙ w.station_there) refl w.station_is
           (fresh_up (is_up p) ne d.link w.station.link (inr refl) (inl refl) w.flies.fresh) (λ q at. absurd (no_packet q at))))
           (drone_still dp w.drone w.drone_there is)
 
@@ -211,7 +211,7 @@ module _ (sys : ℕ) (me : Name) (kind : PlanKind) (plan : List Item) (valid : I
       own_still ne core is t h =
           let y : Side StationState = record { link = tries f w.station.link; core = core } in
           near_moved sp (Station y) [] h.events t h.moves (λ sound.
-          goes_on sp (Station y) [] sound w.drone (set_elsewhere s.nodes sp dp (Station y) apart_places ∙ w.drone_there) refl refl
+          goes_on sp (Station y) [] sound w.drone (set_elsewhere s.nodes sp dp (Station y) apart_indices ∙ w.drone_there) refl refl
           y (set_there s.nodes sp (Station w.station) (Station y) w.station_there) refl is
           (fresh_up (is_up p) ne w.drone.link y.link (inl refl) (inr refl) w.flies.fresh) (λ q at. absurd (no_packet q at)))
 

@@ -28,8 +28,8 @@ use Rattle.mav_nodes.specs.Links.{Link, Done, Outcome, done, behind, and_then, t
 use Rattle.mav_nodes.specs.Nodes.{drone_core, station_core, change_events}
 use Rattle.mav_nodes.specs.Steps.{Side, CoreStep, with_core, answers, steps, takes, admits, hears, hears_all, receives}
 use Rattle.fleet_report.specs.Events.{Event}
-use Rattle.fleet_world.specs.Scene.{Scene, Node, Drone, Station, node_name, named, names_of}
-use Rattle.fleet_world.specs.Steps.{Step, Halt, rests, packets_in, node_receives, node_does, most_frames, given_to, given_from, given_to_all, flow_next, flows}
+use Rattle.fleet_world.specs.WorldState.{WorldState, Node, Drone, Station, node_name, named, names_of}
+use Rattle.fleet_world.specs.Steps.{Step, StepError, rests, packets_in, node_receives, node_does, most_frames, given_to, given_from, given_to_all, flow_next, flows}
 use Rattle.fleet_world.specs.Steps as world
 use Rattle.fleet_invariants.specs.Sound.{link_of, Sound}
 use Rattle.fleet_invariants.specs.Kept.{Keeps}
@@ -43,7 +43,7 @@ use Rattle.fleet_invariants.proofs.Restated.{sound_restated}
 use Rattle.fleet_invariants.proofs.Tests.{by_test}
 use Rattle.fleet_liveness.specs.Room.{IsDone}
 use Rattle.fleet_liveness.proofs.Hearing.{packets_append}
-use Rattle.fleet_liveness.proofs.Others.{no_frames_told}
+use Rattle.fleet_liveness.proofs.Others.{no_frames_reported}
 use Rattle.fleet_liveness.proofs.Steps.{step_behind}
 
 -- a call is done, and sends one frame at most
@@ -67,7 +67,7 @@ accepted_local history = left (accepted_in history) _
     left : (a b : ℕ) → a ≤ max a b
     left a b = grind arith
 
--- no frame is among what a core tells
+-- no frame is among what a core reports
 record Quiet {Core : Type 0} (step : Core → Stream → PlanMsg → CoreStep Core) : Type 0 where
   first : (core : Core) (from : Stream) (m : PlanMsg) → packets_in (step core from m).first ≡ []
   last : (core : Core) (from : Stream) (m : PlanMsg) → packets_in (step core from m).last ≡ []
@@ -82,7 +82,7 @@ quiet_drones : Quiet drone_core
 quiet_drones = record { first = λ d from m. no_change_frames from _ _; last = λ d from m. refl }
 
 quiet_stations : Quiet station_core
-quiet_stations = record { first = λ t from m. refl; last = λ t from m. no_frames_told _ }
+quiet_stations = record { first = λ t from m. refl; last = λ t from m. no_frames_reported _ }
 
 module _ {Core : Type 0} (step : Core → Stream → PlanMsg → CoreStep Core) (quiet : Quiet step) (clock : ℕ) where
   -- its frames
@@ -131,37 +131,37 @@ module _ {Core : Type 0} (step : Core → Stream → PlanMsg → CoreStep Core) 
       (short_once p (hears step clock p y) (short_admits (record y { link = tries p y.link }) p (answer_to y.link.key y.link.history p) p.block left))
 
 -- there is a step, of which this holds
-abbrev pub Goes : (Step → Type 0) → Result Step Halt → Type 0
+abbrev pub Goes : (Step → Type 0) → Result Step StepError → Type 0
 Goes P (Ok t) = P t
-Goes P (Err halt) = ⊥
+Goes P (Err error) = ⊥
 
-goes_behind : (P : Step → Type 0) (events : List Event) (r : Result Step Halt) → Goes (λ t. P (step_behind events t)) r → Goes P (world.behind events r)
+goes_behind : (P : Step → Type 0) (events : List Event) (r : Result Step StepError) → Goes (λ t. P (step_behind events t)) r → Goes P (world.behind events r)
 goes_behind P events (Ok t) h = h
-goes_behind P events (Err halt) h = h
+goes_behind P events (Err error) h = h
 
-goes_then : (P : Step → Type 0) (r : Result Step Halt) (next : Scene → Result Step Halt) → Goes (λ t. Goes (λ u. P (step_behind t.events u)) (next t.scene)) r → Goes P (world.and_then r next)
-goes_then P (Ok t) next h = goes_behind P t.events (next t.scene) h
-goes_then P (Err halt) next h = h
+goes_then : (P : Step → Type 0) (r : Result Step StepError) (next : WorldState → Result Step StepError) → Goes (λ t. Goes (λ u. P (step_behind t.events u)) (next t.state)) r → Goes P (world.and_then r next)
+goes_then P (Ok t) next h = goes_behind P t.events (next t.state) h
+goes_then P (Err error) next h = h
 
-goes_weaker : (P Q : Step → Type 0) (r : Result Step Halt) → ((t : Step) → P t → Q t) → Goes P r → Goes Q r
+goes_weaker : (P Q : Step → Type 0) (r : Result Step StepError) → ((t : Step) → P t → Q t) → Goes P r → Goes Q r
 goes_weaker P Q (Ok t) f h = f t h
-goes_weaker P Q (Err halt) f h = h
+goes_weaker P Q (Err error) f h = h
 
--- the scene is sound, with at most so many frames more
-record Longer (s : Scene) (n : ℕ) (t : Step) : Type 0 where
-  sound : Sound t.scene
-  sent : length t.scene.sent ≤ length s.sent + n
-  there : (i : ℕ) (q : Packet) → slice_get s.sent i ≡ Some q → slice_get t.scene.sent i ≡ Some q
-  nodes : length t.scene.nodes ≡ length s.nodes
-  given : t.scene.given ≡ s.given
+-- the state is sound, with at most so many frames more
+record Longer (s : WorldState) (n : ℕ) (t : Step) : Type 0 where
+  sound : Sound t.state
+  sent : length t.state.sent ≤ length s.sent + n
+  there : (i : ℕ) (q : Packet) → slice_get s.sent i ≡ Some q → slice_get t.state.sent i ≡ Some q
+  nodes : length t.state.nodes ≡ length s.nodes
+  given : t.state.given ≡ s.given
 
-module _ (s : Scene) (g : Sound s) (i : ℕ) (p : Packet) (found : slice_get s.sent i ≡ Some p) where
+module _ (s : WorldState) (g : Sound s) (i : ℕ) (p : Packet) (found : slice_get s.sent i ≡ Some p) where
   -- a timestamp is left for each node
   stamp_left : (j : ℕ) (y : Node) → slice_get s.nodes j ≡ Some y → next_in (tries p (link_of y)).history s.clock ≤ greatest_stamp
   stamp_left j y there =
       let link = g.links j y there in
       let after = tries p (link_of y) in
-      let near = (link_tries s (steady_of s g) (link_of y) link p (λ _. record { place = i; found = found })).local in
+      let near = (link_tries s (steady_of s g) (link_of y) link p (λ _. record { index = i; found = found })).local in
       let clock = g.clock in
       let frames = g.frames in
       let next = next_near (previous_in after.history) s.clock (accepted_in after.history) (local_of after.history) (s.clock + length s.sent) (previous_local after.history) (accepted_local after.history) (omega arith) (omega arith) in
@@ -198,24 +198,24 @@ module _ (s : Scene) (g : Sound s) (i : ℕ) (p : Packet) (found : slice_get s.s
       same_size : (ns ms : List Node) → names_of ns ≡ names_of ms → length ns ≡ length ms
       same_size ns ms e = sym (length-map ns named) ∙ ap length e ∙ length-map ms named
 
-  same_scene : Longer s 1 (record { scene = s; events = [] })
-  same_scene = record { sound = g; sent = omega arith; there = λ i q e. e; nodes = refl; given = refl }
+  same_state : Longer s 1 (record { state = s; events = [] })
+  same_state = record { sound = g; sent = omega arith; there = λ i q e. e; nodes = refl; given = refl }
 
   given_goes : (j : ℕ) (o : Option Node) → slice_get s.nodes j ≡ o → length s.sent + 1 ≤ most_frames → Goes (Longer s 1) (given_to s j p o)
-  given_goes j None there room = same_scene
-  given_goes j (Some y) there room = by_test (Goes (Longer s 1)) (same_name (node_name y) p.from) _ _ (λ _. same_scene) (λ _. does_go j y (node_name y) there room)
+  given_goes j None there room = same_state
+  given_goes j (Some y) there room = by_test (Goes (Longer s 1)) (same_name (node_name y) p.from) _ _ (λ _. same_state) (λ _. does_go j y (node_name y) there room)
 
-all_go : (n j : ℕ) (s : Scene) → Sound s → (i : ℕ) (p : Packet) → slice_get s.sent i ≡ Some p → length s.sent + n ≤ most_frames → Goes (Longer s n) (given_from s j n p)
+all_go : (n j : ℕ) (s : WorldState) → Sound s → (i : ℕ) (p : Packet) → slice_get s.sent i ≡ Some p → length s.sent + n ≤ most_frames → Goes (Longer s n) (given_from s j n p)
 all_go zero j s g i p found room = record { sound = g; sent = omega arith; there = λ i q e. e; nodes = refl; given = refl }
 all_go (suc n) j s g i p found room =
     let first = given_to s j p (slice_get s.nodes j) in
     goes_then (Longer s (suc n)) first (λ t. given_from t (j + 1) n p)
-    (goes_weaker (Longer s 1) (λ t. Goes (λ u. Longer s (suc n) (step_behind t.events u)) (given_from t.scene (j + 1) n p)) first
+    (goes_weaker (Longer s 1) (λ t. Goes (λ u. Longer s (suc n) (step_behind t.events u)) (given_from t.state (j + 1) n p)) first
     (λ t h.
     let one = h.sent in
-    goes_weaker (Longer t.scene n) (λ u. Longer s (suc n) (step_behind t.events u)) (given_from t.scene (j + 1) n p)
+    goes_weaker (Longer t.state n) (λ u. Longer s (suc n) (step_behind t.events u)) (given_from t.state (j + 1) n p)
     (λ u k. let more = k.sent in record { sound = k.sound; sent = omega arith; there = λ i q e. k.there i q (h.there i q e); nodes = k.nodes ∙ h.nodes; given = k.given ∙ h.given })
-    (all_go n (j + 1) t.scene h.sound i p (h.there i p found) (omega arith)))
+    (all_go n (j + 1) t.state h.sound i p (h.there i p found) (omega arith)))
     (given_goes s g i p found j (slice_get s.nodes j) refl (omega arith)))
 
 -- so many times
@@ -223,28 +223,28 @@ abbrev pub times : ℕ → ℕ → ℕ
 times zero n = 0
 times (suc k) n = n + times k n
 
-pub flows_go : (k : ℕ) (s : Scene) → Sound s → length s.sent + times k (length s.nodes) ≤ most_frames → Goes (λ t. Unit {0}) (flows k s)
+pub flows_go : (k : ℕ) (s : WorldState) → Sound s → length s.sent + times k (length s.nodes) ≤ most_frames → Goes (λ t. Unit {0}) (flows k s)
 flows_go zero s g room = tt
 flows_go (suc k) s g room = next (slice_get s.sent s.given) refl (λ t h less. flows_go k t h less)
   where
-    next : (o : Option Packet) → slice_get s.sent s.given ≡ o → ((t : Scene) → Sound t → length t.sent + times k (length t.nodes) ≤ most_frames → Goes (λ t. Unit {0}) (flows k t)) → Goes (λ t. Unit {0}) (flow_next s o (flows k))
+    next : (o : Option Packet) → slice_get s.sent s.given ≡ o → ((t : WorldState) → Sound t → length t.sent + times k (length t.nodes) ≤ most_frames → Goes (λ t. Unit {0}) (flows k t)) → Goes (λ t. Unit {0}) (flow_next s o (flows k))
     next None found on = tt
     next (Some p) found on =
         let inside = within s.sent s.given p found in
-        let x : Scene = record s { given = s.given + 1 } in
+        let x : WorldState = record s { given = s.given + 1 } in
         let x_sound = sound_restated s (s.given + 1) s.draft s.clock g (omega arith) g.draft (omega arith) g.clock in
         goes_then (λ t. Unit {0}) (given_to_all x p) (flows k)
-        (goes_weaker (Longer x (length s.nodes)) (λ t. Goes (λ u. Unit {0}) (flows k t.scene)) (given_to_all x p)
-        (λ t h. let sent = h.sent in on t.scene h.sound (subst (λ n. length t.scene.sent + times k n ≤ most_frames) (sym h.nodes) (omega arith)))
+        (goes_weaker (Longer x (length s.nodes)) (λ t. Goes (λ u. Unit {0}) (flows k t.state)) (given_to_all x p)
+        (λ t h. let sent = h.sent in on t.state h.sound (subst (λ n. length t.state.sent + times k n ≤ most_frames) (sym h.nodes) (omega arith)))
         (all_go (length s.nodes) 0 x x_sound s.given p found (omega arith)))
 
 times_is : (k n : ℕ) → times k n ≡ k * n
 times_is zero n = grind arith
 times_is (suc k) n = let e = times_is k n in grind arith
 
-pub flows_done : (s : Scene) → Sound s → (k : ℕ) → length s.sent + k * length s.nodes ≤ most_frames → IsDone (flows k s)
+pub flows_done : (s : WorldState) → Sound s → (k : ℕ) → length s.sent + k * length s.nodes ≤ most_frames → IsDone (flows k s)
 flows_done s g k room = is_done (flows k s) (flows_go k s g (subst (λ n. length s.sent + n ≤ most_frames) (sym (times_is k (length s.nodes))) room))
   where
-    is_done : (r : Result Step Halt) → Goes (λ t. Unit {0}) r → IsDone r
+    is_done : (r : Result Step StepError) → Goes (λ t. Unit {0}) r → IsDone r
     is_done (Ok t) h = tt
-    is_done (Err halt) h = h
+    is_done (Err error) h = h

@@ -6,7 +6,7 @@ use Rattle.hex.specs.Hex.{decode_pairs}
 use Rattle.sha2.specs.Sha256.{first_words, schedule, rounds, compress, hash_after, digest_bytes, sha256}
 use Rattle.x25_check.specs.Check as check
 use Rattle.plan_items.specs.Validation.{item_fault, whole_fault, plan_fault, IsValid}
-use Rattle.fleet_world.specs.Steps.{Step, Halt, flows}
+use Rattle.fleet_world.specs.Steps.{Step, StepError, flows}
 use Rattle.fleet_world.specs.Scenario.{Played, at_start, goes_on, played}
 use Rattle.fleet_world.specs.Authentic.{Authentic}
 use Rattle.fleet_invariants.specs.Sound.{Sound}
@@ -24,22 +24,22 @@ valid = record { not_empty = omega arith; within = omega arith; items_sound = al
     all (suc k) d l = absurd (omega arith)
 
 -- a step that there is doesn't stop it
-goes_stop : (p : Played) (r : Result Step Halt) → Goes (λ t. Unit {0}) r → (goes_on p r).stop ≡ None
+goes_stop : (p : Played) (r : Result Step StepError) → Goes (λ t. Unit {0}) r → (goes_on p r).stop ≡ None
 goes_stop p (Ok t) h = refl
-goes_stop p (Err halt) h = absurd h
+goes_stop p (Err error) h = absurd h
 
 module _ (key : List ℕ) (flow : NextLine) where
   abbrev so_far : Played
   so_far = begun key (upload_lines flow)
 
-  so_far_sound : Sound so_far.scene
+  so_far_sound : Sound so_far.state
   unfolding item_fault whole_fault plan_fault decode_pairs
   so_far_sound =
       sound_lines (at_start key) (sound_start key) 1 (codes "drone 1" ∷ codes "station 255 190" ∷ one_item ∷ codes "begin 255.190 1.1 mission" ∷ []) (tt, (tt, (tt, (tt, tt))))
 
-  flow_goes : (goes_on so_far (flows 9 so_far.scene)).stop ≡ None
+  flow_goes : (goes_on so_far (flows 9 so_far.state)).stop ≡ None
   unfolding item_fault whole_fault plan_fault decode_pairs
-  flow_goes = goes_stop so_far (flows 9 so_far.scene) (flows_go 9 so_far.scene so_far_sound (omega arith))
+  flow_goes = goes_stop so_far (flows 9 so_far.state) (flows_go 9 so_far.state so_far_sound (omega arith))
 
 pub whole_line : (key : List ℕ) (ended : Bool) → IsUncontended key ended (scenario one_item (codes "flow 9" ++ newline)) (upload_lines (Whole (codes "flow 9") [])) upload
 unfolding item_fault whole_fault plan_fault decode_pairs
@@ -51,8 +51,8 @@ whole_line key ended = record {
   begins = refl;
   plan_is = refl;
   valid = valid;
-  accepts = record { place = 1; station = _; found = refl; named = refl; accepted = refl };
-  is_free = record { place = 0; drone = _; found = refl; named = refl; free = refl };
+  accepts = record { index = 1; station = _; found = refl; named = refl; accepted = refl };
+  is_free = record { index = 0; drone = _; found = refl; named = refl; free = refl };
   frames = 9;
   flows = refl;
   enough = omega arith;
@@ -68,8 +68,8 @@ last_line key = record {
   begins = refl;
   plan_is = refl;
   valid = valid;
-  accepts = record { place = 1; station = _; found = refl; named = refl; accepted = refl };
-  is_free = record { place = 0; drone = _; found = refl; named = refl; free = refl };
+  accepts = record { index = 1; station = _; found = refl; named = refl; accepted = refl };
+  is_free = record { index = 0; drone = _; found = refl; named = refl; free = refl };
   frames = 9;
   flows = refl;
   enough = omega arith;

@@ -23,8 +23,8 @@ use Rattle.mav_messages.specs.Plans.{message_of_plan, plan_of}
 use Rattle.plan_upload.proofs.ResultLists.{result_of-with_result}
 use Rattle.mav_nodes.specs.News.{NodeEvent, Installs}
 use Rattle.mav_nodes.specs.Nodes.{change_events}
-use Rattle.scenario_lines.specs.Standing.{drone_name}
-use Rattle.fleet_world.specs.Scene.{stream_of}
+use Rattle.scenario_lines.specs.LineContext.{drone_name}
+use Rattle.fleet_world.specs.WorldState.{stream_of}
 use Rattle.fleet_liveness.proofs.Names.{same, not_is_false}
 use Rattle.fleet_liveness.proofs.Lists.{four_are}
 use Rattle.fleet_liveness.proofs.Messages as messages
@@ -120,7 +120,7 @@ module _ (sys : ℕ) (me : Name) (kind : PlanKind) (plan : List Item) (valid : I
   message_of (Gives items x rest whole) = Give drone (length items) number x
   message_of Acks = Ack me 0 number
 
-  -- how many messages come behind it
+  -- how many messages come after it
   abbrev pub costs : Stage plan → ℕ
   costs (Pings boot n) = 2 * length plan + 5
   costs (Replies boot n) = 2 * length plan + 4
@@ -131,7 +131,7 @@ module _ (sys : ℕ) (me : Name) (kind : PlanKind) (plan : List Item) (valid : I
   costs (Gives items x rest whole) = 2 * length rest + 1
   costs Acks = 0
 
-  -- the drone and the station, as they stand in the upload
+  -- the drone and the station, in the upload
   abbrev drone_with : DroneState → Option Upload → DroneState
   drone_with = messages.drone_with sys me
 
@@ -179,7 +179,7 @@ module _ (sys : ℕ) (me : Name) (kind : PlanKind) (plan : List Item) (valid : I
   StationIs (Gives items x rest whole) t = (ping : Option ℕ) × (final : Bool) × (rest ≡ [] → final ≡ true) × Works Sending true final ping t
   StationIs Acks t = (ping : Option ℕ) × Works Sending true true ping t
 
-  -- the plan is installed where the acknowledgement is the next message
+  -- the plan is installed if the acknowledgement is the next message
   abbrev pub changes : Stage plan → List NodeEvent
   changes (Pings boot n) = []
   changes (Replies boot n) = []
@@ -445,7 +445,7 @@ module _ (sys : ℕ) (me : Name) (kind : PlanKind) (plan : List Item) (valid : I
   is_busy (Gives items x rest whole) t s = busy_works _ _ _ _ t s.3
   is_busy Acks t s = busy_works _ _ _ _ t s.1
 
-  -- who a message is for, where it isn't for all
+  -- who a message is for, if it isn't for all
   pub for_one : (p : Stage plan) → is_ping p ≡ false → addressee (message_of p) ≡ (if is_up p then drone else me)
   for_one (Pings boot n) e = absurd (cc)
   for_one (Replies boot n) e = refl

@@ -8,66 +8,66 @@ use Rattle.mav_frame.specs.Encoding.{encoding}
 use Rattle.plan_upload.specs.Addresses.{same_name}
 use Rattle.mav_nodes.specs.Links.{Done, Outcome}
 use Rattle.fleet_report.specs.Events.{Event}
-use Rattle.fleet_world.specs.Scene.{Scene, Node, node_name}
-use Rattle.fleet_world.specs.Steps.{Step, Halt, behind, and_then, packets_in, told_by, node_receives, node_does, most_frames, given_to}
+use Rattle.fleet_world.specs.WorldState.{WorldState, Node, node_name}
+use Rattle.fleet_world.specs.Steps.{Step, StepError, behind, and_then, packets_in, reported_by, node_receives, node_does, most_frames, given_to}
 use Rattle.fleet_invariants.specs.Kept.{StepKeeps, Keeps}
 use Rattle.fleet_invariants.proofs.Tests.{by_test}
 
 -- what holds of every step holds of one that met no limit
-pub always : (P : Step → Type 0) (r : Result Step Halt) → ((t : Step) → P t) → IfOk r P
+pub always : (P : Step → Type 0) (r : Result Step StepError) → ((t : Step) → P t) → IfOk r P
 always P (Ok t) f = f t
-always P (Err halt) f = tt
+always P (Err error) f = tt
 
-pub both : (s : Scene) (P : Step → Type 0) (r : Result Step Halt) → Keeps s r → IfOk r P → IfOk r (λ t. StepKeeps s t.scene × P t)
+pub both : (s : WorldState) (P : Step → Type 0) (r : Result Step StepError) → Keeps s r → IfOk r P → IfOk r (λ t. StepKeeps s t.state × P t)
 both s P (Ok t) k h = (k, h)
-both s P (Err halt) k h = tt
+both s P (Err error) k h = tt
 
-pub weaker : (P Q : Step → Type 0) (r : Result Step Halt) → ((t : Step) → P t → Q t) → IfOk r P → IfOk r Q
+pub weaker : (P Q : Step → Type 0) (r : Result Step StepError) → ((t : Step) → P t → Q t) → IfOk r P → IfOk r Q
 weaker P Q (Ok t) f h = f t h
-weaker P Q (Err halt) f h = tt
+weaker P Q (Err error) f h = tt
 
 -- a step, with the events that came before it
 abbrev pub step_behind : List Event → Step → Step
-step_behind events t = record { scene = t.scene; events = events ++ t.events }
+step_behind events t = record { state = t.state; events = events ++ t.events }
 
-pub ok_behind : (P : Step → Type 0) (events : List Event) (r : Result Step Halt) → IfOk r (λ t. P (step_behind events t)) → IfOk (behind events r) P
+pub ok_behind : (P : Step → Type 0) (events : List Event) (r : Result Step StepError) → IfOk r (λ t. P (step_behind events t)) → IfOk (behind events r) P
 ok_behind P events (Ok t) h = h
-ok_behind P events (Err halt) h = tt
+ok_behind P events (Err error) h = tt
 
-pub ok_then : (P : Step → Type 0) (r : Result Step Halt) (next : Scene → Result Step Halt) → IfOk r (λ t. IfOk (next t.scene) (λ u. P (step_behind t.events u))) → IfOk (and_then r next) P
-ok_then P (Ok t) next h = ok_behind P t.events (next t.scene) h
-ok_then P (Err halt) next h = tt
+pub ok_then : (P : Step → Type 0) (r : Result Step StepError) (next : WorldState → Result Step StepError) → IfOk r (λ t. IfOk (next t.state) (λ u. P (step_behind t.events u))) → IfOk (and_then r next) P
+ok_then P (Ok t) next h = ok_behind P t.events (next t.state) h
+ok_then P (Err error) next h = tt
 
 -- a node that is given a frame: its sender, and another
-pub ok_given : (P : Step → Type 0) (s : Scene) (k : ℕ) (p : Packet) (node : Node)
-    → (same_name (node_name node) p.from ≡ true → P (record { scene = s; events = [] }))
+pub ok_given : (P : Step → Type 0) (s : WorldState) (k : ℕ) (p : Packet) (node : Node)
+    → (same_name (node_name node) p.from ≡ true → P (record { state = s; events = [] }))
     → (same_name (node_name node) p.from ≡ false → IfOk (node_does s k (node_name node) (node_receives s.clock (encoding p) node)) P)
     → IfOk (given_to s k p (Some node)) P
 ok_given P s k p node own other = by_test (λ r. IfOk r P) (same_name (node_name node) p.from) _ _ own other
 
--- the node at a place goes on as another, and these frames are sent
-abbrev pub moved : Scene → ℕ → Node → List Packet → Scene
+-- the node at an index goes on as another, and these frames are sent
+abbrev pub moved : WorldState → ℕ → Node → List Packet → WorldState
 moved s k node packets = record s { nodes = slice_set s.nodes k node; sent = s.sent ++ packets }
 
-pub record Moves (s : Scene) (k : ℕ) (node : Node) (packets : List Packet) (events : List Event) (t : Step) : Type 0 where
-  pub is : t.scene ≡ moved s k node packets
+pub record Moves (s : WorldState) (k : ℕ) (node : Node) (packets : List Packet) (events : List Event) (t : Step) : Type 0 where
+  pub is : t.state ≡ moved s k node packets
   pub events_are : t.events ≡ events
-  pub keeps : StepKeeps s t.scene
+  pub keeps : StepKeeps s t.state
 
-pub does_nothing : (P : Step → Type 0) (s : Scene) (k : ℕ) (name : Name) (o : Outcome Node) → o ≡ None → IfOk (node_does s k name o) P
+pub does_nothing : (P : Step → Type 0) (s : WorldState) (k : ℕ) (name : Name) (o : Outcome Node) → o ≡ None → IfOk (node_does s k name o) P
 does_nothing P s k name o e = subst (λ x. IfOk (node_does s k name x) P) (sym e) tt
 
-pub does : (s from : Scene) (k : ℕ) (name : Name) (o : Outcome Node) (d : Done Node) (packets : List Packet) → o ≡ Some d → packets_in d.events ≡ packets → Keeps s (node_does from k name o)
-    → IfOk (node_does from k name o) (λ t. StepKeeps s t.scene × ((t.scene ≡ moved from k d.node packets) × (t.events ≡ told_by name (length from.sent) d.events)))
+pub does : (s from : WorldState) (k : ℕ) (name : Name) (o : Outcome Node) (d : Done Node) (packets : List Packet) → o ≡ Some d → packets_in d.events ≡ packets → Keeps s (node_does from k name o)
+    → IfOk (node_does from k name o) (λ t. StepKeeps s t.state × ((t.state ≡ moved from k d.node packets) × (t.events ≡ reported_by name (length from.sent) d.events)))
 does s from k name o d packets is sends keeps =
-    both s (λ t. (t.scene ≡ moved from k d.node packets) × (t.events ≡ told_by name (length from.sent) d.events)) (node_does from k name o) keeps
-    (subst (λ x. IfOk (node_does from k name x) (λ t. (t.scene ≡ moved from k d.node packets) × (t.events ≡ told_by name (length from.sent) d.events))) (sym is)
-    (by_test (λ r. IfOk r (λ t. (t.scene ≡ moved from k d.node packets) × (t.events ≡ told_by name (length from.sent) d.events))) (nat_le (length from.sent + length (packets_in d.events)) most_frames) _ _
+    both s (λ t. (t.state ≡ moved from k d.node packets) × (t.events ≡ reported_by name (length from.sent) d.events)) (node_does from k name o) keeps
+    (subst (λ x. IfOk (node_does from k name x) (λ t. (t.state ≡ moved from k d.node packets) × (t.events ≡ reported_by name (length from.sent) d.events))) (sym is)
+    (by_test (λ r. IfOk r (λ t. (t.state ≡ moved from k d.node packets) × (t.events ≡ reported_by name (length from.sent) d.events))) (nat_le (length from.sent + length (packets_in d.events)) most_frames) _ _
     (λ _. (ap (moved from k d.node) sends, refl)) (λ _. tt)))
 
-pub does_moves : (s : Scene) (k : ℕ) (name : Name) (o : Outcome Node) (d : Done Node) (packets : List Packet) → o ≡ Some d → packets_in d.events ≡ packets → Keeps s (node_does s k name o)
-    → IfOk (node_does s k name o) (Moves s k d.node packets (told_by name (length s.sent) d.events))
+pub does_moves : (s : WorldState) (k : ℕ) (name : Name) (o : Outcome Node) (d : Done Node) (packets : List Packet) → o ≡ Some d → packets_in d.events ≡ packets → Keeps s (node_does s k name o)
+    → IfOk (node_does s k name o) (Moves s k d.node packets (reported_by name (length s.sent) d.events))
 does_moves s k name o d packets is sends keeps =
-    weaker (λ t. StepKeeps s t.scene × ((t.scene ≡ moved s k d.node packets) × (t.events ≡ told_by name (length s.sent) d.events))) (Moves s k d.node packets (told_by name (length s.sent) d.events)) (node_does s k name o)
+    weaker (λ t. StepKeeps s t.state × ((t.state ≡ moved s k d.node packets) × (t.events ≡ reported_by name (length s.sent) d.events))) (Moves s k d.node packets (reported_by name (length s.sent) d.events)) (node_does s k name o)
     (λ t h. record { is = h.1.0; events_are = h.1.1; keeps = h.0 })
     (does s s k name o d packets is sends keeps)

@@ -22,18 +22,18 @@ use Rattle.mav_nodes.specs.Links.{Link, tries, sent_at}
 use Rattle.mav_nodes.specs.Nodes.{drone_core, station_core, change_events, station_does, told_events}
 use Rattle.mav_nodes.specs.Steps.{Side, CoreStep}
 use Rattle.fleet_report.specs.Events.{Event}
-use Rattle.fleet_world.specs.Scene.{Scene, Node, Drone, Station, node_name, stream_of, names_of}
-use Rattle.fleet_world.specs.Steps.{Step, packets_in, told_by, node_receives, node_does}
+use Rattle.fleet_world.specs.WorldState.{WorldState, Node, Drone, Station, node_name, stream_of, names_of}
+use Rattle.fleet_world.specs.Steps.{Step, packets_in, reported_by, node_receives, node_does}
 use Rattle.fleet_invariants.specs.Sound.{Holds, Sound}
 use Rattle.fleet_invariants.proofs.Lists.{set_there, set_elsewhere, at_end, last_there}
 use Rattle.fleet_liveness.proofs.Hearing.{Carries}
-use Rattle.fleet_liveness.proofs.Scenes.{drone_leaves, station_leaves, station_leaves_ping, is_admitted, last_before, next_fresh, next_recent}
+use Rattle.fleet_liveness.proofs.States.{drone_leaves, station_leaves, station_leaves_ping, is_admitted, last_before, next_fresh, next_recent}
 use Rattle.fleet_liveness.proofs.Steps.{moved, weaker}
 use Rattle.fleet_liveness.proofs.Given.{drones, stations, Said, said, unless_still, ends_so}
 use Rattle.fleet_liveness.proofs.Stages.{Stage, Acks, is_up, is_last, is_ping, message_of, costs, DroneGoes, drone_goes, StationGoes, station_goes, station_ends, station_untold, for_one, ping_of, is_carried}
-use Rattle.fleet_liveness.proofs.Telling.{Goal, upload_of, goal_of, goal_behind, tells_at, drone_goal, no_frames, up_not_last}
+use Rattle.fleet_liveness.proofs.Reporting.{Goal, upload_of, goal_of, goal_behind, reports_at, drone_goal, no_frames, up_not_last}
 use Rattle.fleet_liveness.proofs.Waits.{IsAside, Waits, sender, listener}
-use Rattle.fleet_liveness.proofs.Others.{Near, near_more, near_other, other_drone, other_station, apart_places, drone_holds, station_holds, no_packet, only_packet, drone_core_rests, no_frames_told}
+use Rattle.fleet_liveness.proofs.Others.{Near, near_more, near_other, other_drone, other_station, apart_indices, drone_holds, station_holds, no_packet, only_packet, drone_core_rests, no_frames_reported}
 
 -- a PING for all is answered by each drone
 abbrev pub extra_at : Bool → Node → ℕ
@@ -42,10 +42,10 @@ extra_at true (Station n) = 0
 extra_at false n = 0
 
 module _ (sys : ℕ) (me : Name) (kind : PlanKind) (plan : List Item) (valid : IsValid (number_of kind) plan) (fits : All ItemInRange plan) (dp sp : ℕ) where
-  abbrev IsWaiting : Scene → ℕ → Stage plan → Type 0
+  abbrev IsWaiting : WorldState → ℕ → Stage plan → Type 0
   IsWaiting = Waits sys me kind plan valid dp sp
 
-  abbrev Beside : Scene → ℕ → ℕ → Stage plan → Step → Type 0
+  abbrev Beside : WorldState → ℕ → ℕ → Stage plan → Step → Type 0
   Beside = Near sys me kind plan valid dp sp
 
   abbrev Aside : List ℕ → Packet → Type 0
@@ -63,7 +63,7 @@ module _ (sys : ℕ) (me : Name) (kind : PlanKind) (plan : List Item) (valid : I
   carried : (p : Stage plan) → plan_of (message_of_plan (says p)) ≡ Some (says p)
   carried = is_carried sys me kind plan valid fits
 
-  module _ (s : Scene) (r : ℕ) (p : Stage plan) (w : IsWaiting s r p) where
+  module _ (s : WorldState) (r : ℕ) (p : Stage plan) (w : IsWaiting s r p) where
     abbrev pub target_of : Bool → Name
     target_of up = if up then sends_it false else me
 
@@ -71,7 +71,7 @@ module _ (sys : ℕ) (me : Name) (kind : PlanKind) (plan : List Item) (valid : I
     target_holds true = drone_holds sys me kind plan valid dp sp s r p w
     target_holds false = station_holds sys me kind plan valid dp sp s r p w
 
-    not_there : (up : Bool) (j : ℕ) → j ≢ dp → j ≢ sp → j ≢ (target_holds up).place
+    not_there : (up : Bool) (j : ℕ) → j ≢ dp → j ≢ sp → j ≢ (target_holds up).index
     not_there true j nd ns = nd
     not_there false j nd ns = ns
 
@@ -137,12 +137,12 @@ module _ (sys : ℕ) (me : Name) (kind : PlanKind) (plan : List Item) (valid : I
       pub next : Stage plan
       pub not_ping : is_ping next ≡ false
       pub fewer : costs sys me kind plan valid next + 1 ≤ costs sys me kind plan valid p
-      pub waits : IsWaiting t.scene (length s.sent) next
-      pub given : t.scene.given ≡ s.given
-      pub names : names_of t.scene.nodes ≡ names_of s.nodes
-      pub sent : length t.scene.sent ≡ length s.sent + 1
-      pub there : (i : ℕ) (q : Packet) → slice_get s.sent i ≡ Some q → slice_get t.scene.sent i ≡ Some q
-      pub key : t.scene.key ≡ s.key
+      pub waits : IsWaiting t.state (length s.sent) next
+      pub given : t.state.given ≡ s.given
+      pub names : names_of t.state.nodes ≡ names_of s.nodes
+      pub sent : length t.state.sent ≡ length s.sent + 1
+      pub there : (i : ℕ) (q : Packet) → slice_get s.sent i ≡ Some q → slice_get t.state.sent i ≡ Some q
+      pub key : t.state.key ≡ s.key
       pub goal : (es : List Event) → Goal sys me kind plan valid next es → Goal sys me kind plan valid p (t.events ++ es)
 
     abbrev f : Packet
@@ -193,7 +193,7 @@ module _ (sys : ℕ) (me : Name) (kind : PlanKind) (plan : List Item) (valid : I
         drone_there = set_there s.nodes dp (Drone w.drone) (Drone drone_new) w.drone_there;
         drone_named = w.drone_named;
         station = w.station;
-        station_there = set_elsewhere s.nodes dp sp (Drone drone_new) (λ e. apart_places sys me kind plan valid dp sp s r p w (sym e)) ∙ w.station_there;
+        station_there = set_elsewhere s.nodes dp sp (Drone drone_new) (λ e. apart_indices sys me kind plan valid dp sp s r p w (sym e)) ∙ w.station_there;
         station_named = w.station_named;
         drone_is = goes.drone_is;
         station_is = goes.station_is w.station.core w.station_is;
@@ -219,11 +219,11 @@ module _ (sys : ℕ) (me : Name) (kind : PlanKind) (plan : List Item) (valid : I
         not_ping = down_not_ping goes.next goes.down;
         fewer = goes.fewer;
         waits = subst (λ x. IsWaiting x (length s.sent) goes.next) (sym h.moves.is) (drone_waits t h (subst Sound h.moves.is h.moves.keeps.sound));
-        given = ap (λ (x : Scene). x.given) h.moves.is;
+        given = ap (λ (x : WorldState). x.given) h.moves.is;
         names = h.moves.keeps.names;
-        sent = ap (λ (x : Scene). length x.sent) h.moves.is ∙ length-append s.sent (h.packet ∷ []);
+        sent = ap (λ (x : WorldState). length x.sent) h.moves.is ∙ length-append s.sent (h.packet ∷ []);
         there = h.moves.keeps.kept.sent;
-        key = ap (λ (x : Scene). x.key) h.moves.is;
+        key = ap (λ (x : WorldState). x.key) h.moves.is;
         goal = λ es g. drone_goal sys me kind plan valid (node_name (Drone w.drone)) (length s.sent) h.packet (message_of_plan (says goes.next)) es w.drone_named p goes.next up drone_took.first goes.event t.events h.moves.events_are g;
       }
         where
@@ -272,7 +272,7 @@ module _ (sys : ℕ) (me : Name) (kind : PlanKind) (plan : List Item) (valid : I
         station_waits t h sound = record {
           sound = sound;
           drone = w.drone;
-          drone_there = set_elsewhere s.nodes sp dp (Station station_new) (apart_places sys me kind plan valid dp sp s r p w) ∙ w.drone_there;
+          drone_there = set_elsewhere s.nodes sp dp (Station station_new) (apart_indices sys me kind plan valid dp sp s r p w) ∙ w.drone_there;
           drone_named = w.drone_named;
           station = station_new;
           station_there = set_there s.nodes sp (Station w.station) (Station station_new) w.station_there;
@@ -301,11 +301,11 @@ module _ (sys : ℕ) (me : Name) (kind : PlanKind) (plan : List Item) (valid : I
           not_ping = does_it.not_ping;
           fewer = does_it.fewer;
           waits = subst (λ x. IsWaiting x (length s.sent) does_it.next) (sym h.moves.is) (station_waits t h (subst Sound h.moves.is h.moves.keeps.sound));
-          given = ap (λ (x : Scene). x.given) h.moves.is;
+          given = ap (λ (x : WorldState). x.given) h.moves.is;
           names = h.moves.keeps.names;
-          sent = ap (λ (x : Scene). length x.sent) h.moves.is ∙ length-append s.sent (h.packet ∷ []);
+          sent = ap (λ (x : WorldState). length x.sent) h.moves.is ∙ length-append s.sent (h.packet ∷ []);
           there = h.moves.keeps.kept.sent;
-          key = ap (λ (x : Scene). x.key) h.moves.is;
+          key = ap (λ (x : WorldState). x.key) h.moves.is;
           goal = λ es g.
               let u = upload_of sys me kind plan valid in
               subst (λ b. goal_of u b (t.events ++ es)) (up_not_last does_it.next does_it.up ∙ sym goes_on) (goal_behind u (is_last does_it.next) t.events es g);
@@ -315,16 +315,16 @@ module _ (sys : ℕ) (me : Name) (kind : PlanKind) (plan : List Item) (valid : I
         station_turn =
             weaker StationSaid Moved (node_does s sp (node_name (Station w.station)) (node_receives s.clock (encoding f) (Station w.station))) station_moved
             (said s w.sound r f w.flies.found w.flies.stamp m w.flies.carries station_core stations sp w.station w.station_there (node_name (Station w.station)) station_admits
-            (station_does does_it.step) (station_takes does_it.step does_it.is) (says does_it.next) does_it.answer refl (no_frames_told does_it.step.station.outcome) (carried does_it.next))
+            (station_does does_it.step) (station_takes does_it.step does_it.is) (says does_it.next) does_it.answer refl (no_frames_reported does_it.step.station.outcome) (carried does_it.next))
 
   -- the acknowledgement ends it
-  pub station_end : (s : Scene) (r : ℕ) (w : IsWaiting s r Acks)
+  pub station_end : (s : WorldState) (r : ℕ) (w : IsWaiting s r Acks)
       → IfOk (node_does s sp (node_name (Station w.station)) (node_receives s.clock (encoding w.flies.frame) (Station w.station))) (λ t. (es : List Event) → Goal sys me kind plan valid Acks (t.events ++ es))
   station_end s r w =
       let x = station_ends sys me kind plan valid w.station.core w.station_is in
       let name = node_name (Station w.station) in
-      let told = told_by name (length s.sent) (told_events x.step.station.outcome ++ []) in
+      let told = reported_by name (length s.sent) (told_events x.step.station.outcome ++ []) in
       weaker (λ t. t.events ≡ told) (λ t. (es : List Event) → Goal sys me kind plan valid Acks (t.events ++ es)) (node_does s sp name (node_receives s.clock (encoding w.flies.frame) (Station w.station)))
-      (λ t h es. tells_at (upload_of sys me kind plan valid) name w.station_named (length s.sent) x.step.station.outcome x.told t.events h es)
+      (λ t h es. reports_at (upload_of sys me kind plan valid) name w.station_named (length s.sent) x.step.station.outcome x.told t.events h es)
       (ends_so s w.sound r w.flies.frame w.flies.found w.flies.stamp (says Acks) w.flies.carries station_core stations sp w.station w.station_there name (station_admits s r Acks w refl)
-      (station_does x.step) (station_takes s r Acks w refl x.step x.is) x.silent refl (no_frames_told x.step.station.outcome))
+      (station_does x.step) (station_takes s r Acks w refl x.step x.is) x.silent refl (no_frames_reported x.step.station.outcome))

@@ -12,8 +12,8 @@ use Rattle.mav_frame.specs.Packet.{Packet}
 use Rattle.mav_sign.specs.History.{last_of}
 use Rattle.mav_nodes.specs.Links.{Link}
 use Rattle.mav_nodes.specs.Steps.{Side}
-use Rattle.scenario_lines.specs.Standing.{drone_name}
-use Rattle.fleet_world.specs.Scene.{Scene, Drone, Station, node_name, stream_of}
+use Rattle.scenario_lines.specs.LineContext.{drone_name}
+use Rattle.fleet_world.specs.WorldState.{WorldState, Drone, Station, node_name, stream_of}
 use Rattle.fleet_invariants.specs.Sound.{Sound}
 use Rattle.fleet_liveness.proofs.Hearing.{Carries}
 use Rattle.fleet_liveness.proofs.Stages.{Stage, is_up, message_of, DroneIs, StationIs}
@@ -41,7 +41,7 @@ module _ (sys : ℕ) (me : Name) (kind : PlanKind) (plan : List Item) (valid : I
     pub not_station : q.from ≢ me
 
   -- frame `r`, counted from 0, is the message
-  pub record Flies (s : Scene) (link : Link) (r : ℕ) (p : Stage plan) : Type 0 where
+  pub record Flies (s : WorldState) (link : Link) (r : ℕ) (p : Stage plan) : Type 0 where
     pub frame : Packet
     pub found : slice_get s.sent r ≡ Some frame
     pub from : frame.from ≡ sender (is_up p)
@@ -50,7 +50,7 @@ module _ (sys : ℕ) (me : Name) (kind : PlanKind) (plan : List Item) (valid : I
     pub recent : s.clock ≤ stamp
     pub fresh : (l : ℕ) → last_of (stream_of (sender (is_up p))) link.history ≡ Some l → l < stamp
 
-  pub record Waits (s : Scene) (r : ℕ) (p : Stage plan) : Type 0 where
+  pub record Waits (s : WorldState) (r : ℕ) (p : Stage plan) : Type 0 where
     pub sound : Sound s
     pub drone : Side DroneState
     pub drone_there : slice_get s.nodes dp ≡ Some (Drone drone)

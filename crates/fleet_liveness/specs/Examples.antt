@@ -16,12 +16,12 @@ two_items = codes "items 2 6 16 473977420 85455940"
 abbrev pub newline : List ℕ
 newline = 10 ∷ []
 
--- the upload of these items, with these bytes behind the begin line
+-- the upload of these items, with these bytes after the begin line
 abbrev pub scenario : List ℕ → List ℕ → List ℕ
 scenario items flow =
     codes "drone 1" ++ newline ++ codes "station 255 190" ++ newline ++ items ++ newline ++ codes "begin 255.190 1.1 mission" ++ newline ++ flow
 
--- its lines where there is one item
+-- its lines if there is one item
 abbrev pub upload_lines : NextLine → Lines
 upload_lines flow = record {
   front = codes "drone 1" ∷ codes "station 255 190" ∷ one_item ∷ [];

@@ -13,7 +13,7 @@ use Rattle.mav_nodes.specs.Steps.{Side}
 use Rattle.scenario_lines.specs.declared.lines.Line.TheVariants.{Begin, Flow}
 use Rattle.scenario_lines.specs.Grammar.{line_of}
 use Rattle.fleet_report.specs.Events.{Event, Installed, Ended}
-use Rattle.fleet_world.specs.Scene.{Scene, Drone, Station, node_name, stream_of, drones_in}
+use Rattle.fleet_world.specs.WorldState.{WorldState, Drone, Station, node_name, stream_of, drones_in}
 use Rattle.fleet_world.specs.Scenario.{Played, at_start, line_played, last_played, lines_played, played, whole_lines, unfinished, without_cr}
 
 -- which station uploads what to which drone
@@ -23,7 +23,7 @@ pub record Upload : Type 0 where
   pub kind : PlanKind
   pub plan : List Item
 
--- the line behind the begin line: a whole one with more behind it, or the last one, without its LF, of an input that ended
+-- the line after the begin line: a whole one with more after it, or the last one, without its LF, of an input that ended
 pub data NextLine : Type 0 where
   Whole : (raw : List ℕ) (more : List (List ℕ)) → NextLine
   Last : (raw : List ℕ) → NextLine
@@ -38,7 +38,7 @@ pub record Lines : Type 0 where
   pub begin : List ℕ
   pub flow : NextLine
 
--- the bytes have these lines, one right behind the other
+-- the bytes have these lines, one right after the other
 abbrev pub HaveLines : Bool → List ℕ → List (List ℕ) → List ℕ → NextLine → Type 0
 HaveLines ended bytes front begin (Whole raw more) = whole_lines bytes ≡ front ++ begin ∷ raw ∷ more
 HaveLines ended bytes front begin (Last raw) = (ended ≡ true) × ((whole_lines bytes ≡ front ++ begin ∷ []) × (unfinished bytes ≡ raw))
@@ -59,18 +59,18 @@ abbrev pub flowed : List ℕ → Lines → Played
 flowed key l = next_played (begun key l) (length l.front + 2) l.flow
 
 -- the station accepts the upload: it has no operation, a PING number is left, and the plan fits
-pub record Accepts (s : Scene) (u : Upload) : Type 0 where
-  pub place : ℕ
+pub record Accepts (s : WorldState) (u : Upload) : Type 0 where
+  pub index : ℕ
   pub station : Side StationState
-  pub found : slice_get s.nodes place ≡ Some (Station station)
+  pub found : slice_get s.nodes index ≡ Some (Station station)
   pub named : node_name (Station station) ≡ u.station
   pub accepted : upload_refusal station.core (number_of u.kind) u.plan ≡ None
 
 -- at the drone no upload of another stream is open
-pub record IsFree (s : Scene) (u : Upload) : Type 0 where
-  pub place : ℕ
+pub record IsFree (s : WorldState) (u : Upload) : Type 0 where
+  pub index : ℕ
   pub drone : Side DroneState
-  pub found : slice_get s.nodes place ≡ Some (Drone drone)
+  pub found : slice_get s.nodes index ≡ Some (Drone drone)
   pub named : node_name (Drone drone) ≡ u.drone
   pub free : is_other drone.core.upload (stream_of u.station) ≡ false
 
@@ -82,22 +82,22 @@ pub record IsUncontended (key : List ℕ) (ended : Bool) (bytes : List ℕ) (l :
   pub begin_done : (begun key l).stop ≡ None
   pub flow_done : (flowed key l).stop ≡ None
   pub begins : line_of (without_cr l.begin) ≡ Begin u.station u.drone u.kind
-  pub plan_is : (before key l).scene.draft ≡ u.plan
+  pub plan_is : (before key l).state.draft ≡ u.plan
   pub valid : IsValid (number_of u.kind) u.plan
-  pub accepts : Accepts (before key l).scene u
-  pub is_free : IsFree (before key l).scene u
+  pub accepts : Accepts (before key l).state u
+  pub is_free : IsFree (before key l).state u
   pub frames : ℕ
   pub flows : line_of (text_of l.flow) ≡ Flow frames
-  pub enough : 2 * length u.plan + 6 + drones_in (before key l).scene.nodes ≤ frames
+  pub enough : 2 * length u.plan + 6 + drones_in (before key l).state.nodes ≤ frames
 
--- among these events the drone installs the plan, and behind that its station tells that it is installed
+-- among these events the drone installs the plan, and after that its station reports that it is installed
 pub record Installs (u : Upload) (events : List Event) : Type 0 where
   pub earlier : List Event
   pub between : List Event
   pub later : List Event
   pub is : events ≡ earlier ++ Installed u.drone (number_of u.kind) u.plan u.station ∷ (between ++ Ended u.station Told_installed ∷ later)
 
--- so it is within the flow line, whose events stand so among those of the whole scenario
+-- so it is within the flow line, whose events come among those of the whole scenario
 pub record IsInstalled (key : List ℕ) (ended : Bool) (bytes : List ℕ) (l : Lines) (u : Upload) : Type 0 where
   pub events : List Event
   pub within : (flowed key l).events ≡ (begun key l).events ++ events

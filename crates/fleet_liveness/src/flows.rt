@@ -1,12 +1,12 @@
 // What may stop a flow.
 ghost use Rattle.std.specs.Prelude.{ℕ, ◌+◌, ◌*◌, ◌≤◌, length};
-ghost use Rattle.fleet_world.specs.Scene.{Scene};
+ghost use Rattle.fleet_world.specs.WorldState.{WorldState};
 ghost use Rattle.fleet_world.specs.Steps.{flows, most_frames};
 ghost use Rattle.fleet_invariants.specs.Sound.{Sound};
 ghost use Rattle.fleet_liveness.specs.Room.{IsDone};
 
 /// The limit of frames alone: each node sends at most one frame for one that it is given, and no node of a
-/// sound scene runs out of timestamps.
+/// sound state runs out of timestamps.
 pub fn every_flow_with_room()
-    ensures { (s : Scene) → Sound s → (k : ℕ) → length s.sent + k * length s.nodes ≤ most_frames → IsDone (flows k s) }
+    ensures { (s : WorldState) → Sound s → (k : ℕ) → length s.sent + k * length s.nodes ≤ most_frames → IsDone (flows k s) }
 {}

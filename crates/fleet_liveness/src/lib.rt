@@ -1,5 +1,5 @@
 //! An uncontended upload ends installed and acknowledged: whatever was played before it, within its flow
-//! line the drone installs the plan, and its station tells that it is installed.
+//! line the drone installs the plan, and its station reports that it is installed.
 //!
 //! Nothing here runs. Each function has an empty body, and its contract is a law over the definitions
 //! of fleet_world. `specs/Uncontended` says what is asked of the scenario's bytes.

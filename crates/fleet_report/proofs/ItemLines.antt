@@ -40,7 +40,7 @@ items_text-take items i default within =
     ∙ ap (λ n. items_text 0 (take i items) ++ item_text n (get_or items i default)) len
     )
 
--- a line behind those that were written before
+-- a line after those that were written before
 pub line_added : (old now new shown line more : List ℕ) → now ≡ old ++ shown → new ≡ now ++ line → shown ++ line ≡ more
     → new ≡ old ++ more
 line_added old now new shown line more written added joined =

@@ -29,7 +29,7 @@ digit_agrees d small = sym (agree_at 16 d refl small)
 
 -- ---- a fixed number of digits
 
--- the last k digits of a number, in front of more
+-- the last k digits of a number, before more digits
 abbrev last_digits : ℕ → ℕ → List ℕ → List ℕ
 last_digits zero n more = more
 last_digits (suc k) n more = last_digits k (n / 16) (digit_glyph false (n % 16) ∷ more)
@@ -52,7 +52,7 @@ last_digits-byte k n more =
     let low : n % 16 ≡ n % 256 % 16 = omega arith in
     rw (rest, high, low, digit_agrees (n % 256 / 16) (omega arith), digit_agrees (n % 256 % 16) (omega arith))
 
--- the digits of a number in front of more, with zeros up to a width
+-- the digits of a number before more digits, with zeros up to a width
 abbrev with_zeros : ℕ → List ℕ → List ℕ
 with_zeros width ds = replicate (width - length ds) 48 ++ ds
 

@@ -19,9 +19,9 @@ pub data Event : Type 0 where
   Dropped : (node : Name) (answer : Admit) → Event  -- a frame that the node didn't admit
   Missing : (number : ℕ) → Event  -- no frame of that number was sent
   Refused : (station : Name) (why : OpFault) → Event
-  Ended : (station : Name) (told : Told) → Event
+  Ended : (station : Name) (outcome : Told) → Event
 
--- the whole frame in hexadecimal digits, where frames are printed
+-- the whole frame in hexadecimal digits, if frames are printed
 abbrev pub frame_text : Bool → Packet → List ℕ
 frame_text frames packet = if frames then space ++ encode_lower (encoding packet) ++ newline else []
 
@@ -36,13 +36,13 @@ event_text frames (Emptied drone kind) = codes "clear " ++ name_text drone ++ sp
 event_text frames (Dropped node answer) = codes "drop " ++ name_text node ++ space ++ decimal (code_of answer) ++ newline
 event_text frames (Missing number) = codes "no frame " ++ decimal number ++ newline
 event_text frames (Refused station why) = codes "refused " ++ name_text station ++ space ++ refusal_text why ++ newline
-event_text frames (Ended station told) = codes "outcome " ++ name_text station ++ space ++ outcome_text told
+event_text frames (Ended station outcome) = codes "outcome " ++ name_text station ++ space ++ outcome_text outcome
 
 abbrev pub events_text : Bool → List Event → List ℕ
 events_text frames [] = []
 events_text frames (e ∷ es) = event_text frames e ++ events_text frames es
 
--- a plan as it stands at the end: its line, and one for each item
+-- a plan at the end: its line, and one for each item
 abbrev pub plan_text : Name → ℕ → List Item → List ℕ
 plan_text drone kind items =
     codes "plan " ++ name_text drone ++ space ++ kind_text kind ++ space ++ decimal (length items) ++ newline ++ items_text 0 items

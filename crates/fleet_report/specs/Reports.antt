@@ -12,5 +12,5 @@ abbrev pub with_text : ReportState → List ℕ → ReportState
 with_text report text = record report { text = report.text ++ text }
 
 -- an event more
-abbrev pub told : ReportState → Event → ReportState
-told report event = with_text report (event_text report.frames event)
+abbrev pub reported : ReportState → Event → ReportState
+reported report event = with_text report (event_text report.frames event)

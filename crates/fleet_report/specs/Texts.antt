@@ -69,7 +69,7 @@ plan_message_text m = said m ++ to_text (addressee m)
 abbrev pub has_target : Definition → Bool
 has_target def = list_any (is_target (codes "target_system")) (all_fields def)
 
--- whom a message is for, where it has target fields
+-- whom a message is for, if it has target fields
 abbrev pub target_field : Message → Option Name
 target_field m = if has_target (definition_of m) then Some (target_in (definition_of m) (values_of m)) else None
 

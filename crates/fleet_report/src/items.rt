@@ -22,7 +22,7 @@ impl fmt::Display for WordText {
     }
 }
 
-/// The words of an item's params, a space behind each.
+/// The words of an item's params, a space after each.
 #[derive(Drop)]
 struct ParamsText([u32; 4]);
 
@@ -42,7 +42,7 @@ impl fmt::Display for ParamsText {
     }
 }
 
-/// The end of an item's line: its params and its place.
+/// The end of an item's line: its params and its position.
 #[derive(Drop)]
 struct PlaceText(Item);
 

@@ -1,6 +1,6 @@
 //! What happens in a scenario, as a text: one method of [`Report`] for each event, and one for a plan at the end.
 //!
-//! A report is a list of bytes that grows. It knows nothing of the world that it tells of, and decides nothing.
+//! A report is a list of bytes that grows. It knows nothing of the world that it reports on, and decides nothing.
 #![tactic(auto)]
 
 mod items;

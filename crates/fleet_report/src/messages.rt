@@ -110,7 +110,7 @@ fn name_of(message: &Message) -> &'static str
     }
 }
 
-// Whom a message is for, where it has target fields.
+// Whom a message is for, if it has target fields.
 fn target_of(message: &Message) -> Option<Name>
     ensures { result ≡ target_field message.now }
 {
@@ -133,7 +133,7 @@ fn target_of(message: &Message) -> Option<Name>
     Some(Name { sys, comp })
 }
 
-// Whom a message is for, behind its name.
+// Whom a message is for, after its name.
 #[derive(Drop)]
 struct ToText(Option<Name>);
 

@@ -9,7 +9,7 @@ ghost use Rattle.hex.specs.Hex.{encode_lower};
 ghost use Rattle.std.specs.Fmt.{decimal};
 ghost use Rattle.fleet_report.specs.Texts.{newline};
 ghost use Rattle.fleet_report.specs.Events.{Sent, Installed, Emptied, Dropped, Missing, Refused, Ended, plan_text, frame_text};
-ghost use Rattle.fleet_report.specs.Reports.{told, with_text};
+ghost use Rattle.fleet_report.specs.Reports.{reported, with_text};
 
 use crate::NoMemory;
 use crate::items::put_items;
@@ -27,7 +27,7 @@ use std::marker::Model;
 /// The text that a line, or the end of a scenario, adds to the report. Contracts see its bytes, and whether frames are
 /// printed whole.
 ///
-/// Each call adds the text of one event. After an `Err` part of it may stand there, and the report is given up.
+/// Each call adds the text of one event. After an `Err` it may hold part of that text, and isn't used any more.
 #[derive(Drop)]
 pub struct Report {
     alloc: Global,
@@ -65,13 +65,14 @@ impl Report {
         }
     }
 
+    /// The text so far.
     pub fn bytes(&self) -> &[u8]
         ensures { result.now ≡ self.now.text }
     {
         self.text.as_bytes()
     }
 
-    // The frame in whole, where frames are printed.
+    // The whole frame, if frames are printed.
     fn frame(&mut self, frame: &Frame) -> Result<(), NoMemory>
         ensures { OnOk result (self.new ≡ with_text self.old (frame_text self.old.frames frame.now)) }
     {
@@ -84,7 +85,7 @@ impl Report {
 
     /// A frame was sent, the `number`-th of the scenario, which carries the message.
     pub fn sent(&mut self, number: usize, frame: &Frame, message: &Message) -> Result<(), NoMemory>
-        ensures { OnOk result (self.new ≡ told self.old (Sent number frame.now message.now)) }
+        ensures { OnOk result (self.new ≡ reported self.old (Sent number frame.now message.now)) }
     {
         let (from, text) = (NameText(frame.from), MessageText(*message));
         writeln!(self.text, "{number} {from} {text}")?;
@@ -100,7 +101,7 @@ impl Report {
         by: Name,
     ) -> Result<(), NoMemory>
         ensures { OnOk result ((items : List Item) → length items ≡ count
-            → self.new ≡ told self.old (Installed drone (number_of kind) items by)) }
+            → self.new ≡ reported self.old (Installed drone (number_of kind) items by)) }
     {
         let (drone, kind, by) = (NameText(drone), KindText(kind.number()), NameText(by));
         writeln!(self.text, "install {drone} {kind} {count} from {by}")
@@ -108,7 +109,7 @@ impl Report {
 
     /// A drone's plan became empty.
     pub fn emptied(&mut self, drone: Name, kind: PlanKind) -> Result<(), NoMemory>
-        ensures { OnOk result (self.new ≡ told self.old (Emptied drone (number_of kind))) }
+        ensures { OnOk result (self.new ≡ reported self.old (Emptied drone (number_of kind))) }
     {
         let (drone, kind) = (NameText(drone), KindText(kind.number()));
         writeln!(self.text, "clear {drone} {kind}")
@@ -116,21 +117,21 @@ impl Report {
 
     /// A node didn't admit a frame.
     pub fn dropped(&mut self, node: Name, answer: Admit) -> Result<(), NoMemory>
-        ensures { OnOk result (self.new ≡ told self.old (Dropped node answer)) }
+        ensures { OnOk result (self.new ≡ reported self.old (Dropped node answer)) }
     {
         writeln!(self.text, "drop {} {}", NameText(node), code(answer))
     }
 
     /// No frame of that number was sent.
     pub fn missing(&mut self, number: u64) -> Result<(), NoMemory>
-        ensures { OnOk result (self.new ≡ told self.old (Missing number)) }
+        ensures { OnOk result (self.new ≡ reported self.old (Missing number)) }
     {
         writeln!(self.text, "no frame {number}")
     }
 
     /// A station refused a new operation.
     pub fn refused(&mut self, station: Name, why: OpFault) -> Result<(), NoMemory>
-        ensures { OnOk result (self.new ≡ told self.old (Refused station why)) }
+        ensures { OnOk result (self.new ≡ reported self.old (Refused station why)) }
     {
         let (station, why) = (NameText(station), RefusalText(why));
         writeln!(self.text, "refused {station} {why}")
@@ -138,7 +139,7 @@ impl Report {
 
     /// A station's operation ended.
     pub fn ended(&mut self, station: Name, outcome: &Outcome) -> Result<(), NoMemory>
-        ensures { OnOk result (self.new ≡ told self.old (Ended station (told_of outcome.now))) }
+        ensures { OnOk result (self.new ≡ reported self.old (Ended station (told_of outcome.now))) }
     {
         write!(self.text, "outcome {} ", NameText(station))?;
         match outcome {
@@ -161,7 +162,7 @@ impl Report {
         writeln!(self.text, "{words}{number}")
     }
 
-    /// A plan of a drone as it stands at the end of a scenario.
+    /// A plan of a drone at the end of a scenario.
     pub fn plan(&mut self, drone: Name, kind: PlanKind, plan: &Plan) -> Result<(), NoMemory>
         ensures { OnOk result (self.new ≡ with_text self.old (plan_text drone (number_of kind) (items_of plan.now))) }
     {

@@ -20,7 +20,7 @@ impl fmt::Display for NameText {
     }
 }
 
-/// The number of a kind, by its word where it has one.
+/// The number of a kind, by its word if it has one.
 #[derive(Drop)]
 pub(crate) struct KindText(pub(crate) u8);
 

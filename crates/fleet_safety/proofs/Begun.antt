@@ -33,7 +33,7 @@ orders_all n w (a ∷ actions) f =
 
 -- ---- uploads
 
--- the element behind others
+-- the element after others
 behind : {A : Type 0} (xs : List A) (x : A) → slice_get (xs ++ x ∷ []) (length xs) ≡ Some x
 behind [] x = refl
 behind (y ∷ ys) x = behind ys x

@@ -30,17 +30,17 @@ use Rattle.mav_nodes.specs.Steps.{Side, CoreStep, answers, with_core, takes, adm
 use Rattle.mav_nodes.specs.Nodes.{drone_core, station_core, station_cancels, station_clears, station_gets}
 use Rattle.scenario_lines.specs.declared.lines.Line.{Line}
 use Rattle.scenario_lines.specs.declared.lines.Line.TheVariants as line
-use Rattle.fleet_world.specs.Scene.{Scene, Node, Drone, Station, node_name, stream_of, is_named, is_station_named}
-use Rattle.fleet_world.specs.Steps.{Step, Halt, as_drone, as_station, given_to, given_to_all, node_does, node_beats, node_ticks, station_line, orders, upload_begins}
+use Rattle.fleet_world.specs.WorldState.{WorldState, Node, Drone, Station, node_name, stream_of, is_named, is_station_named}
+use Rattle.fleet_world.specs.Steps.{Step, StepError, as_drone, as_station, given_to, given_to_all, node_does, node_beats, node_ticks, station_line, orders, upload_begins}
 use Rattle.fleet_invariants.specs.Sound.{link_of, Sound}
 use Rattle.fleet_invariants.proofs.Heard.{heard_is}
-use Rattle.fleet_safety.specs.Actions.{Action, Order, Accepts_upload, Accepts_clear, Accepts_get, moves, ticks, comes_to, accepted, cancelled, ticked, beaten, upload_at, clear_at, get_at, cancel_at, if_admitted, if_plan, if_sent, hearing, place_of, ordering, node_hears, scene_with, at_place, if_placed, at_node, and_next, at_station, if_ordered, to_station, acts, hears_then, frames_heard, datagram_heard, frame_given, row_given, flown, flow_actions, delivered, calls_of}
+use Rattle.fleet_safety.specs.Actions.{Action, Order, Accepts_upload, Accepts_clear, Accepts_get, moves, ticks, comes_to, accepted, cancelled, ticked, beaten, upload_at, clear_at, get_at, cancel_at, if_admitted, if_plan, if_sent, hearing, index_of, ordering, node_hears, state_with, at_index, if_found, at_node, and_next, at_station, if_ordered, to_station, acts, hears_then, frames_heard, datagram_heard, frame_given, row_given, flown, flow_actions, delivered, calls_of}
 use Rattle.fleet_safety.specs.Safe.{events_of}
 use Rattle.fleet_safety.specs.Causes.{without_waits, AtMostOne, EachEvent, Of, Gives, Causes}
 use Rattle.fleet_safety.proofs.Lists.{some_is}
 use Rattle.fleet_safety.proofs.Follows.{events_on}
 
--- ---- the node at the place of a name has that name
+-- ---- the node at the index of a name has that name
 
 passes_there : {A : Type 0} (p : A → Bool) (xs : List A) (x : A) → slice_get xs (position_or_len p xs) ≡ Some x → p x ≡ true
 passes_there p [] x e = nowhere (position_or_len p []) e
@@ -77,8 +77,8 @@ waits_on (Cancels s ∷ es) fs = ap (λ r. Cancels s ∷ r) (waits_on es fs)
 waits_on (world.Hands_out s ∷ es) fs = waits_on es fs
 waits_on (Drone_ticks d ∷ es) fs = ap (λ r. Drone_ticks d ∷ r) (waits_on es fs)
 waits_on (Station_ticks s ∷ es) fs = ap (λ r. Station_ticks s ∷ r) (waits_on es fs)
-waits_on (To_drone place d keeps ∷ es) fs = ap (λ r. To_drone place d keeps ∷ r) (waits_on es fs)
-waits_on (To_station place s ∷ es) fs = ap (λ r. To_station place s ∷ r) (waits_on es fs)
+waits_on (To_drone index d keeps ∷ es) fs = ap (λ r. To_drone index d keeps ∷ r) (waits_on es fs)
+waits_on (To_station index s ∷ es) fs = ap (λ r. To_station index s ∷ r) (waits_on es fs)
 waits_on (Speaks node ∷ es) fs = ap (λ r. Speaks node ∷ r) (waits_on es fs)
 waits_on (world.Drone_waits d t ∷ es) fs = waits_on es fs
 waits_on (world.Station_waits s t ∷ es) fs = waits_on es fs
@@ -102,9 +102,9 @@ main_on P actions more a b =
 one : (P : world.Event → Type 0) (e : world.Event) → P e → AtMostOne P (e ∷ [])
 one P e h = inr (e, refl, h)
 
-acts_one : (P : List world.Event → Type 0) (number : ℕ) (es : List world.Event) (os : List Order) (r : Result Step Halt) → P [] → P (without_waits es) → P (main (acts number es os r))
+acts_one : (P : List world.Event → Type 0) (number : ℕ) (es : List world.Event) (os : List Order) (r : Result Step StepError) → P [] → P (without_waits es) → P (main (acts number es os r))
 acts_one P number es os (Ok t) none h = subst (λ fs. P (without_waits fs)) (sym (append-nil es)) h
-acts_one P number es os (Err halt) none h = none
+acts_one P number es os (Err error) none h = none
 
 ordering_one : (P : List world.Event → Type 0) (clock : ℕ) (a : Side StationState) (why : Option OpFault) (e : world.Event) → P (without_waits (e ∷ [])) → P (without_waits (moves clock (Station a) e)) → P (without_waits (ordering clock a why e))
 ordering_one P clock a (Some why) e h k = h
@@ -115,21 +115,21 @@ node_named : (name : Name) (a : Node) → is_named name a ≡ true → node_of (
 node_named name (Drone a) t = name_eq (node_of a.link.me) name t
 node_named name (Station a) t = name_eq (node_of a.link.me) name t
 
-at_placed_node : (P : List world.Event → Type 0) (s : Scene) (name : Name) (call : Scene → ℕ → Node → List Action) → P [] → ((k : ℕ) (a : Node) → slice_get s.nodes k ≡ Some a → node_of (link_of a).me ≡ name → P (main (call s k a))) → P (main (at_node s name call))
+at_placed_node : (P : List world.Event → Type 0) (s : WorldState) (name : Name) (call : WorldState → ℕ → Node → List Action) → P [] → ((k : ℕ) (a : Node) → slice_get s.nodes k ≡ Some a → node_of (link_of a).me ≡ name → P (main (call s k a))) → P (main (at_node s name call))
 at_placed_node P s name call none h = by_place (position (is_named name) s.nodes) refl
   where
-    by_node : (k : ℕ) (o : Option Node) → position (is_named name) s.nodes ≡ Some k → slice_get s.nodes k ≡ o → P (main (at_place s k o call))
+    by_node : (k : ℕ) (o : Option Node) → position (is_named name) s.nodes ≡ Some k → slice_get s.nodes k ≡ o → P (main (at_index s k o call))
     by_node k None is e = none
     by_node k (Some a) is e = h k a e (node_named name a (passes_at (is_named name) s.nodes k a is e))
 
-    by_place : (o : Option ℕ) → position (is_named name) s.nodes ≡ o → P (main (if_placed s o call))
+    by_place : (o : Option ℕ) → position (is_named name) s.nodes ≡ o → P (main (if_found s o call))
     by_place None is = none
     by_place (Some k) is = by_node k (slice_get s.nodes k) is refl
 
-at_node_has : (P : List world.Event → Type 0) (s : Scene) (name : Name) (call : Scene → ℕ → Node → List Action) → P [] → ((k : ℕ) (a : Node) → node_of (link_of a).me ≡ name → P (main (call s k a))) → P (main (at_node s name call))
+at_node_has : (P : List world.Event → Type 0) (s : WorldState) (name : Name) (call : WorldState → ℕ → Node → List Action) → P [] → ((k : ℕ) (a : Node) → node_of (link_of a).me ≡ name → P (main (call s k a))) → P (main (at_node s name call))
 at_node_has P s name call none h = at_placed_node P s name call none (λ k a there is. h k a is)
 
-to_station_has : (P : List world.Event → Type 0) (s : Scene) (name : Name) (order : ℕ → Side StationState → List Action) → P [] → ((k : ℕ) (a : Side StationState) → node_of a.link.me ≡ name → P (main (order k a))) → P (main (to_station s name order))
+to_station_has : (P : List world.Event → Type 0) (s : WorldState) (name : Name) (order : ℕ → Side StationState → List Action) → P [] → ((k : ℕ) (a : Side StationState) → node_of a.link.me ≡ name → P (main (order k a))) → P (main (to_station s name order))
 to_station_has P s name order none h = by_place (position (is_station_named name) s.nodes) refl
   where
     by_node : (k : ℕ) (o : Option Node) → position (is_station_named name) s.nodes ≡ Some k → slice_get s.nodes k ≡ o → P (main (at_station k o order))
@@ -197,22 +197,22 @@ node_keeps clock p (Station a) me h = of_station (hears station_core clock p a) 
 
 -- ---- frames at a node
 
-given_to_node : (clock : ℕ) (a : Node) (me : Stream) (place : ℕ) → (link_of a).me ≡ me → EachEvent (Gives me) (without_waits (moves clock a (comes_to a place)))
-given_to_node clock (Drone a) me place h = ((place, inl (ap (λ x. To_drone place x true) h)), tt)
-given_to_node clock (Station a) me place h = ((place, inr (ap (λ x. To_station place x) h)), tt)
+given_to_node : (clock : ℕ) (a : Node) (me : Stream) (index : ℕ) → (link_of a).me ≡ me → EachEvent (Gives me) (without_waits (moves clock a (comes_to a index)))
+given_to_node clock (Drone a) me index h = ((index, inl (ap (λ x. To_drone index x true) h)), tt)
+given_to_node clock (Station a) me index h = ((index, inr (ap (λ x. To_station index x) h)), tt)
 
 hearing_gives : (clock : ℕ) (sent : List Packet) (a : Node) (p : Packet) (me : Stream) → (link_of a).me ≡ me → EachEvent (Gives me) (without_waits (hearing clock sent a p))
 hearing_gives clock sent a p me h = by_answer (answer_to (link_of a).key (link_of a).history p)
   where
-    by_place : (o : Option ℕ) → EachEvent (Gives me) (without_waits (if_sent o (λ place. moves clock a (comes_to a place))))
+    by_place : (o : Option ℕ) → EachEvent (Gives me) (without_waits (if_sent o (λ index. moves clock a (comes_to a index))))
     by_place None = tt
-    by_place (Some place) = given_to_node clock a me place h
+    by_place (Some index) = given_to_node clock a me index h
 
-    by_plan : (o : Option PlanMsg) → EachEvent (Gives me) (without_waits (if_plan o (if_sent (place_of (encoding p) sent) (λ place. moves clock a (comes_to a place)))))
+    by_plan : (o : Option PlanMsg) → EachEvent (Gives me) (without_waits (if_plan o (if_sent (index_of (encoding p) sent) (λ index. moves clock a (comes_to a index)))))
     by_plan None = tt
-    by_plan (Some m) = by_place (place_of (encoding p) sent)
+    by_plan (Some m) = by_place (index_of (encoding p) sent)
 
-    by_answer : (answer : Admit) → EachEvent (Gives me) (without_waits (if_admitted answer (if_plan (plan_in p.id p.payload) (if_sent (place_of (encoding p) sent) (λ place. moves clock a (comes_to a place))))))
+    by_answer : (answer : Admit) → EachEvent (Gives me) (without_waits (if_admitted answer (if_plan (plan_in p.id p.payload) (if_sent (index_of (encoding p) sent) (λ index. moves clock a (comes_to a index))))))
     by_answer Admitted = by_plan (plan_in p.id p.payload)
     by_answer Unsigned = tt
     by_answer BadSignature = tt
@@ -221,21 +221,21 @@ hearing_gives clock sent a p me h = by_answer (answer_to (link_of a).key (link_o
     by_answer TooManyStreams = tt
 
 module _ (number : ℕ) where
-  hears_then_gives : (k : ℕ) (s : Scene) (a : Node) (p : Packet) (me : Stream) → (link_of a).me ≡ me → (next : Scene → Node → List Action) → ((t : Scene) (b : Node) → (link_of b).me ≡ me → EachEvent (Gives me) (main (next t b))) → (o : Outcome Node) → NodeKeeps me o → EachEvent (Gives me) (main (hears_then number s k a p o next))
+  hears_then_gives : (k : ℕ) (s : WorldState) (a : Node) (p : Packet) (me : Stream) → (link_of a).me ≡ me → (next : WorldState → Node → List Action) → ((t : WorldState) (b : Node) → (link_of b).me ≡ me → EachEvent (Gives me) (main (next t b))) → (o : Outcome Node) → NodeKeeps me o → EachEvent (Gives me) (main (hears_then number s k a p o next))
   hears_then_gives k s a p me h next rest None keeps = tt
   hears_then_gives k s a p me h next rest (Some d) keeps =
-      subst (EachEvent (Gives me)) (sym (waits_on (hearing s.clock s.sent a p) (events_of (next (scene_with s k d) d.node))))
-      (each_on (Gives me) (without_waits (hearing s.clock s.sent a p)) (main (next (scene_with s k d) d.node)) (hearing_gives s.clock s.sent a p me h) (rest (scene_with s k d) d.node keeps))
+      subst (EachEvent (Gives me)) (sym (waits_on (hearing s.clock s.sent a p) (events_of (next (state_with s k d) d.node))))
+      (each_on (Gives me) (without_waits (hearing s.clock s.sent a p)) (main (next (state_with s k d) d.node)) (hearing_gives s.clock s.sent a p me h) (rest (state_with s k d) d.node keeps))
 
-  frames_give : (k : ℕ) (ps : List Packet) (me : Stream) (s : Scene) (a : Node) → (link_of a).me ≡ me → EachEvent (Gives me) (main (frames_heard number k ps s a))
+  frames_give : (k : ℕ) (ps : List Packet) (me : Stream) (s : WorldState) (a : Node) → (link_of a).me ≡ me → EachEvent (Gives me) (main (frames_heard number k ps s a))
   frames_give k [] me s a h = tt
   frames_give k (p ∷ ps) me s a h =
       hears_then_gives k s a p me h (frames_heard number k ps) (λ t b same. frames_give k ps me t b same) (node_hears s.clock p a) (node_keeps s.clock p a me h)
 
-  datagram_gives : (bytes : List ℕ) (s : Scene) (k : ℕ) (a : Node) → EachEvent (Gives (link_of a).me) (main (datagram_heard number bytes s k a))
+  datagram_gives : (bytes : List ℕ) (s : WorldState) (k : ℕ) (a : Node) → EachEvent (Gives (link_of a).me) (main (datagram_heard number bytes s k a))
   datagram_gives bytes s k a = frames_give k (frames_of (final_parse (link_of a).extras bytes)) (link_of a).me s a refl
 
-  datagram_of : (bytes : List ℕ) (s : Scene) (name : Name) (k : ℕ) (a : Node) → node_of (link_of a).me ≡ name → EachEvent (Of name Gives) (main (datagram_heard number bytes s k a))
+  datagram_of : (bytes : List ℕ) (s : WorldState) (name : Name) (k : ℕ) (a : Node) → node_of (link_of a).me ≡ name → EachEvent (Of name Gives) (main (datagram_heard number bytes s k a))
   datagram_of bytes s name k a is =
       each_maps (Gives (link_of a).me) (Of name Gives) (λ e h. record { stream = (link_of a).me; name_is = is; is = h }) (main (datagram_heard number bytes s k a)) (datagram_gives bytes s k a)
 
@@ -244,39 +244,39 @@ module _ (number : ℕ) where
   abbrev Any : world.Event → Type 0
   Any e = (me : Stream) × Gives me e
 
-  next_give : (r : Result Step Halt) (actions : List Action) (next : Scene → List Action) → EachEvent Any (main actions) → ((t : Scene) → EachEvent Any (main (next t))) → EachEvent Any (main (and_next r actions next))
-  next_give (Ok t) actions next a b = main_on Any actions (next t.scene) a (b t.scene)
-  next_give (Err halt) actions next a b = tt
+  next_give : (r : Result Step StepError) (actions : List Action) (next : WorldState → List Action) → EachEvent Any (main actions) → ((t : WorldState) → EachEvent Any (main (next t))) → EachEvent Any (main (and_next r actions next))
+  next_give (Ok t) actions next a b = main_on Any actions (next t.state) a (b t.state)
+  next_give (Err error) actions next a b = tt
 
-  frame_gives : (s : Scene) (k : ℕ) (p : Packet) (o : Option Node) → EachEvent Any (main (frame_given number s k p o))
+  frame_gives : (s : WorldState) (k : ℕ) (p : Packet) (o : Option Node) → EachEvent Any (main (frame_given number s k p o))
   frame_gives s k p None = tt
   frame_gives s k p (Some a) =
       by_test (λ actions. EachEvent Any (main actions)) (same_name (node_name a) p.from) _ _ (λ _. tt)
       (λ _. each_maps (Gives (link_of a).me) Any (λ e h. ((link_of a).me, h)) (main (datagram_heard number (encoding p) s k a)) (datagram_gives (encoding p) s k a))
 
-  row_gives : (s : Scene) (k count : ℕ) (p : Packet) → EachEvent Any (main (row_given number s k count p))
+  row_gives : (s : WorldState) (k count : ℕ) (p : Packet) → EachEvent Any (main (row_given number s k count p))
   row_gives s k zero p = tt
   row_gives s k (suc count) p =
       next_give (given_to s k p (slice_get s.nodes k)) (frame_given number s k p (slice_get s.nodes k)) (λ t. row_given number t (k + 1) count p)
       (frame_gives s k p (slice_get s.nodes k)) (λ t. row_gives t (k + 1) count p)
 
-  flown_gives : (s : Scene) (o : Option Packet) (next : Scene → List Action) → ((t : Scene) → EachEvent Any (main (next t))) → EachEvent Any (main (flown number s o next))
+  flown_gives : (s : WorldState) (o : Option Packet) (next : WorldState → List Action) → ((t : WorldState) → EachEvent Any (main (next t))) → EachEvent Any (main (flown number s o next))
   flown_gives s None next h = tt
   flown_gives s (Some p) next h =
-      let s1 : Scene = record s { given = s.given + 1 } in
+      let s1 : WorldState = record s { given = s.given + 1 } in
       next_give (given_to_all s1 p) (row_given number s1 0 (length s.nodes) p) next (row_gives s1 0 (length s.nodes) p) h
 
-  flow_gives : (k : ℕ) (s : Scene) → EachEvent Any (main (flow_actions number k s))
+  flow_gives : (k : ℕ) (s : WorldState) → EachEvent Any (main (flow_actions number k s))
   flow_gives zero s = tt
   flow_gives (suc k) s = flown_gives s (slice_get s.sent s.given) (flow_actions number k) (λ t. flow_gives k t)
 
-  delivered_gives : (s : Scene) (which : ℕ) (name : Name) (o : Option Packet) → EachEvent (Of name Gives) (main (delivered number s which name o))
+  delivered_gives : (s : WorldState) (which : ℕ) (name : Name) (o : Option Packet) → EachEvent (Of name Gives) (main (delivered number s which name o))
   delivered_gives s which name None = tt
   delivered_gives s which name (Some p) = at_node_has (EachEvent (Of name Gives)) s name (datagram_heard number (encoding p)) tt (λ k a is. datagram_of (encoding p) s name k a is)
 
   -- ---- each line
 
-  pub every_cause : (s : Scene) (l : Line) → Causes s l (main (calls_of number s l))
+  pub every_cause : (s : WorldState) (l : Line) → Causes s l (main (calls_of number s l))
   every_cause s line.Blank = refl
   every_cause s (line.Drone sys x y) = refl
   every_cause s (line.Station sys comp) = refl
@@ -285,7 +285,7 @@ module _ (number : ℕ) where
   every_cause s line.Empty = refl
   every_cause s (line.Begin station drone kind) =
       let P : world.Event → Type 0 = Of station (λ me e. e ≡ Begins me (stream_of drone) kind s.draft) in
-      let from : Scene = station_line s in
+      let from : WorldState = station_line s in
       to_station_has (AtMostOne P) from station (λ k a. upload_at number from drone kind (upload_refusal a.core (number_of kind) s.draft) k a) (inl refl)
       (λ k a is.
       let why : Option OpFault = upload_refusal a.core (number_of kind) s.draft in
@@ -295,14 +295,14 @@ module _ (number : ℕ) where
       (ordering_one (AtMostOne P) s.clock a why e h h))
   every_cause s (line.Cancel station) =
       let P : world.Event → Type 0 = Of station (λ me e. e ≡ Cancels me) in
-      let from : Scene = station_line s in
+      let from : WorldState = station_line s in
       to_station_has (AtMostOne P) from station (cancel_at number from) (inl refl)
       (λ k a is.
       acts_one (AtMostOne P) number (moves s.clock (Station a) (Cancels a.link.me)) (cancelled a.link.me a.core.operation) (orders from k a None (station_cancels s.clock a)) (inl refl)
       (one P (Cancels a.link.me) (record { stream = a.link.me; name_is = is; is = refl })))
   every_cause s (line.Clear station drone kind) =
       let P : world.Event → Type 0 = Of station (λ me e. e ≡ Clears me (stream_of drone) kind) in
-      let from : Scene = station_line s in
+      let from : WorldState = station_line s in
       to_station_has (AtMostOne P) from station (λ k a. clear_at number from drone kind (refusal a.core) k a) (inl refl)
       (λ k a is.
       let e : world.Event = Clears a.link.me (stream_of drone) kind in
@@ -311,7 +311,7 @@ module _ (number : ℕ) where
       (ordering_one (AtMostOne P) s.clock a (refusal a.core) e h h))
   every_cause s (line.Get station drone kind) =
       let P : world.Event → Type 0 = Of station (λ me e. e ≡ Gets me (stream_of drone) kind) in
-      let from : Scene = station_line s in
+      let from : WorldState = station_line s in
       to_station_has (AtMostOne P) from station (λ k a. get_at number from drone kind (refusal a.core) k a) (inl refl)
       (λ k a is.
       let e : world.Event = Gets a.link.me (stream_of drone) kind in
@@ -346,19 +346,19 @@ module _ (number : ℕ) where
   hearing_one : (clock : ℕ) (sent : List Packet) (a : Node) (p : Packet) (name : Name) → node_of (link_of a).me ≡ name → AtMostOne (Of name Gives) (without_waits (hearing clock sent a p))
   hearing_one clock sent a p name is = by_answer (answer_to (link_of a).key (link_of a).history p)
     where
-      comes : (b : Node) (place : ℕ) → node_of (link_of b).me ≡ name → AtMostOne (Of name Gives) (without_waits (moves clock b (comes_to b place)))
-      comes (Drone b) place h = one (Of name Gives) (To_drone place b.link.me true) (record { stream = b.link.me; name_is = h; is = (place, inl refl) })
-      comes (Station b) place h = one (Of name Gives) (To_station place b.link.me) (record { stream = b.link.me; name_is = h; is = (place, inr refl) })
+      comes : (b : Node) (index : ℕ) → node_of (link_of b).me ≡ name → AtMostOne (Of name Gives) (without_waits (moves clock b (comes_to b index)))
+      comes (Drone b) index h = one (Of name Gives) (To_drone index b.link.me true) (record { stream = b.link.me; name_is = h; is = (index, inl refl) })
+      comes (Station b) index h = one (Of name Gives) (To_station index b.link.me) (record { stream = b.link.me; name_is = h; is = (index, inr refl) })
 
-      by_place : (o : Option ℕ) → AtMostOne (Of name Gives) (without_waits (if_sent o (λ place. moves clock a (comes_to a place))))
+      by_place : (o : Option ℕ) → AtMostOne (Of name Gives) (without_waits (if_sent o (λ index. moves clock a (comes_to a index))))
       by_place None = inl refl
-      by_place (Some place) = comes a place is
+      by_place (Some index) = comes a index is
 
-      by_plan : (o : Option PlanMsg) → AtMostOne (Of name Gives) (without_waits (if_plan o (if_sent (place_of (encoding p) sent) (λ place. moves clock a (comes_to a place)))))
+      by_plan : (o : Option PlanMsg) → AtMostOne (Of name Gives) (without_waits (if_plan o (if_sent (index_of (encoding p) sent) (λ index. moves clock a (comes_to a index)))))
       by_plan None = inl refl
-      by_plan (Some m) = by_place (place_of (encoding p) sent)
+      by_plan (Some m) = by_place (index_of (encoding p) sent)
 
-      by_answer : (answer : Admit) → AtMostOne (Of name Gives) (without_waits (if_admitted answer (if_plan (plan_in p.id p.payload) (if_sent (place_of (encoding p) sent) (λ place. moves clock a (comes_to a place))))))
+      by_answer : (answer : Admit) → AtMostOne (Of name Gives) (without_waits (if_admitted answer (if_plan (plan_in p.id p.payload) (if_sent (index_of (encoding p) sent) (λ index. moves clock a (comes_to a index))))))
       by_answer Admitted = by_plan (plan_in p.id p.payload)
       by_answer Unsigned = inl refl
       by_answer BadSignature = inl refl
@@ -366,11 +366,11 @@ module _ (number : ℕ) where
       by_answer (TooOld local) = inl refl
       by_answer TooManyStreams = inl refl
 
-  one_heard : (k : ℕ) (s : Scene) (a : Node) (p : Packet) (name : Name) → node_of (link_of a).me ≡ name → (o : Outcome Node) → AtMostOne (Of name Gives) (main (hears_then number s k a p o (λ t b. [])))
+  one_heard : (k : ℕ) (s : WorldState) (a : Node) (p : Packet) (name : Name) → node_of (link_of a).me ≡ name → (o : Outcome Node) → AtMostOne (Of name Gives) (main (hears_then number s k a p o (λ t b. [])))
   one_heard k s a p name is None = inl refl
   one_heard k s a p name is (Some d) = subst (λ es. AtMostOne (Of name Gives) (without_waits es)) (sym (append-nil (hearing s.clock s.sent a p))) (hearing_one s.clock s.sent a p name is)
 
-  module _ (s : Scene) (sound : Sound s) where
+  module _ (s : WorldState) (sound : Sound s) where
     delivered_one : (which : ℕ) (name : Name) (i : ℕ) (o : Option Packet) → slice_get s.sent i ≡ o → AtMostOne (Of name Gives) (main (delivered number s which name o))
     delivered_one which name i None e = inl refl
     delivered_one which name i (Some p) e =

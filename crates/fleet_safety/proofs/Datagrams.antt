@@ -14,16 +14,16 @@ use Rattle.mav_nodes.specs.Links.{Done, Outcome, done}
 use Rattle.mav_nodes.specs.Links as links
 use Rattle.mav_nodes.specs.Steps.{Side, hears, hears_all}
 use Rattle.mav_nodes.specs.Nodes.{drone_core, station_core}
-use Rattle.fleet_world.specs.Scene.{Scene, Node, Drone, Station, node_name}
-use Rattle.fleet_world.specs.Steps.{packets_in, told_by, as_drone, as_station, node_receives}
+use Rattle.fleet_world.specs.WorldState.{WorldState, Node, Drone, Station, node_name}
+use Rattle.fleet_world.specs.Steps.{packets_in, reported_by, as_drone, as_station, node_receives}
 use Rattle.fleet_invariants.specs.Sound.{link_of}
 use Rattle.fleet_invariants.specs.Kept.{AllRead}
-use Rattle.fleet_safety.specs.Actions.{Action, Order, node_hears, scene_with, hearing, hears_then, frames_heard}
+use Rattle.fleet_safety.specs.Actions.{Action, Order, node_hears, state_with, hearing, hears_then, frames_heard}
 use Rattle.fleet_safety.specs.Safe.{events_of, report_of}
 use Rattle.fleet_safety.proofs.Lists.{set_there, set_twice, set_same}
 use Rattle.fleet_safety.proofs.Frames.{IsFirst, first_more}
 use Rattle.fleet_safety.proofs.Names.{same_role, role_name, role_on}
-use Rattle.fleet_safety.proofs.Reports.{final_on, told_by_on, packets_on}
+use Rattle.fleet_safety.proofs.Reports.{final_on, reported_by_on, packets_on}
 use Rattle.fleet_safety.proofs.Follows.{Follows}
 use Rattle.fleet_safety.proofs.Sendings.{read_first, read_second}
 use Rattle.fleet_safety.proofs.Fits.{Fits, Alike, Led, Leads}
@@ -48,7 +48,7 @@ known_more : (key : List ℕ) (sent more ps : List Packet) → EachKnown key sen
 known_more key sent more [] h = tt
 known_more key sent more (p ∷ ps) h = ((λ v. first_more sent more p (h.0 v)), known_more key sent more ps h.1)
 
-pub each_known : (key : List ℕ) (sent ps : List Packet) → ((place : ℕ) (p : Packet) → slice_get ps place ≡ Some p → Verifies key p p.block → IsFirst sent p) → EachKnown key sent ps
+pub each_known : (key : List ℕ) (sent ps : List Packet) → ((index : ℕ) (p : Packet) → slice_get ps index ≡ Some p → Verifies key p p.block → IsFirst sent p) → EachKnown key sent ps
 each_known key sent [] h = tt
 each_known key sent (p ∷ ps) h = (h 0 p refl, each_known key sent ps (λ i q e. h (suc i) q e))
 
@@ -88,14 +88,14 @@ receives_is clock bytes (Station a) = station_all clock (frames_of (final_parse 
 
 -- ---- what frames lead to
 
--- the node at place `k` has done this in these actions
-pub record HeardAll (n : Nodes) (s : Scene) (w : World) (k : ℕ) (a : Node) (actions : List Action) (d : Done Node) : Type 0 where
+-- the node at index `k` has done this in these actions
+pub record HeardAll (n : Nodes) (s : WorldState) (w : World) (k : ℕ) (a : Node) (actions : List Action) (d : Done Node) : Type 0 where
   pub follows : Follows n w actions
-  pub report : report_of actions ≡ told_by (node_name a) (length s.sent) d.events
+  pub report : report_of actions ≡ reported_by (node_name a) (length s.sent) d.events
   pub alike : Alike a d.node
   pub fits : Fits n s.clock (slice_set s.nodes k d.node) (s.sent ++ packets_in d.events) (final n w (events_of actions))
 
-abbrev pub HearsAll : Nodes → Scene → World → ℕ → Node → List Action → Outcome Node → Type 0
+abbrev pub HearsAll : Nodes → WorldState → World → ℕ → Node → List Action → Outcome Node → Type 0
 HearsAll n s w k a actions None = Unit {0}
 HearsAll n s w k a actions (Some d) = AllRead d.events → HeardAll n s w k a actions d
 
@@ -108,7 +108,7 @@ module _ (number : ℕ) (n : Nodes) (distinct : Distinct n) (k : ℕ) where
       station_outcome n clock nodes sent w k (Station a) (hears station_core clock p a) (hearing clock sent (Station a) p) [] (stations.frame_leads n distinct clock nodes sent w fits k a there p known)
 
   -- nothing
-  no_frame : (s : Scene) (w : World) (a : Node) → Fits n s.clock s.nodes s.sent w → slice_get s.nodes k ≡ Some a → HeardAll n s w k a [] (record { node = a; events = [] })
+  no_frame : (s : WorldState) (w : World) (a : Node) → Fits n s.clock s.nodes s.sent w → slice_get s.nodes k ≡ Some a → HeardAll n s w k a [] (record { node = a; events = [] })
   no_frame s w a fits there = record {
     follows = tt;
     report = refl;
@@ -117,19 +117,19 @@ module _ (number : ℕ) (n : Nodes) (distinct : Distinct n) (k : ℕ) where
   }
 
   -- one frame and then others
-  module _ (s : Scene) (w : World) (a : Node) (p : Packet) (d : Done Node) (first : Led n s.clock s.nodes s.sent w k a d (hearing s.clock s.sent a p) []) (actions : List Action) (e : Done Node) (second : HeardAll n (scene_with s k d) (final n w (hearing s.clock s.sent a p)) k d.node actions e) where
+  module _ (s : WorldState) (w : World) (a : Node) (p : Packet) (d : Done Node) (first : Led n s.clock s.nodes s.sent w k a d (hearing s.clock s.sent a p) []) (actions : List Action) (e : Done Node) (second : HeardAll n (state_with s k d) (final n w (hearing s.clock s.sent a p)) k d.node actions e) where
     abbrev action : Action
-    action = record { number = number; events = hearing s.clock s.sent a p; orders = []; report = told_by (node_name a) (length s.sent) d.events; scene = scene_with s k d }
+    action = record { number = number; events = hearing s.clock s.sent a p; orders = []; report = reported_by (node_name a) (length s.sent) d.events; state = state_with s k d }
 
     join : HeardAll n s w k a (action ∷ actions) (record { node = e.node; events = d.events ++ e.events })
     join = record {
-      follows = (record { report = first.report; own = first.own; drones = λ place b there. (first.fits.stands place (Drone b) there).0 }, second.follows);
+      follows = (record { report = first.report; own = first.own; drones = λ index b there. (first.fits.stands index (Drone b) there).0 }, second.follows);
       report =
-          ap (λ es. told_by (node_name a) (length s.sent) d.events ++ es)
+          ap (λ es. reported_by (node_name a) (length s.sent) d.events ++ es)
           (second.report
-          ∙ ap (λ name. told_by name (length (s.sent ++ packets_in d.events)) e.events) (sym (role_name a d.node first.alike.role))
-          ∙ ap (λ m. told_by (node_name a) m e.events) (length-append s.sent (packets_in d.events)))
-          ∙ sym (told_by_on (node_name a) (length s.sent) d.events e.events);
+          ∙ ap (λ name. reported_by name (length (s.sent ++ packets_in d.events)) e.events) (sym (role_name a d.node first.alike.role))
+          ∙ ap (λ m. reported_by (node_name a) m e.events) (length-append s.sent (packets_in d.events)))
+          ∙ sym (reported_by_on (node_name a) (length s.sent) d.events e.events);
       alike = record { role = role_on a d.node e.node first.alike.role second.alike.role; key = first.alike.key ∙ second.alike.key };
       fits =
           subst (λ ns. Fits n s.clock ns (s.sent ++ packets_in (d.events ++ e.events)) (final n w (events_of (action ∷ actions)))) (set_twice s.nodes k d.node e.node)
@@ -138,8 +138,8 @@ module _ (number : ℕ) (n : Nodes) (distinct : Distinct n) (k : ℕ) where
     }
 
   -- what the first frame leads to, and then the others
-  then_hear : (s : Scene) (w : World) (a : Node) (p : Packet) (o : Outcome Node) (next : Scene → Node → List Action) (after : Node → Outcome Node) → Leads n s.clock s.nodes s.sent w k a (λ x. x) o (hearing s.clock s.sent a p) []
-      → ((d : Done Node) → Led n s.clock s.nodes s.sent w k a d (hearing s.clock s.sent a p) [] → HearsAll n (scene_with s k d) (final n w (hearing s.clock s.sent a p)) k d.node (next (scene_with s k d) d.node) (after d.node))
+  then_hear : (s : WorldState) (w : World) (a : Node) (p : Packet) (o : Outcome Node) (next : WorldState → Node → List Action) (after : Node → Outcome Node) → Leads n s.clock s.nodes s.sent w k a (λ x. x) o (hearing s.clock s.sent a p) []
+      → ((d : Done Node) → Led n s.clock s.nodes s.sent w k a d (hearing s.clock s.sent a p) [] → HearsAll n (state_with s k d) (final n w (hearing s.clock s.sent a p)) k d.node (next (state_with s k d) d.node) (after d.node))
       → HearsAll n s w k a (hears_then number s k a p o next) (links.and_then o after)
   then_hear s w a p None next after l m = tt
   then_hear s w a p (Some d) next after l m = behind_hears (after d.node) refl
@@ -148,13 +148,13 @@ module _ (number : ℕ) (n : Nodes) (distinct : Distinct n) (k : ℕ) where
       behind_hears None is = tt
       behind_hears (Some e) is = λ reads.
           let first : Led n s.clock s.nodes s.sent w k a d (hearing s.clock s.sent a p) [] = l (read_first d.events e.events reads) in
-          join s w a p d first (next (scene_with s k d) d.node) e
-          (subst (HearsAll n (scene_with s k d) (final n w (hearing s.clock s.sent a p)) k d.node (next (scene_with s k d) d.node)) is (m d first) (read_second d.events e.events reads))
+          join s w a p d first (next (state_with s k d) d.node) e
+          (subst (HearsAll n (state_with s k d) (final n w (hearing s.clock s.sent a p)) k d.node (next (state_with s k d) d.node)) is (m d first) (read_second d.events e.events reads))
 
-  pub frames_hear : (ps : List Packet) (s : Scene) (w : World) (a : Node) → Fits n s.clock s.nodes s.sent w → slice_get s.nodes k ≡ Some a → EachKnown (link_of a).key s.sent ps → HearsAll n s w k a (frames_heard number k ps s a) (node_hears_all s.clock ps a)
+  pub frames_hear : (ps : List Packet) (s : WorldState) (w : World) (a : Node) → Fits n s.clock s.nodes s.sent w → slice_get s.nodes k ≡ Some a → EachKnown (link_of a).key s.sent ps → HearsAll n s w k a (frames_heard number k ps s a) (node_hears_all s.clock ps a)
   frames_hear [] s w a fits there known = λ _. no_frame s w a fits there
   frames_hear (p ∷ ps) s w a fits there known =
       then_hear s w a p (node_hears s.clock p a) (frames_heard number k ps) (node_hears_all s.clock ps) (frame_leads s.clock s.nodes s.sent w fits a there p known.0)
-      (λ d first. frames_hear ps (scene_with s k d) (final n w (hearing s.clock s.sent a p)) d.node first.fits
+      (λ d first. frames_hear ps (state_with s k d) (final n w (hearing s.clock s.sent a p)) d.node first.fits
       (set_there s.nodes k a d.node there)
       (subst (λ key. EachKnown key (s.sent ++ packets_in d.events) ps) first.alike.key (known_more (link_of a).key s.sent (packets_in d.events) ps known.1)))

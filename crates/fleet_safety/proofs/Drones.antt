@@ -38,10 +38,10 @@ use Rattle.mav_nodes.specs.Links as links
 use Rattle.mav_nodes.specs.Payloads.{plan_in}
 use Rattle.mav_nodes.specs.Steps.{Side, answers, with_core, steps, takes, admits, hears}
 use Rattle.mav_nodes.specs.Nodes.{change_events, drone_core, drone_ticks, drone_heartbeat, drone_beats, tick_answer}
-use Rattle.fleet_world.specs.Scene.{Node, Drone}
+use Rattle.fleet_world.specs.WorldState.{Node, Drone}
 use Rattle.fleet_world.specs.Steps.{packets_in}
-use Rattle.fleet_safety.specs.Telling.{changes_told, ends_told, step_told, refused_told}
-use Rattle.fleet_safety.specs.Actions.{moves, ticks, comes_to, place_of, if_admitted, if_plan, if_sent, hearing}
+use Rattle.fleet_safety.specs.Reporting.{changes_reported, ends_reported, step_reported, refused_reported}
+use Rattle.fleet_safety.specs.Actions.{moves, ticks, comes_to, index_of, if_admitted, if_plan, if_sent, hearing}
 use Rattle.fleet_safety.proofs.Times.{KeepsTime, IsDue, Later, due_keeps, waits_due, dropped_keeps, admits_due, admits_keeps, sends_keeps, admitted_later}
 use Rattle.fleet_safety.proofs.Frames.{Found, SameFrame, SameNew, IsFirst, found, same_more, same_length}
 use Rattle.fleet_safety.proofs.Own.{IsTame, own_of, own_nothing, tame_nothing, tame_drone, orders_among, no_order_of_drone}
@@ -60,9 +60,9 @@ less : (a b : ℕ) → a < b → nat_lt a b ≡ true
 less a b l = grind arith
 
 -- a frame that a drone admits
-drone_hears : (n : Nodes) (u : World) (x : Stream) (z : DroneNode) (place : ℕ) (from : Stream) (stamp : ℕ) (m : PlanMsg) → n.is_drone x ≡ true → u.drone x ≡ z → slice_get u.sent place ≡ Some (frame_of from stamp (Some m)) → z.last from < stamp
-    → happens n u (To_drone place x true) ≡ drone_after u x (says_node (drone_node (drone_step true z.state from m).drone (at z.last from stamp) (max z.next stamp)) (drone_step true z.state from m).answer) (says_frame x (max z.next stamp) (drone_step true z.state from m).answer) (drone_news x (drone_step true z.state from m).event)
-drone_hears n u x z place from stamp m here own there late =
+drone_hears : (n : Nodes) (u : World) (x : Stream) (z : DroneNode) (index : ℕ) (from : Stream) (stamp : ℕ) (m : PlanMsg) → n.is_drone x ≡ true → u.drone x ≡ z → slice_get u.sent index ≡ Some (frame_of from stamp (Some m)) → z.last from < stamp
+    → happens n u (To_drone index x true) ≡ drone_after u x (says_node (drone_node (drone_step true z.state from m).drone (at z.last from stamp) (max z.next stamp)) (drone_step true z.state from m).answer) (says_frame x (max z.next stamp) (drone_step true z.state from m).answer) (drone_news x (drone_step true z.state from m).event)
+drone_hears n u x z index from stamp m here own there late =
     rw (here, there, own, less _ _ late)
     (let r : DroneStep = drone_step true z.state from m in
     sends_is (record u { news = drone_news x r.event }) x (drone_node r.drone (at z.last from stamp) (max z.next stamp)) r.answer)
@@ -83,9 +83,9 @@ answer_is (Some a) = refl
 abbrev pub stream_at : ℕ → ℕ → ℕ → Stream
 stream_at sys comp link = record { sys = sys; comp = comp; link = link }
 
--- the place from the newest
-pub one_place : (place other index sent frames : ℕ) → place + (index + 1) ≡ sent → other + (index + 1) ≡ frames → sent ≡ frames → place ≡ other
-one_place place other index sent frames a b c = omega arith
+-- the index, counted from the newest
+pub one_index : (index other earlier sent frames : ℕ) → index + (earlier + 1) ≡ sent → other + (earlier + 1) ≡ frames → sent ≡ frames → index ≡ other
+one_index index other earlier sent frames a b c = omega arith
 
 -- a frame without a signature isn't admitted
 pub unsigned : Unsigned ≡ Admitted → ⊥
@@ -143,8 +143,8 @@ module _ (n : Nodes) (sound : Distinct n) (clock : ℕ) (nodes : List Node) (sen
 
   -- nothing happens in the world
   still_led : (b : Side DroneState) (es : List NodeEvent) → Alike (Drone a) (Drone b) → a.core ≡ b.core → KeepsTime clock b.link.history (w.drone x).last (w.drone x).next → packets_in es ≡ [] → seen_by (node_of x) (length sent) es ≡ [] → Led n clock nodes sent w k (Drone a) (record { node = Drone b; events = es }) [] []
-  still_led b es alike core time none tells = record {
-    report = tells;
+  still_led b es alike core time none reports = record {
+    report = reports;
     own = own_nothing n w;
     alike = alike;
     fits = fits_on n clock nodes sent w w k (Drone a) (Drone b) fits there alike.role moves (packets_in es) (same_more sent (packets_in es) w.sent None fits.frames none) fits.reached;
@@ -158,14 +158,14 @@ module _ (n : Nodes) (sound : Distinct n) (clock : ℕ) (nodes : List Node) (sen
       }
 
   -- the drone waits, and then an event
-  led : (b : Side DroneState) (es : List NodeEvent) (e : world.Event) (y : DroneNode) (f : Option Frame) (news : List StoreEvent) → IsTame news → orders_among news ≡ [] → happens n u e ≡ drone_after u x y f news → refused_told n u e ≡ [] → Alike (Drone a) (Drone b) → y.state ≡ b.core → DroneInRange b.core → KeepsTime clock b.link.history y.last y.next → SameNew (packets_in es) f → seen_by (node_of x) (length sent) es ≡ step_told u (drone_after u x y f news) → Led n clock nodes sent w k (Drone a) (record { node = Drone b; events = es }) (moves clock (Drone a) e) []
-  led b es e y f news tame idle is none alike state range time new tells =
+  led : (b : Side DroneState) (es : List NodeEvent) (e : world.Event) (y : DroneNode) (f : Option Frame) (news : List StoreEvent) → IsTame news → orders_among news ≡ [] → happens n u e ≡ drone_after u x y f news → refused_reported n u e ≡ [] → Alike (Drone a) (Drone b) → y.state ≡ b.core → DroneInRange b.core → KeepsTime clock b.link.history y.last y.next → SameNew (packets_in es) f → seen_by (node_of x) (length sent) es ≡ step_reported u (drone_after u x y f news) → Led n clock nodes sent w k (Drone a) (record { node = Drone b; events = es }) (moves clock (Drone a) e) []
+  led b es e y f news tame idle is none alike state range time new reports =
       let v : World = drone_after u x y f news in
-      let chain : Chain n w v (Drone_waits x now ∷ e ∷ []) (step_told w u ++ (step_told u v ++ [])) (λ h. steps_of v.sent v.news (steps_of u.sent u.news h)) =
-      chain_on n w u v (Drone_waits x now) (e ∷ []) (step_told u v ++ []) (λ h. steps_of v.sent v.news h) is_u refl (chain_on n u v v e [] [] (λ h. h) is none (chain_end n v)) in
+      let chain : Chain n w v (Drone_waits x now ∷ e ∷ []) (step_reported w u ++ (step_reported u v ++ [])) (λ h. steps_of v.sent v.news (steps_of u.sent u.news h)) =
+      chain_on n w u v (Drone_waits x now) (e ∷ []) (step_reported u v ++ []) (λ h. steps_of v.sent v.news h) is_u refl (chain_on n u v v e [] [] (λ h. h) is none (chain_end n v)) in
       record {
         own = own_of n w (Drone_waits x now ∷ e ∷ []) v.sent news [] (chain.steps []) tame idle;
-        report = tells ∙ sym (append-nil (step_told u v)) ∙ ap (λ r. r ++ (step_told u v ++ [])) (sym (silent_step w u refl refl)) ∙ sym chain.tells;
+        report = reports ∙ sym (append-nil (step_reported u v)) ∙ ap (λ r. r ++ (step_reported u v ++ [])) (sym (silent_step w u refl refl)) ∙ sym chain.reports;
         alike = alike;
         fits = subst (Fits n clock (slice_set nodes k (Drone b)) (sent ++ packets_in es)) (sym chain.ends)
             (fits_on n clock nodes sent w v k (Drone a) (Drone b) fits there alike.role moves (packets_in es) (same_more sent (packets_in es) w.sent f fits.frames new) (subst (Reached n) chain.ends (reached_all n sound w (Drone_waits x now ∷ e ∷ []) fits.reached)));
@@ -180,17 +180,17 @@ module _ (n : Nodes) (sound : Distinct n) (clock : ℕ) (nodes : List Node) (sen
       }
 
   -- a step of the core: nothing is sent, or a message in one frame
-  module _ (link : Link) (core : DroneState) (last : Stream → ℕ) (next : ℕ) (news : List StoreEvent) (first : List NodeEvent) (ready : IsDue clock link.history last next) (range : DroneInRange core) (me : x ≡ link.me) (key : a.link.key ≡ link.key) (none : packets_in first ≡ []) (changes : (before : ℕ) → seen_by (node_of x) before first ≡ changes_told news) (endless : ends_told news ≡ []) (tame : IsTame news) (idle : orders_among news ≡ []) where
-    nothing_behind : (before : ℕ) → seen_by (node_of x) before [] ≡ ends_told news
+  module _ (link : Link) (core : DroneState) (last : Stream → ℕ) (next : ℕ) (news : List StoreEvent) (first : List NodeEvent) (ready : IsDue clock link.history last next) (range : DroneInRange core) (me : x ≡ link.me) (key : a.link.key ≡ link.key) (none : packets_in first ≡ []) (changes : (before : ℕ) → seen_by (node_of x) before first ≡ changes_reported news) (endless : ends_reported news ≡ []) (tame : IsTame news) (idle : orders_among news ≡ []) where
+    nothing_behind : (before : ℕ) → seen_by (node_of x) before [] ≡ ends_reported news
     nothing_behind before = sym endless
 
-    says_nothing : (e : world.Event) → happens n u e ≡ drone_after u x (drone_node core last next) None news → refused_told n u e ≡ [] → Led n clock nodes sent w k (Drone a) (record { node = Drone (record { link = link; core = core }); events = first ++ [] }) (moves clock (Drone a) e) []
+    says_nothing : (e : world.Event) → happens n u e ≡ drone_after u x (drone_node core last next) None news → refused_reported n u e ≡ [] → Led n clock nodes sent w k (Drone a) (record { node = Drone (record { link = link; core = core }); events = first ++ [] }) (moves clock (Drone a) e) []
     says_nothing e is silent =
         led (record { link = link; core = core }) (first ++ []) e (drone_node core last next) None news tame idle is silent (record { role = me; key = key }) refl range (due_keeps clock link.history last next ready)
         (packets_on first [] ∙ append-nil (packets_in first) ∙ none)
         (quiet_seen x (length sent) (length w.sent) first [] news none changes nothing_behind many ∙ sym (step_is u (drone_after u x (drone_node core last next) None news) None refl))
 
-    says : (e : world.Event) (message : Message) (said : Option PlanMsg) → IfSome said InRange → plan_of message ≡ said → happens n u e ≡ drone_after u x (drone_node core last (next + 1)) (Some (frame_of x next said)) news → refused_told n u e ≡ [] → Leads n clock nodes sent w k (Drone a) Drone (behind first (with_core core [] (sends clock message link))) (moves clock (Drone a) e) []
+    says : (e : world.Event) (message : Message) (said : Option PlanMsg) → IfSome said InRange → plan_of message ≡ said → happens n u e ≡ drone_after u x (drone_node core last (next + 1)) (Some (frame_of x next said)) news → refused_reported n u e ≡ [] → Leads n clock nodes sent w k (Drone a) Drone (behind first (with_core core [] (sends clock message link))) (moves clock (Drone a) e) []
     says e message said within carries is silent =
         by_test (λ o. Leads n clock nodes sent w k (Drone a) Drone (behind first (with_core core [] o)) (moves clock (Drone a) e) []) (nat_lt greatest_stamp (next_in link.history clock)) _ _ (λ _. tt)
         (λ _ reads.
@@ -202,7 +202,7 @@ module _ (n : Nodes) (sound : Distinct n) (clock : ℕ) (nodes : List Node) (sen
         (sends_seen x (length sent) (length w.sent) first [] news none changes nothing_behind many q message said next (sym (ap node_of me)) carries ∙ sym (step_is u (drone_after u x (drone_node core last (next + 1)) (Some f) news) (Some f) refl)))
 
     -- by the answer
-    answers_lead : (o : Option PlanMsg) → IfSome o InRange → (e : world.Event) → happens n u e ≡ drone_after u x (says_node (drone_node core last next) o) (says_frame x next o) news → refused_told n u e ≡ [] → Leads n clock nodes sent w k (Drone a) Drone (behind first (with_core core [] (answers clock o link))) (moves clock (Drone a) e) []
+    answers_lead : (o : Option PlanMsg) → IfSome o InRange → (e : world.Event) → happens n u e ≡ drone_after u x (says_node (drone_node core last next) o) (says_frame x next o) news → refused_reported n u e ≡ [] → Leads n clock nodes sent w k (Drone a) Drone (behind first (with_core core [] (answers clock o link))) (moves clock (Drone a) e) []
     answers_lead None within e is silent = λ _. says_nothing e is silent
     answers_lead (Some m) within e is silent = says e (message_of_plan m) (Some m) within (carried m within) is silent
 
@@ -223,7 +223,7 @@ module _ (n : Nodes) (sound : Distinct n) (clock : ℕ) (nodes : List Node) (sen
 
   -- what an admitted frame with a plan message is in the world
   abbrev brought : Packet → List world.Event
-  brought p = if_sent (place_of (encoding p) sent) (λ place. moves clock (Drone a) (comes_to (Drone a) place))
+  brought p = if_sent (index_of (encoding p) sent) (λ index. moves clock (Drone a) (comes_to (Drone a) index))
 
   -- one that is admitted was sent
   module _ (p : Packet) (block : SignatureBlock) (signs : p.block ≡ Some block) (later : Later a.link.key a.link.history p block) (known : IsFirst sent p) where
@@ -236,13 +236,13 @@ module _ (n : Nodes) (sound : Distinct n) (clock : ℕ) (nodes : List Node) (sen
     entered : signed.admitted_by (tried p Admitted) ≡ Some (stamped p block)
     entered = ap (option_map (stamped p)) signs
 
-    its : Found p known.index w.sent
-    its = found sent w.sent known.index p fits.frames known.found
+    its : Found p known.earlier w.sent
+    its = found sent w.sent known.earlier p fits.frames known.found
 
-    brought_is : brought p ≡ moves clock (Drone a) (To_drone its.place x true)
+    brought_is : brought p ≡ moves clock (Drone a) (To_drone its.index x true)
     brought_is =
-        ap (λ o. if_sent o (λ place. moves clock (Drone a) (comes_to (Drone a) place))) known.place_is
-        ∙ ap (λ place. moves clock (Drone a) (To_drone place x true)) (one_place known.place its.place known.index (length sent) (length w.sent) known.counts its.counts many)
+        ap (λ o. if_sent o (λ index. moves clock (Drone a) (comes_to (Drone a) index))) known.index_is
+        ∙ ap (λ index. moves clock (Drone a) (To_drone index x true)) (one_index known.index its.index known.earlier (length sent) (length w.sent) known.counts its.counts many)
 
     stream_from : its.frame.from ≡ from
     stream_from = its.same.from ∙ sym (ap (λ link. stream_at p.from.sys p.from.comp link) (its.same.block block signs).0)
@@ -267,14 +267,14 @@ module _ (n : Nodes) (sound : Distinct n) (clock : ℕ) (nodes : List Node) (sen
       abbrev next : ℕ
       next = max waited.next block.stamp
 
-      lies : slice_get w.sent its.place ≡ Some (frame_of from block.stamp (Some m))
+      lies : slice_get w.sent its.index ≡ Some (frame_of from block.stamp (Some m))
       lies = its.there ∙ ap Some (frame_is its.frame from block.stamp (Some m) stream_from stamp_is (its.same.message ∙ carries))
 
       late : waited.last from < block.stamp
       late = later.above (waited.last from) (stands.1.last from) (subst (λ t. 1 ≤ t) stamp_is its.same.some)
 
-      is : happens n u (To_drone its.place x true) ≡ drone_after u x (says_node (drone_node r.drone last next) r.answer) (says_frame x next r.answer) (drone_news x r.event)
-      is = drone_hears n u x (drone_node a.core waited.last waited.next) its.place from block.stamp m here (own ∙ core_of_waited) lies late
+      is : happens n u (To_drone its.index x true) ≡ drone_after u x (says_node (drone_node r.drone last next) r.answer) (says_frame x next r.answer) (drone_news x r.event)
+      is = drone_hears n u x (drone_node a.core waited.last waited.next) its.index from block.stamp m here (own ∙ core_of_waited) lies late
 
       ready : IsDue clock b.link.history last next
       ready = admits_due clock a.link.history (tried p Admitted) (stamped p block) entered refl waited.last waited.next due
@@ -282,7 +282,7 @@ module _ (n : Nodes) (sound : Distinct n) (clock : ℕ) (nodes : List Node) (sen
       shaped : Shape n a.core from r
       shaped =
           let all : All n w fits.reached.0 = fits.reached.1 in
-          let harmless = harmless_at n w.sent its.place (frame_of from block.stamp (Some m)) lies all.frames in
+          let harmless = harmless_at n w.sent its.index (frame_of from block.stamp (Some m)) lies all.frames in
           let owner : Owner n a.core.upload = subst (λ (y : DroneState). Owner n y.upload) stands.0 (all.owners x here) in
           let sys : a.core.sys ≡ x.sys = subst (λ (y : DroneState). y.sys ≡ x.sys) stands.0 (all.systems x here) in
           shape true n sound a.core from owner x m here sys harmless
@@ -294,7 +294,7 @@ module _ (n : Nodes) (sound : Distinct n) (clock : ℕ) (nodes : List Node) (sen
       plan =
           subst (λ es. Leads n clock nodes sent w k (Drone a) Drone (steps clock b.link (drone_core b.core from m)) es []) (sym brought_is)
           (answers_lead b.link r.drone last next (drone_news x r.event) (change_events from r.drone.plans (change_by r.event)) ready ranged.drone refl refl
-          (no_packets from r.drone.plans (change_by r.event)) (changes_are n a.core x from r shaped) (no_ends x r.event) (tame_drone x r.event) (no_order_of_drone x r.event) r.answer ranged.answer (To_drone its.place x true) is refl)
+          (no_packets from r.drone.plans (change_by r.event)) (changes_are n a.core x from r shaped) (no_ends x r.event) (tame_drone x r.event) (no_order_of_drone x r.event) r.answer ranged.answer (To_drone its.index x true) is refl)
 
     takes_lead : (o : Option PlanMsg) → plan_in p.id p.payload ≡ o → Leads n clock nodes sent w k (Drone a) Drone (takes drone_core clock b from o) (if_plan o (brought p)) []
     takes_lead None e = other

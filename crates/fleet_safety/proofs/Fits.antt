@@ -1,4 +1,4 @@
--- A scene fits a world of messages: its nodes are the world's, its packets are the world's frames, and the world's
+-- A state fits a world of messages: its nodes are the world's, its packets are the world's frames, and the world's
 -- timestamps are none above those that the nodes keep.
 use Rattle.std.proofs.Common.{◌≡◌, ◌≢◌, ℕ, zero, suc, ◌+◌, inl, inr, List, [], ◌∷◌, ◌++◌, length, slice_get, slice_set, Some, None, refl, sym, subst, ◌∙◌}
 use Rattle.mav_names.specs.declared.names.Name.{Name}
@@ -12,11 +12,11 @@ use Rattle.plan_safety.proofs.Fleet.{All}
 use Rattle.plan_safety.proofs.Induction as induction
 use Rattle.plan_ranges.specs.Ranges.{DroneInRange, StationInRange}
 use Rattle.mav_nodes.specs.Links.{Done, Outcome}
-use Rattle.fleet_world.specs.Scene.{Node, Drone, Station, node_name, stream_of}
+use Rattle.fleet_world.specs.WorldState.{Node, Drone, Station, node_name, stream_of}
 use Rattle.fleet_world.specs.Steps.{packets_in}
 use Rattle.fleet_invariants.specs.Sound.{link_of}
 use Rattle.fleet_invariants.specs.Kept.{AllRead}
-use Rattle.fleet_safety.specs.Telling.{told}
+use Rattle.fleet_safety.specs.Reporting.{reported}
 use Rattle.fleet_safety.specs.Actions.{Order}
 use Rattle.fleet_safety.specs.Safe.{start}
 use Rattle.fleet_safety.proofs.Times.{KeepsTime, clock_keeps}
@@ -25,7 +25,7 @@ use Rattle.fleet_safety.proofs.Names.{Named, Unnamed, Covers, SameRole, stream_i
 use Rattle.fleet_safety.proofs.Reports.{seen_by}
 use Rattle.fleet_safety.proofs.Own.{Own}
 
--- a node of the scene is the world's, and in its ranges; a station has told its outcomes
+-- a node of the state is the world's, and in its ranges; a station has reported its outcomes
 abbrev pub Stands : ℕ → World → Node → Type 0
 Stands clock w (Drone a) =
     ((w.drone a.link.me).state ≡ a.core) × KeepsTime clock a.link.history (w.drone a.link.me).last (w.drone a.link.me).next × DroneInRange a.core
@@ -89,20 +89,20 @@ clock_fits n clock more nodes sent w h = record {
   reached = h.reached;
 }
 
--- one node of the world moves, and is this node of the scene
+-- one node of the world moves, and is this node of the state
 pub record MovesTo (clock : ℕ) (w v : World) (x : Stream) (new : Node) : Type 0 where
   pub own : Stands clock v new
   pub drones : (y : Stream) → y ≢ x → v.drone y ≡ w.drone y
   pub stations : (y : Stream) → y ≢ x → v.station y ≡ w.station y
 
--- another node stays where it stood
+-- another node keeps its index
 stands_still : (clock : ℕ) (w v : World) (x : Stream) (new : Node) → MovesTo clock w v x new → (a : Node) → stream_in a ≢ x → Stands clock w a → Stands clock v a
 stands_still clock w v x new m (Drone a) far h =
     subst (λ (y : DroneNode). (y.state ≡ a.core) × KeepsTime clock a.link.history y.last y.next × DroneInRange a.core) (sym (m.drones _ far)) h
 stands_still clock w v x new m (Station a) far h =
     subst (λ (y : StationNode). (y.state ≡ a.core) × KeepsTime clock a.link.history y.last y.next × (a.core.outcome ≡ None) × StationInRange a.core) (sym (m.stations _ far)) h
 
--- a node of the scene moves, and the node of the world
+-- a node of the state moves, and the node of the world
 module _ (n : Nodes) (clock : ℕ) (nodes : List Node) (sent : List Packet) (w v : World) (k : ℕ) (old new : Node) (fits : Fits n clock nodes sent w) (found : slice_get nodes k ≡ Some old) (alike : SameRole old new) (moves : MovesTo clock w v (stream_in old) new) where
   set_stands : (i : ℕ) (a : Node) → slice_get (slice_set nodes k new) i ≡ Some a → Stands clock v a
   set_stands i a e =
@@ -137,9 +137,9 @@ pub record Alike (a b : Node) : Type 0 where
   pub role : SameRole a b
   pub key : (link_of a).key ≡ (link_of b).key
 
--- what a node does; these events of the world tell the same, are this accepted order, and lead to what fits
+-- what a node does; these events of the world report the same, are this accepted order, and lead to a state that fits
 pub record Led (n : Nodes) (clock : ℕ) (nodes : List Node) (sent : List Packet) (w : World) (k : ℕ) (old : Node) (d : Done Node) (events : List world.Event) (orders : List Order) : Type 0 where
-  pub report : seen_by (node_name old) (length sent) d.events ≡ told n w events
+  pub report : seen_by (node_name old) (length sent) d.events ≡ reported n w events
   pub own : Own n w events orders
   pub alike : Alike old d.node
   pub fits : Fits n clock (slice_set nodes k d.node) (sent ++ packets_in d.events) (final n w events)

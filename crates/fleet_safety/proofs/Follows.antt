@@ -8,18 +8,18 @@ use Rattle.plan_safety.specs.Frames.{Frame}
 use Rattle.plan_safety.specs.Store.{StoreEvent}
 use Rattle.plan_safety.specs.History.{Step, step, steps_of, final, history}
 use Rattle.mav_nodes.specs.Steps.{Side}
-use Rattle.fleet_world.specs.Scene.{Scene, Drone}
-use Rattle.fleet_safety.specs.Telling.{seen, told}
+use Rattle.fleet_world.specs.WorldState.{WorldState, Drone}
+use Rattle.fleet_safety.specs.Reporting.{seen, reported}
 use Rattle.fleet_safety.specs.Actions.{Action}
-use Rattle.fleet_safety.specs.Safe.{events_of, report_of, orders_of, scene_after}
-use Rattle.fleet_safety.proofs.Reports.{final_on, told_on, seen_on}
+use Rattle.fleet_safety.specs.Safe.{events_of, report_of, orders_of, state_after}
+use Rattle.fleet_safety.proofs.Reports.{final_on, reported_on, seen_on}
 use Rattle.fleet_safety.proofs.Own.{IsLasting, EachStep, each_on, Own}
 
 -- an action from a world on
 pub record Acts (n : Nodes) (w : World) (a : Action) : Type 0 where
-  pub report : seen a.report ≡ told n w a.events
+  pub report : seen a.report ≡ reported n w a.events
   pub own : Own n w a.events a.orders
-  pub drones : (place : ℕ) (d : Side DroneState) → slice_get a.scene.nodes place ≡ Some (Drone d) → ((final n w a.events).drone d.link.me).state ≡ d.core
+  pub drones : (index : ℕ) (d : Side DroneState) → slice_get a.state.nodes index ≡ Some (Drone d) → ((final n w a.events).drone d.link.me).state ≡ d.core
 
 abbrev pub Follows : Nodes → World → List Action → Type 0
 Follows n w [] = Unit {0}
@@ -38,9 +38,9 @@ pub orders_on : (actions bs : List Action) → orders_of (actions ++ bs) ≡ ord
 orders_on [] bs = refl
 orders_on (a ∷ actions) bs = ap (λ os. a.orders ++ os) (orders_on actions bs) ∙ sym (append_assoc a.orders (orders_of actions) (orders_of bs))
 
-pub scene_on : (s : Scene) (actions bs : List Action) → scene_after s (actions ++ bs) ≡ scene_after (scene_after s actions) bs
-scene_on s [] bs = refl
-scene_on s (a ∷ actions) bs = scene_on a.scene actions bs
+pub state_on : (s : WorldState) (actions bs : List Action) → state_after s (actions ++ bs) ≡ state_after (state_after s actions) bs
+state_on s [] bs = refl
+state_on s (a ∷ actions) bs = state_on a.state actions bs
 
 pub final_after : (n : Nodes) (w : World) (actions bs : List Action) → final n w (events_of (actions ++ bs)) ≡ final n (final n w (events_of actions)) (events_of bs)
 final_after n w actions bs = ap (final n w) (events_on actions bs) ∙ final_on n w (events_of actions) (events_of bs)
@@ -63,14 +63,14 @@ each_follows n w [] a later f = f.0
 each_follows n w (b ∷ bs) a later f =
     subst (λ v. Acts n v a) (sym (final_on n w b.events (events_of bs))) (each_follows n (final n w b.events) bs a later f.1)
 
--- all that they tell
-pub all_told : (n : Nodes) (w : World) (actions : List Action) → Follows n w actions → seen (report_of actions) ≡ told n w (events_of actions)
-all_told n w [] f = refl
-all_told n w (a ∷ actions) f =
+-- all that they report
+pub all_reported : (n : Nodes) (w : World) (actions : List Action) → Follows n w actions → seen (report_of actions) ≡ reported n w (events_of actions)
+all_reported n w [] f = refl
+all_reported n w (a ∷ actions) f =
     seen_on a.report (report_of actions)
     ∙ ap (λ es. es ++ seen (report_of actions)) f.0.report
-    ∙ ap (λ es. told n w a.events ++ es) (all_told n (final n w a.events) actions f.1)
-    ∙ sym (told_on n w a.events (events_of actions))
+    ∙ ap (λ es. reported n w a.events ++ es) (all_reported n (final n w a.events) actions f.1)
+    ∙ sym (reported_on n w a.events (events_of actions))
 
 -- those before others
 pub follows_before : (n : Nodes) (w : World) (before later : List Action) → Follows n w (before ++ later) → Follows n w before

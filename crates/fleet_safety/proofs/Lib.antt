@@ -13,9 +13,9 @@ pub mod Sendings
 pub mod Drones
 pub mod Stations
 pub mod Datagrams
-pub mod Scenes
+pub mod States
 pub mod Orders
 pub mod Lines
 pub mod Plays
-pub mod ToldLines
+pub mod ReportedLines
 pub mod Caused

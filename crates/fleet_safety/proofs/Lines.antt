@@ -1,4 +1,4 @@
--- Each scenario line does in the world of messages what it does in the scene.
+-- Each scenario line does in the world of messages what it does in the state.
 use Rattle.std.proofs.Common.{◌≡◌, ℕ, ◌+◌, ◌-◌, ◌<◌, inl, inr, Bool, true, false, nat_lt, List, [], ◌∷◌, ◌++◌, length, slice_get, None, refl, sym, ap, subst, arith}
 use Rattle.std.specs.declared.result.Result.{Result}
 use Rattle.plan_items.specs.Kinds.{number_of}
@@ -13,11 +13,11 @@ use Rattle.scenario_lines.specs.declared.faults.Reason.{Reason}
 use Rattle.scenario_lines.specs.declared.faults.Reason.TheVariants.{Twice}
 use Rattle.scenario_lines.specs.declared.lines.Line.{Line}
 use Rattle.scenario_lines.specs.declared.lines.Line.TheVariants as line
-use Rattle.scenario_lines.specs.Standing.{has_name}
+use Rattle.scenario_lines.specs.LineContext.{has_name}
 use Rattle.scenario_lines.specs.Grammar.{against}
 use Rattle.scenario_lines.specs.Permits.{IsPermitted}
-use Rattle.fleet_world.specs.Scene.{Scene, Node, Drone, Station, node_name, stream_of, names_of, standing_of, drones_in, stations_in}
-use Rattle.fleet_world.specs.Steps.{Step, Halt, node_ticks, node_beats, node_receives, rests, joins, station_line, begins, cancels, clears, gets, calls, delivers, flows, after_line, items_from, most_drones, most_stations}
+use Rattle.fleet_world.specs.WorldState.{WorldState, Node, Drone, Station, node_name, stream_of, names_of, context_of, drones_in, stations_in}
+use Rattle.fleet_world.specs.Steps.{Step, StepError, node_ticks, node_beats, node_receives, rests, joins, station_line, begins, cancels, clears, gets, calls, delivers, flows, after_line, items_from, most_drones, most_stations}
 use Rattle.fleet_world.specs.Authentic.{AuthenticLine}
 use Rattle.fleet_invariants.proofs.Restated.{sound_restated}
 use Rattle.fleet_invariants.specs.Sound.{Sound}
@@ -28,31 +28,31 @@ use Rattle.fleet_safety.proofs.Lists.{at_end, more_there}
 use Rattle.fleet_safety.proofs.Names.{Named, Covers, Kept, kept, Proper, more_kept, more_named, unnamed}
 use Rattle.fleet_safety.proofs.Times.{KeepsTime, first_keeps}
 use Rattle.fleet_safety.proofs.Fits.{Stands, Fits, clock_fits}
-use Rattle.fleet_safety.proofs.Scenes.{SceneLeads, scene_maps, scene_rests, Goes, bytes_lead, calls_lead, delivers_lead, flows_lead}
+use Rattle.fleet_safety.proofs.States.{StateLeads, state_maps, state_rests, Goes, bytes_lead, calls_lead, delivers_lead, flows_lead}
 use Rattle.fleet_safety.proofs.Orders.{ticks_lead, beats_lead, begins_lead, cancels_lead, clears_lead, gets_lead}
 
--- after a line: its nodes are those before and perhaps one more, and where the fleet has them, the scene fits the world
-pub record Done (n : Nodes) (s t : Scene) (v : World) : Type 0 where
+-- after a line: its nodes are those before and perhaps one more, and if the fleet has them, the state fits the world
+pub record Done (n : Nodes) (s t : WorldState) (v : World) : Type 0 where
   pub kept : Kept s.nodes t.nodes
   pub named : Named t.nodes
   pub fits : Covers n t.nodes → Fits n t.clock t.nodes t.sent v
 
--- no reason is given where its test fails
+-- no reason is given if its test fails
 no_reason : (b : Bool) (r : Reason) → against b r ≡ None → b ≡ false
 no_reason true r e = absurd (cc)
 no_reason false r e = refl
 
-module _ (number : ℕ) (n : Nodes) (distinct : Distinct n) (every_call : EveryCallKeeps) (sent_known : SentKnown) (authentic_known : AuthenticKnown) (s : Scene) (w : World) (sound : Sound s) (fits : Fits n s.clock s.nodes s.sent w) where
-  gone : (t : Scene) (v : World) → Goes n s t v → Done n s t v
+module _ (number : ℕ) (n : Nodes) (distinct : Distinct n) (every_call : EveryCallKeeps) (sent_known : SentKnown) (authentic_known : AuthenticKnown) (s : WorldState) (w : World) (sound : Sound s) (fits : Fits n s.clock s.nodes s.sent w) where
+  gone : (t : WorldState) (v : World) → Goes n s t v → Done n s t v
   gone t v h = record { kept = h.kept; named = h.fits.named; fits = λ _. h.fits }
 
   -- another draft, or another place of flows
-  unmoved : (t : Scene) → t.nodes ≡ s.nodes → Fits n t.clock t.nodes t.sent w → SceneLeads n w (Done n s) (rests t) []
-  unmoved t same h = scene_rests n w (Done n s) t (record { kept = subst (Kept s.nodes) (sym same) (kept s.nodes); named = h.named; fits = λ _. h })
+  unmoved : (t : WorldState) → t.nodes ≡ s.nodes → Fits n t.clock t.nodes t.sent w → StateLeads n w (Done n s) (rests t) []
+  unmoved t same h = state_rests n w (Done n s) t (record { kept = subst (Kept s.nodes) (sym same) (kept s.nodes); named = h.named; fits = λ _. h })
 
   -- a node joins
-  joins_lead : (new : Node) → has_name (names_of s.nodes) (node_name new) ≡ false → Proper new → Stands s.clock w new → SceneLeads n w (Done n s) (joins s new) []
-  joins_lead new none proper stands = scene_rests n w (Done n s) (record s { nodes = s.nodes ++ new ∷ [] }) (record { kept = more_kept s.nodes new; named = named; fits = fitting })
+  joins_lead : (new : Node) → has_name (names_of s.nodes) (node_name new) ≡ false → Proper new → Stands s.clock w new → StateLeads n w (Done n s) (joins s new) []
+  joins_lead new none proper stands = state_rests n w (Done n s) (record s { nodes = s.nodes ++ new ∷ [] }) (record { kept = more_kept s.nodes new; named = named; fits = fitting })
     where
       named : Named (s.nodes ++ new ∷ [])
       named = more_named s.nodes new fits.named (unnamed s.nodes (node_name new) none) proper
@@ -67,37 +67,37 @@ module _ (number : ℕ) (n : Nodes) (distinct : Distinct n) (every_call : EveryC
         reached = fits.reached;
       }
 
-  drone_joins : (sys : ℕ) → Is8 sys → has_name (names_of s.nodes) (record { sys = sys; comp = 1 }) ≡ false → SceneLeads n w (Done n s) (joins s (Drone (new_drone s.key sys))) []
+  drone_joins : (sys : ℕ) → Is8 sys → has_name (names_of s.nodes) (record { sys = sys; comp = 1 }) ≡ false → StateLeads n w (Done n s) (joins s (Drone (new_drone s.key sys))) []
   drone_joins sys small none =
       let fresh = (fits.unnamed (record { sys = sys; comp = 1 }) (unnamed s.nodes (record { sys = sys; comp = 1 }) none)).0 in
       joins_lead (Drone (new_drone s.key sys)) none (refl, refl, record { sys = small; comp = omega arith })
       (ap (λ (y : DroneNode). y.state) fresh, subst (λ (y : DroneNode). KeepsTime s.clock [] y.last y.next) (sym fresh) (first_keeps s.clock), drone_ranges.fresh sys small)
 
-  station_joins : (sys comp : ℕ) → Is8 sys → Is8 comp → 0 < comp → has_name (names_of s.nodes) (record { sys = sys; comp = comp }) ≡ false → SceneLeads n w (Done n s) (joins s (Station (new_station s.key (stream_of (record { sys = sys; comp = comp })) 0))) []
+  station_joins : (sys comp : ℕ) → Is8 sys → Is8 comp → 0 < comp → has_name (names_of s.nodes) (record { sys = sys; comp = comp }) ≡ false → StateLeads n w (Done n s) (joins s (Station (new_station s.key (stream_of (record { sys = sys; comp = comp })) 0))) []
   station_joins sys comp small small_comp some none =
       let fresh = (fits.unnamed (record { sys = sys; comp = comp }) (unnamed s.nodes (record { sys = sys; comp = comp }) none)).1 in
       joins_lead (Station (new_station s.key (stream_of (record { sys = sys; comp = comp })) 0)) none (refl, some, record { sys = small; comp = small_comp })
       (ap (λ (y : StationNode). y.state) fresh, subst (λ (y : StationNode). KeepsTime s.clock [] y.last y.next) (sym fresh) (first_keeps s.clock), refl, station_ranges.fresh sys comp 0 0 small small_comp (omega arith) (omega arith))
 
   -- a station line: nothing that was sent is given by the flows that follow
-  abbrev from : Scene
+  abbrev from : WorldState
   from = station_line s
 
   from_sound : Sound from
   from_sound = sound_restated s (length s.sent) s.draft s.clock sound (omega arith) sound.draft (omega arith) sound.clock
 
-  ordered : (r : Result Step Halt) (actions : List Action) → SceneLeads n w (Goes n from) r actions → SceneLeads n w (Done n s) r actions
-  ordered r actions h = scene_maps n w (Goes n from) (Done n s) r actions h (λ t v g. record { kept = g.kept; named = g.fits.named; fits = λ _. g.fits })
+  ordered : (r : Result Step StepError) (actions : List Action) → StateLeads n w (Goes n from) r actions → StateLeads n w (Done n s) r actions
+  ordered r actions h = state_maps n w (Goes n from) (Done n s) r actions h (λ t v g. record { kept = g.kept; named = g.fits.named; fits = λ _. g.fits })
 
-  went : (r : Result Step Halt) (actions : List Action) → SceneLeads n w (Goes n s) r actions → SceneLeads n w (Done n s) r actions
-  went r actions h = scene_maps n w (Goes n s) (Done n s) r actions h gone
+  went : (r : Result Step StepError) (actions : List Action) → StateLeads n w (Goes n s) r actions → StateLeads n w (Done n s) r actions
+  went r actions h = state_maps n w (Goes n s) (Done n s) r actions h gone
 
-  pub line_leads : (l : Line) → IsPermitted (standing_of s) l → LineFits l → AuthenticLine s l → SceneLeads n w (Done n s) (after_line s l) (calls_of number s l)
+  pub line_leads : (l : Line) → IsPermitted (context_of s) l → LineFits l → AuthenticLine s l → StateLeads n w (Done n s) (after_line s l) (calls_of number s l)
   line_leads line.Blank p f a = unmoved s refl fits
   line_leads (line.Drone sys x y) p f a =
-      by_test (λ r. SceneLeads n w (Done n s) r []) (nat_lt (drones_in s.nodes) most_drones) _ _ (λ _. drone_joins sys f (no_reason _ Twice p.1)) (λ _. tt)
+      by_test (λ r. StateLeads n w (Done n s) r []) (nat_lt (drones_in s.nodes) most_drones) _ _ (λ _. drone_joins sys f (no_reason _ Twice p.1)) (λ _. tt)
   line_leads (line.Station sys comp) p f a =
-      by_test (λ r. SceneLeads n w (Done n s) r []) (nat_lt (stations_in s.nodes) most_stations) _ _ (λ _. station_joins sys comp f.0 f.1 (let z = p.0.1 in omega arith) (no_reason _ Twice p.1)) (λ _. tt)
+      by_test (λ r. StateLeads n w (Done n s) r []) (nat_lt (stations_in s.nodes) most_stations) _ _ (λ _. station_joins sys comp f.0 f.1 (let z = p.0.1 in omega arith) (no_reason _ Twice p.1)) (λ _. tt)
   line_leads (line.Item item) p f a = unmoved (record s { draft = s.draft ++ item ∷ [] }) refl fits
   line_leads (line.Items count first) p f a = unmoved (record s { draft = s.draft ++ items_from count first 0 }) refl fits
   line_leads line.Empty p f a = unmoved (record s { draft = [] }) refl fits

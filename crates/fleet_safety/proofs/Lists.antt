@@ -67,7 +67,7 @@ set_same [] k x e = absurd (nowhere k e)
 set_same (z ∷ zs) zero x e = ap (λ y. y ∷ zs) (sym (some_is e))
 set_same (z ∷ zs) (suc k) x e = ap (λ ys. z ∷ ys) (set_same zs k x e)
 
--- an element of a list is one of the list with more behind it
+-- an element of a list is one of the list with more after it
 pub still_there : {A : Type 0} (xs ys : List A) (x : A) (i : ℕ) → slice_get xs i ≡ Some x → slice_get (xs ++ ys) i ≡ Some x
 still_there [] ys x i e = absurd (nowhere i e)
   where

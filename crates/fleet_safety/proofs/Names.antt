@@ -1,4 +1,4 @@
--- The nodes of a scene: their names tell them apart, and stay theirs.
+-- The nodes of a state: their names are distinct, and stay the same.
 use Rattle.std.proofs.Common.{◌≡◌, ◌≢◌, ℕ, zero, suc, ◌<◌, ◌⊎◌, inl, inr, Bool, true, false, ◌==◌, ◌||◌, ◌&&◌, List, [], ◌∷◌, ◌++◌, slice_get, slice_set, Some, refl, sym, ap, subst, arith, ◌∙◌}
 use Rattle.mav_names.specs.declared.names.Name.{Name}
 use Rattle.mav_names.specs.declared.names.Stream.{Stream}
@@ -9,8 +9,8 @@ use Rattle.mav_nodes.specs.Steps.{Side}
 use Rattle.plan_ranges.specs.Ranges.{StreamInRange}
 use Rattle.plan_safety.specs.World.{Nodes, Distinct}
 use Rattle.plan_safety.proofs.Keys.{bool_split, differ, both_true, either_true, eq_true, name_eq, name_same, not_true}
-use Rattle.scenario_lines.specs.Standing.{has_name, has_drone, has_station, same_name as alike_names}
-use Rattle.fleet_world.specs.Scene.{Node, Drone as DroneNode, Station as StationNode, node_name, stream_of, names_of}
+use Rattle.scenario_lines.specs.LineContext.{has_name, has_drone, has_station, same_name as alike_names}
+use Rattle.fleet_world.specs.WorldState.{Node, Drone as DroneNode, Station as StationNode, node_name, stream_of, names_of}
 use Rattle.fleet_invariants.specs.Sound.{link_of}
 use Rattle.fleet_safety.specs.Safe.{nodes_of}
 use Rattle.fleet_safety.proofs.Lists.{some_is, at_end, set_there, set_elsewhere, more_there}
@@ -36,7 +36,7 @@ role_name (DroneNode d) (StationNode t) h = absurd h
 role_name (StationNode s) (DroneNode e) h = absurd h
 role_name (StationNode s) (StationNode t) h = ap node_of h
 
--- its name and its stream tell the same
+-- its name and its stream determine each other
 pub name_in : (a b : Node) → stream_in a ≡ stream_in b → node_name a ≡ node_name b
 name_in (DroneNode d) (DroneNode e) h = ap node_of h
 name_in (DroneNode d) (StationNode t) h = ap node_of h
@@ -66,7 +66,7 @@ pub on_link : (a : Node) → Proper a → (stream_in a).link ≡ 0
 on_link (DroneNode d) p = p.0
 on_link (StationNode t) p = p.0
 
--- names tell nodes apart
+-- names are distinct
 pub record Named (nodes : List Node) : Type 0 where
   pub apart : (i j : ℕ) (a b : Node) → slice_get nodes i ≡ Some a → slice_get nodes j ≡ Some b → node_name a ≡ node_name b → i ≡ j
   pub proper : (i : ℕ) (a : Node) → slice_get nodes i ≡ Some a → Proper a
@@ -103,7 +103,7 @@ role_on (StationNode s) (DroneNode e) c h k = absurd h
 role_on (StationNode s) (StationNode t) (DroneNode e) h k = absurd k
 role_on (StationNode s) (StationNode t) (StationNode u) h k = h ∙ k
 
--- each node stays in its place, in its role
+-- each node keeps its index and its role
 pub record Stays (nodes : List Node) (i : ℕ) (a : Node) : Type 0 where
   pub node : Node
   pub there : slice_get nodes i ≡ Some node
@@ -129,7 +129,7 @@ number_split i k = elim (bool_split (i == k)) [ inl t ↦ inl (eq_true i k t) | 
 
 -- one node replaced by one of its role
 module _ (nodes : List Node) (k : ℕ) (old new : Node) (found : slice_get nodes k ≡ Some old) (alike : SameRole old new) where
-  -- where a node of the new list was
+  -- the index that a node of the new list had
   pub record Was (i : ℕ) (a : Node) : Type 0 where
     pub node : Node
     pub there : slice_get nodes i ≡ Some node
@@ -208,31 +208,31 @@ unnamed nodes name h = all nodes h
     all (StationNode d ∷ ns) h (suc i) a e is = all ns (neither _ _ h).1 i a e is
 
 pub record HoldsDrone (nodes : List Node) (name : Name) : Type 0 where
-  pub place : ℕ
+  pub index : ℕ
   pub drone : Side DroneState
-  pub there : slice_get nodes place ≡ Some (DroneNode drone)
+  pub there : slice_get nodes index ≡ Some (DroneNode drone)
   pub name_is : node_of drone.link.me ≡ name
 
 pub a_drone : (nodes : List Node) (name : Name) → has_drone (names_of nodes) name ≡ true → HoldsDrone nodes name
 a_drone [] name h = absurd (cc)
 a_drone (DroneNode d ∷ ns) name h = elim (either_true _ _ h) [
-  | inl x ↦ record { place = 0; drone = d; there = refl; name_is = name_eq_too _ _ x }
-  | inr y ↦ (let z = a_drone ns name y in record { place = suc z.place; drone = z.drone; there = z.there; name_is = z.name_is })
+  | inl x ↦ record { index = 0; drone = d; there = refl; name_is = name_eq_too _ _ x }
+  | inr y ↦ (let z = a_drone ns name y in record { index = suc z.index; drone = z.drone; there = z.there; name_is = z.name_is })
 ]
-a_drone (StationNode t ∷ ns) name h = let z = a_drone ns name h in record { place = suc z.place; drone = z.drone; there = z.there; name_is = z.name_is }
+a_drone (StationNode t ∷ ns) name h = let z = a_drone ns name h in record { index = suc z.index; drone = z.drone; there = z.there; name_is = z.name_is }
 
 pub record HoldsStation (nodes : List Node) (name : Name) : Type 0 where
-  pub place : ℕ
+  pub index : ℕ
   pub station : Side StationState
-  pub there : slice_get nodes place ≡ Some (StationNode station)
+  pub there : slice_get nodes index ≡ Some (StationNode station)
   pub name_is : node_of station.link.me ≡ name
 
 pub a_station : (nodes : List Node) (name : Name) → has_station (names_of nodes) name ≡ true → HoldsStation nodes name
 a_station [] name h = absurd (cc)
-a_station (DroneNode d ∷ ns) name h = let z = a_station ns name h in record { place = suc z.place; station = z.station; there = z.there; name_is = z.name_is }
+a_station (DroneNode d ∷ ns) name h = let z = a_station ns name h in record { index = suc z.index; station = z.station; there = z.there; name_is = z.name_is }
 a_station (StationNode t ∷ ns) name h = elim (either_true _ _ h) [
-  | inl x ↦ record { place = 0; station = t; there = refl; name_is = name_eq_too _ _ x }
-  | inr y ↦ (let z = a_station ns name y in record { place = suc z.place; station = z.station; there = z.there; name_is = z.name_is })
+  | inl x ↦ record { index = 0; station = t; there = refl; name_is = name_eq_too _ _ x }
+  | inr y ↦ (let z = a_station ns name y in record { index = suc z.index; station = z.station; there = z.there; name_is = z.name_is })
 ]
 
 or_true : (b : Bool) → (b || true) ≡ true
@@ -255,7 +255,7 @@ station_held (DroneNode d ∷ ns) zero t e = absurd (cc)
 station_held (StationNode x ∷ ns) (suc i) t e = rw (station_held ns i t e) (or_true (alike_names (node_of x.link.me) (node_of t.link.me)))
 station_held (DroneNode d ∷ ns) (suc i) t e = station_held ns i t e
 
--- the nodes that were named are in their own fleet, and its names tell them apart
+-- the nodes that were named are in their own fleet, and its names are distinct
 zero_is : (k : ℕ) → k ≡ 0 → (k == 0) ≡ true
 zero_is k e = grind arith
 
@@ -293,7 +293,7 @@ own_distinct nodes named = record {
     link s h = eq_true _ _ h
 
     component : (d : Stream) → HoldsDrone nodes (node_of d) → d.comp ≡ 1
-    component d h = sym (ap (λ (x : Name). x.comp) h.name_is) ∙ (named.proper h.place (DroneNode h.drone) h.there).1
+    component d h = sym (ap (λ (x : Name). x.comp) h.name_is) ∙ (named.proper h.index (DroneNode h.drone) h.there).1
 
     names : (d e : Stream) → HoldsDrone nodes (node_of d) → HoldsDrone nodes (node_of e) → d.sys ≡ e.sys → node_of d ≡ node_of e
     names d e x y s = ap (λ z. name z d.comp) s ∙ ap (λ c. name e.sys c) (component d x ∙ sym (component e y))
@@ -306,11 +306,11 @@ own_distinct nodes named = record {
         let z = both_true _ _ h in
         let system : s.sys ≡ d.sys = eq_true _ _ z.0 in
         let me : node_of y.station.link.me ≡ node_of s = y.name_is in
-        let some : 0 < s.comp = subst (λ (n : Name). 0 < n.comp) me (named.proper y.place (StationNode y.station) y.there).1 in
+        let some : 0 < s.comp = subst (λ (n : Name). 0 < n.comp) me (named.proper y.index (StationNode y.station) y.there).1 in
         let comp : s.comp ≡ 1 = one s.comp some z.1 in
         let alike : node_of x.drone.link.me ≡ node_of y.station.link.me = x.name_is ∙ ap (λ c. name d.sys c) (component d x ∙ sym comp) ∙ ap (λ k. name k s.comp) (sym system) ∙ sym me in
-        let place : x.place ≡ y.place = named.apart x.place y.place (DroneNode x.drone) (StationNode y.station) x.there y.there alike in
-        absurd (two x.drone y.station (sym x.there ∙ ap (slice_get nodes) place ∙ y.there))
+        let index : x.index ≡ y.index = named.apart x.index y.index (DroneNode x.drone) (StationNode y.station) x.there y.there alike in
+        absurd (two x.drone y.station (sym x.there ∙ ap (slice_get nodes) index ∙ y.there))
       where
         two : (d : Side DroneState) (t : Side StationState) → Some (DroneNode d) ≡ Some (StationNode t) → ⊥
         two d t e = absurd (cc)

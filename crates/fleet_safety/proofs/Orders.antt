@@ -19,12 +19,12 @@ use Rattle.plan_safety.specs.World.{Nodes, Distinct, World, Begins, Clears, Gets
 use Rattle.plan_ranges.specs.Ranges.{NameInRange, StreamInRange, Is8}
 use Rattle.mav_nodes.specs.Steps.{Side}
 use Rattle.mav_nodes.specs.Nodes.{drone_ticks, drone_beats, station_ticks, station_beats, station_begins, station_cancels, station_clears, station_gets}
-use Rattle.scenario_lines.specs.Standing.{has_drone}
-use Rattle.fleet_world.specs.Scene.{Scene, Node, Drone, Station, node_name, stream_of, names_of, is_station_named}
-use Rattle.fleet_world.specs.Steps.{Step, Halt, node_ticks, node_beats, node_does, as_station, refuses, orders, upload_begins, orders_at, orders_placed, orders_to, begins, cancels, clears, gets}
+use Rattle.scenario_lines.specs.LineContext.{has_drone}
+use Rattle.fleet_world.specs.WorldState.{WorldState, Node, Drone, Station, node_name, stream_of, names_of, is_station_named}
+use Rattle.fleet_world.specs.Steps.{Step, StepError, node_ticks, node_beats, node_does, as_station, refuses, orders, upload_begins, orders_at, orders_found, orders_to, begins, cancels, clears, gets}
 use Rattle.fleet_invariants.specs.Sound.{link_of, Sound}
 use Rattle.fleet_invariants.specs.Laws.{EveryCallKeeps, EachCallKeeps}
-use Rattle.fleet_safety.specs.Telling.{Refused, refused_told, refusal_told, step_told}
+use Rattle.fleet_safety.specs.Reporting.{Refused, refused_reported, refusal_reported, step_reported}
 use Rattle.fleet_safety.specs.Actions.{Action, Order, Accepts_upload, Accepts_clear, Accepts_get, moves, ticks, cancelled, acts, ticked, beaten, at_station, if_ordered, to_station, upload_at, clear_at, get_at, cancel_at}
 use Rattle.fleet_safety.proofs.Names.{kept, HoldsDrone, a_drone, stream_named}
 use Rattle.fleet_safety.proofs.Reports.{silent_step}
@@ -33,9 +33,9 @@ use Rattle.fleet_safety.proofs.Own.{own_of, tame_nothing}
 use Rattle.fleet_safety.proofs.Datagrams.{drone_outcome, station_outcome}
 use Rattle.fleet_safety.proofs.Drones as drones
 use Rattle.fleet_safety.proofs.Stations as stations
-use Rattle.fleet_safety.proofs.Scenes.{SceneLeads, scene_maps, scene_rests, Goes, goes_still, does_leads}
+use Rattle.fleet_safety.proofs.States.{StateLeads, state_maps, state_rests, Goes, goes_still, does_leads}
 
--- a step that tells nothing of the world's nodes
+-- a step that reports nothing of the world's nodes
 quiet_stands : (clock : ℕ) (w : World) (a : Node) → Stands clock w a → Stands clock (quiet w) a
 quiet_stands clock w (Drone a) h = h
 quiet_stands clock w (Station a) h = h
@@ -59,12 +59,12 @@ small_clear : (kind : Option PlanKind) → Is8 (clear_number kind)
 small_clear None = omega arith
 small_clear (Some kind) = small kind
 
-module _ (number : ℕ) (n : Nodes) (distinct : Distinct n) (every_call : EveryCallKeeps) (s : Scene) (w : World) (sound : Sound s) (fits : Fits n s.clock s.nodes s.sent w) where
+module _ (number : ℕ) (n : Nodes) (distinct : Distinct n) (every_call : EveryCallKeeps) (s : WorldState) (w : World) (sound : Sound s) (fits : Fits n s.clock s.nodes s.sent w) where
   calls_keep : EachCallKeeps s
   calls_keep = every_call s sound
 
-  still : SceneLeads n w (Goes n s) (Ok (record { scene = s; events = [] })) []
-  still = scene_rests n w (Goes n s) s (goes_still n s w sound fits)
+  still : StateLeads n w (Goes n s) (Ok (record { state = s; events = [] })) []
+  still = state_rests n w (Goes n s) s (goes_still n s w sound fits)
 
   -- ---- ticks and HEARTBEATs
   tick_of : (k : ℕ) (a : Node) → slice_get s.nodes k ≡ Some a → Leads n s.clock s.nodes s.sent w k a (λ x. x) (node_ticks s.clock a) (moves s.clock a (ticks a)) []
@@ -75,26 +75,26 @@ module _ (number : ℕ) (n : Nodes) (distinct : Distinct n) (every_call : EveryC
   beat_of k (Drone a) e = drone_outcome n s.clock s.nodes s.sent w k (Drone a) (drone_beats s.clock a) (moves s.clock (Drone a) (Speaks a.link.me)) [] (drones.beats_lead n distinct s.clock s.nodes s.sent w fits k a e)
   beat_of k (Station a) e = station_outcome n s.clock s.nodes s.sent w k (Station a) (station_beats s.clock a) (moves s.clock (Station a) (Speaks a.link.me)) [] (stations.beats_lead n distinct s.clock s.nodes s.sent w fits k a e)
 
-  pub ticks_lead : (k : ℕ) (a : Node) → slice_get s.nodes k ≡ Some a → SceneLeads n w (Goes n s) (node_does s k (node_name a) (node_ticks s.clock a)) (ticked number s k a)
+  pub ticks_lead : (k : ℕ) (a : Node) → slice_get s.nodes k ≡ Some a → StateLeads n w (Goes n s) (node_does s k (node_name a) (node_ticks s.clock a)) (ticked number s k a)
   ticks_lead k a e =
       let keeps = calls_keep.ticks k a (node_name a) e in
       does_leads number n s s w k a e (λ i p h. h) (node_ticks s.clock a) (moves s.clock a (ticks a)) [] (tick_of k a e) keeps.1 keeps.0
 
-  pub beats_lead : (k : ℕ) (a : Node) → slice_get s.nodes k ≡ Some a → SceneLeads n w (Goes n s) (node_does s k (node_name a) (node_beats s.clock a)) (beaten number s k a)
+  pub beats_lead : (k : ℕ) (a : Node) → slice_get s.nodes k ≡ Some a → StateLeads n w (Goes n s) (node_does s k (node_name a) (node_beats s.clock a)) (beaten number s k a)
   beats_lead k a e =
       let keeps = calls_keep.beats k a (node_name a) e in
       does_leads number n s s w k a e (λ i p h. h) (node_beats s.clock a) (moves s.clock a (Speaks (link_of a).me)) [] (beat_of k a e) keeps.1 keeps.0
 
   -- ---- the station of a name
-  by_node : (order : ℕ → Side StationState → Result Step Halt) (does : ℕ → Side StationState → List Action) → ((k : ℕ) (a : Side StationState) → slice_get s.nodes k ≡ Some (Station a) → SceneLeads n w (Goes n s) (order k a) (does k a)) → (k : ℕ) (o : Option Node) → slice_get s.nodes k ≡ o → SceneLeads n w (Goes n s) (orders_at s k o order) (at_station k o does)
+  by_node : (order : ℕ → Side StationState → Result Step StepError) (does : ℕ → Side StationState → List Action) → ((k : ℕ) (a : Side StationState) → slice_get s.nodes k ≡ Some (Station a) → StateLeads n w (Goes n s) (order k a) (does k a)) → (k : ℕ) (o : Option Node) → slice_get s.nodes k ≡ o → StateLeads n w (Goes n s) (orders_at s k o order) (at_station k o does)
   by_node order does lead k None e = still
   by_node order does lead k (Some (Drone a)) e = still
   by_node order does lead k (Some (Station a)) e = lead k a e
 
-  orders_lead : (name : Name) (order : ℕ → Side StationState → Result Step Halt) (does : ℕ → Side StationState → List Action) → ((k : ℕ) (a : Side StationState) → slice_get s.nodes k ≡ Some (Station a) → SceneLeads n w (Goes n s) (order k a) (does k a)) → SceneLeads n w (Goes n s) (orders_to s name order) (to_station s name does)
+  orders_lead : (name : Name) (order : ℕ → Side StationState → Result Step StepError) (does : ℕ → Side StationState → List Action) → ((k : ℕ) (a : Side StationState) → slice_get s.nodes k ≡ Some (Station a) → StateLeads n w (Goes n s) (order k a) (does k a)) → StateLeads n w (Goes n s) (orders_to s name order) (to_station s name does)
   orders_lead name order does lead = by_place (position (is_station_named name) s.nodes)
     where
-      by_place : (o : Option ℕ) → SceneLeads n w (Goes n s) (orders_placed s o order) (if_ordered s o does)
+      by_place : (o : Option ℕ) → StateLeads n w (Goes n s) (orders_found s o order) (if_ordered s o does)
       by_place None = still
       by_place (Some k) = by_node order does lead k (slice_get s.nodes k) refl
 
@@ -107,16 +107,16 @@ module _ (number : ℕ) (n : Nodes) (distinct : Distinct n) (every_call : EveryC
     core_is = (fits.stands k (Station a) there).0
 
     -- nothing happens to the nodes
-    refuses_lead : (e : world.Event) (why : OpFault) → happens n w e ≡ quiet w → refused_told n w e ≡ Refused (node_of a.link.me) why ∷ [] → SceneLeads n w (Goes n s) (refuses s a why) (acts number (e ∷ []) [] (refuses s a why))
-    refuses_lead e why is tells = record {
+    refuses_lead : (e : world.Event) (why : OpFault) → happens n w e ≡ quiet w → refused_reported n w e ≡ Refused (node_of a.link.me) why ∷ [] → StateLeads n w (Goes n s) (refuses s a why) (acts number (e ∷ []) [] (refuses s a why))
+    refuses_lead e why is reports = record {
       follows = (
         record {
-          report = sym (ap (λ es. (es ++ step_told w (happens n w e)) ++ []) tells
-              ∙ append-nil (Refused (node_of a.link.me) why ∷ step_told w (happens n w e))
-              ∙ ap (λ v. Refused (node_of a.link.me) why ∷ step_told w v) is
+          report = sym (ap (λ es. (es ++ step_reported w (happens n w e)) ++ []) reports
+              ∙ append-nil (Refused (node_of a.link.me) why ∷ step_reported w (happens n w e))
+              ∙ ap (λ v. Refused (node_of a.link.me) why ∷ step_reported w v) is
               ∙ ap (λ es. Refused (node_of a.link.me) why ∷ es) (silent_step w (quiet w) refl refl));
           own = own_of n w (e ∷ []) (quiet w).sent [] [] (ap (λ (v : World). steps_of v.sent v.news []) is) tame_nothing refl;
-          drones = λ place d there. (goes.fits.stands place (Drone d) there).0;
+          drones = λ index d there. (goes.fits.stands index (Drone d) there).0;
         },
         tt,
       );
@@ -133,7 +133,7 @@ module _ (number : ℕ) (n : Nodes) (distinct : Distinct n) (every_call : EveryC
         })
 
     -- ---- a cancel
-    cancel_leads : SceneLeads n w (Goes n s) (orders s k a None (station_cancels s.clock a)) (cancel_at number s k a)
+    cancel_leads : StateLeads n w (Goes n s) (orders s k a None (station_cancels s.clock a)) (cancel_at number s k a)
     cancel_leads =
         let keeps = calls_keep.cancels k a (node_of a.link.me) there in
         let events : List world.Event = moves s.clock (Station a) (Cancels a.link.me) in
@@ -146,25 +146,25 @@ module _ (number : ℕ) (n : Nodes) (distinct : Distinct n) (every_call : EveryC
       abbrev d : Stream
       d = stream_of drone
 
-      upload_leads : (kind : PlanKind) (o : Option OpFault) → upload_refusal a.core (number_of kind) s.draft ≡ o → SceneLeads n w (Goes n s) (upload_begins s k a drone (number_of kind) o) (upload_at number s drone kind o k a)
+      upload_leads : (kind : PlanKind) (o : Option OpFault) → upload_refusal a.core (number_of kind) s.draft ≡ o → StateLeads n w (Goes n s) (upload_begins s k a drone (number_of kind) o) (upload_at number s drone kind o k a)
       upload_leads kind (Some why) e =
           let e' : upload_refusal (w.station a.link.me).state (number_of kind) s.draft ≡ Some why = ap (λ z. upload_refusal z (number_of kind) s.draft) core_is ∙ e in
-          refuses_lead (Begins a.link.me d kind s.draft) why (rw (here, known, e') refl) (rw (here, known) (ap (refusal_told a.link.me) e'))
+          refuses_lead (Begins a.link.me d kind s.draft) why (rw (here, known, e') refl) (rw (here, known) (ap (refusal_reported a.link.me) e'))
       upload_leads kind None e =
-          let from : Scene = record s { draft = [] } in
+          let from : WorldState = record s { draft = [] } in
           let keeps = calls_keep.begins k a drone (number_of kind) within (small kind) e (node_of a.link.me) there in
           let events : List world.Event = moves s.clock (Station a) (Begins a.link.me d kind s.draft) in
           let accepted_now : List Order = Accepts_upload a.link.me d (number_of kind) s.draft ∷ [] in
-          scene_maps n w (Goes n from) (Goes n s) (node_does from k (node_of a.link.me) (as_station (station_begins s.clock d (number_of kind) s.draft a)))
+          state_maps n w (Goes n from) (Goes n s) (node_does from k (node_of a.link.me) (as_station (station_begins s.clock d (number_of kind) s.draft a)))
           (acts number events accepted_now (node_does from k (node_of a.link.me) (as_station (station_begins s.clock d (number_of kind) s.draft a))))
           (does_leads number n s from w k (Station a) there (λ i p h. h) (as_station (station_begins s.clock d (number_of kind) s.draft a)) events accepted_now
           (station_outcome n s.clock s.nodes s.sent w k (Station a) (station_begins s.clock d (number_of kind) s.draft a) events accepted_now (stations.begins_lead n distinct s.clock s.nodes s.sent w fits k a there d known within kind s.draft sound.draft e)) keeps.1 keeps.0)
           (λ t v g. record { sound = g.sound; fits = g.fits; kept = g.kept; sent = g.sent })
 
-      clear_leads : (kind : Option PlanKind) (o : Option OpFault) → refusal a.core ≡ o → SceneLeads n w (Goes n s) (orders s k a o (station_clears s.clock d (clear_number kind) a)) (clear_at number s drone kind o k a)
+      clear_leads : (kind : Option PlanKind) (o : Option OpFault) → refusal a.core ≡ o → StateLeads n w (Goes n s) (orders s k a o (station_clears s.clock d (clear_number kind) a)) (clear_at number s drone kind o k a)
       clear_leads kind (Some why) e =
           let e' : refusal (w.station a.link.me).state ≡ Some why = ap refusal core_is ∙ e in
-          refuses_lead (Clears a.link.me d kind) why (rw (here, known, e') refl) (rw (here, known) (ap (refusal_told a.link.me) e'))
+          refuses_lead (Clears a.link.me d kind) why (rw (here, known, e') refl) (rw (here, known) (ap (refusal_reported a.link.me) e'))
       clear_leads kind None e =
           let keeps = calls_keep.clears k a drone (clear_number kind) within (small_clear kind) e (node_of a.link.me) there in
           let events : List world.Event = moves s.clock (Station a) (Clears a.link.me d kind) in
@@ -172,10 +172,10 @@ module _ (number : ℕ) (n : Nodes) (distinct : Distinct n) (every_call : EveryC
           does_leads number n s s w k (Station a) there (λ i p h. h) (as_station (station_clears s.clock d (clear_number kind) a)) events accepted_now
           (station_outcome n s.clock s.nodes s.sent w k (Station a) (station_clears s.clock d (clear_number kind) a) events accepted_now (stations.clears_lead n distinct s.clock s.nodes s.sent w fits k a there d known within kind e)) keeps.1 keeps.0
 
-      get_leads : (kind : PlanKind) (o : Option OpFault) → refusal a.core ≡ o → SceneLeads n w (Goes n s) (orders s k a o (station_gets s.clock d (number_of kind) a)) (get_at number s drone kind o k a)
+      get_leads : (kind : PlanKind) (o : Option OpFault) → refusal a.core ≡ o → StateLeads n w (Goes n s) (orders s k a o (station_gets s.clock d (number_of kind) a)) (get_at number s drone kind o k a)
       get_leads kind (Some why) e =
           let e' : refusal (w.station a.link.me).state ≡ Some why = ap refusal core_is ∙ e in
-          refuses_lead (Gets a.link.me d kind) why (rw (here, known, e') refl) (rw (here, known) (ap (refusal_told a.link.me) e'))
+          refuses_lead (Gets a.link.me d kind) why (rw (here, known, e') refl) (rw (here, known) (ap (refusal_reported a.link.me) e'))
       get_leads kind None e =
           let keeps = calls_keep.gets k a drone (number_of kind) within (small kind) e (node_of a.link.me) there in
           let events : List world.Event = moves s.clock (Station a) (Gets a.link.me d kind) in
@@ -189,28 +189,28 @@ module _ (number : ℕ) (n : Nodes) (distinct : Distinct n) (every_call : EveryC
     held = a_drone s.nodes drone is_named
 
     stream_is : held.drone.link.me ≡ stream_of drone
-    stream_is = stream_named held.drone.link.me (fits.named.proper held.place (Drone held.drone) held.there).0 ∙ ap stream_of held.name_is
+    stream_is = stream_named held.drone.link.me (fits.named.proper held.index (Drone held.drone) held.there).0 ∙ ap stream_of held.name_is
 
     known : n.is_drone (stream_of drone) ≡ true
-    known = subst (λ x. n.is_drone x ≡ true) stream_is (fits.covers held.place (Drone held.drone) held.there)
+    known = subst (λ x. n.is_drone x ≡ true) stream_is (fits.covers held.index (Drone held.drone) held.there)
 
     within : NameInRange drone
-    within = subst StreamInRange stream_is (fits.named.proper held.place (Drone held.drone) held.there).2
+    within = subst StreamInRange stream_is (fits.named.proper held.index (Drone held.drone) held.there).2
 
-    pub begins_lead : (station : Name) (kind : PlanKind) → SceneLeads n w (Goes n s) (begins s station drone (number_of kind)) (to_station s station (λ k a. upload_at number s drone kind (upload_refusal a.core (number_of kind) s.draft) k a))
+    pub begins_lead : (station : Name) (kind : PlanKind) → StateLeads n w (Goes n s) (begins s station drone (number_of kind)) (to_station s station (λ k a. upload_at number s drone kind (upload_refusal a.core (number_of kind) s.draft) k a))
     begins_lead station kind =
         orders_lead station (λ k a. upload_begins s k a drone (number_of kind) (upload_refusal a.core (number_of kind) s.draft)) (λ k a. upload_at number s drone kind (upload_refusal a.core (number_of kind) s.draft) k a)
         (λ k a e. upload_leads k a e drone known within kind (upload_refusal a.core (number_of kind) s.draft) refl)
 
-    pub clears_lead : (station : Name) (kind : Option PlanKind) → SceneLeads n w (Goes n s) (clears s station drone (clear_number kind)) (to_station s station (λ k a. clear_at number s drone kind (refusal a.core) k a))
+    pub clears_lead : (station : Name) (kind : Option PlanKind) → StateLeads n w (Goes n s) (clears s station drone (clear_number kind)) (to_station s station (λ k a. clear_at number s drone kind (refusal a.core) k a))
     clears_lead station kind =
         orders_lead station (λ k a. orders s k a (refusal a.core) (station_clears s.clock (stream_of drone) (clear_number kind) a)) (λ k a. clear_at number s drone kind (refusal a.core) k a)
         (λ k a e. clear_leads k a e drone known within kind (refusal a.core) refl)
 
-    pub gets_lead : (station : Name) (kind : PlanKind) → SceneLeads n w (Goes n s) (gets s station drone (number_of kind)) (to_station s station (λ k a. get_at number s drone kind (refusal a.core) k a))
+    pub gets_lead : (station : Name) (kind : PlanKind) → StateLeads n w (Goes n s) (gets s station drone (number_of kind)) (to_station s station (λ k a. get_at number s drone kind (refusal a.core) k a))
     gets_lead station kind =
         orders_lead station (λ k a. orders s k a (refusal a.core) (station_gets s.clock (stream_of drone) (number_of kind) a)) (λ k a. get_at number s drone kind (refusal a.core) k a)
         (λ k a e. get_leads k a e drone known within kind (refusal a.core) refl)
 
-  pub cancels_lead : (station : Name) → SceneLeads n w (Goes n s) (cancels s station) (to_station s station (cancel_at number s))
+  pub cancels_lead : (station : Name) → StateLeads n w (Goes n s) (cancels s station) (to_station s station (cancel_at number s))
   cancels_lead station = orders_lead station (λ k a. orders s k a None (station_cancels s.clock a)) (cancel_at number s) (λ k a e. cancel_leads k a e)

@@ -1,4 +1,4 @@
--- What the abstract mission store goes through in one action: of one call it is one event, or some that tell no line of their own.
+-- What the abstract mission store goes through in one action: of one call it is one event, or some that report no line of their own.
 use Rattle.std.proofs.Common.{◌≡◌, ◌⊎◌, inl, inr, ◌==◌, List, [], ◌∷◌, ◌++◌, Option, Some, None, refl, sym, ap, subst, ◌∙◌}
 use Rattle.std.proofs.lemmas.List.{append_assoc, append-nil}
 use Rattle.mav_names.specs.declared.names.Stream.{Stream}
@@ -9,7 +9,7 @@ use Rattle.plan_safety.specs.Frames.{Frame}
 use Rattle.plan_safety.specs.Store.{StoreEvent, Upload_begun, Installed, Clear_begun, Cleared, Get_begun, Shown, Cancelled, Ended, Restarted}
 use Rattle.plan_safety.specs.History.{Step, step, steps_of, history}
 use Rattle.plan_safety.specs.World as world
-use Rattle.plan_safety.specs.World.{Nodes, World, drone_news, told_news, cancel_news, clears}
+use Rattle.plan_safety.specs.World.{Nodes, World, drone_news, outcome_news, cancel_news, clears}
 use Rattle.plan_safety.proofs.Keys.{by_test}
 use Rattle.fleet_safety.specs.Actions.{Order, cancelled}
 use Rattle.fleet_safety.specs.Safe.{order_of, orders_in}
@@ -84,18 +84,18 @@ tame_drone d (Empties by kind) =
     (λ _. record { few = inr (tt, tt); lasting = (tt, tt) })
 tame_drone d (Shows to kind items) = record { few = inr (tt, tt); lasting = (tt, tt) }
 
-pub tame_told : (s : Stream) (told : Option Told) → IsTame (told_news s told)
-tame_told s None = tame_nothing
-tame_told s (Some told) = record { few = inl (Ended s told, refl); lasting = (tt, tt) }
+pub tame_reported : (s : Stream) (told : Option Told) → IsTame (outcome_news s told)
+tame_reported s None = tame_nothing
+tame_reported s (Some told) = record { few = inl (Ended s told, refl); lasting = (tt, tt) }
 
--- an operation begins, and tells nothing
-pub tame_begun : (e : StoreEvent) (s : Stream) (told : Option Told) → IsLasting e → told ≡ None → IsTame (e ∷ told_news s told)
+-- an operation begins, and reports nothing
+pub tame_begun : (e : StoreEvent) (s : Stream) (told : Option Told) → IsLasting e → told ≡ None → IsTame (e ∷ outcome_news s told)
 tame_begun e s told lasts none =
-    let is : e ∷ told_news s told ≡ e ∷ [] = ap (λ o. e ∷ told_news s o) none in
+    let is : e ∷ outcome_news s told ≡ e ∷ [] = ap (λ o. e ∷ outcome_news s o) none in
     subst IsTame (sym is) (record { few = inl (e, refl); lasting = (lasts, tt) })
 
-pub tame_cancel : (s : Stream) (o : Option Operation) (told : Option Told) → told ≡ None → IsTame (cancel_news s o ++ told_news s told)
-tame_cancel s None told none = tame_told s told
+pub tame_cancel : (s : Stream) (o : Option Operation) (told : Option Told) → told ≡ None → IsTame (cancel_news s o ++ outcome_news s told)
+tame_cancel s None told none = tame_reported s told
 tame_cancel s (Some o) told none = tame_begun (Cancelled s) s told tt none
 
 -- ---- their orders
@@ -110,15 +110,15 @@ no_order_of_drone d (Installs by kind items) = refl
 no_order_of_drone d (Empties by kind) = by_test (λ (es : List StoreEvent). orders_among es ≡ []) (kind == every_kind) _ _ (λ _. refl) (λ _. refl)
 no_order_of_drone d (Shows to kind items) = refl
 
-pub no_order_told : (s : Stream) (told : Option Told) → orders_among (told_news s told) ≡ []
-no_order_told s None = refl
-no_order_told s (Some told) = refl
+pub no_order_reported : (s : Stream) (told : Option Told) → orders_among (outcome_news s told) ≡ []
+no_order_reported s None = refl
+no_order_reported s (Some told) = refl
 
-pub one_order : (e : StoreEvent) (s : Stream) (told : Option Told) → orders_among (e ∷ told_news s told) ≡ order_of e
-one_order e s told = ap (λ os. order_of e ++ os) (no_order_told s told) ∙ append-nil (order_of e)
+pub one_order : (e : StoreEvent) (s : Stream) (told : Option Told) → orders_among (e ∷ outcome_news s told) ≡ order_of e
+one_order e s told = ap (λ os. order_of e ++ os) (no_order_reported s told) ∙ append-nil (order_of e)
 
-pub order_of_cancel : (s : Stream) (o : Option Operation) (told : Option Told) → orders_among (cancel_news s o ++ told_news s told) ≡ cancelled s o
-order_of_cancel s None told = no_order_told s told
+pub order_of_cancel : (s : Stream) (o : Option Operation) (told : Option Told) → orders_among (cancel_news s o ++ outcome_news s told) ≡ cancelled s o
+order_of_cancel s None told = no_order_reported s told
 order_of_cancel s (Some o) told = one_order (Cancelled s) s told
 
 pub orders_steps : (sent : List Frame) (es : List StoreEvent) (h : List Step) → orders_in (steps_of sent es h) ≡ orders_in h ++ orders_among es

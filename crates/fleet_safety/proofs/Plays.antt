@@ -1,4 +1,4 @@
--- A whole scenario, line by line, up to where it stops.
+-- A whole scenario, line by line, up to the line at which it stops.
 use Rattle.std.proofs.Common.{◌≡◌, ℕ, zero, suc, ◌+◌, Bool, true, false, if◌then◌else◌, nat_lt, List, [], ◌∷◌, ◌++◌, length, slice_get, Option, Some, None, Ok, Err, refl, sym, ap, subst, arith, ◌∙◌}
 use Rattle.std.specs.Prelude.{◌↔◌}
 use Rattle.std.specs.declared.result.Result.{Result}
@@ -16,9 +16,9 @@ use Rattle.scenario_lines.specs.declared.faults.Reason.TheVariants.{Long}
 use Rattle.scenario_lines.specs.declared.lines.Line.{Line}
 use Rattle.scenario_lines.specs.Grammar.{line_of, most_line_bytes}
 use Rattle.scenario_lines.specs.Reasons.{reason_against}
-use Rattle.fleet_world.specs.Scene.{Scene, Drone, empty_scene, standing_of}
-use Rattle.fleet_world.specs.Steps.{Step, Halt, after_line}
-use Rattle.fleet_world.specs.Scenario.{Played, Stop, Bad, Too_many_lines, Halted, stopped, goes_on, judged, most_lines, line_played, unless_stopped, lines_played, at_start, last_played, part_played, rest_played, played, without_cr, whole_lines, unfinished}
+use Rattle.fleet_world.specs.WorldState.{WorldState, Drone, empty_state, context_of}
+use Rattle.fleet_world.specs.Steps.{Step, StepError, after_line}
+use Rattle.fleet_world.specs.Scenario.{Played, ScenarioError, Bad, Too_many_lines, Not_done, stopped, goes_on, judged, most_lines, line_played, unless_stopped, lines_played, at_start, last_played, part_played, rest_played, played, without_cr, whole_lines, unfinished}
 use Rattle.fleet_world.specs.Authentic.{AuthenticDone, line_read, line_done, UnlessStopped, AuthenticLines, AuthenticLast, Authentic}
 use Rattle.fleet_invariants.proofs.Calls.{sound_does}
 use Rattle.fleet_invariants.proofs.Heard as heard
@@ -27,102 +27,102 @@ use Rattle.fleet_invariants.proofs.Readings.{read_fits}
 use Rattle.fleet_invariants.specs.Sound.{Sound}
 use Rattle.fleet_invariants.specs.Kept.{KeepsLine}
 use Rattle.fleet_invariants.specs.Laws.{EveryCallKeeps, SentKnown, AuthenticKnown, EveryLineKeeps, EveryReadLineFits}
-use Rattle.fleet_safety.specs.Telling.{seen, plan_lines, steps_told}
+use Rattle.fleet_safety.specs.Reporting.{seen, plan_lines, steps_reported}
 use Rattle.fleet_safety.specs.Actions.{Action, calls_of, line_end, calls_done, line_actions, lines_actions, last_actions, actions_of, unless_stopped as unless_stopped_actions}
-use Rattle.fleet_safety.specs.Safe.{nodes_of, start, events_of, report_of, orders_of, scene_after, world_after, history_of, orders_in, IsTheUpload, IsSafe, Safe}
+use Rattle.fleet_safety.specs.Safe.{nodes_of, start, events_of, report_of, orders_of, state_after, world_after, history_of, orders_in, IsTheUpload, IsSafe, Safe}
 use Rattle.fleet_safety.proofs.Lists.{by_both}
 use Rattle.fleet_safety.proofs.Names.{Named, Covers, covers_back, own_cover, own_distinct}
 use Rattle.fleet_safety.proofs.StoreLines.{history_lines}
 use Rattle.fleet_safety.proofs.Own.{own_nothing}
-use Rattle.fleet_safety.proofs.Follows.{Acts, Follows, report_on, scene_on, final_after, follows_on, one_events, each_follows, all_told}
+use Rattle.fleet_safety.proofs.Follows.{Acts, Follows, report_on, state_on, final_after, follows_on, one_events, each_follows, all_reported}
 use Rattle.fleet_safety.proofs.Begun.{orders_all, the_upload}
 use Rattle.fleet_safety.proofs.Fits.{Fits, nothing_named, first_fits}
-use Rattle.fleet_safety.proofs.Scenes.{SceneLeads}
+use Rattle.fleet_safety.proofs.States.{StateLeads}
 use Rattle.fleet_safety.proofs.Lines.{Done, line_leads}
 
 -- what was played, in these actions, is an execution of a fleet
 pub record Ran (n : Nodes) (p : Played) (actions : List Action) : Type 0 where
   pub follows : Follows n (first_world start) actions
-  pub fits : Fits n p.scene.clock p.scene.nodes p.scene.sent (world_after n actions)
+  pub fits : Fits n p.state.clock p.state.nodes p.state.sent (world_after n actions)
 
 -- of each fleet that has its nodes
 pub record Runs (key : List ℕ) (p : Played) (actions : List Action) : Type 0 where
-  pub sound : Sound p.scene
-  pub named : Named p.scene.nodes
+  pub sound : Sound p.state
+  pub named : Named p.state.nodes
   pub report : report_of actions ≡ p.events
-  pub scene : scene_after (empty_scene key) actions ≡ p.scene
-  pub ran : (n : Nodes) → Distinct n → Covers n p.scene.nodes → Ran n p actions
+  pub state : state_after (empty_state key) actions ≡ p.state
+  pub ran : (n : Nodes) → Distinct n → Covers n p.state.nodes → Ran n p actions
 
 -- no action more
 nothing_more : (key : List ℕ) (p : Played) (actions : List Action) → Runs key p actions → Runs key p (actions ++ [])
 nothing_more key p actions h = subst (Runs key p) (sym (append-nil actions)) h
 
 -- a scenario that stops is what it was
-stops : (key : List ℕ) (p : Played) (actions : List Action) (stop : Stop) → Runs key p actions → Runs key (stopped p stop) actions
+stops : (key : List ℕ) (p : Played) (actions : List Action) (stop : ScenarioError) → Runs key p actions → Runs key (stopped p stop) actions
 stops key p actions stop h = record {
   sound = h.sound;
   named = h.named;
   report = h.report;
-  scene = h.scene;
+  state = h.state;
   ran = λ n distinct covers. let r = h.ran n distinct covers in record { follows = r.follows; fits = r.fits };
 }
 
--- the report of a line that is done, whose end tells nothing
-calls_report : (number : ℕ) (calls : List Action) (s : Scene) → report_of (calls ++ line_end number s ∷ []) ≡ report_of calls
+-- the report of a line that is done, whose end reports nothing
+calls_report : (number : ℕ) (calls : List Action) (s : WorldState) → report_of (calls ++ line_end number s ∷ []) ≡ report_of calls
 calls_report number calls s = report_on calls (line_end number s ∷ []) ∙ append-nil (report_of calls)
 
 -- one that goes on with a line
-goes : (number : ℕ) (key : List ℕ) (p : Played) (actions calls : List Action) (line : Line) (r : Result Step Halt) → Runs key p actions → KeepsLine p.scene line r → ((n : Nodes) → Distinct n → (w : World) → Fits n p.scene.clock p.scene.nodes p.scene.sent w → SceneLeads n w (Done n p.scene) r calls) → Runs key (goes_on p r) (actions ++ calls_done number calls r)
-goes number key p actions calls line (Err halt) h keeps lead = nothing_more key (stopped p (Halted halt)) actions (stops key p actions (Halted halt) h)
+goes : (number : ℕ) (key : List ℕ) (p : Played) (actions calls : List Action) (line : Line) (r : Result Step StepError) → Runs key p actions → KeepsLine p.state line r → ((n : Nodes) → Distinct n → (w : World) → Fits n p.state.clock p.state.nodes p.state.sent w → StateLeads n w (Done n p.state) r calls) → Runs key (goes_on p r) (actions ++ calls_done number calls r)
+goes number key p actions calls line (Err error) h keeps lead = nothing_more key (stopped p (Not_done error)) actions (stops key p actions (Not_done error) h)
 goes number key p actions calls line (Ok t) h keeps lead =
-    let own : Nodes = nodes_of p.scene.nodes in
-    let distinct : Distinct own = own_distinct p.scene.nodes h.named in
-    let first = lead own distinct _ (h.ran own distinct (own_cover p.scene.nodes h.named)).fits in
+    let own : Nodes = nodes_of p.state.nodes in
+    let distinct : Distinct own = own_distinct p.state.nodes h.named in
+    let first = lead own distinct _ (h.ran own distinct (own_cover p.state.nodes h.named)).fits in
     record {
       sound = keeps.sound;
       named = first.holds.named;
-      report = report_on actions (calls ++ line_end number t.scene ∷ []) ∙ ap (λ es. es ++ report_of (calls ++ line_end number t.scene ∷ [])) h.report ∙ ap (λ es. p.events ++ es) (calls_report number calls t.scene ∙ first.report);
-      scene = scene_on (empty_scene key) actions (calls ++ line_end number t.scene ∷ []) ∙ scene_on (scene_after (empty_scene key) actions) calls (line_end number t.scene ∷ []);
+      report = report_on actions (calls ++ line_end number t.state ∷ []) ∙ ap (λ es. es ++ report_of (calls ++ line_end number t.state ∷ [])) h.report ∙ ap (λ es. p.events ++ es) (calls_report number calls t.state ∙ first.report);
+      state = state_on (empty_state key) actions (calls ++ line_end number t.state ∷ []) ∙ state_on (state_after (empty_state key) actions) calls (line_end number t.state ∷ []);
       ran = λ n apart covers.
-          let r = h.ran n apart (covers_back n p.scene.nodes t.scene.nodes first.holds.kept covers) in
+          let r = h.ran n apart (covers_back n p.state.nodes t.state.nodes first.holds.kept covers) in
           let l = lead n apart (world_after n actions) r.fits in
-          let fits : Fits n t.scene.clock t.scene.nodes t.scene.sent (final n (world_after n actions) (events_of calls)) = l.holds.fits covers in
+          let fits : Fits n t.state.clock t.state.nodes t.state.sent (final n (world_after n actions) (events_of calls)) = l.holds.fits covers in
           record {
-            follows = follows_on n (first_world start) actions (calls ++ line_end number t.scene ∷ []) r.follows (follows_on n (world_after n actions) calls (line_end number t.scene ∷ []) l.follows
-                (record { report = refl; own = own_nothing n (final n (world_after n actions) (events_of calls)); drones = λ place d e. (fits.stands place (Drone d) e).0 }, tt));
-            fits = subst (Fits n t.scene.clock t.scene.nodes t.scene.sent) (sym (final_after n (first_world start) actions (calls ++ line_end number t.scene ∷ []) ∙ final_after n (world_after n actions) calls (line_end number t.scene ∷ []))) fits;
+            follows = follows_on n (first_world start) actions (calls ++ line_end number t.state ∷ []) r.follows (follows_on n (world_after n actions) calls (line_end number t.state ∷ []) l.follows
+                (record { report = refl; own = own_nothing n (final n (world_after n actions) (events_of calls)); drones = λ index d e. (fits.stands index (Drone d) e).0 }, tt));
+            fits = subst (Fits n t.state.clock t.state.nodes t.state.sent) (sym (final_after n (first_world start) actions (calls ++ line_end number t.state ∷ []) ∙ final_after n (world_after n actions) calls (line_end number t.state ∷ []))) fits;
           };
     }
 
-unless : (key : List ℕ) (o : Option Stop) (T : Type 0) (p q : Played) (actions more : List Action) → Runs key p actions → UnlessStopped o T → (T → Runs key q (actions ++ more)) → Runs key (unless_stopped o p q) (actions ++ unless_stopped_actions o more)
+unless : (key : List ℕ) (o : Option ScenarioError) (T : Type 0) (p q : Played) (actions more : List Action) → Runs key p actions → UnlessStopped o T → (T → Runs key q (actions ++ more)) → Runs key (unless_stopped o p q) (actions ++ unless_stopped_actions o more)
 unless key None T p q actions more h a k = k a
 unless key (Some stop) T p q actions more h a k = nothing_more key p actions h
 
 module _ (every_call : EveryCallKeeps) (sent_known : SentKnown) (authentic_known : AuthenticKnown) (every_line : EveryLineKeeps) (every_reading : EveryReadLineFits) (key : List ℕ) where
-  judges : (p : Played) (actions : List Action) (number : ℕ) (text : List ℕ) (reason : Option Reason) → reason_against (standing_of p.scene) text ≡ reason → Runs key p actions → AuthenticDone p.scene (line_read text reason) → Runs key (judged p number text reason) (actions ++ line_actions number p.scene (line_read text reason))
+  judges : (p : Played) (actions : List Action) (number : ℕ) (text : List ℕ) (reason : Option Reason) → reason_against (context_of p.state) text ≡ reason → Runs key p actions → AuthenticDone p.state (line_read text reason) → Runs key (judged p number text reason) (actions ++ line_actions number p.state (line_read text reason))
   judges p actions number text (Some reason) e h a = nothing_more key (stopped p (Bad number reason)) actions (stops key p actions (Bad number reason) h)
   judges p actions number text None e h a =
-      let reads = every_reading (standing_of p.scene) text e in
-      goes number key p actions (calls_of number p.scene (line_of text)) (line_of text) (after_line p.scene (line_of text)) h (every_line p.scene h.sound (line_of text) reads.0 reads.1 a)
-      (λ n distinct w fits. line_leads number n distinct every_call sent_known authentic_known p.scene w h.sound fits (line_of text) reads.0 reads.1 a)
+      let reads = every_reading (context_of p.state) text e in
+      goes number key p actions (calls_of number p.state (line_of text)) (line_of text) (after_line p.state (line_of text)) h (every_line p.state h.sound (line_of text) reads.0 reads.1 a)
+      (λ n distinct w fits. line_leads number n distinct every_call sent_known authentic_known p.state w h.sound fits (line_of text) reads.0 reads.1 a)
 
   -- a line that is done if it is not too long
   abbrev Plays : ℕ → Played → List Action → Played → Option Line → Type 0
-  Plays number p actions q line = AuthenticDone p.scene line → Runs key q (actions ++ line_actions number p.scene line)
+  Plays number p actions q line = AuthenticDone p.state line → Runs key q (actions ++ line_actions number p.state line)
 
   whole_runs : (p : Played) (actions : List Action) (number : ℕ) (raw text : List ℕ) → Runs key p actions
-      → Plays number p actions (if nat_lt most_lines number then stopped p Too_many_lines else if nat_lt most_line_bytes (length raw) then stopped p (Bad number Long) else judged p number text (reason_against (standing_of p.scene) text)) (line_done p.scene number raw text)
+      → Plays number p actions (if nat_lt most_lines number then stopped p Too_many_lines else if nat_lt most_line_bytes (length raw) then stopped p (Bad number Long) else judged p number text (reason_against (context_of p.state) text)) (line_done p.state number raw text)
   whole_runs p actions number raw text h =
       by_both (Plays number p actions) (nat_lt most_lines number) _ _ _ _ (λ _. nothing_more key (stopped p Too_many_lines) actions (stops key p actions Too_many_lines h))
       (by_both (Plays number p actions) (nat_lt most_line_bytes (length raw)) _ _ _ _ (λ _. nothing_more key (stopped p (Bad number Long)) actions (stops key p actions (Bad number Long) h))
-      (judges p actions number text (reason_against (standing_of p.scene) text) refl h))
+      (judges p actions number text (reason_against (context_of p.state) text) refl h))
 
   lines_run : (lines : List (List ℕ)) (p : Played) (actions : List Action) (number : ℕ) → Runs key p actions → AuthenticLines p number lines → Runs key (lines_played p number lines) (actions ++ lines_actions p number lines)
   lines_run [] p actions number h a = nothing_more key p actions h
   lines_run (raw ∷ more) p actions number h a =
-      let done : List Action = line_actions number p.scene (line_done p.scene number raw (without_cr raw)) in
+      let done : List Action = line_actions number p.state (line_done p.state number raw (without_cr raw)) in
       let rest : List Action = lines_actions (line_played p number raw) (number + 1) more in
-      unless key p.stop (AuthenticDone p.scene (line_done p.scene number raw (without_cr raw)) × AuthenticLines (line_played p number raw) (number + 1) more) p (lines_played (line_played p number raw) (number + 1) more) actions (done ++ rest) h a
+      unless key p.stop (AuthenticDone p.state (line_done p.state number raw (without_cr raw)) × AuthenticLines (line_played p number raw) (number + 1) more) p (lines_played (line_played p number raw) (number + 1) more) actions (done ++ rest) h a
       (λ b. subst (Runs key (lines_played (line_played p number raw) (number + 1) more)) (append_assoc actions done rest)
       (lines_run more (line_played p number raw) (actions ++ done) (number + 1) (whole_runs p actions number raw (without_cr raw) h b.0) b.1))
 
@@ -132,7 +132,7 @@ module _ (every_call : EveryCallKeeps) (sent_known : SentKnown) (authentic_known
       (λ _. by_test (λ q. Runs key q actions) (nat_lt most_lines number) _ _ (λ _. stops key p actions Too_many_lines h) (λ _. stops key p actions (Bad number Long) h))
       (λ _. h)
 
-  without : (o : Option Stop) (p q : Played) (actions : List Action) → Runs key p actions → Runs key q actions → Runs key (unless_stopped o p q) actions
+  without : (o : Option ScenarioError) (p q : Played) (actions : List Action) → Runs key p actions → Runs key q actions → Runs key (unless_stopped o p q) actions
   without None p q actions h k = k
   without (Some stop) p q actions h k = h
 
@@ -140,7 +140,7 @@ module _ (every_call : EveryCallKeeps) (sent_known : SentKnown) (authentic_known
   rest_runs false p actions number rest h a = nothing_more key _ actions (without p.stop p (part_played p number rest) actions h (part_runs p actions number rest h))
   rest_runs true p actions number [] h a = nothing_more key _ actions (without p.stop p p actions h h)
   rest_runs true p actions number (b ∷ bs) h a =
-      unless key p.stop (AuthenticDone p.scene (line_done p.scene number (b ∷ bs) (b ∷ bs))) p (last_played p number (b ∷ bs)) actions (line_actions number p.scene (line_done p.scene number (b ∷ bs) (b ∷ bs))) h a (whole_runs p actions number (b ∷ bs) (b ∷ bs) h)
+      unless key p.stop (AuthenticDone p.state (line_done p.state number (b ∷ bs) (b ∷ bs))) p (last_played p number (b ∷ bs)) actions (line_actions number p.state (line_done p.state number (b ∷ bs) (b ∷ bs))) h a (whole_runs p actions number (b ∷ bs) (b ∷ bs) h)
 
   all_run : (ended : Bool) (bytes : List ℕ) → Runs key (at_start key) [] → Authentic key ended bytes → Runs key (played key ended bytes) (actions_of key ended bytes)
   all_run ended bytes h a =
@@ -152,7 +152,7 @@ nothing_at : {A : Type 0} (i : ℕ) (a : A) → slice_get [] i ≡ Some a → �
 nothing_at zero a e = absurd (cc)
 nothing_at (suc i) a e = absurd (cc)
 
-pub first_sound : (key : List ℕ) → Sound (empty_scene key)
+pub first_sound : (key : List ℕ) → Sound (empty_state key)
 first_sound key = record {
   apart = λ i j a b ea eb e. absurd (nothing_at i a ea);
   links = λ i a e. absurd (nothing_at i a e);
@@ -171,20 +171,20 @@ starts key = record {
   sound = first_sound key;
   named = nothing_named;
   report = refl;
-  scene = refl;
+  state = refl;
   ran = λ n distinct _. record { follows = tt; fits = first_fits n distinct 0 };
 }
 
 -- what runs is safe
 module _ (key : List ℕ) (p : Played) (actions : List Action) (h : Runs key p actions) where
   abbrev n : Nodes
-  n = nodes_of p.scene.nodes
+  n = nodes_of p.state.nodes
 
   distinct : Distinct n
-  distinct = own_distinct p.scene.nodes h.named
+  distinct = own_distinct p.state.nodes h.named
 
   pub follows : Follows n (first_world start) actions
-  follows = (h.ran n distinct (own_cover p.scene.nodes h.named)).follows
+  follows = (h.ran n distinct (own_cover p.state.nodes h.named)).follows
 
   pub valid : IsHistory (history_of n actions)
   valid = histories.histories n distinct start (events_of actions)
@@ -197,8 +197,8 @@ module _ (key : List ℕ) (p : Played) (actions : List Action) (h : Runs key p a
       record {
         report = it.report;
         orders = it.own.orders_are;
-        plans = λ place d kind e l. ap (λ (x : DroneState). plan_at x.plans kind) (sym (state d (it.drones place d e))) ∙ histories.same_plans n distinct start (events_of (before ++ a ∷ [])) d.link.me kind l;
-        held = λ place d kind e l. subst (λ (x : DroneState). IsHeld (history_of n (before ++ a ∷ [])) d.link.me kind (plan_at x.plans kind)) (state d (it.drones place d e)) (histories.held n distinct start (events_of (before ++ a ∷ [])) d.link.me kind l);
+        plans = λ index d kind e l. ap (λ (x : DroneState). plan_at x.plans kind) (sym (state d (it.drones index d e))) ∙ histories.same_plans n distinct start (events_of (before ++ a ∷ [])) d.link.me kind l;
+        held = λ index d kind e l. subst (λ (x : DroneState). IsHeld (history_of n (before ++ a ∷ [])) d.link.me kind (plan_at x.plans kind)) (state d (it.drones index d e)) (histories.held n distinct start (events_of (before ++ a ∷ [])) d.link.me kind l);
       }
 
   pub safe : Safe key p actions
@@ -206,7 +206,7 @@ module _ (key : List ℕ) (p : Played) (actions : List Action) (h : Runs key p a
       let orders_are : orders_in (history_of n actions) ≡ orders_of actions = orders_all n (first_world start) actions follows in
       record {
         report = h.report;
-        scene = h.scene;
+        state = h.state;
         each = each;
         execution = induction.always n distinct start (events_of actions);
         valid = valid;
@@ -214,19 +214,19 @@ module _ (key : List ℕ) (p : Played) (actions : List Action) (h : Runs key p a
         uploads = λ s number drone kind plan. subst (λ os. Uploaded (history_of n actions) s number drone kind plan ↔ IsTheUpload os s number drone kind plan) orders_are (the_upload (history_of n actions) s number drone kind plan);
       }
 
--- by what holds of the scenes of authentic scenarios
+-- by what holds of the states of authentic scenarios
 pub every_run : (key : List ℕ) (ended : Bool) (bytes : List ℕ) → Authentic key ended bytes → Runs key (played key ended bytes) (actions_of key ended bytes)
 every_run key ended bytes authentic = all_run sound_does heard.sent_known heard.authentic_known sound_line read_fits key ended bytes (starts key) authentic
 
 pub every_scenario : (key : List ℕ) (ended : Bool) (bytes : List ℕ) → Authentic key ended bytes → Safe key (played key ended bytes) (actions_of key ended bytes)
 every_scenario key ended bytes authentic = safe key (played key ended bytes) (actions_of key ended bytes) (every_run key ended bytes authentic)
 
--- all that the report tells
-pub every_report : (key : List ℕ) (ended : Bool) (bytes : List ℕ) → Authentic key ended bytes → plan_lines (seen (played key ended bytes).events) ≡ steps_told (history_of (nodes_of (played key ended bytes).scene.nodes) (actions_of key ended bytes))
+-- all that the report says
+pub every_report : (key : List ℕ) (ended : Bool) (bytes : List ℕ) → Authentic key ended bytes → plan_lines (seen (played key ended bytes).events) ≡ steps_reported (history_of (nodes_of (played key ended bytes).state.nodes) (actions_of key ended bytes))
 every_report key ended bytes authentic =
     let actions : List Action = actions_of key ended bytes in
     let p : Played = played key ended bytes in
     let run : Runs key p actions = every_run key ended bytes authentic in
     ap (λ es. plan_lines (seen es)) (sym run.report)
-    ∙ ap plan_lines (all_told (nodes_of p.scene.nodes) (first_world start) actions (follows key p actions run))
-    ∙ sym (history_lines (nodes_of p.scene.nodes) (events_of actions) (first_world start) [])
+    ∙ ap plan_lines (all_reported (nodes_of p.state.nodes) (first_world start) actions (follows key p actions run))
+    ∙ sym (history_lines (nodes_of p.state.nodes) (events_of actions) (first_world start) [])

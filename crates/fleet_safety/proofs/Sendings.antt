@@ -19,11 +19,11 @@ use Rattle.plan_ranges.specs.Ranges.{StreamInRange, InRange}
 use Rattle.mav_nodes.specs.Signed.{signed_packet}
 use Rattle.fleet_world.specs.Steps.{packets_in}
 use Rattle.fleet_invariants.specs.Kept.{Reads, AllRead}
-use Rattle.fleet_safety.specs.Telling.{ProtocolEvent, sent_seen, changes_told, ends_told, frames_told, frame_told, step_told}
+use Rattle.fleet_safety.specs.Reporting.{ProtocolEvent, sent_seen, changes_reported, ends_reported, frames_reported, frame_reported, step_reported}
 use Rattle.fleet_safety.proofs.Lists.{some_is}
 use Rattle.fleet_safety.proofs.Frames.{SameFrame}
 use Rattle.fleet_safety.proofs.Names.{stream_named}
-use Rattle.fleet_safety.proofs.Reports.{seen_by, seen_by_on, frames_new, new_told}
+use Rattle.fleet_safety.proofs.Reports.{seen_by, seen_by_on, frames_new, new_reported}
 
 -- the packet of a message that a link sends now
 abbrev pub packet_of : Link → ℕ → Message → Packet
@@ -53,19 +53,19 @@ read_first (x ∷ xs) ys h = (h.0, read_first xs ys h.1)
 
 -- what is seen of a step of the world
 abbrev pub step_seen : List StoreEvent → ℕ → Option Frame → List ProtocolEvent
-step_seen news number f = changes_told news ++ new_told number f ++ ends_told news
+step_seen news number f = changes_reported news ++ new_reported number f ++ ends_reported news
 
-pub step_is : (u v : World) (f : Option Frame) → v.sent ≡ plus f u.sent → step_told u v ≡ step_seen v.news (length u.sent + 1) f
+pub step_is : (u v : World) (f : Option Frame) → v.sent ≡ plus f u.sent → step_reported u v ≡ step_seen v.news (length u.sent + 1) f
 step_is u v f sent =
-    ap (λ fs. changes_told v.news ++ frames_told (length u.sent) fs ++ ends_told v.news) sent
-    ∙ ap (λ r. changes_told v.news ++ r ++ ends_told v.news) (frames_new u.sent f)
+    ap (λ fs. changes_reported v.news ++ frames_reported (length u.sent) fs ++ ends_reported v.news) sent
+    ∙ ap (λ r. changes_reported v.news ++ r ++ ends_reported v.news) (frames_new u.sent f)
 
-said_seen : (number : ℕ) (s : Stream) (o : Option PlanMsg) → sent_seen number (node_of s) o ≡ frame_told number s o
+said_seen : (number : ℕ) (s : Stream) (o : Option PlanMsg) → sent_seen number (node_of s) o ≡ frame_reported number s o
 said_seen number s None = refl
 said_seen number s (Some m) = refl
 
--- what a node's step tells is seen of the world's: changes before the frame, and an end behind it
-module _ (x : Stream) (before frames : ℕ) (first last : List NodeEvent) (news : List StoreEvent) (none : packets_in first ≡ []) (changes : (k : ℕ) → seen_by (node_of x) k first ≡ changes_told news) (ends : (k : ℕ) → seen_by (node_of x) k last ≡ ends_told news) (many : before ≡ frames) where
+-- what a node's step reports is seen of the world's: changes before the frame, and an end after it
+module _ (x : Stream) (before frames : ℕ) (first last : List NodeEvent) (news : List StoreEvent) (none : packets_in first ≡ []) (changes : (k : ℕ) → seen_by (node_of x) k first ≡ changes_reported news) (ends : (k : ℕ) → seen_by (node_of x) k last ≡ ends_reported news) (many : before ≡ frames) where
   count : before + length (packets_in first) ≡ frames
   count = ap (λ (ps : List Packet). before + length ps) none ∙ zero before ∙ many
     where
@@ -76,16 +76,16 @@ module _ (x : Stream) (before frames : ℕ) (first last : List NodeEvent) (news 
   quiet_seen =
       seen_by_on (node_of x) before first last
       ∙ ap (λ r. r ++ seen_by (node_of x) (before + length (packets_in first)) last) (changes before)
-      ∙ ap (λ r. changes_told news ++ r) (ends (before + length (packets_in first)))
-      ∙ ap (λ r. r ++ ends_told news) (sym (append-nil (changes_told news)))
+      ∙ ap (λ r. changes_reported news ++ r) (ends (before + length (packets_in first)))
+      ∙ ap (λ r. r ++ ends_reported news) (sym (append-nil (changes_reported news)))
 
   pub sends_seen : (q : Packet) (message : Message) (said : Option PlanMsg) (next : ℕ) → q.from ≡ node_of x → plan_of message ≡ said → seen_by (node_of x) before (first ++ Sends q message ∷ last) ≡ step_seen news (frames + 1) (Some (frame_of x next said))
   sends_seen q message said next from is =
       seen_by_on (node_of x) before first (Sends q message ∷ last)
       ∙ ap (λ r. r ++ seen_by (node_of x) (before + length (packets_in first)) (Sends q message ∷ last)) (changes before)
-      ∙ ap (λ k. changes_told news ++ seen_by (node_of x) k (Sends q message ∷ last)) count
-      ∙ ap (λ r. changes_told news ++ (sent_seen (frames + 1) q.from (plan_of message) ++ r)) (ends (frames + 1))
-      ∙ ap (λ o. changes_told news ++ (sent_seen (frames + 1) q.from o ++ ends_told news)) is
-      ∙ ap (λ m. changes_told news ++ (sent_seen (frames + 1) m said ++ ends_told news)) from
-      ∙ ap (λ r. changes_told news ++ (r ++ ends_told news)) (said_seen (frames + 1) x said)
-      ∙ sym (append_assoc (changes_told news) (frame_told (frames + 1) x said) (ends_told news))
+      ∙ ap (λ k. changes_reported news ++ seen_by (node_of x) k (Sends q message ∷ last)) count
+      ∙ ap (λ r. changes_reported news ++ (sent_seen (frames + 1) q.from (plan_of message) ++ r)) (ends (frames + 1))
+      ∙ ap (λ o. changes_reported news ++ (sent_seen (frames + 1) q.from o ++ ends_reported news)) is
+      ∙ ap (λ m. changes_reported news ++ (sent_seen (frames + 1) m said ++ ends_reported news)) from
+      ∙ ap (λ r. changes_reported news ++ (r ++ ends_reported news)) (said_seen (frames + 1) x said)
+      ∙ sym (append_assoc (changes_reported news) (frame_reported (frames + 1) x said) (ends_reported news))

@@ -16,7 +16,7 @@ use Rattle.plan_safety.specs.Frames.{Frame}
 use Rattle.plan_safety.specs.Store.{StoreEvent, Upload_begun, Clear_begun, Get_begun, at}
 use Rattle.plan_safety.specs.History.{steps_of}
 use Rattle.plan_safety.specs.World as world
-use Rattle.plan_safety.specs.World.{Nodes, Distinct, World, StationNode, Station_waits, Station_ticks, To_station, Hands_out, Speaks, Begins, Clears, Gets, Cancels, happens, quiet, frame_of, told_news, cancel_news}
+use Rattle.plan_safety.specs.World.{Nodes, Distinct, World, StationNode, Station_waits, Station_ticks, To_station, Hands_out, Speaks, Begins, Clears, Gets, Cancels, happens, quiet, frame_of, outcome_news, cancel_news}
 use Rattle.plan_safety.proofs.Keys.{by_test, not_true, at_same, at_apart}
 use Rattle.plan_safety.proofs.Fleet.{not_both}
 use Rattle.plan_safety.proofs.FleetMoves.{plus}
@@ -40,18 +40,18 @@ use Rattle.mav_nodes.specs.Links as links
 use Rattle.mav_nodes.specs.Payloads.{plan_in}
 use Rattle.mav_nodes.specs.Steps.{Side, answers, with_core, steps, takes, admits, hears}
 use Rattle.mav_nodes.specs.Nodes.{told_events, station_does, station_core, station_ticks, station_heartbeat, station_beats, station_begins, station_cancels, station_clears, station_gets}
-use Rattle.fleet_world.specs.Scene.{Node, Station}
+use Rattle.fleet_world.specs.WorldState.{Node, Station}
 use Rattle.fleet_world.specs.Steps.{packets_in}
-use Rattle.fleet_safety.specs.Telling.{changes_told, ends_told, step_told, refused_told}
-use Rattle.fleet_safety.specs.Actions.{Order, Accepts_upload, Accepts_clear, Accepts_get, moves, ticks, comes_to, place_of, if_admitted, if_plan, if_sent, hearing, cancelled}
+use Rattle.fleet_safety.specs.Reporting.{changes_reported, ends_reported, step_reported, refused_reported}
+use Rattle.fleet_safety.specs.Actions.{Order, Accepts_upload, Accepts_clear, Accepts_get, moves, ticks, comes_to, index_of, if_admitted, if_plan, if_sent, hearing, cancelled}
 use Rattle.fleet_safety.proofs.Times.{KeepsTime, IsDue, Later, due_keeps, waits_due, dropped_keeps, admits_due, admits_keeps, sends_keeps, admitted_later}
 use Rattle.fleet_safety.proofs.Frames.{Found, SameFrame, SameNew, IsFirst, found, same_more, same_length}
-use Rattle.fleet_safety.proofs.Ends.{step_tells, tick_tells, cancel_tells, cancel_is_silent, begun_tells}
-use Rattle.fleet_safety.proofs.Own.{IsTame, own_of, own_nothing, tame_nothing, tame_told, tame_begun, tame_cancel, orders_among, no_order_told, one_order, order_of_cancel}
+use Rattle.fleet_safety.proofs.Ends.{step_reports, tick_reports, cancel_reports, cancel_is_silent, begun_reports}
+use Rattle.fleet_safety.proofs.Own.{IsTame, own_of, own_nothing, tame_nothing, tame_reported, tame_begun, tame_cancel, orders_among, no_order_reported, one_order, order_of_cancel}
 use Rattle.fleet_safety.proofs.Reports.{Chain, chain_end, chain_on, silent_step, seen_by, ends_are, no_changes}
 use Rattle.fleet_safety.proofs.Sendings.{packet_of, sent_frame, step_is, quiet_seen, sends_seen}
 use Rattle.fleet_safety.proofs.Fits.{Stands, Reached, Fits, reached_all, MovesTo, fits_on, Alike, Led, Leads}
-use Rattle.fleet_safety.proofs.Drones.{stream_at, one_place, unsigned, frame_is}
+use Rattle.fleet_safety.proofs.Drones.{stream_at, one_index, unsigned, frame_is}
 
 -- the world after a step of a station
 abbrev pub station_after : World → Stream → StationNode → Option Frame → List StoreEvent → World
@@ -67,30 +67,30 @@ after_hands v y z = station_after v y (station_node (untold z.state) z.last z.ne
 less : (a b : ℕ) → a < b → nat_lt a b ≡ true
 less a b l = grind arith
 
--- a call's step, with its events in front of an outcome
+-- a call's step, with its events at the start of an outcome
 abbrev called : World → Stream → StationNode → (Stream → ℕ) → ℕ → StationStep → List StoreEvent → World
-called u y z last next a news = station_after u y (says_node (station_node a.station last next) a.answer) (says_frame y next a.answer) (news ++ told_news y a.told)
+called u y z last next a news = station_after u y (says_node (station_node a.station last next) a.answer) (says_frame y next a.answer) (news ++ outcome_news y a.told)
 
 -- the events of the world
 module _ (n : Nodes) (u : World) (y : Stream) (z : StationNode) (here : n.is_station y ≡ true) (own : u.station y ≡ z) where
-  hears_on : (place : ℕ) (from : Stream) (stamp : ℕ) (m : PlanMsg) → slice_get u.sent place ≡ Some (frame_of from stamp (Some m)) → z.last from < stamp
-      → happens n u (To_station place y) ≡ called u y z (at z.last from stamp) (max z.next stamp) (station_step z.state from m) []
-  hears_on place from stamp m there late =
+  hears_on : (index : ℕ) (from : Stream) (stamp : ℕ) (m : PlanMsg) → slice_get u.sent index ≡ Some (frame_of from stamp (Some m)) → z.last from < stamp
+      → happens n u (To_station index y) ≡ called u y z (at z.last from stamp) (max z.next stamp) (station_step z.state from m) []
+  hears_on index from stamp m there late =
       rw (here, there, own, less _ _ late)
       (let a : StationStep = station_step z.state from m in
-      sends_is (record u { news = told_news y a.told }) y (station_node a.station (at z.last from stamp) (max z.next stamp)) a.answer)
+      sends_is (record u { news = outcome_news y a.told }) y (station_node a.station (at z.last from stamp) (max z.next stamp)) a.answer)
 
   ticks_on : happens n u (Station_ticks y) ≡ called u y z z.last z.next (station_tick z.state) []
   ticks_on =
       rw (here, own)
       (let a : StationStep = station_tick z.state in
-      sends_is (record u { news = told_news y a.told }) y (station_node a.station z.last z.next) a.answer)
+      sends_is (record u { news = outcome_news y a.told }) y (station_node a.station z.last z.next) a.answer)
 
   cancels_on : happens n u (Cancels y) ≡ called u y z z.last z.next (station_cancel z.state) (cancel_news y z.state.operation)
   cancels_on =
       rw (here, own)
       (let a : StationStep = station_cancel z.state in
-      sends_is (record u { news = cancel_news y z.state.operation ++ told_news y a.told }) y (station_node a.station z.last z.next) a.answer)
+      sends_is (record u { news = cancel_news y z.state.operation ++ outcome_news y a.told }) y (station_node a.station z.last z.next) a.answer)
 
   hands_on : happens n u (Hands_out y) ≡ after_hands u y z
   hands_on = rw (here, own) refl
@@ -104,21 +104,21 @@ module _ (n : Nodes) (u : World) (y : Stream) (z : StationNode) (here : n.is_sta
     begins_on kind plan free =
         rw (here, there, own, free)
         (let a : StationStep = begin_upload z.state d (number_of kind) plan in
-        sends_is (record u { news = Upload_begun y d (number_of kind) plan z.next (u.drone d).next ∷ told_news y a.told }) y (station_node a.station z.last z.next) a.answer)
+        sends_is (record u { news = Upload_begun y d (number_of kind) plan z.next (u.drone d).next ∷ outcome_news y a.told }) y (station_node a.station z.last z.next) a.answer)
 
     clears_on : (kind : Option PlanKind) → refusal z.state ≡ None
         → happens n u (Clears y d kind) ≡ called u y z z.last z.next (begin_clear z.state d (world.clear_number kind)) (Clear_begun y d (world.clear_number kind) (u.drone d).next ∷ [])
     clears_on kind free =
         rw (here, there, own, free)
         (let a : StationStep = begin_clear z.state d (world.clear_number kind) in
-        sends_is (record u { news = Clear_begun y d (world.clear_number kind) (u.drone d).next ∷ told_news y a.told }) y (station_node a.station z.last z.next) a.answer)
+        sends_is (record u { news = Clear_begun y d (world.clear_number kind) (u.drone d).next ∷ outcome_news y a.told }) y (station_node a.station z.last z.next) a.answer)
 
     gets_on : (kind : PlanKind) → refusal z.state ≡ None
         → happens n u (Gets y d kind) ≡ called u y z z.last z.next (begin_get z.state d (number_of kind)) (Get_begun y d (number_of kind) (u.drone d).next ∷ [])
     gets_on kind free =
         rw (here, there, own, free)
         (let a : StationStep = begin_get z.state d (number_of kind) in
-        sends_is (record u { news = Get_begun y d (number_of kind) (u.drone d).next ∷ told_news y a.told }) y (station_node a.station z.last z.next) a.answer)
+        sends_is (record u { news = Get_begun y d (number_of kind) (u.drone d).next ∷ outcome_news y a.told }) y (station_node a.station z.last z.next) a.answer)
 
 no_packets : (told : Option Told) → packets_in (told_events told) ≡ []
 no_packets None = refl
@@ -164,8 +164,8 @@ module _ (n : Nodes) (sound : Distinct n) (clock : ℕ) (nodes : List Node) (sen
 
   -- nothing happens in the world
   still_led : (b : Side StationState) (es : List NodeEvent) → Alike (Station a) (Station b) → a.core ≡ b.core → KeepsTime clock b.link.history (w.station y).last (w.station y).next → packets_in es ≡ [] → seen_by (node_of y) (length sent) es ≡ [] → Led n clock nodes sent w k (Station a) (record { node = Station b; events = es }) [] []
-  still_led b es alike core time none tells = record {
-    report = tells;
+  still_led b es alike core time none reports = record {
+    report = reports;
     own = own_nothing n w;
     alike = alike;
     fits = fits_on n clock nodes sent w w k (Station a) (Station b) fits there alike.role moves (packets_in es) (same_more sent (packets_in es) w.sent None fits.frames none) fits.reached;
@@ -180,21 +180,21 @@ module _ (n : Nodes) (sound : Distinct n) (clock : ℕ) (nodes : List Node) (sen
       }
 
   -- the station waits, then an event, and then its outcome is handed out
-  led : (b : Side StationState) (es : List NodeEvent) (e : world.Event) (os : List Order) (z : StationNode) (f : Option Frame) (news : List StoreEvent) → IsTame news → orders_among news ≡ os → happens n u e ≡ station_after u y z f news → refused_told n u e ≡ [] → Alike (Station a) (Station b) → untold z.state ≡ b.core → StationInRange b.core → KeepsTime clock b.link.history z.last z.next → SameNew (packets_in es) f → seen_by (node_of y) (length sent) es ≡ step_told u (station_after u y z f news) → Led n clock nodes sent w k (Station a) (record { node = Station b; events = es }) (moves clock (Station a) e) os
-  led b es e os z f news tame among is none alike state range time new tells =
+  led : (b : Side StationState) (es : List NodeEvent) (e : world.Event) (os : List Order) (z : StationNode) (f : Option Frame) (news : List StoreEvent) → IsTame news → orders_among news ≡ os → happens n u e ≡ station_after u y z f news → refused_reported n u e ≡ [] → Alike (Station a) (Station b) → untold z.state ≡ b.core → StationInRange b.core → KeepsTime clock b.link.history z.last z.next → SameNew (packets_in es) f → seen_by (node_of y) (length sent) es ≡ step_reported u (station_after u y z f news) → Led n clock nodes sent w k (Station a) (record { node = Station b; events = es }) (moves clock (Station a) e) os
+  led b es e os z f news tame among is none alike state range time new reports =
       let v : World = station_after u y z f news in
       let last : World = after_hands v y z in
       let hands : happens n v (Hands_out y) ≡ last = hands_on n v y z here (at_same u.station y z) in
-      let handed : Chain n v last (Hands_out y ∷ []) (step_told v last ++ []) (λ h. h) = chain_on n v last last (Hands_out y) [] [] (λ h. h) hands refl (chain_end n last) in
-      let chain : Chain n w last (Station_waits y now ∷ e ∷ Hands_out y ∷ []) (step_told w u ++ (step_told u v ++ (step_told v last ++ []))) (λ h. steps_of v.sent v.news (steps_of u.sent u.news h)) =
-      chain_on n w u last (Station_waits y now) (e ∷ Hands_out y ∷ []) (step_told u v ++ (step_told v last ++ [])) (λ h. steps_of v.sent v.news h) is_u refl (chain_on n u v last e (Hands_out y ∷ []) (step_told v last ++ []) (λ h. h) is none handed) in
+      let handed : Chain n v last (Hands_out y ∷ []) (step_reported v last ++ []) (λ h. h) = chain_on n v last last (Hands_out y) [] [] (λ h. h) hands refl (chain_end n last) in
+      let chain : Chain n w last (Station_waits y now ∷ e ∷ Hands_out y ∷ []) (step_reported w u ++ (step_reported u v ++ (step_reported v last ++ []))) (λ h. steps_of v.sent v.news (steps_of u.sent u.news h)) =
+      chain_on n w u last (Station_waits y now) (e ∷ Hands_out y ∷ []) (step_reported u v ++ (step_reported v last ++ [])) (λ h. steps_of v.sent v.news h) is_u refl (chain_on n u v last e (Hands_out y ∷ []) (step_reported v last ++ []) (λ h. h) is none handed) in
       record {
         own = own_of n w (Station_waits y now ∷ e ∷ Hands_out y ∷ []) v.sent news os (chain.steps []) tame among;
         report =
-            tells ∙ sym (append-nil (step_told u v))
-            ∙ ap (λ r. step_told u v ++ (r ++ [])) (sym (silent_step v last refl refl))
-            ∙ ap (λ r. r ++ (step_told u v ++ (step_told v last ++ []))) (sym (silent_step w u refl refl))
-            ∙ sym chain.tells;
+            reports ∙ sym (append-nil (step_reported u v))
+            ∙ ap (λ r. step_reported u v ++ (r ++ [])) (sym (silent_step v last refl refl))
+            ∙ ap (λ r. r ++ (step_reported u v ++ (step_reported v last ++ []))) (sym (silent_step w u refl refl))
+            ∙ sym chain.reports;
         alike = alike;
         fits = subst (Fits n clock (slice_set nodes k (Station b)) (sent ++ packets_in es)) (sym chain.ends)
             (fits_on n clock nodes sent w last k (Station a) (Station b) fits there alike.role moves (packets_in es) (same_more sent (packets_in es) w.sent f fits.frames new) (subst (Reached n) chain.ends (reached_all n sound w (Station_waits y now ∷ e ∷ Hands_out y ∷ []) fits.reached)));
@@ -209,15 +209,15 @@ module _ (n : Nodes) (sound : Distinct n) (clock : ℕ) (nodes : List Node) (sen
         stations = λ x far. at_apart (at u.station y z) y x _ far ∙ at_apart u.station y x z far ∙ at_apart w.station y x _ far;
       }
 
-  -- a step of the core: nothing is sent, or a message in one frame, and then an outcome may be told
-  module _ (link : Link) (before core : StationState) (last : Stream → ℕ) (next : ℕ) (news : List StoreEvent) (ending : List NodeEvent) (handed : untold before ≡ core) (ready : IsDue clock link.history last next) (range : StationInRange core) (me : y ≡ link.me) (key : a.link.key ≡ link.key) (none : packets_in ending ≡ []) (changeless : changes_told news ≡ []) (ends : (k : ℕ) → seen_by (node_of y) k ending ≡ ends_told news) (os : List Order) (tame : IsTame news) (among : orders_among news ≡ os) where
-    says_nothing : (e : world.Event) → happens n u e ≡ station_after u y (station_node before last next) None news → refused_told n u e ≡ [] → Led n clock nodes sent w k (Station a) (record { node = Station (record { link = link; core = core }); events = ending }) (moves clock (Station a) e) os
+  -- a step of the core: nothing is sent, or a message in one frame, and then an outcome may be reported
+  module _ (link : Link) (before core : StationState) (last : Stream → ℕ) (next : ℕ) (news : List StoreEvent) (ending : List NodeEvent) (handed : untold before ≡ core) (ready : IsDue clock link.history last next) (range : StationInRange core) (me : y ≡ link.me) (key : a.link.key ≡ link.key) (none : packets_in ending ≡ []) (changeless : changes_reported news ≡ []) (ends : (k : ℕ) → seen_by (node_of y) k ending ≡ ends_reported news) (os : List Order) (tame : IsTame news) (among : orders_among news ≡ os) where
+    says_nothing : (e : world.Event) → happens n u e ≡ station_after u y (station_node before last next) None news → refused_reported n u e ≡ [] → Led n clock nodes sent w k (Station a) (record { node = Station (record { link = link; core = core }); events = ending }) (moves clock (Station a) e) os
     says_nothing e is silent =
         led (record { link = link; core = core }) ending e os (station_node before last next) None news tame among is silent (record { role = me; key = key }) handed range (due_keeps clock link.history last next ready)
         none
         (quiet_seen y (length sent) (length w.sent) [] ending news refl (λ k. sym changeless) ends many ∙ sym (step_is u (station_after u y (station_node before last next) None news) None refl))
 
-    says : (e : world.Event) (message : Message) (said : Option PlanMsg) → IfSome said InRange → plan_of message ≡ said → happens n u e ≡ station_after u y (station_node before last (next + 1)) (Some (frame_of y next said)) news → refused_told n u e ≡ [] → Leads n clock nodes sent w k (Station a) Station (with_core core ending (sends clock message link)) (moves clock (Station a) e) os
+    says : (e : world.Event) (message : Message) (said : Option PlanMsg) → IfSome said InRange → plan_of message ≡ said → happens n u e ≡ station_after u y (station_node before last (next + 1)) (Some (frame_of y next said)) news → refused_reported n u e ≡ [] → Leads n clock nodes sent w k (Station a) Station (with_core core ending (sends clock message link)) (moves clock (Station a) e) os
     says e message said within carries is silent =
         by_test (λ o. Leads n clock nodes sent w k (Station a) Station (with_core core ending o) (moves clock (Station a) e) os) (nat_lt greatest_stamp (next_in link.history clock)) _ _ (λ _. tt)
         (λ _ reads.
@@ -233,15 +233,15 @@ module _ (n : Nodes) (sound : Distinct n) (clock : ℕ) (nodes : List Node) (sen
     in_front (Some d) e h = h
 
     -- by the answer
-    answers_lead : (o : Option PlanMsg) → IfSome o InRange → (e : world.Event) → happens n u e ≡ station_after u y (says_node (station_node before last next) o) (says_frame y next o) news → refused_told n u e ≡ [] → Leads n clock nodes sent w k (Station a) Station (behind [] (with_core core ending (answers clock o link))) (moves clock (Station a) e) os
+    answers_lead : (o : Option PlanMsg) → IfSome o InRange → (e : world.Event) → happens n u e ≡ station_after u y (says_node (station_node before last next) o) (says_frame y next o) news → refused_reported n u e ≡ [] → Leads n clock nodes sent w k (Station a) Station (behind [] (with_core core ending (answers clock o link))) (moves clock (Station a) e) os
     answers_lead None within e is silent = λ _. says_nothing e is silent
     answers_lead (Some m) within e is silent = in_front (with_core core ending (sends clock (message_of_plan m) link)) e (says e (message_of_plan m) (Some m) within (carried m within) is silent)
 
-  -- a step of the core that tells what stands then as its outcome
-  step_leads : (link : Link) (act : StationStep) (last : Stream → ℕ) (next : ℕ) (news : List StoreEvent) (e : world.Event) (os : List Order) → IsTame (news ++ told_news y act.told) → orders_among (news ++ told_news y act.told) ≡ os → IsDue clock link.history last next → y ≡ link.me → a.link.key ≡ link.key → act.station.outcome ≡ act.told → StationStepInRange act → changes_told (news ++ told_news y act.told) ≡ [] → ends_told (news ++ told_news y act.told) ≡ ends_told (told_news y act.told) → happens n u e ≡ called u y waited last next act news → refused_told n u e ≡ [] → Leads n clock nodes sent w k (Station a) Station (steps clock link (station_does act)) (moves clock (Station a) e) os
-  step_leads link act last next news e os tame among ready me key tells range changeless endings is silent =
-      answers_lead link act.station (untold act.station) last next (news ++ told_news y act.told) (told_events act.station.outcome) refl ready (ranges.untells act.station range.station) me key (no_packets act.station.outcome) changeless
-      (λ k. subst (λ o. seen_by (node_of y) k (told_events o) ≡ ends_told (news ++ told_news y act.told)) (sym tells) (ends_are y act.told k ∙ sym endings)) os tame among
+  -- a step of the core that reports what is then its outcome
+  step_leads : (link : Link) (act : StationStep) (last : Stream → ℕ) (next : ℕ) (news : List StoreEvent) (e : world.Event) (os : List Order) → IsTame (news ++ outcome_news y act.told) → orders_among (news ++ outcome_news y act.told) ≡ os → IsDue clock link.history last next → y ≡ link.me → a.link.key ≡ link.key → act.station.outcome ≡ act.told → StationStepInRange act → changes_reported (news ++ outcome_news y act.told) ≡ [] → ends_reported (news ++ outcome_news y act.told) ≡ ends_reported (outcome_news y act.told) → happens n u e ≡ called u y waited last next act news → refused_reported n u e ≡ [] → Leads n clock nodes sent w k (Station a) Station (steps clock link (station_does act)) (moves clock (Station a) e) os
+  step_leads link act last next news e os tame among ready me key reports range changeless endings is silent =
+      answers_lead link act.station (untold act.station) last next (news ++ outcome_news y act.told) (told_events act.station.outcome) refl ready (ranges.untells act.station range.station) me key (no_packets act.station.outcome) changeless
+      (λ k. subst (λ o. seen_by (node_of y) k (told_events o) ≡ ends_reported (news ++ outcome_news y act.told)) (sym reports) (ends_are y act.told k ∙ sym endings)) os tame among
       act.answer range.answer e is silent
 
   -- ---- a frame comes
@@ -261,7 +261,7 @@ module _ (n : Nodes) (sound : Distinct n) (clock : ℕ) (nodes : List Node) (sen
 
   -- what an admitted frame with a plan message is in the world
   abbrev brought : Packet → List world.Event
-  brought p = if_sent (place_of (encoding p) sent) (λ place. moves clock (Station a) (comes_to (Station a) place))
+  brought p = if_sent (index_of (encoding p) sent) (λ index. moves clock (Station a) (comes_to (Station a) index))
 
   -- one that is admitted was sent
   module _ (p : Packet) (block : SignatureBlock) (signs : p.block ≡ Some block) (later : Later a.link.key a.link.history p block) (known : IsFirst sent p) where
@@ -274,13 +274,13 @@ module _ (n : Nodes) (sound : Distinct n) (clock : ℕ) (nodes : List Node) (sen
     entered : signed.admitted_by (tried p Admitted) ≡ Some (stamped p block)
     entered = ap (option_map (stamped p)) signs
 
-    its : Found p known.index w.sent
-    its = found sent w.sent known.index p fits.frames known.found
+    its : Found p known.earlier w.sent
+    its = found sent w.sent known.earlier p fits.frames known.found
 
-    brought_is : brought p ≡ moves clock (Station a) (To_station its.place y)
+    brought_is : brought p ≡ moves clock (Station a) (To_station its.index y)
     brought_is =
-        ap (λ o. if_sent o (λ place. moves clock (Station a) (comes_to (Station a) place))) known.place_is
-        ∙ ap (λ place. moves clock (Station a) (To_station place y)) (one_place known.place its.place known.index (length sent) (length w.sent) known.counts its.counts many)
+        ap (λ o. if_sent o (λ index. moves clock (Station a) (comes_to (Station a) index))) known.index_is
+        ∙ ap (λ index. moves clock (Station a) (To_station index y)) (one_index known.index its.index known.earlier (length sent) (length w.sent) known.counts its.counts many)
 
     stream_from : its.frame.from ≡ from
     stream_from = its.same.from ∙ sym (ap (λ link. stream_at p.from.sys p.from.comp link) (its.same.block block signs).0)
@@ -305,7 +305,7 @@ module _ (n : Nodes) (sound : Distinct n) (clock : ℕ) (nodes : List Node) (sen
       abbrev next : ℕ
       next = max waited.next block.stamp
 
-      lies : slice_get w.sent its.place ≡ Some (frame_of from block.stamp (Some m))
+      lies : slice_get w.sent its.index ≡ Some (frame_of from block.stamp (Some m))
       lies = its.there ∙ ap Some (frame_is its.frame from block.stamp (Some m) stream_from stamp_is (its.same.message ∙ carries))
 
       late : waited.last from < block.stamp
@@ -317,10 +317,10 @@ module _ (n : Nodes) (sound : Distinct n) (clock : ℕ) (nodes : List Node) (sen
       plan : Leads n clock nodes sent w k (Station a) Station (steps clock b.link (station_core b.core from m)) (brought p) []
       plan =
           subst (λ es. Leads n clock nodes sent w k (Station a) Station (steps clock b.link (station_core b.core from m)) es []) (sym brought_is)
-          (step_leads b.link act last next [] (To_station its.place y) [] (tame_told y act.told) (no_order_told y act.told)
+          (step_leads b.link act last next [] (To_station its.index y) [] (tame_reported y act.told) (no_order_reported y act.told)
           (admits_due clock a.link.history (tried p Admitted) (stamped p block) entered refl waited.last waited.next due) refl refl
-          (step_tells a.core stands.2 from m) ranged (no_changes y act.told) refl
-          (hears_on n u y waited here own its.place from block.stamp m lies late) refl)
+          (step_reports a.core stands.2 from m) ranged (no_changes y act.told) refl
+          (hears_on n u y waited here own its.index from block.stamp m lies late) refl)
 
     takes_lead : (o : Option PlanMsg) → plan_in p.id p.payload ≡ o → Leads n clock nodes sent w k (Station a) Station (takes station_core clock b from o) (if_plan o (brought p)) []
     takes_lead None e = other
@@ -346,7 +346,7 @@ module _ (n : Nodes) (sound : Distinct n) (clock : ℕ) (nodes : List Node) (sen
   -- ---- a tick, a HEARTBEAT, and orders
   pub ticks_lead : Leads n clock nodes sent w k (Station a) Station (station_ticks clock a) (moves clock (Station a) (ticks (Station a))) []
   ticks_lead =
-      step_leads a.link (station_tick a.core) waited.last waited.next [] (Station_ticks y) [] (tame_told y (station_tick a.core).told) (no_order_told y (station_tick a.core).told) due refl refl (tick_tells a.core stands.2) (ranges.ticks a.core stands.3)
+      step_leads a.link (station_tick a.core) waited.last waited.next [] (Station_ticks y) [] (tame_reported y (station_tick a.core).told) (no_order_reported y (station_tick a.core).told) due refl refl (tick_reports a.core stands.2) (ranges.ticks a.core stands.3)
       (no_changes y (station_tick a.core).told) refl (ticks_on n u y waited here own) refl
 
   pub beats_lead : Leads n clock nodes sent w k (Station a) Station (station_beats clock a) (moves clock (Station a) (Speaks y)) []
@@ -357,7 +357,7 @@ module _ (n : Nodes) (sound : Distinct n) (clock : ℕ) (nodes : List Node) (sen
       kept : untold a.core ≡ a.core
       kept = ap (λ o. record a.core { outcome = o }) (sym stands.2)
 
-  cancels_quietly : (o : Option Operation) (told : Option Told) → (changes_told (cancel_news y o ++ told_news y told) ≡ []) × (ends_told (cancel_news y o ++ told_news y told) ≡ ends_told (told_news y told))
+  cancels_quietly : (o : Option Operation) (told : Option Told) → (changes_reported (cancel_news y o ++ outcome_news y told) ≡ []) × (ends_reported (cancel_news y o ++ outcome_news y told) ≡ ends_reported (outcome_news y told))
   cancels_quietly None told = (no_changes y told, refl)
   cancels_quietly (Some o) told = (no_changes y told, refl)
 
@@ -366,7 +366,7 @@ module _ (n : Nodes) (sound : Distinct n) (clock : ℕ) (nodes : List Node) (sen
       let act : StationStep = station_cancel a.core in
       let quietly = cancels_quietly a.core.operation act.told in
       step_leads a.link act waited.last waited.next (cancel_news y a.core.operation) (Cancels y) (cancelled y a.core.operation)
-      (tame_cancel y a.core.operation act.told (cancel_is_silent a.core)) (order_of_cancel y a.core.operation act.told) due refl refl (cancel_tells a.core stands.2) (ranges.cancels a.core stands.3)
+      (tame_cancel y a.core.operation act.told (cancel_is_silent a.core)) (order_of_cancel y a.core.operation act.told) due refl refl (cancel_reports a.core stands.2) (ranges.cancels a.core stands.3)
       quietly.0 quietly.1 (cancels_on n u y waited here own) refl
 
   -- orders that aren't refused
@@ -379,9 +379,9 @@ module _ (n : Nodes) (sound : Distinct n) (clock : ℕ) (nodes : List Node) (sen
     pub begins_lead : (kind : PlanKind) (plan : List Item) → All ItemInRange plan → upload_refusal a.core (number_of kind) plan ≡ None → Leads n clock nodes sent w k (Station a) Station (station_begins clock d (number_of kind) plan a) (moves clock (Station a) (Begins y d kind plan)) (Accepts_upload y d (number_of kind) plan ∷ [])
     begins_lead kind plan items free =
         let act : StationStep = begin_upload a.core d (number_of kind) plan in
-        let tells = begun_tells a.core (operation_of Uploads d (number_of kind) plan) in
+        let reports = begun_reports a.core (operation_of Uploads d (number_of kind) plan) in
         step_leads a.link act waited.last waited.next (Upload_begun y d (number_of kind) plan waited.next (u.drone d).next ∷ []) (Begins y d kind plan) (Accepts_upload y d (number_of kind) plan ∷ [])
-        (tame_begun (Upload_begun y d (number_of kind) plan waited.next (u.drone d).next) y act.told tt tells.1) (one_order (Upload_begun y d (number_of kind) plan waited.next (u.drone d).next) y act.told) due refl refl (tells.0 ∙ sym tells.1)
+        (tame_begun (Upload_begun y d (number_of kind) plan waited.next (u.drone d).next) y act.told tt reports.1) (one_order (Upload_begun y d (number_of kind) plan waited.next (u.drone d).next) y act.told) due refl refl (reports.0 ∙ sym reports.1)
         (ranges.uploads a.core d (number_of kind) plan stands.3 stream_d (small kind) items free) (no_changes y act.told) refl
         (begins_on n u y waited here own d is_drone kind plan free)
         (rw (here, is_drone, own, free) refl)
@@ -397,10 +397,10 @@ module _ (n : Nodes) (sound : Distinct n) (clock : ℕ) (nodes : List Node) (sen
     pub clears_lead : (kind : Option PlanKind) → refusal a.core ≡ None → Leads n clock nodes sent w k (Station a) Station (station_clears clock d (clear_number kind) a) (moves clock (Station a) (Clears y d kind)) (Accepts_clear y d (world.clear_number kind) ∷ [])
     clears_lead kind free =
         let act : StationStep = begin_clear a.core d (world.clear_number kind) in
-        let tells = begun_tells a.core (operation_of Clears_work d (world.clear_number kind) []) in
+        let reports = begun_reports a.core (operation_of Clears_work d (world.clear_number kind) []) in
         subst (λ c. Leads n clock nodes sent w k (Station a) Station (station_clears clock d c a) (moves clock (Station a) (Clears y d kind)) (Accepts_clear y d (world.clear_number kind) ∷ [])) (clear_is kind)
         (step_leads a.link act waited.last waited.next (Clear_begun y d (world.clear_number kind) (u.drone d).next ∷ []) (Clears y d kind) (Accepts_clear y d (world.clear_number kind) ∷ [])
-        (tame_begun (Clear_begun y d (world.clear_number kind) (u.drone d).next) y act.told tt tells.1) (one_order (Clear_begun y d (world.clear_number kind) (u.drone d).next) y act.told) due refl refl (tells.0 ∙ sym tells.1)
+        (tame_begun (Clear_begun y d (world.clear_number kind) (u.drone d).next) y act.told tt reports.1) (one_order (Clear_begun y d (world.clear_number kind) (u.drone d).next) y act.told) due refl refl (reports.0 ∙ sym reports.1)
         (ranges.clears a.core d (world.clear_number kind) stands.3 stream_d (small_clear kind)) (no_changes y act.told) refl
         (clears_on n u y waited here own d is_drone kind free)
         (rw (here, is_drone, own, free) refl))
@@ -408,9 +408,9 @@ module _ (n : Nodes) (sound : Distinct n) (clock : ℕ) (nodes : List Node) (sen
     pub gets_lead : (kind : PlanKind) → refusal a.core ≡ None → Leads n clock nodes sent w k (Station a) Station (station_gets clock d (number_of kind) a) (moves clock (Station a) (Gets y d kind)) (Accepts_get y d (number_of kind) ∷ [])
     gets_lead kind free =
         let act : StationStep = begin_get a.core d (number_of kind) in
-        let tells = begun_tells a.core (operation_of Gets_work d (number_of kind) []) in
+        let reports = begun_reports a.core (operation_of Gets_work d (number_of kind) []) in
         step_leads a.link act waited.last waited.next (Get_begun y d (number_of kind) (u.drone d).next ∷ []) (Gets y d kind) (Accepts_get y d (number_of kind) ∷ [])
-        (tame_begun (Get_begun y d (number_of kind) (u.drone d).next) y act.told tt tells.1) (one_order (Get_begun y d (number_of kind) (u.drone d).next) y act.told) due refl refl (tells.0 ∙ sym tells.1)
+        (tame_begun (Get_begun y d (number_of kind) (u.drone d).next) y act.told tt reports.1) (one_order (Get_begun y d (number_of kind) (u.drone d).next) y act.told) due refl refl (reports.0 ∙ sym reports.1)
         (ranges.gets a.core d (number_of kind) stands.3 stream_d (small kind)) (no_changes y act.told) refl
         (gets_on n u y waited here own d is_drone kind free)
         (rw (here, is_drone, own, free) refl)

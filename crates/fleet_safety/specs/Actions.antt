@@ -30,9 +30,9 @@ use Rattle.mav_nodes.specs.Nodes.{drone_core, station_core, station_cancels, sta
 use Rattle.scenario_lines.specs.declared.lines.Line.{Line}
 use Rattle.scenario_lines.specs.declared.lines.Line.TheVariants as line
 use Rattle.fleet_report.specs.Events.{Event}
-use Rattle.fleet_world.specs.Scene.{Scene, Node, Drone, Station, stream_of, node_name, is_named, is_station_named}
-use Rattle.fleet_world.specs.Steps.{Step, Halt, packets_in, told_by, as_drone, as_station, node_beats, node_ticks, node_does, given_to, given_to_all, delivers, station_line, orders, upload_begins, after_line}
-use Rattle.fleet_world.specs.Scenario.{Stop, Played, at_start, line_played, lines_played, whole_lines, unfinished, without_cr}
+use Rattle.fleet_world.specs.WorldState.{WorldState, Node, Drone, Station, stream_of, node_name, is_named, is_station_named}
+use Rattle.fleet_world.specs.Steps.{Step, StepError, packets_in, reported_by, as_drone, as_station, node_beats, node_ticks, node_does, given_to, given_to_all, delivers, station_line, orders, upload_begins, after_line}
+use Rattle.fleet_world.specs.Scenario.{ScenarioError, Played, at_start, line_played, lines_played, whole_lines, unfinished, without_cr}
 use Rattle.fleet_world.specs.Authentic.{line_done}
 use Rattle.fleet_invariants.specs.Sound.{link_of}
 
@@ -48,8 +48,8 @@ pub record Action : Type 0 where
   pub number : ℕ  -- of the line that it belongs to
   pub events : List world.Event  -- what happens in the world of messages
   pub orders : List Order  -- the order that it is, if a station accepts it
-  pub report : List Event  -- what the report tells of it
-  pub scene : Scene  -- the scene after it
+  pub report : List Event  -- what the report says of it
+  pub state : WorldState  -- the state after it
 
 -- ---- what a call is in the world of messages
 
@@ -63,15 +63,15 @@ abbrev pub ticks : Node → world.Event
 ticks (Drone a) = Drone_ticks a.link.me
 ticks (Station a) = Station_ticks a.link.me
 
--- the sent frame with this place comes to it (the newest has the place 0); drones keep what they install
+-- the sent frame with this index comes to it (the newest has the index 0); drones keep what they install
 abbrev pub comes_to : Node → ℕ → world.Event
-comes_to (Drone a) place = To_drone place a.link.me true
-comes_to (Station a) place = To_station place a.link.me
+comes_to (Drone a) index = To_drone index a.link.me true
+comes_to (Station a) index = To_station index a.link.me
 
--- the place of the sent frame with these bytes: how many were sent after it
-abbrev pub place_of : List ℕ → List Packet → Option ℕ
-place_of bytes [] = None
-place_of bytes (q ∷ qs) = if bytes_eq (encoding q) bytes then Some (length qs) else place_of bytes qs
+-- the index of the sent frame with these bytes: how many were sent after it
+abbrev pub index_of : List ℕ → List Packet → Option ℕ
+index_of bytes [] = None
+index_of bytes (q ∷ qs) = if bytes_eq (encoding q) bytes then Some (length qs) else index_of bytes qs
 
 -- a frame is an event only if it is admitted,
 abbrev pub if_admitted : Admit → List world.Event → List world.Event
@@ -90,13 +90,13 @@ if_plan (Some message) events = events
 -- and was sent
 abbrev pub if_sent : Option ℕ → (ℕ → List world.Event) → List world.Event
 if_sent None events = []
-if_sent (Some place) events = events place
+if_sent (Some index) events = events index
 
 -- a frame at a node, after these frames were sent
 abbrev pub hearing : ℕ → List Packet → Node → Packet → List world.Event
 hearing clock sent a p =
     if_admitted (answer_to (link_of a).key (link_of a).history p)
-    (if_plan (plan_in p.id p.payload) (if_sent (place_of (encoding p) sent) (λ place. moves clock a (comes_to a place))))
+    (if_plan (plan_in p.id p.payload) (if_sent (index_of (encoding p) sent) (λ index. moves clock a (comes_to a index))))
 
 -- an order to a station; a refused one changes nothing
 abbrev pub ordering : ℕ → Side StationState → Option OpFault → world.Event → List world.Event
@@ -113,45 +113,45 @@ abbrev pub cancelled : Stream → Option Operation → List Order
 cancelled station None = []
 cancelled station (Some operation) = Accepts_cancel station ∷ []
 
--- ---- nodes in a scene
+-- ---- nodes in a state
 
 -- one frame at a node
 abbrev pub node_hears : ℕ → Packet → Node → Outcome Node
 node_hears clock p (Drone a) = as_drone (hears drone_core clock p a)
 node_hears clock p (Station a) = as_station (hears station_core clock p a)
 
--- the scene after the node at place `k` has done this
-abbrev pub scene_with : Scene → ℕ → Done Node → Scene
-scene_with s k d = record s { nodes = slice_set s.nodes k d.node; sent = s.sent ++ packets_in d.events }
+-- the state after the node at index `k` has done this
+abbrev pub state_with : WorldState → ℕ → Done Node → WorldState
+state_with s k d = record s { nodes = slice_set s.nodes k d.node; sent = s.sent ++ packets_in d.events }
 
--- the node at a place, and the one of a name, if there is one
-abbrev pub at_place : Scene → ℕ → Option Node → (Scene → ℕ → Node → List Action) → List Action
-at_place s k None call = []
-at_place s k (Some a) call = call s k a
+-- the node at an index, and the one of a name, if there is one
+abbrev pub at_index : WorldState → ℕ → Option Node → (WorldState → ℕ → Node → List Action) → List Action
+at_index s k None call = []
+at_index s k (Some a) call = call s k a
 
-abbrev pub if_placed : Scene → Option ℕ → (Scene → ℕ → Node → List Action) → List Action
-if_placed s None call = []
-if_placed s (Some k) call = at_place s k (slice_get s.nodes k) call
+abbrev pub if_found : WorldState → Option ℕ → (WorldState → ℕ → Node → List Action) → List Action
+if_found s None call = []
+if_found s (Some k) call = at_index s k (slice_get s.nodes k) call
 
-abbrev pub at_node : Scene → Name → (Scene → ℕ → Node → List Action) → List Action
-at_node s name call = if_placed s (position (is_named name) s.nodes) call
+abbrev pub at_node : WorldState → Name → (WorldState → ℕ → Node → List Action) → List Action
+at_node s name call = if_found s (position (is_named name) s.nodes) call
 
--- the actions of a step, and then those from the scene after it
-abbrev pub and_next : Result Step Halt → List Action → (Scene → List Action) → List Action
-and_next (Ok t) actions next = actions ++ next t.scene
-and_next (Err halt) actions next = []
+-- the actions of a step, and then those from the state after it
+abbrev pub and_next : Result Step StepError → List Action → (WorldState → List Action) → List Action
+and_next (Ok t) actions next = actions ++ next t.state
+and_next (Err error) actions next = []
 
--- the station at a place, and the one of a name, if there is one
+-- the station at an index, and the one of a name, if there is one
 abbrev pub at_station : ℕ → Option Node → (ℕ → Side StationState → List Action) → List Action
 at_station k None order = []
 at_station k (Some (Drone a)) order = []
 at_station k (Some (Station a)) order = order k a
 
-abbrev pub if_ordered : Scene → Option ℕ → (ℕ → Side StationState → List Action) → List Action
+abbrev pub if_ordered : WorldState → Option ℕ → (ℕ → Side StationState → List Action) → List Action
 if_ordered s None order = []
 if_ordered s (Some k) order = at_station k (slice_get s.nodes k) order
 
-abbrev pub to_station : Scene → Name → (ℕ → Side StationState → List Action) → List Action
+abbrev pub to_station : WorldState → Name → (ℕ → Side StationState → List Action) → List Action
 to_station s name order = if_ordered s (position (is_station_named name) s.nodes) order
 
 -- ---- the actions of line `number`
@@ -159,88 +159,88 @@ module _ (number : ℕ) where
   -- ---- the actions of a call
 
   -- a call that leads to this step is one action, if it is done
-  abbrev pub acts : List world.Event → List Order → Result Step Halt → List Action
-  acts events orders (Ok t) = record { number = number; events = events; orders = orders; report = t.events; scene = t.scene } ∷ []
-  acts events orders (Err halt) = []
+  abbrev pub acts : List world.Event → List Order → Result Step StepError → List Action
+  acts events orders (Ok t) = record { number = number; events = events; orders = orders; report = t.events; state = t.state } ∷ []
+  acts events orders (Err error) = []
 
-  -- the node at place `k` hears a frame, and then what follows
-  abbrev pub hears_then : Scene → ℕ → Node → Packet → Outcome Node → (Scene → Node → List Action) → List Action
+  -- the node at index `k` hears a frame, and then what follows
+  abbrev pub hears_then : WorldState → ℕ → Node → Packet → Outcome Node → (WorldState → Node → List Action) → List Action
   hears_then s k a p None next = []
   hears_then s k a p (Some d) next = record {
     number = number;
     events = hearing s.clock s.sent a p;
     orders = [];
-    report = told_by (node_name a) (length s.sent) d.events;
-    scene = scene_with s k d;
-  } ∷ next (scene_with s k d) d.node
+    report = reported_by (node_name a) (length s.sent) d.events;
+    state = state_with s k d;
+  } ∷ next (state_with s k d) d.node
 
   -- frames, one action each
-  abbrev pub frames_heard : ℕ → List Packet → Scene → Node → List Action
+  abbrev pub frames_heard : ℕ → List Packet → WorldState → Node → List Action
   frames_heard k [] s a = []
   frames_heard k (p ∷ ps) s a = hears_then s k a p (node_hears s.clock p a) (frames_heard k ps)
 
   -- a datagram: the frames of its final parse
-  abbrev pub datagram_heard : List ℕ → Scene → ℕ → Node → List Action
+  abbrev pub datagram_heard : List ℕ → WorldState → ℕ → Node → List Action
   datagram_heard bytes s k a = frames_heard k (frames_of (final_parse (link_of a).extras bytes)) s a
 
   -- a tick, and a HEARTBEAT
-  abbrev pub ticked : Scene → ℕ → Node → List Action
+  abbrev pub ticked : WorldState → ℕ → Node → List Action
   ticked s k a = acts (moves s.clock a (ticks a)) [] (node_does s k (node_name a) (node_ticks s.clock a))
 
-  abbrev pub beaten : Scene → ℕ → Node → List Action
+  abbrev pub beaten : WorldState → ℕ → Node → List Action
   beaten s k a = acts (moves s.clock a (Speaks (link_of a).me)) [] (node_does s k (node_name a) (node_beats s.clock a))
 
   -- ---- of frames that are given
 
-  -- a frame comes to the node at place `k`, unless the node is its sender
-  abbrev pub frame_given : Scene → ℕ → Packet → Option Node → List Action
+  -- a frame comes to the node at index `k`, unless the node is its sender
+  abbrev pub frame_given : WorldState → ℕ → Packet → Option Node → List Action
   frame_given s k p None = []
   frame_given s k p (Some a) = if same_name (node_name a) p.from then [] else datagram_heard (encoding p) s k a
 
-  -- to `n` nodes, from place `k` on
-  abbrev pub row_given : Scene → ℕ → ℕ → Packet → List Action
+  -- to `n` nodes, from index `k` on
+  abbrev pub row_given : WorldState → ℕ → ℕ → Packet → List Action
   row_given s k zero p = []
   row_given s k (suc n) p = and_next (given_to s k p (slice_get s.nodes k)) (frame_given s k p (slice_get s.nodes k)) (λ t. row_given t (k + 1) n p)
 
   -- the next frame of a flow, if there is one, to all nodes; and then what follows
-  abbrev pub flown : Scene → Option Packet → (Scene → List Action) → List Action
+  abbrev pub flown : WorldState → Option Packet → (WorldState → List Action) → List Action
   flown s None next = []
   flown s (Some p) next =
       and_next (given_to_all (record s { given = s.given + 1 }) p) (row_given (record s { given = s.given + 1 }) 0 (length s.nodes) p) next
 
   -- at most `k` frames
-  abbrev pub flow_actions : ℕ → Scene → List Action
+  abbrev pub flow_actions : ℕ → WorldState → List Action
   flow_actions zero s = []
   flow_actions (suc k) s = flown s (slice_get s.sent s.given) (flow_actions k)
 
   -- a sent frame comes to a node once more, also to its sender
-  abbrev pub delivered : Scene → ℕ → Name → Option Packet → List Action
+  abbrev pub delivered : WorldState → ℕ → Name → Option Packet → List Action
   delivered s which name None = acts [] [] (delivers s which name None)
   delivered s which name (Some p) = at_node s name (datagram_heard (encoding p))
 
   -- ---- of orders
 
-  -- an upload, of the draft that the scene holds
-  abbrev pub upload_at : Scene → Name → PlanKind → Option OpFault → ℕ → Side StationState → List Action
+  -- an upload, of the draft that the state holds
+  abbrev pub upload_at : WorldState → Name → PlanKind → Option OpFault → ℕ → Side StationState → List Action
   upload_at s drone kind why k a =
       acts (ordering s.clock a why (Begins a.link.me (stream_of drone) kind s.draft))
       (accepted why (Accepts_upload a.link.me (stream_of drone) (number_of kind) s.draft))
       (upload_begins s k a drone (number_of kind) why)
 
   -- a clear, a download, and a cancel
-  abbrev pub clear_at : Scene → Name → Option PlanKind → Option OpFault → ℕ → Side StationState → List Action
+  abbrev pub clear_at : WorldState → Name → Option PlanKind → Option OpFault → ℕ → Side StationState → List Action
   clear_at s drone kind why k a =
       acts (ordering s.clock a why (Clears a.link.me (stream_of drone) kind))
       (accepted why (Accepts_clear a.link.me (stream_of drone) (world.clear_number kind)))
       (orders s k a why (station_clears s.clock (stream_of drone) (clear_number kind) a))
 
-  abbrev pub get_at : Scene → Name → PlanKind → Option OpFault → ℕ → Side StationState → List Action
+  abbrev pub get_at : WorldState → Name → PlanKind → Option OpFault → ℕ → Side StationState → List Action
   get_at s drone kind why k a =
       acts (ordering s.clock a why (Gets a.link.me (stream_of drone) kind))
       (accepted why (Accepts_get a.link.me (stream_of drone) (number_of kind)))
       (orders s k a why (station_gets s.clock (stream_of drone) (number_of kind) a))
 
-  abbrev pub cancel_at : Scene → ℕ → Side StationState → List Action
+  abbrev pub cancel_at : WorldState → ℕ → Side StationState → List Action
   cancel_at s k a =
       acts (moves s.clock (Station a) (Cancels a.link.me)) (cancelled a.link.me a.core.operation)
       (orders s k a None (station_cancels s.clock a))
@@ -248,7 +248,7 @@ module _ (number : ℕ) where
   -- ---- of lines
 
   -- the calls of a line; the lines that call no node have none
-  abbrev pub calls_of : Scene → Line → List Action
+  abbrev pub calls_of : WorldState → Line → List Action
   calls_of s line.Blank = []
   calls_of s (line.Drone sys x y) = []
   calls_of s (line.Station sys comp) = []
@@ -270,23 +270,23 @@ module _ (number : ℕ) where
   calls_of s (line.Clock n) = []
 
   -- the end of a line
-  abbrev pub line_end : Scene → Action
-  line_end s = record { number = number; events = []; orders = []; report = []; scene = s }
+  abbrev pub line_end : WorldState → Action
+  line_end s = record { number = number; events = []; orders = []; report = []; state = s }
 
   -- a line that is done: its calls, and its end; one that isn't done has no action
-  abbrev pub calls_done : List Action → Result Step Halt → List Action
-  calls_done calls (Ok t) = calls ++ line_end t.scene ∷ []
-  calls_done calls (Err halt) = []
+  abbrev pub calls_done : List Action → Result Step StepError → List Action
+  calls_done calls (Ok t) = calls ++ line_end t.state ∷ []
+  calls_done calls (Err error) = []
 
 -- of the line that is done at line `number`, if any
-abbrev pub line_actions : ℕ → Scene → Option Line → List Action
+abbrev pub line_actions : ℕ → WorldState → Option Line → List Action
 line_actions number s None = []
 line_actions number s (Some line) = calls_done number (calls_of number s line) (after_line s line)
 
 -- ---- of scenarios
 
 -- none after a scenario has stopped
-abbrev pub unless_stopped : Option Stop → List Action → List Action
+abbrev pub unless_stopped : Option ScenarioError → List Action → List Action
 unless_stopped None actions = actions
 unless_stopped (Some stop) actions = []
 
@@ -295,13 +295,13 @@ abbrev pub lines_actions : Played → ℕ → List (List ℕ) → List Action
 lines_actions p number [] = []
 lines_actions p number (raw ∷ more) =
     unless_stopped p.stop
-    (line_actions number p.scene (line_done p.scene number raw (without_cr raw)) ++ lines_actions (line_played p number raw) (number + 1) more)
+    (line_actions number p.state (line_done p.state number raw (without_cr raw)) ++ lines_actions (line_played p number raw) (number + 1) more)
 
 -- of a last line without LF
 abbrev pub last_actions : Bool → Played → ℕ → List ℕ → List Action
 last_actions false p number rest = []
 last_actions true p number [] = []
-last_actions true p number (b ∷ bs) = unless_stopped p.stop (line_actions number p.scene (line_done p.scene number (b ∷ bs) (b ∷ bs)))
+last_actions true p number (b ∷ bs) = unless_stopped p.stop (line_actions number p.state (line_done p.state number (b ∷ bs) (b ∷ bs)))
 
 -- of a scenario's bytes under a key; `ended` says whether the input ended after them
 abbrev pub actions_of : List ℕ → Bool → List ℕ → List Action

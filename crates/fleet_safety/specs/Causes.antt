@@ -6,7 +6,7 @@ use Rattle.plan_upload.specs.Addresses.{node_of}
 use Rattle.plan_safety.specs.World.{Event, Begins, Clears, Gets, Cancels, Hands_out, Drone_ticks, Station_ticks, To_drone, To_station, Speaks, Drone_waits, Station_waits, Restarts}
 use Rattle.scenario_lines.specs.declared.lines.Line.{Line}
 use Rattle.scenario_lines.specs.declared.lines.Line.TheVariants as line
-use Rattle.fleet_world.specs.Scene.{Scene, stream_of}
+use Rattle.fleet_world.specs.WorldState.{WorldState, stream_of}
 
 -- events without those that go with each call: a node waits until its next timestamp, a station hands out its outcome
 abbrev pub without_waits : List Event → List Event
@@ -18,8 +18,8 @@ without_waits (Cancels s ∷ es) = Cancels s ∷ without_waits es
 without_waits (Hands_out s ∷ es) = without_waits es
 without_waits (Drone_ticks d ∷ es) = Drone_ticks d ∷ without_waits es
 without_waits (Station_ticks s ∷ es) = Station_ticks s ∷ without_waits es
-without_waits (To_drone place d keeps ∷ es) = To_drone place d keeps ∷ without_waits es
-without_waits (To_station place s ∷ es) = To_station place s ∷ without_waits es
+without_waits (To_drone index d keeps ∷ es) = To_drone index d keeps ∷ without_waits es
+without_waits (To_station index s ∷ es) = To_station index s ∷ without_waits es
 without_waits (Speaks node ∷ es) = Speaks node ∷ without_waits es
 without_waits (Drone_waits d t ∷ es) = without_waits es
 without_waits (Station_waits s t ∷ es) = without_waits es
@@ -42,10 +42,10 @@ pub record Of (name : Name) (P : Stream → Event → Type 0) (e : Event) : Type
 
 -- a sent frame comes to the node that signs this stream; a drone keeps what it installs
 abbrev pub Gives : Stream → Event → Type 0
-Gives me e = (place : ℕ) × ((e ≡ To_drone place me true) ⊎ (e ≡ To_station place me))
+Gives me e = (index : ℕ) × ((e ≡ To_drone index me true) ⊎ (e ≡ To_station index me))
 
--- the events of a line in a scene
-abbrev pub Causes : Scene → Line → List Event → Type 0
+-- the events of a line in a state
+abbrev pub Causes : WorldState → Line → List Event → Type 0
 -- an order: that one, once, and for an upload of the draft
 Causes s (line.Begin station drone kind) es = AtMostOne (Of station (λ me e. e ≡ Begins me (stream_of drone) kind s.draft)) es
 Causes s (line.Cancel station) es = AtMostOne (Of station (λ me e. e ≡ Cancels me)) es

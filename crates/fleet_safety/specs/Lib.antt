@@ -1,4 +1,4 @@
-pub mod Telling
+pub mod Reporting
 pub mod Actions
 pub mod Causes
 pub mod Safe

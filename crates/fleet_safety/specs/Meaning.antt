@@ -29,28 +29,28 @@ Means (Told_got plan) whole earlier sent station = GotHeld earlier station plan
 -- the code is one that the drone sent since it began, or 15 after a cancel, or 4 for too long a plan
 Means (Told_ended code) whole earlier sent station = EndedBy earlier sent station code
 
--- the action that tells what stands at a place of the report, and those before and after it
-pub record ToldBy (actions : List Action) (place : ℕ) : Type 0 where
+-- the action that reports the line at an index of the report, and those before and after it
+pub record ReportedBy (actions : List Action) (index : ℕ) : Type 0 where
   pub before : List Action
   pub action : Action
   pub later : List Action
   pub is : actions ≡ before ++ action ∷ later
   pub offset : ℕ
-  pub place_is : place ≡ length (report_of before) + offset
+  pub index_is : index ≡ length (report_of before) + offset
   pub within : offset < length action.report
 
 -- all that the store goes through in that action is this event, with these frames sent by then
 abbrev pub IsTheStep : Nodes → List Action → Action → List Frame → StoreEvent → Type 0
 IsTheStep n before action sent event = steps_in n before action ≡ step sent event ∷ []
 
--- a line `outcome` is true: of what the store went through before the action that tells it
-pub record OutcomeIsTrue (n : Nodes) (actions : List Action) (place : ℕ) (station : Name) (told : Told) : Type 0 where
-  pub told_by : ToldBy actions place
+-- a line `outcome` is true: of what the store went through before the action that reports it
+pub record OutcomeIsTrue (n : Nodes) (actions : List Action) (index : ℕ) (station : Name) (told : Told) : Type 0 where
+  pub reported_by : ReportedBy actions index
   pub stream : Stream
   pub name_is : node_of stream ≡ station
   pub sent : List Frame
-  pub ended : IsTheStep n told_by.before told_by.action sent (Ended stream told)
-  pub means : Means told (history_of n actions) (history_of n told_by.before) sent stream
+  pub ended : IsTheStep n reported_by.before reported_by.action sent (Ended stream told)
+  pub means : Means told (history_of n actions) (history_of n reported_by.before) sent stream
 
 -- the newest of a station's uploads
 abbrev pub newest : List Upload → Option Upload
@@ -60,29 +60,29 @@ newest (u ∷ v ∷ us) = newest (v ∷ us)
 
 -- a line `install` is true: the plan is that of the station's latest upload, which was fully transmitted, and is installed
 -- once in the whole history
-pub record InstallIsTrue (n : Nodes) (actions : List Action) (place : ℕ) (drone : Name) (kind : ℕ) (plan : List Item) (by : Name) : Type 0 where
-  pub told_by : ToldBy actions place
+pub record InstallIsTrue (n : Nodes) (actions : List Action) (index : ℕ) (drone : Name) (kind : ℕ) (plan : List Item) (by : Name) : Type 0 where
+  pub reported_by : ReportedBy actions index
   pub stream : Stream
   pub drone_is : node_of stream ≡ drone
   pub station : Stream
   pub station_is : node_of station ≡ by
   pub sent : List Frame
-  pub installed : IsTheStep n told_by.before told_by.action sent (Installed stream kind plan station)
-  pub means : Installation (history_of n told_by.before) sent station stream kind plan
+  pub installed : IsTheStep n reported_by.before reported_by.action sent (Installed stream kind plan station)
+  pub means : Installation (history_of n reported_by.before) sent station stream kind plan
   -- it is the draft of the latest `begin` line that the station had accepted
-  pub drafted : newest (uploads_by station (orders_of told_by.before)) ≡ Some (upload stream kind plan)
-  pub once : tally installs_upload (history_of n actions) station (uploads (history_of n told_by.before) station) ≡ 1
+  pub drafted : newest (uploads_by station (orders_of reported_by.before)) ≡ Some (upload stream kind plan)
+  pub once : tally installs_upload (history_of n actions) station (uploads (history_of n reported_by.before) station) ≡ 1
 
 -- what an operator may take from the lines of a report; `n` are the nodes of the scenario
 pub record LinesAreTrue (n : Nodes) (events : List report.Event) (actions : List Action) : Type 0 where
-  -- each line `outcome` is true: what is told installed was installed, and in the whole history once; what is told not
-  -- installed never is, before or after; a plan that was got is one that the drone held since the download began
-  pub outcomes : (place : ℕ) (station : Name) (told : Told) → slice_get events place ≡ Some (report.Ended station told)
-      → OutcomeIsTrue n actions place station told
-  -- and none tells that the outcome is unknown
-  pub known : (place : ℕ) (station : Name) → slice_get events place ≡ Some (report.Ended station Told_unknown) → ⊥
+  -- each line `outcome` is true: what is reported as installed was installed, and in the whole history once; what is reported
+  -- as not installed never is, before or after; a plan that was got is one that the drone held since the download began
+  pub outcomes : (index : ℕ) (station : Name) (told : Told) → slice_get events index ≡ Some (report.Ended station told)
+      → OutcomeIsTrue n actions index station told
+  -- and none reports that the outcome is unknown
+  pub known : (index : ℕ) (station : Name) → slice_get events index ≡ Some (report.Ended station Told_unknown) → ⊥
   -- each line `install` is: the plan is the draft of the station's latest accepted `begin` line, which it has fully transmitted
-  pub installs : (place : ℕ) (drone : Name) (kind : ℕ) (plan : List Item) (by : Name) → slice_get events place ≡ Some (report.Installed drone kind plan by)
-      → InstallIsTrue n actions place drone kind plan by
+  pub installs : (index : ℕ) (drone : Name) (kind : ℕ) (plan : List Item) (by : Name) → slice_get events index ≡ Some (report.Installed drone kind plan by)
+      → InstallIsTrue n actions index drone kind plan by
   -- no upload is installed twice
   pub once : (station : Stream) (number : ℕ) → tally installs_upload (history_of n actions) station number ≤ 1

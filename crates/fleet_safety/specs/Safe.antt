@@ -12,11 +12,11 @@ use Rattle.plan_safety.specs.Store.{StoreEvent, first_store, Upload_begun, Insta
 use Rattle.plan_safety.specs.Safety.{IsExecution}
 use Rattle.plan_safety.specs.History.{Step, store_of, IsHistory, IsHeld, Uploaded, final, history}
 use Rattle.mav_nodes.specs.Steps.{Side}
-use Rattle.scenario_lines.specs.Standing.{has_drone, has_station}
+use Rattle.scenario_lines.specs.LineContext.{has_drone, has_station}
 use Rattle.fleet_report.specs.Events.{Event}
-use Rattle.fleet_world.specs.Scene.{Node, Drone, Scene, empty_scene, names_of}
+use Rattle.fleet_world.specs.WorldState.{Node, Drone, WorldState, empty_state, names_of}
 use Rattle.fleet_world.specs.Scenario.{Played}
-use Rattle.fleet_safety.specs.Telling.{seen, told}
+use Rattle.fleet_safety.specs.Reporting.{seen, reported}
 use Rattle.fleet_safety.specs.Actions.{Action, Order, Accepts_upload, Accepts_clear, Accepts_get, Accepts_cancel}
 
 -- the nodes that were named, each with its stream: all sign on link 0
@@ -32,7 +32,7 @@ start = record { boot = λ s. 0; pings = λ s. 0 }
 
 -- ---- actions, one after another
 
--- their events, what the report tells of them, the orders that they are, and the scene after them
+-- their events, what the report says of them, the orders that they are, and the state after them
 abbrev pub events_of : List Action → List world.Event
 events_of [] = []
 events_of (a ∷ actions) = a.events ++ events_of actions
@@ -45,9 +45,9 @@ abbrev pub orders_of : List Action → List Order
 orders_of [] = []
 orders_of (a ∷ actions) = a.orders ++ orders_of actions
 
-abbrev pub scene_after : Scene → List Action → Scene
-scene_after s [] = s
-scene_after s (a ∷ actions) = scene_after a.scene actions
+abbrev pub state_after : WorldState → List Action → WorldState
+state_after s [] = s
+state_after s (a ∷ actions) = state_after a.state actions
 
 -- what these actions lead to in the world of messages, and what the abstract mission store goes through in them, the newest first
 abbrev pub world_after : Nodes → List Action → World
@@ -107,30 +107,30 @@ pub record IsTheUpload (os : List Order) (s : Stream) (number : ℕ) (drone : St
 
 -- what holds of an action, after those before it
 pub record IsSafe (n : Nodes) (before : List Action) (a : Action) : Type 0 where
-  -- the report shows of it exactly what its events tell;
-  pub report : seen a.report ≡ told n (world_after n before) a.events
+  -- the report has of it exactly what its events report;
+  pub report : seen a.report ≡ reported n (world_after n before) a.events
   -- what the store begins or cancels in it is the order that a station accepts there, if any;
   pub orders : orders_in (steps_in n before a) ≡ a.orders
-  -- the plans that the drones of the scene have after it are the store's;
-  pub plans : (place : ℕ) (d : Side DroneState) (kind : ℕ) → slice_get a.scene.nodes place ≡ Some (Drone d) → kind < 3
+  -- the plans that the drones of the state have after it are the store's;
+  pub plans : (index : ℕ) (d : Side DroneState) (kind : ℕ) → slice_get a.state.nodes index ≡ Some (Drone d) → kind < 3
       → plan_at d.core.plans kind ≡ (store_of (history_of n (before ++ a ∷ []))).plan d.link.me kind
   -- and each is empty, or exactly the plan of one upload for that drone and kind, which was installed
-  pub held : (place : ℕ) (d : Side DroneState) (kind : ℕ) → slice_get a.scene.nodes place ≡ Some (Drone d) → kind < 3
+  pub held : (index : ℕ) (d : Side DroneState) (kind : ℕ) → slice_get a.state.nodes index ≡ Some (Drone d) → kind < 3
       → IsHeld (history_of n (before ++ a ∷ [])) d.link.me kind (plan_at d.core.plans kind)
 
 -- What a scenario leads to under a key is safe, and these are its actions:
 pub record Safe (key : List ℕ) (p : Played) (actions : List Action) : Type 0 where
-  -- the report and the scene are what they lead to;
+  -- the report and the state are what they lead to;
   pub report : report_of actions ≡ p.events
-  pub scene : scene_after (empty_scene key) actions ≡ p.scene
+  pub state : state_after (empty_state key) actions ≡ p.state
   -- each of them is safe;
-  pub each : (before : List Action) (a : Action) (later : List Action) → actions ≡ before ++ a ∷ later → IsSafe (nodes_of p.scene.nodes) before a
+  pub each : (before : List Action) (a : Action) (later : List Action) → actions ≡ before ++ a ∷ later → IsSafe (nodes_of p.state.nodes) before a
   -- their events are, one by one, an execution of the abstract mission store, with the same plans after each;
-  pub execution : IsExecution (nodes_of p.scene.nodes) (first_world start) first_store (events_of actions)
+  pub execution : IsExecution (nodes_of p.state.nodes) (first_world start) first_store (events_of actions)
   -- so what the store goes through is one of its histories;
-  pub valid : IsHistory (history_of (nodes_of p.scene.nodes) actions)
+  pub valid : IsHistory (history_of (nodes_of p.state.nodes) actions)
   -- what it begins and cancels are the orders that the stations accepted;
-  pub orders : orders_in (history_of (nodes_of p.scene.nodes) actions) ≡ orders_of actions
+  pub orders : orders_in (history_of (nodes_of p.state.nodes) actions) ≡ orders_of actions
   -- and the number-th upload of a station is that of the number-th `begin` line that it accepted, with the draft there
   pub uploads : (s : Stream) (number : ℕ) (drone : Stream) (kind : ℕ) (plan : List Item)
-      → Uploaded (history_of (nodes_of p.scene.nodes) actions) s number drone kind plan ↔ IsTheUpload (orders_of actions) s number drone kind plan
+      → Uploaded (history_of (nodes_of p.state.nodes) actions) s number drone kind plan ↔ IsTheUpload (orders_of actions) s number drone kind plan

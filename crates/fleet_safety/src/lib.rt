@@ -5,14 +5,14 @@
 //!
 //! Nothing here runs. Each function has an empty body, and its contract is a law over the definitions
 //! of fleet_world and plan_safety. `specs/Actions` says what the lines are in the world of messages,
-//! `specs/Causes` which events they can be, `specs/Telling` what an execution prints, `specs/Safe` what the theorem promises of a scenario,
-//! `specs/Meaning` what an operator may take from a report.
+//! `specs/Causes` which events they can be, `specs/Reporting` what an execution reports, `specs/Safe` what the
+//! theorem promises of a scenario, `specs/Meaning` what an operator may take from a report.
 #![tactic(auto)]
 
 mod meanings;
 mod scenarios;
 
-pub use meanings::every_line_told;
+pub use meanings::every_line_reported;
 pub use scenarios::{
     every_cause, every_delivery, every_quiet_scenario, every_report, every_scenario,
 };

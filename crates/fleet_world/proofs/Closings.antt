@@ -7,18 +7,18 @@ use Rattle.plan_upload.specs.Plans.{Plans}
 use Rattle.plan_upload.specs.Drone.{DroneState}
 use Rattle.fleet_report.specs.Events.{plan_text}
 use Rattle.fleet_report.specs.Reports.{ReportState, with_text}
-use Rattle.fleet_world.specs.declared.nodes.Node.{Node as SeenNode}
-use Rattle.fleet_world.specs.Scene.{Node, Drone, Station, node_name}
-use Rattle.fleet_world.specs.Seen.{IsNode, Fleet, IsFleet}
+use Rattle.fleet_world.specs.declared.nodes.Node.{Node as ViewNode}
+use Rattle.fleet_world.specs.WorldState.{Node, Drone, Station, node_name}
+use Rattle.fleet_world.specs.WorldView.{IsNode, Fleet, IsFleet}
 use Rattle.fleet_world.specs.Closing.{closing_at}
 use Rattle.fleet_world.specs.Steps.{closing_of, closing_text}
 use Rattle.fleet_world.proofs.Reporting.{with_text-none, with_text-both}
-use Rattle.fleet_world.proofs.NodeLists.{AtPlace, none, one, at_place}
+use Rattle.fleet_world.proofs.NodeLists.{AtPlace, none, one, at_index}
 
 abbrev pub plans_text : Name → Plans → List ℕ
 plans_text name plans = plan_text name 0 plans.mission ++ plan_text name 1 plans.fence ++ plan_text name 2 plans.rally
 
-pub drone_closed : {T E : Type 0} (r : Result T E) (view : SeenNode) (plans : Plans) (drone : DroneState) (name : Name) (start end : ReportState) → ((n : _) → IsNode (Drone n) view → drone ≡ n.core) → ((n : _) → IsNode (Station n) view → ⊥) → plans ≡ drone.plans → OnOk r (end ≡ with_text start (plans_text name plans)) → OnOk r ((node : Node) → IsNode node view → name ≡ node_name node → end ≡ with_text start (closing_of node))
+pub drone_closed : {T E : Type 0} (r : Result T E) (view : ViewNode) (plans : Plans) (drone : DroneState) (name : Name) (start end : ReportState) → ((n : _) → IsNode (Drone n) view → drone ≡ n.core) → ((n : _) → IsNode (Station n) view → ⊥) → plans ≡ drone.plans → OnOk r (end ≡ with_text start (plans_text name plans)) → OnOk r ((node : Node) → IsNode node view → name ≡ node_name node → end ≡ with_text start (closing_of node))
 drone_closed (Err e) view plans drone name start end is other same put = tt
 drone_closed (Ok t) view plans drone name start end is other same put = by_node
   where
@@ -28,33 +28,33 @@ drone_closed (Ok t) view plans drone name start end is other same put = by_node
         ∙ ap (λ (m : Name). with_text start (plans_text m n.core.plans)) named
     by_node (Station n) h named = absurd (other n h)
 
-pub station_closed : (view : SeenNode) (name : Name) (start : ReportState) → ((n : _) → IsNode (Drone n) view → ⊥) → (node : Node) → IsNode node view → name ≡ node_name node → start ≡ with_text start (closing_of node)
+pub station_closed : (view : ViewNode) (name : Name) (start : ReportState) → ((n : _) → IsNode (Drone n) view → ⊥) → (node : Node) → IsNode node view → name ≡ node_name node → start ≡ with_text start (closing_of node)
 station_closed view name start other (Drone n) h named = absurd (other n h)
 station_closed view name start other (Station n) h named = sym (with_text-none start)
 
--- ---- the node at a place
+-- ---- the node at an index
 
-closed_by : (nodes : List Node) (seen : List SeenNode) (k : ℕ) (view : SeenNode) (name : Name) (start end : ReportState) → AtPlace nodes seen k → slice_get seen k ≡ Some view → Some name ≡ option_map node_name (slice_get nodes k) → ((node : Node) → IsNode node view → name ≡ node_name node → end ≡ with_text start (closing_of node)) → end ≡ with_text start (closing_at (slice_get nodes k))
+closed_by : (nodes : List Node) (seen : List ViewNode) (k : ℕ) (view : ViewNode) (name : Name) (start end : ReportState) → AtPlace nodes seen k → slice_get seen k ≡ Some view → Some name ≡ option_map node_name (slice_get nodes k) → ((node : Node) → IsNode node view → name ≡ node_name node → end ≡ with_text start (closing_of node)) → end ≡ with_text start (closing_at (slice_get nodes k))
 closed_by nodes seen k view name start end (none a b) there named closed = cc
 closed_by nodes seen k view name start end (one node v a b is) there named closed =
     let same : v ≡ view = cc in
     let name_is : Some name ≡ Some (node_name node) = named ∙ ap (option_map node_name) a in
     closed node (subst (IsNode node) same is) (cc) ∙ ap (λ (o : Option Node). with_text start (closing_at o)) (sym a)
 
-pub closed_at : {T E : Type 0} (r : Result T E) (inside seen : Fleet) (k n : ℕ) (view : SeenNode) (name : Name) (start end : ReportState) → inside ≡ seen → n ≡ length inside.nodes → k < n → view ≡ get_or inside.nodes k view → ((nodes : List Node) → IsFleet nodes seen → Some name ≡ option_map node_name (slice_get nodes k)) → OnOk r ((node : Node) → IsNode node view → name ≡ node_name node → end ≡ with_text start (closing_of node)) → OnOk r ((nodes : List Node) → IsFleet nodes seen → end ≡ with_text start (closing_at (slice_get nodes k)))
+pub closed_at : {T E : Type 0} (r : Result T E) (inside seen : Fleet) (k n : ℕ) (view : ViewNode) (name : Name) (start end : ReportState) → inside ≡ seen → n ≡ length inside.nodes → k < n → view ≡ get_or inside.nodes k view → ((nodes : List Node) → IsFleet nodes seen → Some name ≡ option_map node_name (slice_get nodes k)) → OnOk r ((node : Node) → IsNode node view → name ≡ node_name node → end ≡ with_text start (closing_of node)) → OnOk r ((nodes : List Node) → IsFleet nodes seen → end ≡ with_text start (closing_at (slice_get nodes k)))
 closed_at (Err e) inside seen k n view name start end same size within read named closed = tt
 closed_at (Ok t) inside seen k n view name start end same size within read named closed = λ nodes f.
-    closed_by nodes seen.nodes k view name start end (at_place nodes seen.nodes k f.are)
+    closed_by nodes seen.nodes k view name start end (at_index nodes seen.nodes k f.are)
     (ap (λ (z : Fleet). slice_get z.nodes k) (sym same) ∙ slice_get_read inside.nodes n k view size within read) (named nodes f) closed
 
-nothing_by : (nodes : List Node) (seen : List SeenNode) (k : ℕ) (start : ReportState) → AtPlace nodes seen k → slice_get seen k ≡ None → start ≡ with_text start (closing_at (slice_get nodes k))
+nothing_by : (nodes : List Node) (seen : List ViewNode) (k : ℕ) (start : ReportState) → AtPlace nodes seen k → slice_get seen k ≡ None → start ≡ with_text start (closing_at (slice_get nodes k))
 nothing_by nodes seen k start (none a b) past = sym (ap (λ (o : Option Node). with_text start (closing_at o)) a ∙ with_text-none start)
 nothing_by nodes seen k start (one node v a b is) past = cc
 
 pub nothing_closed : (inside seen : Fleet) (k n : ℕ) (start : ReportState) → inside ≡ seen → n ≡ length inside.nodes → n ≤ k → (nodes : List Node) → IsFleet nodes seen → start ≡ with_text start (closing_at (slice_get nodes k))
 nothing_closed inside seen k n start same size past nodes f =
     let beyond : length inside.nodes ≤ k = omega arith in
-    nothing_by nodes seen.nodes k start (at_place nodes seen.nodes k f.are) (ap (λ (z : Fleet). slice_get z.nodes k) (sym same) ∙ slice_get_past inside.nodes k beyond)
+    nothing_by nodes seen.nodes k start (at_index nodes seen.nodes k f.are) (ap (λ (z : Fleet). slice_get z.nodes k) (sym same) ∙ slice_get_past inside.nodes k beyond)
 
 no_name : (nodes : List Node) (k : ℕ) (start : ReportState) (o : Option Node) → None ≡ option_map node_name o → start ≡ with_text start (closing_at o)
 no_name nodes k start None e = sym (with_text-none start)
@@ -72,7 +72,7 @@ closing_split (n ∷ ns) (suc k) within =
     let e : suc k + 1 ≡ suc (k + 1) = omega arith in
     ap (λ (j : ℕ). closing_at (slice_get ns k) ++ closing_text (drop j (n ∷ ns))) e ∙ closing_split ns k (omega arith)
 
--- what was told before place `k`, with what the rest tells
+-- what was reported before index `k`, with what the rest reports
 abbrev pub Closed : Fleet → ℕ → ReportState → ReportState → Type 0
 Closed fleet k start now = (nodes : List Node) → IsFleet nodes fleet → with_text now (closing_text (drop k nodes)) ≡ with_text start (closing_text nodes)
 

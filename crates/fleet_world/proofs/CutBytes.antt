@@ -2,54 +2,54 @@
 use Rattle.std.proofs.Common.{◌≡◌, ℕ, zero, suc, ◌+◌, ◌-◌, ◌≤◌, List, [], ◌∷◌, ◌++◌, length, take, drop, slice_get, option_map, Option, Some, None, refl, sym, ap, ◌∙◌, subst, arith, length-append, length-drop}
 use Rattle.std.proofs.lemmas.List.{take-append-le, drop-append-le}
 use Rattle.mav_names.specs.declared.names.Name.{Name}
-use Rattle.fleet_world.specs.declared.sent.Place.{Place}
-use Rattle.fleet_world.specs.Seen.{Kept, bytes_of}
+use Rattle.fleet_world.specs.declared.sent.Span.{Span}
+use Rattle.fleet_world.specs.WorldView.{Kept, bytes_of}
 use Rattle.fleet_world.specs.Cuts.{cut, cuts, AreWithin, behind}
 
-pub cuts_length : (bytes : List ℕ) (places : List Place) → length (cuts bytes places) ≡ length places
+pub cuts_length : (bytes : List ℕ) (spans : List Span) → length (cuts bytes spans) ≡ length spans
 cuts_length bytes [] = refl
 cuts_length bytes (p ∷ ps) = ap suc (cuts_length bytes ps)
 
-pub cuts_get : (bytes : List ℕ) (places : List Place) (k : ℕ) → slice_get (cuts bytes places) k ≡ option_map (cut bytes) (slice_get places k)
+pub cuts_get : (bytes : List ℕ) (spans : List Span) (k : ℕ) → slice_get (cuts bytes spans) k ≡ option_map (cut bytes) (slice_get spans k)
 cuts_get bytes [] k = refl
 cuts_get bytes (p ∷ ps) zero = refl
 cuts_get bytes (p ∷ ps) (suc k) = cuts_get bytes ps k
 
 -- a part lies within the bytes
-pub record IsWithin (bytes : List ℕ) (place : Place) : Type 0 where
-  pub order : place.start ≤ place.end
-  pub below : place.end ≤ length bytes
+pub record IsWithin (bytes : List ℕ) (span : Span) : Type 0 where
+  pub order : span.start ≤ span.end
+  pub below : span.end ≤ length bytes
 
-pub within_at : (bytes : List ℕ) (places : List Place) (k : ℕ) (place : Place) → AreWithin bytes places → slice_get places k ≡ Some place → IsWithin bytes place
-within_at bytes [] k place all found = cc
-within_at bytes (p ∷ ps) zero place all found =
-    let same : p ≡ place = cc in
+pub within_at : (bytes : List ℕ) (spans : List Span) (k : ℕ) (span : Span) → AreWithin bytes spans → slice_get spans k ≡ Some span → IsWithin bytes span
+within_at bytes [] k span all found = cc
+within_at bytes (p ∷ ps) zero span all found =
+    let same : p ≡ span = cc in
     subst (IsWithin bytes) same (record { order = all.0; below = all.1 })
-within_at bytes (p ∷ ps) (suc k) place all found = within_at bytes ps k place all.2 found
+within_at bytes (p ∷ ps) (suc k) span all found = within_at bytes ps k span all.2 found
 
-cut_stays : (bytes more : List ℕ) (p : Place) → p.start ≤ p.end → p.end ≤ length bytes → cut (bytes ++ more) p ≡ cut bytes p
+cut_stays : (bytes more : List ℕ) (p : Span) → p.start ≤ p.end → p.end ≤ length bytes → cut (bytes ++ more) p ≡ cut bytes p
 cut_stays bytes more p order below =
     let start : p.start ≤ length bytes = omega arith in
     let fits : p.end - p.start ≤ length (drop p.start bytes) = omega (arith, length-drop p.start bytes) in
     ap (λ (part : List ℕ). (p.from, take (p.end - p.start) part)) (drop-append-le p.start bytes more start)
     ∙ ap (λ (part : List ℕ). (p.from, part)) (take-append-le (p.end - p.start) (drop p.start bytes) more fits)
 
--- bytes that come behind change no part
-pub cuts_stay : (bytes more : List ℕ) (places : List Place) → AreWithin bytes places → cuts (bytes ++ more) places ≡ cuts bytes places
+-- bytes that come after change no part
+pub cuts_stay : (bytes more : List ℕ) (spans : List Span) → AreWithin bytes spans → cuts (bytes ++ more) spans ≡ cuts bytes spans
 cuts_stay bytes more [] all = refl
 cuts_stay bytes more (p ∷ ps) all =
     ap (λ (one : Kept). one ∷ cuts (bytes ++ more) ps) (cut_stays bytes more p all.0 all.1)
     ∙ ap (λ (rest : List Kept). cut bytes p ∷ rest) (cuts_stay bytes more ps all.2)
 
-pub within_more : (bytes more : List ℕ) (places : List Place) → AreWithin bytes places → AreWithin (bytes ++ more) places
+pub within_more : (bytes more : List ℕ) (spans : List Span) → AreWithin bytes spans → AreWithin (bytes ++ more) spans
 within_more bytes more [] all = tt
 within_more bytes more (p ∷ ps) all = (all.0, omega (arith, all.1, length-append bytes more), within_more bytes more ps all.2)
 
-cuts-push : (bytes : List ℕ) (places : List Place) (p : Place) → cuts bytes (places ++ p ∷ []) ≡ cuts bytes places ++ cut bytes p ∷ []
+cuts-push : (bytes : List ℕ) (spans : List Span) (p : Span) → cuts bytes (spans ++ p ∷ []) ≡ cuts bytes spans ++ cut bytes p ∷ []
 cuts-push bytes [] p = refl
 cuts-push bytes (q ∷ qs) p = ap (λ (rest : List Kept). cut bytes q ∷ rest) (cuts-push bytes qs p)
 
-within-push : (bytes : List ℕ) (places : List Place) (p : Place) → AreWithin bytes places → p.start ≤ p.end → p.end ≤ length bytes → AreWithin bytes (places ++ p ∷ [])
+within-push : (bytes : List ℕ) (spans : List Span) (p : Span) → AreWithin bytes spans → p.start ≤ p.end → p.end ≤ length bytes → AreWithin bytes (spans ++ p ∷ [])
 within-push bytes [] p all order below = (order, below, tt)
 within-push bytes (q ∷ qs) p all order below = (all.0, all.1, within-push bytes qs p all.2 order below)
 
@@ -70,46 +70,46 @@ cut_last from bytes more =
     drop_all [] = refl
     drop_all (x ∷ xs) = drop_all xs
 
--- a part more, behind bytes that come behind
-pub pushed : (from : Name) (bytes more b : List ℕ) (places ps : List Place) (p : Place) (kept : List Kept) → AreWithin bytes places → cuts bytes places ≡ kept → p ≡ behind from bytes more → b ≡ bytes ++ more → ps ≡ places ++ p ∷ [] → cuts b ps ≡ kept ++ (from, more) ∷ []
-pushed from bytes more b places ps p kept all view is joined more_places =
-    ap (λ (l : List Place). cuts b l) more_places
-    ∙ ap (λ (l : List ℕ). cuts l (places ++ p ∷ [])) joined
-    ∙ cuts-push (bytes ++ more) places p
-    ∙ ap (λ (front : List Kept). front ++ cut (bytes ++ more) p ∷ []) (cuts_stay bytes more places all ∙ view)
+-- a part more, after bytes that come after
+pub pushed : (from : Name) (bytes more b : List ℕ) (spans ps : List Span) (p : Span) (kept : List Kept) → AreWithin bytes spans → cuts bytes spans ≡ kept → p ≡ behind from bytes more → b ≡ bytes ++ more → ps ≡ spans ++ p ∷ [] → cuts b ps ≡ kept ++ (from, more) ∷ []
+pushed from bytes more b spans ps p kept all view is joined more_spans =
+    ap (λ (l : List Span). cuts b l) more_spans
+    ∙ ap (λ (l : List ℕ). cuts l (spans ++ p ∷ [])) joined
+    ∙ cuts-push (bytes ++ more) spans p
+    ∙ ap (λ (front : List Kept). front ++ cut (bytes ++ more) p ∷ []) (cuts_stay bytes more spans all ∙ view)
     ∙ ap (λ (one : Kept). kept ++ one ∷ []) (ap (cut (bytes ++ more)) is ∙ cut_last from bytes more)
 
-pub pushed_within : (from : Name) (bytes more b : List ℕ) (places ps : List Place) (p : Place) → AreWithin bytes places → p ≡ behind from bytes more → b ≡ bytes ++ more → ps ≡ places ++ p ∷ [] → AreWithin b ps
-pushed_within from bytes more b places ps p all is joined more_places =
-    let order : p.start ≤ p.end = subst (λ (q : Place). q.start ≤ q.end) (sym is) (omega arith) in
-    let below : p.end ≤ length (bytes ++ more) = subst (λ (q : Place). q.end ≤ length (bytes ++ more)) (sym is) (omega (arith, length-append bytes more)) in
-    subst (λ (l : List Place). AreWithin b l) (sym more_places)
-    (subst (λ (l : List ℕ). AreWithin l (places ++ p ∷ [])) (sym joined)
-    (within-push (bytes ++ more) places p (within_more bytes more places all) order below))
+pub pushed_within : (from : Name) (bytes more b : List ℕ) (spans ps : List Span) (p : Span) → AreWithin bytes spans → p ≡ behind from bytes more → b ≡ bytes ++ more → ps ≡ spans ++ p ∷ [] → AreWithin b ps
+pushed_within from bytes more b spans ps p all is joined more_spans =
+    let order : p.start ≤ p.end = subst (λ (q : Span). q.start ≤ q.end) (sym is) (omega arith) in
+    let below : p.end ≤ length (bytes ++ more) = subst (λ (q : Span). q.end ≤ length (bytes ++ more)) (sym is) (omega (arith, length-append bytes more)) in
+    subst (λ (l : List Span). AreWithin b l) (sym more_spans)
+    (subst (λ (l : List ℕ). AreWithin l (spans ++ p ∷ [])) (sym joined)
+    (within-push (bytes ++ more) spans p (within_more bytes more spans all) order below))
 
--- bytes that come behind without a part
-pub kept_within : (bytes more b : List ℕ) (places ps : List Place) → AreWithin bytes places → b ≡ bytes ++ more → ps ≡ places → AreWithin b ps
-kept_within bytes more b places ps all joined same =
-    subst (λ (l : List Place). AreWithin b l) (sym same)
-    (subst (λ (l : List ℕ). AreWithin l places) (sym joined) (within_more bytes more places all))
+-- bytes that come after without a part
+pub kept_within : (bytes more b : List ℕ) (spans ps : List Span) → AreWithin bytes spans → b ≡ bytes ++ more → ps ≡ spans → AreWithin b ps
+kept_within bytes more b spans ps all joined same =
+    subst (λ (l : List Span). AreWithin b l) (sym same)
+    (subst (λ (l : List ℕ). AreWithin l spans) (sym joined) (within_more bytes more spans all))
 
 -- a look-up of a part
-found_cut : (bytes : List ℕ) (places look : List Place) (kept : List Kept) (k : ℕ) (o : Option Place) → cuts bytes places ≡ kept → look ≡ places → o ≡ slice_get look k → option_map (cut bytes) o ≡ slice_get kept k
-found_cut bytes places look kept k o view is found =
-    ap (option_map (cut bytes)) (found ∙ ap (λ (l : List Place). slice_get l k) is)
-    ∙ (sym (cuts_get bytes places k) ∙ ap (λ (l : List Kept). slice_get l k) view)
+found_cut : (bytes : List ℕ) (spans look : List Span) (kept : List Kept) (k : ℕ) (o : Option Span) → cuts bytes spans ≡ kept → look ≡ spans → o ≡ slice_get look k → option_map (cut bytes) o ≡ slice_get kept k
+found_cut bytes spans look kept k o view is found =
+    ap (option_map (cut bytes)) (found ∙ ap (λ (l : List Span). slice_get l k) is)
+    ∙ (sym (cuts_get bytes spans k) ∙ ap (λ (l : List Kept). slice_get l k) view)
 
-pub sender_found : (bytes : List ℕ) (places look : List Place) (kept : List Kept) (k : ℕ) (o : Option Place) → cuts bytes places ≡ kept → look ≡ places → o ≡ slice_get look k → option_map (λ (at : Place). at.from) o ≡ option_map (λ (one : Kept). one.0) (slice_get kept k)
-sender_found bytes places look kept k o view is found =
-    by_case o ∙ ap (option_map (λ (one : Kept). one.0)) (found_cut bytes places look kept k o view is found)
+pub sender_found : (bytes : List ℕ) (spans look : List Span) (kept : List Kept) (k : ℕ) (o : Option Span) → cuts bytes spans ≡ kept → look ≡ spans → o ≡ slice_get look k → option_map (λ (at : Span). at.from) o ≡ option_map (λ (one : Kept). one.0) (slice_get kept k)
+sender_found bytes spans look kept k o view is found =
+    by_case o ∙ ap (option_map (λ (one : Kept). one.0)) (found_cut bytes spans look kept k o view is found)
   where
-    by_case : (p : Option Place) → option_map (λ (at : Place). at.from) p ≡ option_map (λ (one : Kept). one.0) (option_map (cut bytes) p)
+    by_case : (p : Option Span) → option_map (λ (at : Span). at.from) p ≡ option_map (λ (one : Kept). one.0) (option_map (cut bytes) p)
     by_case None = refl
     by_case (Some at) = refl
 
-pub part_found : (bytes : List ℕ) (places look : List Place) (kept : List Kept) (k : ℕ) (o : Option Place) → cuts bytes places ≡ kept → look ≡ places → o ≡ slice_get look k → bytes_of (option_map (cut bytes) o) ≡ bytes_of (slice_get kept k)
-part_found bytes places look kept k o view is found = ap bytes_of (found_cut bytes places look kept k o view is found)
+pub part_found : (bytes : List ℕ) (spans look : List Span) (kept : List Kept) (k : ℕ) (o : Option Span) → cuts bytes spans ≡ kept → look ≡ spans → o ≡ slice_get look k → bytes_of (option_map (cut bytes) o) ≡ bytes_of (slice_get kept k)
+part_found bytes spans look kept k o view is found = ap bytes_of (found_cut bytes spans look kept k o view is found)
 
-pub place_within : (bytes : List ℕ) (places look : List Place) (k : ℕ) (at : Place) → AreWithin bytes places → look ≡ places → Some at ≡ slice_get look k → IsWithin bytes at
-place_within bytes places look k at all is found =
-    within_at bytes places k at all (sym (found ∙ ap (λ (l : List Place). slice_get l k) is))
+pub span_within : (bytes : List ℕ) (spans look : List Span) (k : ℕ) (at : Span) → AreWithin bytes spans → look ≡ spans → Some at ≡ slice_get look k → IsWithin bytes at
+span_within bytes spans look k at all is found =
+    within_at bytes spans k at all (sym (found ∙ ap (λ (l : List Span). slice_get l k) is))

@@ -1,4 +1,4 @@
--- Items that join the draft.
+-- Items that are added to the draft.
 use Rattle.std.proofs.Common.{◌≡◌, ◌∙◌, ◌<◌, ◌+◌, ◌-◌, ℕ, suc, List, [], ◌∷◌, ◌++◌, pos, ◌+ℤ◌, ap, sym, arith, append_assoc}
 use Rattle.plan_items.specs.declared.items.Item.{Item}
 use Rattle.fleet_world.specs.Steps.{items_from}

@@ -6,7 +6,7 @@ use Rattle.mav_nodes.specs.declared.faults.NodeFault.{NodeFault}
 use Rattle.mav_nodes.specs.declared.faults.NodeFault.TheVariants.{StampsSpent}
 use Rattle.mav_nodes.specs.Links.{Outcome}
 use Rattle.mav_nodes.specs.declared.news.News.{News}
-use Rattle.fleet_world.specs.declared.nodes.Node.{Node as SeenNode}
+use Rattle.fleet_world.specs.declared.nodes.Node.{Node as ViewNode}
 use Rattle.std.proofs.Math.Seq.{set-get_or}
 use Rattle.mav_nodes.specs.Steps.{Side}
 use Rattle.mav_nodes.specs.Nodes.{station_obeys, order_refusal}
@@ -14,56 +14,56 @@ use Rattle.mav_nodes.specs.declared.orders.Order.{Order}
 use Rattle.mav_nodes.specs.declared.faults.OrderFault.{OrderFault}
 use Rattle.mav_nodes.specs.declared.faults.OrderFault.TheVariants.{Begin as BeginFails, Op as OpFails, Node as StationFails}
 use Rattle.plan_upload.specs.Station.{StationState}
-use Rattle.fleet_world.specs.Scene.{Node, Station, named}
+use Rattle.fleet_world.specs.WorldState.{Node, Station, named}
 use Rattle.fleet_world.specs.Steps.{as_station}
-use Rattle.fleet_world.specs.Seen.{IsNode, Fleet, IsFleet}
-use Rattle.fleet_world.specs.Promises.{NodeDid, Moved, FleetDid, IsSpent, Refuses}
-use Rattle.fleet_world.proofs.NodeLists.{AtPlace, none, one, at_place, fleet_set, fleet_push}
+use Rattle.fleet_world.specs.WorldView.{IsNode, Fleet, IsFleet}
+use Rattle.fleet_world.specs.Promises.{NodeOutcome, Moved, FleetOutcome, IsSpent, Refuses}
+use Rattle.fleet_world.proofs.NodeLists.{AtPlace, none, one, at_index, fleet_set, fleet_push}
 use Rattle.fleet_world.proofs.KeptNames.{KeepsName, obeys_keeps}
 
-module _ (nodes : List Node) (fleet after : Fleet) (k : ℕ) (call : Node → Outcome Node) (view new : SeenNode) (news : List News) where
-  pub moved : (node : Node) (o : Outcome Node) → KeepsName node o → IsFleet nodes fleet → slice_get nodes k ≡ Some node → after ≡ record fleet { nodes = slice_set fleet.nodes k new } → NodeDid o new news → Moved nodes k o after news
+module _ (nodes : List Node) (fleet after : Fleet) (k : ℕ) (call : Node → Outcome Node) (view new : ViewNode) (news : List News) where
+  pub moved : (node : Node) (o : Outcome Node) → KeepsName node o → IsFleet nodes fleet → slice_get nodes k ≡ Some node → after ≡ record fleet { nodes = slice_set fleet.nodes k new } → NodeOutcome o new news → Moved nodes k o after news
   moved node None keeps f found e did = absurd did
   moved node (Some d) keeps f found e did = (fleet_set nodes fleet after k node d.node new f found keeps did.0 e, did.1)
 
-  did_at : AtPlace nodes fleet.nodes k → ((node : Node) → KeepsName node (call node)) → IsFleet nodes fleet → slice_get fleet.nodes k ≡ Some view → after ≡ record fleet { nodes = slice_set fleet.nodes k new } → ((node : Node) → IsNode node view → NodeDid (call node) new news) → FleetDid nodes k (slice_get nodes k) call after news
+  did_at : AtPlace nodes fleet.nodes k → ((node : Node) → KeepsName node (call node)) → IsFleet nodes fleet → slice_get fleet.nodes k ≡ Some view → after ≡ record fleet { nodes = slice_set fleet.nodes k new } → ((node : Node) → IsNode node view → NodeOutcome (call node) new news) → FleetOutcome nodes k (slice_get nodes k) call after news
   did_at (none a b) keeps f found e did = cc
   did_at (one node v a b is) keeps f found e did =
       let same : v ≡ view = cc in
-      let does : NodeDid (call node) new news = did node (subst (IsNode node) same is) in
-      subst (λ (o : Option Node). FleetDid nodes k o call after news) (sym a) (moved node (call node) (keeps node) f a e does)
+      let does : NodeOutcome (call node) new news = did node (subst (IsNode node) same is) in
+      subst (λ (o : Option Node). FleetOutcome nodes k o call after news) (sym a) (moved node (call node) (keeps node) f a e does)
 
-  -- the node at a place did what it was asked
-  pub fleet_did : ((node : Node) → KeepsName node (call node)) → IsFleet nodes fleet → slice_get fleet.nodes k ≡ Some view → after ≡ record fleet { nodes = slice_set fleet.nodes k new } → ((node : Node) → IsNode node view → NodeDid (call node) new news) → FleetDid nodes k (slice_get nodes k) call after news
-  fleet_did keeps f found e did = did_at (at_place nodes fleet.nodes k f.are) keeps f found e did
+  -- the node at an index did what it was asked
+  pub fleet_outcome : ((node : Node) → KeepsName node (call node)) → IsFleet nodes fleet → slice_get fleet.nodes k ≡ Some view → after ≡ record fleet { nodes = slice_set fleet.nodes k new } → ((node : Node) → IsNode node view → NodeOutcome (call node) new news) → FleetOutcome nodes k (slice_get nodes k) call after news
+  fleet_outcome keeps f found e did = did_at (at_index nodes fleet.nodes k f.are) keeps f found e did
 
-spent_at : (nodes : List Node) (seen : List SeenNode) (k : ℕ) (call : Node → Outcome Node) (view : SeenNode) → AtPlace nodes seen k → slice_get seen k ≡ Some view → ((node : Node) → IsNode node view → call node ≡ None) → IsSpent (slice_get nodes k) call
+spent_at : (nodes : List Node) (seen : List ViewNode) (k : ℕ) (call : Node → Outcome Node) (view : ViewNode) → AtPlace nodes seen k → slice_get seen k ≡ Some view → ((node : Node) → IsNode node view → call node ≡ None) → IsSpent (slice_get nodes k) call
 spent_at nodes seen k call view (none a b) found spent = cc
 spent_at nodes seen k call view (one node v a b is) found spent =
     let same : v ≡ view = cc in
     subst (λ (o : Option Node). IsSpent o call) (sym a) (spent node (subst (IsNode node) same is))
 
 -- it had no timestamp left
-pub fleet_spent : (nodes : List Node) (fleet : Fleet) (k : ℕ) (call : Node → Outcome Node) (view : SeenNode) → IsFleet nodes fleet → slice_get fleet.nodes k ≡ Some view → ((node : Node) → IsNode node view → call node ≡ None) → IsSpent (slice_get nodes k) call
-fleet_spent nodes fleet k call view f found spent = spent_at nodes fleet.nodes k call view (at_place nodes fleet.nodes k f.are) found spent
+pub fleet_spent : (nodes : List Node) (fleet : Fleet) (k : ℕ) (call : Node → Outcome Node) (view : ViewNode) → IsFleet nodes fleet → slice_get fleet.nodes k ≡ Some view → ((node : Node) → IsNode node view → call node ≡ None) → IsSpent (slice_get nodes k) call
+fleet_spent nodes fleet k call view f found spent = spent_at nodes fleet.nodes k call view (at_index nodes fleet.nodes k f.are) found spent
 
-rests_at : (nodes : List Node) (fleet : Fleet) (k : ℕ) (call : Node → Outcome Node) (news : List News) → AtPlace nodes fleet.nodes k → IsFleet nodes fleet → slice_get fleet.nodes k ≡ None → news ≡ [] → FleetDid nodes k (slice_get nodes k) call fleet news
-rests_at nodes fleet k call news (none a b) f found e = subst (λ (o : Option Node). FleetDid nodes k o call fleet news) (sym a) (f, e)
+rests_at : (nodes : List Node) (fleet : Fleet) (k : ℕ) (call : Node → Outcome Node) (news : List News) → AtPlace nodes fleet.nodes k → IsFleet nodes fleet → slice_get fleet.nodes k ≡ None → news ≡ [] → FleetOutcome nodes k (slice_get nodes k) call fleet news
+rests_at nodes fleet k call news (none a b) f found e = subst (λ (o : Option Node). FleetOutcome nodes k o call fleet news) (sym a) (f, e)
 rests_at nodes fleet k call news (one node v a b is) f found e = cc
 
--- there is no node at the place
-pub fleet_rests : (nodes : List Node) (fleet : Fleet) (k : ℕ) (call : Node → Outcome Node) (news : List News) → IsFleet nodes fleet → slice_get fleet.nodes k ≡ None → news ≡ [] → FleetDid nodes k (slice_get nodes k) call fleet news
-fleet_rests nodes fleet k call news f found e = rests_at nodes fleet k call news (at_place nodes fleet.nodes k f.are) f found e
+-- there is no node at the index
+pub fleet_rests : (nodes : List Node) (fleet : Fleet) (k : ℕ) (call : Node → Outcome Node) (news : List News) → IsFleet nodes fleet → slice_get fleet.nodes k ≡ None → news ≡ [] → FleetOutcome nodes k (slice_get nodes k) call fleet news
+fleet_rests nodes fleet k call news f found e = rests_at nodes fleet k call news (at_index nodes fleet.nodes k f.are) f found e
 
 -- ---- as the calls of a fleet say it
 
-module _ (inside seen after : Fleet) (call : ℕ → Node → Outcome Node) (k n : ℕ) (view new : SeenNode) (same : inside ≡ seen) (size : n ≡ length inside.nodes) (within : k < n) (read : view ≡ get_or inside.nodes k view) where
-  pub call_done : (result : Result (Vec News Global) NodeFault) → ((node : Node) → KeepsName node (call seen.clock node)) → after ≡ record inside { nodes = slice_set inside.nodes k new } → IfOk result (λ news. (node : Node) → IsNode node view → NodeDid (call inside.clock node) new news.items) → IfOk result (λ news. (nodes : List Node) → IsFleet nodes seen → FleetDid nodes k (slice_get nodes k) (call seen.clock) after news.items)
+module _ (inside seen after : Fleet) (call : ℕ → Node → Outcome Node) (k n : ℕ) (view new : ViewNode) (same : inside ≡ seen) (size : n ≡ length inside.nodes) (within : k < n) (read : view ≡ get_or inside.nodes k view) where
+  pub call_done : (result : Result (Vec News Global) NodeFault) → ((node : Node) → KeepsName node (call seen.clock node)) → after ≡ record inside { nodes = slice_set inside.nodes k new } → IfOk result (λ news. (node : Node) → IsNode node view → NodeOutcome (call inside.clock node) new news.items) → IfOk result (λ news. (nodes : List Node) → IsFleet nodes seen → FleetOutcome nodes k (slice_get nodes k) (call seen.clock) after news.items)
   call_done (Ok news) keeps e did = λ nodes f.
-      fleet_did nodes seen after k (call seen.clock) view new news.items keeps f
+      fleet_outcome nodes seen after k (call seen.clock) view new news.items keeps f
       (ap (λ (z : Fleet). slice_get z.nodes k) (sym same) ∙ slice_get_read inside.nodes n k view size within read)
       (e ∙ ap (λ (z : Fleet). record z { nodes = slice_set z.nodes k new }) same)
-      (λ node is. subst (λ (z : Fleet). NodeDid (call z.clock node) new news.items) same (did node is))
+      (λ node is. subst (λ (z : Fleet). NodeOutcome (call z.clock node) new news.items) same (did node is))
   call_done (Err fault) keeps e did = tt
 
   pub call_spent : (result : Result (Vec News Global) NodeFault) → IfErr result (λ fault. (node : Node) → IsNode node view → fault ≡ StampsSpent → call inside.clock node ≡ None) → IfErr result (λ fault. (nodes : List Node) → IsFleet nodes seen → fault ≡ StampsSpent → IsSpent (slice_get nodes k) (call seen.clock))
@@ -73,13 +73,13 @@ module _ (inside seen after : Fleet) (call : ℕ → Node → Outcome Node) (k n
       (ap (λ (z : Fleet). slice_get z.nodes k) (sym same) ∙ slice_get_read inside.nodes n k view size within read)
       (λ node seen_is. subst (λ (z : Fleet). call z.clock node ≡ None) same (spent node seen_is is))
 
-pub call_rests : (inside seen : Fleet) (call : Node → Outcome Node) (k n : ℕ) (news : List News) → inside ≡ seen → n ≡ length inside.nodes → n ≤ k → news ≡ [] → (nodes : List Node) → IsFleet nodes seen → FleetDid nodes k (slice_get nodes k) call seen news
+pub call_rests : (inside seen : Fleet) (call : Node → Outcome Node) (k n : ℕ) (news : List News) → inside ≡ seen → n ≡ length inside.nodes → n ≤ k → news ≡ [] → (nodes : List Node) → IsFleet nodes seen → FleetOutcome nodes k (slice_get nodes k) call seen news
 call_rests inside seen call k n news same size past e nodes f =
     let beyond : length inside.nodes ≤ k = omega arith in
     fleet_rests nodes seen k call news f (ap (λ (z : Fleet). slice_get z.nodes k) (sym same) ∙ slice_get_past inside.nodes k beyond) e
 
--- a node joins
-pub fleet_joined : {T E : Type 0} (inside seen after : Fleet) (node : Fleet → Node) (view : SeenNode) (result : Result T E) → inside ≡ seen → IsNode (node inside) view → after.nodes ≡ inside.nodes ++ view ∷ [] → OnOk result (after.roster ≡ inside.roster ++ named (node inside) ∷ []) → OnOk result ((nodes : List Node) → IsFleet nodes seen → IsFleet (nodes ++ node seen ∷ []) after)
+-- a node is added
+pub fleet_joined : {T E : Type 0} (inside seen after : Fleet) (node : Fleet → Node) (view : ViewNode) (result : Result T E) → inside ≡ seen → IsNode (node inside) view → after.nodes ≡ inside.nodes ++ view ∷ [] → OnOk result (after.roster ≡ inside.roster ++ named (node inside) ∷ []) → OnOk result ((nodes : List Node) → IsFleet nodes seen → IsFleet (nodes ++ node seen ∷ []) after)
 fleet_joined inside seen after node view (Err e) same is more names = tt
 fleet_joined inside seen after node view (Ok t) same is more names =
     subst (λ (z : Fleet). (nodes : List Node) → IsFleet nodes z → IsFleet (nodes ++ node z ∷ []) after) same
@@ -92,7 +92,7 @@ refuses_weaker clock node order P Q (BeginFails fault) f h = (h.0, h.1, f h.2)
 refuses_weaker clock node order P Q (OpFails why) f h = (h.0, f h.1)
 refuses_weaker clock node order P Q (StationFails fault) f h = h
 
-module _ (inside seen after : Fleet) (k n : ℕ) (view new : SeenNode) (order : Order) (same : inside ≡ seen) (size : n ≡ length inside.nodes) (within : k < n) (read : view ≡ get_or inside.nodes k view) (e : after ≡ record inside { nodes = slice_set inside.nodes k new }) where
+module _ (inside seen after : Fleet) (k n : ℕ) (view new : ViewNode) (order : Order) (same : inside ≡ seen) (size : n ≡ length inside.nodes) (within : k < n) (read : view ≡ get_or inside.nodes k view) (e : after ≡ record inside { nodes = slice_set inside.nodes k new }) where
   found_there : slice_get seen.nodes k ≡ Some view
   found_there = ap (λ (z : Fleet). slice_get z.nodes k) (sym same) ∙ slice_get_read inside.nodes n k view size within read
 
@@ -107,34 +107,34 @@ module _ (inside seen after : Fleet) (k n : ℕ) (view new : SeenNode) (order : 
       let one_view : v ≡ view = cc in
       subst (IsNode (Station node)) one_view (subst (λ (x : Node). IsNode x v) one_node is)
 
-  obeyed : (nodes : List Node) (node : Side StationState) (news : List News) → IsFleet nodes seen → slice_get nodes k ≡ Some (Station node) → NodeDid (as_station (station_obeys inside.clock order node)) new news → Moved nodes k (as_station (station_obeys seen.clock order node)) after news
+  obeyed : (nodes : List Node) (node : Side StationState) (news : List News) → IsFleet nodes seen → slice_get nodes k ≡ Some (Station node) → NodeOutcome (as_station (station_obeys inside.clock order node)) new news → Moved nodes k (as_station (station_obeys seen.clock order node)) after news
   obeyed nodes node news f found did =
       moved nodes seen after k (λ x. as_station (station_obeys seen.clock order node)) view new news (Station node) (as_station (station_obeys seen.clock order node)) (obeys_keeps seen.clock order node) f found after_seen
-      (subst (λ (z : Fleet). NodeDid (as_station (station_obeys z.clock order node)) new news) same did)
+      (subst (λ (z : Fleet). NodeOutcome (as_station (station_obeys z.clock order node)) new news) same did)
 
-  pub order_done : (result : Result (Vec News Global) OrderFault) → IfOk result (λ news. (node : Side StationState) → IsNode (Station node) view → (order_refusal node.core order ≡ None) × NodeDid (as_station (station_obeys inside.clock order node)) new news.items) → IfOk result (λ news. (nodes : List Node) → (node : Side StationState) → IsFleet nodes seen → slice_get nodes k ≡ Some (Station node) → (order_refusal node.core order ≡ None) × Moved nodes k (as_station (station_obeys seen.clock order node)) after news.items)
+  pub order_done : (result : Result (Vec News Global) OrderFault) → IfOk result (λ news. (node : Side StationState) → IsNode (Station node) view → (order_refusal node.core order ≡ None) × NodeOutcome (as_station (station_obeys inside.clock order node)) new news.items) → IfOk result (λ news. (nodes : List Node) → (node : Side StationState) → IsFleet nodes seen → slice_get nodes k ≡ Some (Station node) → (order_refusal node.core order ≡ None) × Moved nodes k (as_station (station_obeys seen.clock order node)) after news.items)
   order_done (Ok news) did = λ nodes node f found.
-      let does = did node (station_there nodes node (at_place nodes seen.nodes k f.are) found) in
+      let does = did node (station_there nodes node (at_index nodes seen.nodes k f.are) found) in
       (does.0, obeyed nodes node news.items f found does.1)
   order_done (Err fault) did = tt
 
   unchanged : (nodes : List Node) → IsFleet nodes seen → new ≡ view → IsFleet nodes after
   unchanged nodes f left =
       let nodes_same : slice_set inside.nodes k new ≡ inside.nodes = ap (slice_set inside.nodes k) (left ∙ read) ∙ set-get_or inside.nodes k view in
-      subst (IsFleet nodes) (sym (e ∙ ap (λ (l : List SeenNode). record inside { nodes = l }) nodes_same ∙ same)) f
+      subst (IsFleet nodes) (sym (e ∙ ap (λ (l : List ViewNode). record inside { nodes = l }) nodes_same ∙ same)) f
 
   pub order_refused : (result : Result (Vec News Global) OrderFault) → IfErr result (λ fault. (node : Side StationState) → IsNode (Station node) view → Refuses inside.clock node order (new ≡ view) fault) → IfErr result (λ fault. (nodes : List Node) → (node : Side StationState) → IsFleet nodes seen → slice_get nodes k ≡ Some (Station node) → Refuses seen.clock node order (IsFleet nodes after) fault)
   order_refused (Ok news) refused = tt
   order_refused (Err fault) refused = λ nodes node f found.
       refuses_weaker seen.clock node order (new ≡ view) (IsFleet nodes after) fault (unchanged nodes f)
-      (subst (λ (z : Fleet). Refuses z.clock node order (new ≡ view) fault) same (refused node (station_there nodes node (at_place nodes seen.nodes k f.are) found)))
+      (subst (λ (z : Fleet). Refuses z.clock node order (new ≡ view) fault) same (refused node (station_there nodes node (at_index nodes seen.nodes k f.are) found)))
 
-nothing_there : {A : Type 0} (nodes : List Node) (seen : List SeenNode) (k : ℕ) (node : Node) → AtPlace nodes seen k → slice_get seen k ≡ None → slice_get nodes k ≡ Some node → A
+nothing_there : {A : Type 0} (nodes : List Node) (seen : List ViewNode) (k : ℕ) (node : Node) → AtPlace nodes seen k → slice_get seen k ≡ None → slice_get nodes k ≡ Some node → A
 nothing_there nodes seen k node (none a b) past found = cc
 nothing_there nodes seen k node (one m v a b is) past found = cc
 
 pub no_station : {A : Type 0} (inside seen : Fleet) (k n : ℕ) (nodes : List Node) (node : Side StationState) → inside ≡ seen → n ≡ length inside.nodes → n ≤ k → IsFleet nodes seen → slice_get nodes k ≡ Some (Station node) → A
 no_station inside seen k n nodes node same size past f found =
     let beyond : length inside.nodes ≤ k = omega arith in
-    nothing_there nodes seen.nodes k (Station node) (at_place nodes seen.nodes k f.are)
+    nothing_there nodes seen.nodes k (Station node) (at_index nodes seen.nodes k f.are)
     (ap (λ (z : Fleet). slice_get z.nodes k) (sym same) ∙ slice_get_past inside.nodes k beyond) found

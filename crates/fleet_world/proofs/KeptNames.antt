@@ -22,13 +22,13 @@ use Rattle.plan_items.specs.Plans.{items_of}
 use Rattle.plan_upload.specs.Kinds.{clear_number}
 use Rattle.plan_upload.specs.Drone.{DroneState, drone_tick}
 use Rattle.plan_upload.specs.Station.{StationState, station_tick, station_cancel, begin_upload, begin_clear, begin_get}
-use Rattle.fleet_world.specs.Scene.{Node, Drone, Station, named}
+use Rattle.fleet_world.specs.WorldState.{Node, Drone, Station, named}
 use Rattle.fleet_world.specs.declared.calls.Call.{Call}
 use Rattle.fleet_world.specs.declared.calls.Call.TheVariants.{Take, Noise, Heartbeat, Tick}
 use Rattle.fleet_world.specs.Steps.{as_drone, as_station, node_receives, node_beats, node_ticks}
-use Rattle.fleet_world.specs.Tellings.{node_called}
+use Rattle.fleet_world.specs.NodeSteps.{node_called}
 
--- where it is done, the link or the node has that stream
+-- if it is done, the link or the node has that stream
 abbrev LinkKeeps : Stream → Outcome Link → Type 0
 LinkKeeps me None = Unit {0}
 LinkKeeps me (Some d) = d.node.me ≡ me
@@ -94,7 +94,7 @@ module _ {Core : Type 0} (step : Core → Stream → PlanMsg → CoreStep Core) 
 
 -- ---- nodes
 
--- where a call is done, the node has the same name
+-- if a call is done, the node has the same name
 abbrev pub KeepsName : Node → Outcome Node → Type 0
 KeepsName node None = Unit {0}
 KeepsName node (Some d) = named d.node ≡ named node

@@ -4,10 +4,10 @@ pub mod KeptNames
 pub mod FleetCalls
 pub mod Lookups
 pub mod Reporting
-pub mod Tellings
+pub mod NewsReports
 pub mod DraftItems
 pub mod WorldCalls
 pub mod Leading
 pub mod Ordering
 pub mod Closings
-pub mod Standings
+pub mod Contexts

@@ -5,12 +5,12 @@ use Rattle.std.specs.List.{position_or_len}
 use Rattle.std.proofs.Common.{◌<◌, ◌≤◌, drop, get_or, drop-cons, add-one}
 use Rattle.mav_names.specs.declared.names.Name.{Name}
 use Rattle.scenario_lines.specs.declared.roster.Role.TheVariants.{Station as StationRole}
-use Rattle.scenario_lines.specs.Standing.{is_called, is_in_role}
-use Rattle.fleet_world.specs.declared.nodes.Node.{Node as SeenNode}
-use Rattle.fleet_world.specs.declared.nodes.Node.TheVariants.{Drone as SeenDrone, Station as SeenStation}
-use Rattle.fleet_world.specs.Counts.{is_seen_drone, counted}
-use Rattle.fleet_world.specs.Scene.{Node, Drone, Station, named, names_of, is_named, is_station_named, drones_in, stations_in}
-use Rattle.fleet_world.specs.Seen.{AreNodes, Fleet, IsFleet}
+use Rattle.scenario_lines.specs.LineContext.{is_called, is_in_role}
+use Rattle.fleet_world.specs.declared.nodes.Node.{Node as ViewNode}
+use Rattle.fleet_world.specs.declared.nodes.Node.TheVariants.{Drone as ViewDrone, Station as ViewStation}
+use Rattle.fleet_world.specs.Counts.{is_drone_view, counted}
+use Rattle.fleet_world.specs.WorldState.{Node, Drone, Station, named, names_of, is_named, is_station_named, drones_in, stations_in}
+use Rattle.fleet_world.specs.WorldView.{AreNodes, Fleet, IsFleet}
 
 -- a search goes by the tests of the elements
 module _ {A B : Type 0} (p : A → Bool) (q : B → Bool) (f : A → B) (same : (x : A) → q (f x) ≡ p x) where
@@ -36,8 +36,8 @@ place_named name nodes fleet inside found same f is =
     is ∙ ap (λ (z : Fleet). position (is_called name) z.roster) same ∙ ap (position (is_called name)) f.names
     ∙ position_by (is_named name) (is_called name) named (called_named name) nodes
 
-pub place_of_station : (name : Name) (nodes : List Node) (fleet inside : Fleet) (found : Option ℕ) → inside ≡ fleet → IsFleet nodes fleet → found ≡ position (is_in_role StationRole name) inside.roster → found ≡ position (is_station_named name) nodes
-place_of_station name nodes fleet inside found same f is =
+pub index_of_station : (name : Name) (nodes : List Node) (fleet inside : Fleet) (found : Option ℕ) → inside ≡ fleet → IsFleet nodes fleet → found ≡ position (is_in_role StationRole name) inside.roster → found ≡ position (is_station_named name) nodes
+index_of_station name nodes fleet inside found same f is =
     is ∙ ap (λ (z : Fleet). position (is_in_role StationRole name) z.roster) same ∙ ap (position (is_in_role StationRole name)) f.names
     ∙ position_by (is_station_named name) (is_in_role StationRole name) named (station_named name) nodes
 
@@ -65,23 +65,23 @@ counted_more p xs i x count total add within is one before =
 pub count_few : (i count add : ℕ) (test : Bool) → add ≡ cond test 1 0 → count ≤ i → count + add ≤ i + 1
 count_few i count add test one few = let bit = one_bit test in omega (arith, bit, one, few)
 
-pub drones_counted : (nodes : List Node) (seen : List SeenNode) → AreNodes nodes seen → counted is_seen_drone seen ≡ drones_in nodes
+pub drones_counted : (nodes : List Node) (seen : List ViewNode) → AreNodes nodes seen → counted is_drone_view seen ≡ drones_in nodes
 drones_counted [] [] are = refl
 drones_counted [] (v ∷ vs) are = absurd are
 drones_counted (n ∷ ns) [] are = absurd are
-drones_counted (Drone n ∷ ns) (SeenDrone v ∷ vs) are = ap (λ (n : ℕ). 1 + n) (drones_counted ns vs are.1)
-drones_counted (Drone n ∷ ns) (SeenStation v ∷ vs) are = absurd are.0
-drones_counted (Station n ∷ ns) (SeenDrone v ∷ vs) are = absurd are.0
-drones_counted (Station n ∷ ns) (SeenStation v ∷ vs) are = none_more _ ∙ drones_counted ns vs are.1
+drones_counted (Drone n ∷ ns) (ViewDrone v ∷ vs) are = ap (λ (n : ℕ). 1 + n) (drones_counted ns vs are.1)
+drones_counted (Drone n ∷ ns) (ViewStation v ∷ vs) are = absurd are.0
+drones_counted (Station n ∷ ns) (ViewDrone v ∷ vs) are = absurd are.0
+drones_counted (Station n ∷ ns) (ViewStation v ∷ vs) are = none_more _ ∙ drones_counted ns vs are.1
 
 all_counted : (nodes : List Node) → length (names_of nodes) ≡ drones_in nodes + stations_in nodes
 all_counted [] = refl
 all_counted (Drone n ∷ ns) = let more : length (names_of ns) ≡ drones_in ns + stations_in ns = all_counted ns in omega arith
 all_counted (Station n ∷ ns) = let more : length (names_of ns) ≡ drones_in ns + stations_in ns = all_counted ns in omega arith
 
-pub drones_are : (nodes : List Node) (fleet inside : Fleet) (seen : List SeenNode) (drones : ℕ) → inside ≡ fleet → IsFleet nodes fleet → seen ≡ inside.nodes → drones ≡ counted is_seen_drone seen → drones ≡ drones_in nodes
+pub drones_are : (nodes : List Node) (fleet inside : Fleet) (seen : List ViewNode) (drones : ℕ) → inside ≡ fleet → IsFleet nodes fleet → seen ≡ inside.nodes → drones ≡ counted is_drone_view seen → drones ≡ drones_in nodes
 drones_are nodes fleet inside seen drones same f is found =
-    found ∙ ap (λ (l : List SeenNode). counted is_seen_drone l) (is ∙ ap (λ (z : Fleet). z.nodes) same)
+    found ∙ ap (λ (l : List ViewNode). counted is_drone_view l) (is ∙ ap (λ (z : Fleet). z.nodes) same)
     ∙ drones_counted nodes fleet.nodes f.are
 
 pub stations_are : (nodes : List Node) (fleet inside : Fleet) (total drones : ℕ) → inside ≡ fleet → IsFleet nodes fleet → total ≡ length inside.roster → drones ≡ drones_in nodes → total - drones ≡ stations_in nodes

@@ -2,38 +2,38 @@
 use Rattle.std.proofs.Common.{◌≡◌, ℕ, zero, suc, List, [], ◌∷◌, ◌++◌, slice_get, slice_set, option_map, Some, None, refl, sym, ap, ◌∙◌, subst}
 use Rattle.scenario_lines.specs.declared.roster.Named.{Named}
 use Rattle.mav_names.specs.declared.names.Name.{Name}
-use Rattle.fleet_world.specs.declared.nodes.Node.{Node as SeenNode}
-use Rattle.fleet_world.specs.Scene.{Node, Drone, Station, named, names_of, node_name}
-use Rattle.fleet_world.specs.Seen.{IsNode, AreNodes, Fleet, IsFleet}
+use Rattle.fleet_world.specs.declared.nodes.Node.{Node as ViewNode}
+use Rattle.fleet_world.specs.WorldState.{Node, Drone, Station, named, names_of, node_name}
+use Rattle.fleet_world.specs.WorldView.{IsNode, AreNodes, Fleet, IsFleet}
 
 -- ---- one of them
 
--- the node at a place, if there is one
-pub data AtPlace (nodes : List Node) (seen : List SeenNode) (k : ℕ) : Type 0 where
+-- the node at an index, if there is one
+pub data AtPlace (nodes : List Node) (seen : List ViewNode) (k : ℕ) : Type 0 where
   none : slice_get nodes k ≡ None → slice_get seen k ≡ None → AtPlace nodes seen k
-  one : (node : Node) (view : SeenNode) → slice_get nodes k ≡ Some node → slice_get seen k ≡ Some view → IsNode node view → AtPlace nodes seen k
+  one : (node : Node) (view : ViewNode) → slice_get nodes k ≡ Some node → slice_get seen k ≡ Some view → IsNode node view → AtPlace nodes seen k
 
-at_place-next : (n : Node) (v : SeenNode) (ns : List Node) (vs : List SeenNode) (k : ℕ) → AtPlace ns vs k → AtPlace (n ∷ ns) (v ∷ vs) (suc k)
-at_place-next n v ns vs k (none a b) = none a b
-at_place-next n v ns vs k (one node view a b is) = one node view a b is
+at_index-next : (n : Node) (v : ViewNode) (ns : List Node) (vs : List ViewNode) (k : ℕ) → AtPlace ns vs k → AtPlace (n ∷ ns) (v ∷ vs) (suc k)
+at_index-next n v ns vs k (none a b) = none a b
+at_index-next n v ns vs k (one node view a b is) = one node view a b is
 
-pub at_place : (nodes : List Node) (seen : List SeenNode) (k : ℕ) → AreNodes nodes seen → AtPlace nodes seen k
-at_place [] [] k are = none refl refl
-at_place [] (v ∷ vs) k are = absurd are
-at_place (n ∷ ns) [] k are = absurd are
-at_place (n ∷ ns) (v ∷ vs) zero are = one n v refl refl are.0
-at_place (n ∷ ns) (v ∷ vs) (suc k) are = at_place-next n v ns vs k (at_place ns vs k are.1)
+pub at_index : (nodes : List Node) (seen : List ViewNode) (k : ℕ) → AreNodes nodes seen → AtPlace nodes seen k
+at_index [] [] k are = none refl refl
+at_index [] (v ∷ vs) k are = absurd are
+at_index (n ∷ ns) [] k are = absurd are
+at_index (n ∷ ns) (v ∷ vs) zero are = one n v refl refl are.0
+at_index (n ∷ ns) (v ∷ vs) (suc k) are = at_index-next n v ns vs k (at_index ns vs k are.1)
 
 -- ---- one of them changed, and one more
 
-pub are_nodes-set : (nodes : List Node) (seen : List SeenNode) (k : ℕ) (node : Node) (view : SeenNode) → AreNodes nodes seen → IsNode node view → AreNodes (slice_set nodes k node) (slice_set seen k view)
+pub are_nodes-set : (nodes : List Node) (seen : List ViewNode) (k : ℕ) (node : Node) (view : ViewNode) → AreNodes nodes seen → IsNode node view → AreNodes (slice_set nodes k node) (slice_set seen k view)
 are_nodes-set [] [] k node view are is = tt
 are_nodes-set [] (v ∷ vs) k node view are is = absurd are
 are_nodes-set (n ∷ ns) [] k node view are is = absurd are
 are_nodes-set (n ∷ ns) (v ∷ vs) zero node view are is = (is, are.1)
 are_nodes-set (n ∷ ns) (v ∷ vs) (suc k) node view are is = (are.0, are_nodes-set ns vs k node view are.1 is)
 
-pub are_nodes-push : (nodes : List Node) (seen : List SeenNode) (node : Node) (view : SeenNode) → AreNodes nodes seen → IsNode node view → AreNodes (nodes ++ node ∷ []) (seen ++ view ∷ [])
+pub are_nodes-push : (nodes : List Node) (seen : List ViewNode) (node : Node) (view : ViewNode) → AreNodes nodes seen → IsNode node view → AreNodes (nodes ++ node ∷ []) (seen ++ view ∷ [])
 are_nodes-push [] [] node view are is = (is, tt)
 are_nodes-push [] (v ∷ vs) node view are is = absurd are
 are_nodes-push (n ∷ ns) [] node view are is = absurd are
@@ -52,20 +52,20 @@ names-set (n ∷ ns) (suc k) node new found same = ap (λ (l : List Named). name
 
 -- ---- a fleet
 
-pub fleet_set : (nodes : List Node) (fleet after : Fleet) (k : ℕ) (node new : Node) (view : SeenNode) → IsFleet nodes fleet → slice_get nodes k ≡ Some node → named new ≡ named node → IsNode new view → after ≡ record fleet { nodes = slice_set fleet.nodes k view } → IsFleet (slice_set nodes k new) after
+pub fleet_set : (nodes : List Node) (fleet after : Fleet) (k : ℕ) (node new : Node) (view : ViewNode) → IsFleet nodes fleet → slice_get nodes k ≡ Some node → named new ≡ named node → IsNode new view → after ≡ record fleet { nodes = slice_set fleet.nodes k view } → IsFleet (slice_set nodes k new) after
 fleet_set nodes fleet after k node new view f found same is e =
     subst (IsFleet (slice_set nodes k new)) (sym e) (record {
       are = are_nodes-set nodes fleet.nodes k new view f.are is;
       names = f.names ∙ sym (names-set nodes k node new found same);
     })
 
-pub fleet_push : (nodes : List Node) (fleet after : Fleet) (node : Node) (view : SeenNode) → IsFleet nodes fleet → IsNode node view → after.nodes ≡ fleet.nodes ++ view ∷ [] → after.roster ≡ fleet.roster ++ named node ∷ [] → IsFleet (nodes ++ node ∷ []) after
+pub fleet_push : (nodes : List Node) (fleet after : Fleet) (node : Node) (view : ViewNode) → IsFleet nodes fleet → IsNode node view → after.nodes ≡ fleet.nodes ++ view ∷ [] → after.roster ≡ fleet.roster ++ named node ∷ [] → IsFleet (nodes ++ node ∷ []) after
 fleet_push nodes fleet after node view f is more names = record {
   are = subst (AreNodes (nodes ++ node ∷ [])) (sym more) (are_nodes-push nodes fleet.nodes node view f.are is);
   names = names ∙ ap (λ (l : List Named). l ++ named node ∷ []) f.names ∙ sym (names-push nodes node);
 }
 
--- the name of the node at a place
+-- the name of the node at an index
 abbrev name_in : Named → Name
 name_in n = n.name
 

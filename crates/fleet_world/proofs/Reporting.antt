@@ -1,9 +1,9 @@
--- Reports of events, one behind the other.
+-- Reports of events, one after another.
 use Rattle.std.proofs.Common.{◌≡◌, List, [], ◌∷◌, ◌++◌, ℕ, Bool, refl, sym, ap, ◌∙◌, append_assoc}
 use Rattle.std.proofs.lemmas.List.{append-nil}
 use Rattle.fleet_report.specs.Events.{Event, event_text, events_text}
-use Rattle.fleet_report.specs.Reports.{ReportState, with_text, told}
-use Rattle.fleet_world.specs.Tellings.{reports}
+use Rattle.fleet_report.specs.Reports.{ReportState, with_text, reported}
+use Rattle.fleet_world.specs.NodeSteps.{reports}
 
 pub events_text-append : (frames : Bool) (xs ys : List Event) → events_text frames (xs ++ ys) ≡ events_text frames xs ++ events_text frames ys
 events_text-append frames [] ys = refl
@@ -25,5 +25,5 @@ reports-both report xs ys =
     with_text-both report (events_text report.frames xs) (events_text report.frames ys)
     ∙ ap (with_text report) (sym (events_text-append report.frames xs ys))
 
-pub reports-one : (report : ReportState) (event : Event) → told report event ≡ reports report (event ∷ [])
+pub reports-one : (report : ReportState) (event : Event) → reported report event ≡ reports report (event ∷ [])
 reports-one report event = ap (with_text report) (sym (append-nil (event_text report.frames event)))

@@ -13,8 +13,8 @@ use Rattle.scenario_lines.specs.declared.lines.Line.{Line}
 use Rattle.scenario_lines.specs.declared.lines.Line.TheVariants.{Blank, Drone, Station, Item as OneItem, Items, Empty, Begin, Cancel, Clear, Get, Heartbeat, Deliver, Flow, Noise, Tick, Clock}
 use Rattle.scenario_lines.specs.Grammar.{line_of, most_line_bytes}
 use Rattle.scenario_lines.specs.Reasons.{reason_against}
-use Rattle.fleet_world.specs.Scene.{Scene, standing_of}
-use Rattle.fleet_world.specs.Scenario.{Stop, Played, at_start, line_played, lines_played, most_lines, whole_lines, unfinished, without_cr}
+use Rattle.fleet_world.specs.WorldState.{WorldState, context_of}
+use Rattle.fleet_world.specs.Scenario.{ScenarioError, Played, at_start, line_played, lines_played, most_lines, whole_lines, unfinished, without_cr}
 
 -- one of these frames has the same bytes
 abbrev pub WasSent : List Packet → Packet → Type 0
@@ -22,12 +22,12 @@ WasSent [] p = ⊥
 WasSent (q ∷ qs) p = (encoding q ≡ encoding p) ⊎ WasSent qs p
 
 -- each frame of the bytes that verifies was sent before
-abbrev pub AuthenticBytes : Scene → List ℕ → Type 0
+abbrev pub AuthenticBytes : WorldState → List ℕ → Type 0
 AuthenticBytes s bytes =
-    (place : ℕ) (p : Packet) → slice_get (frames_of (final_parse (extras_of profile_definitions) bytes)) place ≡ Some p
+    (index : ℕ) (p : Packet) → slice_get (frames_of (final_parse (extras_of profile_definitions) bytes)) index ≡ Some p
     → Verifies s.key p p.block → WasSent s.sent p
 
-abbrev pub AuthenticLine : Scene → Line → Type 0
+abbrev pub AuthenticLine : WorldState → Line → Type 0
 AuthenticLine s (Noise node bytes) = AuthenticBytes s bytes
 AuthenticLine s Blank = Unit {0}
 AuthenticLine s (Drone sys x y) = Unit {0}
@@ -45,23 +45,23 @@ AuthenticLine s (Flow k) = Unit {0}
 AuthenticLine s (Tick node) = Unit {0}
 AuthenticLine s (Clock n) = Unit {0}
 
--- what a text says, where there is no reason against it
+-- what a text says, if there is no reason against it
 abbrev pub line_read : List ℕ → Option Reason → Option Line
 line_read text None = Some (line_of text)
 line_read text (Some reason) = None
 
 -- the line that is done at line `number`, if any: its bytes with the CR, and what they say
-abbrev pub line_done : Scene → ℕ → List ℕ → List ℕ → Option Line
+abbrev pub line_done : WorldState → ℕ → List ℕ → List ℕ → Option Line
 line_done s number raw text =
     if nat_lt most_lines number then None
     else if nat_lt most_line_bytes (length raw) then None
-    else line_read text (reason_against (standing_of s) text)
+    else line_read text (reason_against (context_of s) text)
 
-abbrev pub AuthenticDone : Scene → Option Line → Type 0
+abbrev pub AuthenticDone : WorldState → Option Line → Type 0
 AuthenticDone s None = Unit {0}
 AuthenticDone s (Some line) = AuthenticLine s line
 
-abbrev pub UnlessStopped : Option Stop → Type 0 → Type 0
+abbrev pub UnlessStopped : Option ScenarioError → Type 0 → Type 0
 UnlessStopped None T = T
 UnlessStopped (Some stop) T = Unit {0}
 
@@ -69,13 +69,13 @@ UnlessStopped (Some stop) T = Unit {0}
 abbrev pub AuthenticLines : Played → ℕ → List (List ℕ) → Type 0
 AuthenticLines p number [] = Unit {0}
 AuthenticLines p number (raw ∷ more) =
-    UnlessStopped p.stop (AuthenticDone p.scene (line_done p.scene number raw (without_cr raw)) × AuthenticLines (line_played p number raw) (number + 1) more)
+    UnlessStopped p.stop (AuthenticDone p.state (line_done p.state number raw (without_cr raw)) × AuthenticLines (line_played p number raw) (number + 1) more)
 
 -- a last line without LF
 abbrev pub AuthenticLast : Bool → Played → ℕ → List ℕ → Type 0
 AuthenticLast false p number rest = Unit {0}
 AuthenticLast true p number [] = Unit {0}
-AuthenticLast true p number (b ∷ bs) = UnlessStopped p.stop (AuthenticDone p.scene (line_done p.scene number (b ∷ bs) (b ∷ bs)))
+AuthenticLast true p number (b ∷ bs) = UnlessStopped p.stop (AuthenticDone p.state (line_done p.state number (b ∷ bs) (b ∷ bs)))
 
 -- the whole scenario, played under a key
 pub record Authentic (key : List ℕ) (ended : Bool) (bytes : List ℕ) : Type 0 where

@@ -5,9 +5,9 @@ use Rattle.mav_nodes.specs.declared.news.News.TheVariants.{Sent, Installed, Empt
 use Rattle.fleet_world.specs.declared.nodes.Node.{Node}
 use Rattle.fleet_world.specs.declared.nodes.Node.TheVariants.{Drone, Station}
 
-abbrev pub is_seen_drone : Node → Bool
-is_seen_drone (Drone node) = true
-is_seen_drone (Station node) = false
+abbrev pub is_drone_view : Node → Bool
+is_drone_view (Drone node) = true
+is_drone_view (Station node) = false
 
 abbrev pub is_frame : News → Bool
 is_frame (Sent frame message) = true

@@ -1,21 +1,21 @@
 -- Parts of one list of bytes, each with the name of its sender.
 use Rattle.std.specs.Prelude.{ℕ, ◌+◌, ◌-◌, ◌≤◌, List, [], ◌∷◌, length, take, drop}
-use Rattle.fleet_world.specs.declared.sent.Place.{Place}
+use Rattle.fleet_world.specs.declared.sent.Span.{Span}
 use Rattle.mav_names.specs.declared.names.Name.{Name}
-use Rattle.fleet_world.specs.Seen.{Kept}
+use Rattle.fleet_world.specs.WorldView.{Kept}
 
-abbrev pub cut : List ℕ → Place → Kept
-cut bytes place = (place.from, take (place.end - place.start) (drop place.start bytes))
+abbrev pub cut : List ℕ → Span → Kept
+cut bytes span = (span.from, take (span.end - span.start) (drop span.start bytes))
 
-abbrev pub cuts : List ℕ → List Place → List Kept
+abbrev pub cuts : List ℕ → List Span → List Kept
 cuts bytes [] = []
-cuts bytes (place ∷ places) = cut bytes place ∷ cuts bytes places
+cuts bytes (span ∷ spans) = cut bytes span ∷ cuts bytes spans
 
 -- each lies within the bytes
-abbrev pub AreWithin : List ℕ → List Place → Type 0
+abbrev pub AreWithin : List ℕ → List Span → Type 0
 AreWithin bytes [] = Unit {0}
-AreWithin bytes (place ∷ places) = (place.start ≤ place.end) × (place.end ≤ length bytes) × AreWithin bytes places
+AreWithin bytes (span ∷ spans) = (span.start ≤ span.end) × (span.end ≤ length bytes) × AreWithin bytes spans
 
--- the part that a frame takes behind all bytes
-abbrev pub behind : Name → List ℕ → List ℕ → Place
+-- the part that a frame takes after all bytes
+abbrev pub behind : Name → List ℕ → List ℕ → Span
 behind from bytes frame = record { from = from; start = length bytes; end = length bytes + length frame }

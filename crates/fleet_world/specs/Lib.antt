@@ -1,11 +1,11 @@
-pub mod Scene
+pub mod WorldState
 pub mod Steps
 pub mod Scenario
 pub mod Authentic
-pub mod Seen
+pub mod WorldView
 pub mod Counts
 pub mod Cuts
-pub mod Tellings
+pub mod NodeSteps
 pub mod Promises
 pub mod Flowing
 pub mod Closing

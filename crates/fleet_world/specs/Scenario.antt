@@ -1,4 +1,4 @@
--- A scenario's bytes as lines, and what the lines lead to: the scene, the report, and why it stopped.
+-- A scenario's bytes as lines, and what the lines lead to: the state, the report, and why it stopped.
 use Rattle.std.specs.Prelude.{ℕ, ◌+◌, ◌-◌, ◌==◌, nat_lt, Bool, true, false, if◌then◌else◌, List, [], ◌∷◌, ◌++◌, length, take, slice_index, Option, Some, None, Ok, Err}
 use Rattle.std.specs.declared.result.Result.{Result}
 use Rattle.std.specs.List.{slice_split}
@@ -7,8 +7,8 @@ use Rattle.scenario_lines.specs.declared.faults.Reason.TheVariants.{Long}
 use Rattle.scenario_lines.specs.Grammar.{line_of, most_line_bytes}
 use Rattle.scenario_lines.specs.Reasons.{reason_against}
 use Rattle.fleet_report.specs.Events.{Event, events_text}
-use Rattle.fleet_world.specs.Scene.{Scene, empty_scene, standing_of}
-use Rattle.fleet_world.specs.Steps.{Step, Halt, after_line, closing_text}
+use Rattle.fleet_world.specs.WorldState.{WorldState, empty_state, context_of}
+use Rattle.fleet_world.specs.Steps.{Step, StepError, after_line, closing_text}
 
 -- lines end with LF
 abbrev pub is_newline : ℕ → Bool
@@ -25,7 +25,7 @@ last_part [] = []
 last_part (part ∷ []) = part
 last_part (part ∷ next ∷ more) = last_part (next ∷ more)
 
--- the whole lines of some bytes, without their LF, and what stands behind the last LF
+-- the whole lines of some bytes, without their LF, and the bytes after the last LF
 abbrev pub whole_lines : List ℕ → List (List ℕ)
 whole_lines bytes = but_last (slice_split is_newline bytes)
 
@@ -37,40 +37,40 @@ abbrev pub without_cr : List ℕ → List ℕ
 without_cr raw = if slice_index raw (length raw - 1) == 13 then take (length raw - 1) raw else raw
 
 -- why a scenario stops before its end
-pub data Stop : Type 0 where
-  Bad : (line : ℕ) (reason : Reason) → Stop
-  Too_many_lines : Stop
-  Halted : (halt : Halt) → Stop
+pub data ScenarioError : Type 0 where
+  Bad : (line : ℕ) (reason : Reason) → ScenarioError
+  Too_many_lines : ScenarioError
+  Not_done : (error : StepError) → ScenarioError
 
 pub record Played : Type 0 where
-  pub scene : Scene
+  pub state : WorldState
   pub events : List Event
-  pub stop : Option Stop
+  pub stop : Option ScenarioError
 
 abbrev pub most_lines : ℕ
 most_lines = 100000
 
 -- line `number`, whose bytes are `text`: what happened up to it, and then its own step
-abbrev pub stopped : Played → Stop → Played
+abbrev pub stopped : Played → ScenarioError → Played
 stopped p stop = record p { stop = Some stop }
 
-abbrev pub goes_on : Played → Result Step Halt → Played
-goes_on p (Ok t) = record { scene = t.scene; events = p.events ++ t.events; stop = None }
-goes_on p (Err halt) = stopped p (Halted halt)
+abbrev pub goes_on : Played → Result Step StepError → Played
+goes_on p (Ok t) = record { state = t.state; events = p.events ++ t.events; stop = None }
+goes_on p (Err error) = stopped p (Not_done error)
 
 abbrev pub judged : Played → ℕ → List ℕ → Option Reason → Played
 judged p number text (Some reason) = stopped p (Bad number reason)
-judged p number text None = goes_on p (after_line p.scene (line_of text))
+judged p number text None = goes_on p (after_line p.state (line_of text))
 
 -- line `number`, with its CR: it is done once it is whole
 abbrev pub line_played : Played → ℕ → List ℕ → Played
 line_played p number raw =
     if nat_lt most_lines number then stopped p Too_many_lines
     else if nat_lt most_line_bytes (length raw) then stopped p (Bad number Long)
-    else judged p number (without_cr raw) (reason_against (standing_of p.scene) (without_cr raw))
+    else judged p number (without_cr raw) (reason_against (context_of p.state) (without_cr raw))
 
 -- the lines from `number` on, up to the first at which the scenario stops
-abbrev pub unless_stopped : Option Stop → Played → Played → Played
+abbrev pub unless_stopped : Option ScenarioError → Played → Played → Played
 unless_stopped None p next = next
 unless_stopped (Some stop) p next = p
 
@@ -80,15 +80,15 @@ lines_played p number (raw ∷ more) = unless_stopped p.stop p (lines_played (li
 
 -- under a key, which all nodes have
 abbrev pub at_start : List ℕ → Played
-at_start key = record { scene = empty_scene key; events = []; stop = None }
+at_start key = record { state = empty_state key; events = []; stop = None }
 
--- a last line without LF keeps its CR, and counts where it isn't empty
+-- a last line without LF keeps its CR, and counts if it isn't empty
 abbrev pub last_played : Played → ℕ → List ℕ → Played
 last_played p number [] = p
 last_played p number (b ∷ bs) =
     if nat_lt most_lines number then stopped p Too_many_lines
     else if nat_lt most_line_bytes (length (b ∷ bs)) then stopped p (Bad number Long)
-    else judged p number (b ∷ bs) (reason_against (standing_of p.scene) (b ∷ bs))
+    else judged p number (b ∷ bs) (reason_against (context_of p.state) (b ∷ bs))
 
 -- an unfinished line stops a scenario as soon as it is too long
 abbrev pub part_played : Played → ℕ → List ℕ → Played
@@ -97,7 +97,7 @@ part_played p number part =
     then (if nat_lt most_lines number then stopped p Too_many_lines else stopped p (Bad number Long))
     else p
 
--- what the bytes that were taken lead to; `ended` says whether the input ended behind them
+-- what the bytes that were taken lead to; `ended` says whether the input ended after them
 abbrev pub rest_played : Bool → Played → ℕ → List ℕ → Played
 rest_played true p number rest = last_played p number rest
 rest_played false p number rest = part_played p number rest
@@ -113,4 +113,4 @@ abbrev pub report_of : Bool → Played → List ℕ
 report_of frames p = events_text frames p.events
 
 abbrev pub whole_report : Bool → Played → List ℕ
-whole_report frames p = events_text frames p.events ++ closing_text p.scene.nodes
+whole_report frames p = events_text frames p.events ++ closing_text p.state.nodes

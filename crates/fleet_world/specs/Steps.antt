@@ -1,4 +1,4 @@
--- What a scenario line does to the world: the scene after it and its events, or why it isn't done.
+-- What a scenario line does to the world: the state after it and its events, or why it isn't done.
 use Rattle.std.specs.Prelude.{ℕ, pos, zero, suc, ◌+◌, ◌-◌, ◌+ℤ◌, nat_lt, nat_le, if◌then◌else◌, List, [], ◌∷◌, ◌++◌, length, slice_get, slice_set, position, Option, Some, None, Ok, Err}
 use Rattle.std.specs.declared.result.Result.{Result}
 use Rattle.mav_names.specs.declared.names.Name.{Name}
@@ -21,30 +21,30 @@ use Rattle.scenario_lines.specs.declared.lines.Line.TheVariants.{Blank, Drone as
 use Rattle.fleet_report.specs.Events.{Event, Sent, Installed, Emptied, Dropped, Missing, Refused, Ended, plan_text}
 use Rattle.fleet_world.specs.declared.faults.Bound.{Bound}
 use Rattle.fleet_world.specs.declared.faults.Bound.TheVariants.{Frames, Drones, Stations}
-use Rattle.fleet_world.specs.Scene.{Scene, Node, Drone, Station, stream_of, node_name, is_named, is_station_named, drones_in, stations_in}
+use Rattle.fleet_world.specs.WorldState.{WorldState, Node, Drone, Station, stream_of, node_name, is_named, is_station_named, drones_in, stations_in}
 
 pub record Step : Type 0 where
-  pub scene : Scene
+  pub state : WorldState
   pub events : List Event
 
 -- why a line isn't done: a limit is met, or a node has no timestamp left
-pub data Halt : Type 0 where
-  At_limit : (limit : Bound) → Halt
-  Stamps_spent : Halt
+pub data StepError : Type 0 where
+  At_limit : (limit : Bound) → StepError
+  Stamps_spent : StepError
 
 -- nothing happens
-abbrev pub rests : Scene → Result Step Halt
-rests s = Ok (record { scene = s; events = [] })
+abbrev pub rests : WorldState → Result Step StepError
+rests s = Ok (record { state = s; events = [] })
 
--- one step behind events that came before it
-abbrev pub behind : List Event → Result Step Halt → Result Step Halt
-behind events (Ok t) = Ok (record { scene = t.scene; events = events ++ t.events })
-behind events (Err halt) = Err halt
+-- one step after events that came before it
+abbrev pub behind : List Event → Result Step StepError → Result Step StepError
+behind events (Ok t) = Ok (record { state = t.state; events = events ++ t.events })
+behind events (Err error) = Err error
 
 -- one step and then another
-abbrev pub and_then : Result Step Halt → (Scene → Result Step Halt) → Result Step Halt
-and_then (Ok t) next = behind t.events (next t.scene)
-and_then (Err halt) next = Err halt
+abbrev pub and_then : Result Step StepError → (WorldState → Result Step StepError) → Result Step StepError
+and_then (Ok t) next = behind t.events (next t.state)
+and_then (Err error) next = Err error
 
 abbrev pub most_frames : ℕ
 most_frames = 100000
@@ -64,16 +64,16 @@ packets_in (Sends packet message ∷ es) = packet ∷ packets_in es
 packets_in (Installs kind items by ∷ es) = packets_in es
 packets_in (Empties kind ∷ es) = packets_in es
 packets_in (Drops answer ∷ es) = packets_in es
-packets_in (Ends told ∷ es) = packets_in es
+packets_in (Ends outcome ∷ es) = packets_in es
 
--- what is told of what happened in a node, where so many frames were sent before
-abbrev pub told_by : Name → ℕ → List NodeEvent → List Event
-told_by node before [] = []
-told_by node before (Sends packet message ∷ es) = Sent (before + 1) packet message ∷ told_by node (before + 1) es
-told_by node before (Installs kind items by ∷ es) = Installed node (number_of kind) items (node_of by) ∷ told_by node before es
-told_by node before (Empties kind ∷ es) = Emptied node (number_of kind) ∷ told_by node before es
-told_by node before (Drops answer ∷ es) = Dropped node answer ∷ told_by node before es
-told_by node before (Ends told ∷ es) = Ended node told ∷ told_by node before es
+-- what is reported of what happened in a node, after so many frames were sent
+abbrev pub reported_by : Name → ℕ → List NodeEvent → List Event
+reported_by node before [] = []
+reported_by node before (Sends packet message ∷ es) = Sent (before + 1) packet message ∷ reported_by node (before + 1) es
+reported_by node before (Installs kind items by ∷ es) = Installed node (number_of kind) items (node_of by) ∷ reported_by node before es
+reported_by node before (Empties kind ∷ es) = Emptied node (number_of kind) ∷ reported_by node before es
+reported_by node before (Drops answer ∷ es) = Dropped node answer ∷ reported_by node before es
+reported_by node before (Ends outcome ∷ es) = Ended node outcome ∷ reported_by node before es
 
 abbrev pub as_drone : Outcome (Side DroneState) → Outcome Node
 as_drone None = None
@@ -95,104 +95,104 @@ abbrev pub node_ticks : ℕ → Node → Outcome Node
 node_ticks clock (Drone n) = as_drone (drone_ticks clock n)
 node_ticks clock (Station n) = as_station (station_ticks clock n)
 
--- the node at place `k` has done this: its frames are the next of the scenario
-abbrev pub node_does : Scene → ℕ → Name → Outcome Node → Result Step Halt
+-- the node at index `k` has done this: its frames are the next of the scenario
+abbrev pub node_does : WorldState → ℕ → Name → Outcome Node → Result Step StepError
 node_does s k name None = Err Stamps_spent
 node_does s k name (Some d) =
     if nat_le (length s.sent + length (packets_in d.events)) most_frames then Ok (record {
-      scene = record s { nodes = slice_set s.nodes k d.node; sent = s.sent ++ packets_in d.events };
-      events = told_by name (length s.sent) d.events;
+      state = record s { nodes = slice_set s.nodes k d.node; sent = s.sent ++ packets_in d.events };
+      events = reported_by name (length s.sent) d.events;
     })
     else Err (At_limit Frames)
 
--- the node at a place, and the one of a name, where there is one
-abbrev pub calls_at : Scene → ℕ → Option Node → (Node → Outcome Node) → Result Step Halt
+-- the node at an index, and the one of a name, if there is one
+abbrev pub calls_at : WorldState → ℕ → Option Node → (Node → Outcome Node) → Result Step StepError
 calls_at s k None call = rests s
 calls_at s k (Some node) call = node_does s k (node_name node) (call node)
 
-abbrev pub calls_placed : Scene → Option ℕ → (Node → Outcome Node) → Result Step Halt
-calls_placed s None call = rests s
-calls_placed s (Some k) call = calls_at s k (slice_get s.nodes k) call
+abbrev pub calls_found : WorldState → Option ℕ → (Node → Outcome Node) → Result Step StepError
+calls_found s None call = rests s
+calls_found s (Some k) call = calls_at s k (slice_get s.nodes k) call
 
-abbrev pub calls : Scene → Name → (Node → Outcome Node) → Result Step Halt
-calls s name call = calls_placed s (position (is_named name) s.nodes) call
+abbrev pub calls : WorldState → Name → (Node → Outcome Node) → Result Step StepError
+calls s name call = calls_found s (position (is_named name) s.nodes) call
 
 -- ---- frames that are given
 
 -- a frame is given to a node as one datagram, unless the node is its sender
-abbrev pub given_to : Scene → ℕ → Packet → Option Node → Result Step Halt
+abbrev pub given_to : WorldState → ℕ → Packet → Option Node → Result Step StepError
 given_to s k p None = rests s
 given_to s k p (Some node) =
     if same_name (node_name node) p.from then rests s else node_does s k (node_name node) (node_receives s.clock (encoding p) node)
 
--- it is given to `n` nodes, from place `k` on
-abbrev pub given_from : Scene → ℕ → ℕ → Packet → Result Step Halt
+-- it is given to `n` nodes, from index `k` on
+abbrev pub given_from : WorldState → ℕ → ℕ → Packet → Result Step StepError
 given_from s k zero p = rests s
 given_from s k (suc n) p = and_then (given_to s k p (slice_get s.nodes k)) (λ t. given_from t (k + 1) n p)
 
 -- to every node but its sender, in the order in which they were named
-abbrev pub given_to_all : Scene → Packet → Result Step Halt
+abbrev pub given_to_all : WorldState → Packet → Result Step StepError
 given_to_all s p = given_from s 0 (length s.nodes) p
 
--- the next frame of a flow, where there is one
-abbrev pub flow_next : Scene → Option Packet → (Scene → Result Step Halt) → Result Step Halt
+-- the next frame of a flow, if there is one
+abbrev pub flow_next : WorldState → Option Packet → (WorldState → Result Step StepError) → Result Step StepError
 flow_next s None next = rests s
 flow_next s (Some p) next = and_then (given_to_all (record s { given = s.given + 1 }) p) next
 
 -- at most `k` frames are given
-abbrev pub flows : ℕ → Scene → Result Step Halt
+abbrev pub flows : ℕ → WorldState → Result Step StepError
 flows zero s = rests s
 flows (suc k) s = flow_next s (slice_get s.sent s.given) (flows k)
 
 -- a sent frame is given to a node once more, also to its sender
-abbrev pub delivers : Scene → ℕ → Name → Option Packet → Result Step Halt
-delivers s number name None = Ok (record { scene = s; events = Missing number ∷ [] })
+abbrev pub delivers : WorldState → ℕ → Name → Option Packet → Result Step StepError
+delivers s number name None = Ok (record { state = s; events = Missing number ∷ [] })
 delivers s number name (Some p) = calls s name (node_receives s.clock (encoding p))
 
 -- ---- orders to stations
 
 -- a station line: from here on frames are given by the flows that follow
-abbrev pub station_line : Scene → Scene
+abbrev pub station_line : WorldState → WorldState
 station_line s = record s { given = length s.sent }
 
-abbrev pub refuses : Scene → Side StationState → OpFault → Result Step Halt
-refuses s node why = Ok (record { scene = s; events = Refused (node_of node.link.me) why ∷ [] })
+abbrev pub refuses : WorldState → Side StationState → OpFault → Result Step StepError
+refuses s node why = Ok (record { state = s; events = Refused (node_of node.link.me) why ∷ [] })
 
 -- an order that the station refuses, or does
-abbrev pub orders : Scene → ℕ → Side StationState → Option OpFault → Outcome (Side StationState) → Result Step Halt
+abbrev pub orders : WorldState → ℕ → Side StationState → Option OpFault → Outcome (Side StationState) → Result Step StepError
 orders s k node (Some why) outcome = refuses s node why
 orders s k node None outcome = node_does s k (node_of node.link.me) (as_station outcome)
 
 -- an upload of the draft, which becomes empty; a refused one leaves it
-abbrev pub upload_begins : Scene → ℕ → Side StationState → Name → ℕ → Option OpFault → Result Step Halt
+abbrev pub upload_begins : WorldState → ℕ → Side StationState → Name → ℕ → Option OpFault → Result Step StepError
 upload_begins s k node drone kind (Some why) = refuses s node why
 upload_begins s k node drone kind None =
     node_does (record s { draft = [] }) k (node_of node.link.me) (as_station (station_begins s.clock (stream_of drone) kind s.draft node))
 
--- the station at a place, and the one of a name, where there is one
-abbrev pub orders_at : Scene → ℕ → Option Node → (ℕ → Side StationState → Result Step Halt) → Result Step Halt
+-- the station at an index, and the one of a name, if there is one
+abbrev pub orders_at : WorldState → ℕ → Option Node → (ℕ → Side StationState → Result Step StepError) → Result Step StepError
 orders_at s k None order = rests s
 orders_at s k (Some (Drone n)) order = rests s
 orders_at s k (Some (Station n)) order = order k n
 
-abbrev pub orders_placed : Scene → Option ℕ → (ℕ → Side StationState → Result Step Halt) → Result Step Halt
-orders_placed s None order = rests s
-orders_placed s (Some k) order = orders_at s k (slice_get s.nodes k) order
+abbrev pub orders_found : WorldState → Option ℕ → (ℕ → Side StationState → Result Step StepError) → Result Step StepError
+orders_found s None order = rests s
+orders_found s (Some k) order = orders_at s k (slice_get s.nodes k) order
 
-abbrev pub orders_to : Scene → Name → (ℕ → Side StationState → Result Step Halt) → Result Step Halt
-orders_to s name order = orders_placed s (position (is_station_named name) s.nodes) order
+abbrev pub orders_to : WorldState → Name → (ℕ → Side StationState → Result Step StepError) → Result Step StepError
+orders_to s name order = orders_found s (position (is_station_named name) s.nodes) order
 
-abbrev pub begins : Scene → Name → Name → ℕ → Result Step Halt
+abbrev pub begins : WorldState → Name → Name → ℕ → Result Step StepError
 begins s station drone kind = orders_to s station (λ k node. upload_begins s k node drone kind (upload_refusal node.core kind s.draft))
 
-abbrev pub cancels : Scene → Name → Result Step Halt
+abbrev pub cancels : WorldState → Name → Result Step StepError
 cancels s station = orders_to s station (λ k node. orders s k node None (station_cancels s.clock node))
 
-abbrev pub clears : Scene → Name → Name → ℕ → Result Step Halt
+abbrev pub clears : WorldState → Name → Name → ℕ → Result Step StepError
 clears s station drone kind =
     orders_to s station (λ k node. orders s k node (refusal node.core) (station_clears s.clock (stream_of drone) kind node))
 
-abbrev pub gets : Scene → Name → Name → ℕ → Result Step Halt
+abbrev pub gets : WorldState → Name → Name → ℕ → Result Step StepError
 gets s station drone kind =
     orders_to s station (λ k node. orders s k node (refusal node.core) (station_gets s.clock (stream_of drone) kind node))
 
@@ -204,11 +204,11 @@ items_from zero first i = []
 items_from (suc n) first i = record first { x = first.x +ℤ pos i } ∷ items_from n first (i + 1)
 
 -- one node more
-abbrev pub joins : Scene → Node → Result Step Halt
+abbrev pub joins : WorldState → Node → Result Step StepError
 joins s node = rests (record s { nodes = s.nodes ++ node ∷ [] })
 
 -- one line
-abbrev pub after_line : Scene → Line → Result Step Halt
+abbrev pub after_line : WorldState → Line → Result Step StepError
 after_line s Blank = rests s
 after_line s (DroneLine sys x y) =
     if nat_lt (drones_in s.nodes) most_drones then joins s (Drone (new_drone s.key sys)) else Err (At_limit Drones)

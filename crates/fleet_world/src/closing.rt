@@ -1,9 +1,9 @@
-// What the end of a scenario tells.
+// What the end of a scenario reports.
 ghost use Rattle.std.specs.Prelude.{◌≡◌, ◌++◌, [], List, OnOk, slice_get};
 ghost use Rattle.fleet_report.specs.Events.{plan_text};
 ghost use Rattle.fleet_report.specs.Reports.{with_text};
-ghost use Rattle.fleet_world.specs.Scene.{Node as SceneNode, node_name};
-ghost use Rattle.fleet_world.specs.Seen.{IsNode, IsFleet};
+ghost use Rattle.fleet_world.specs.WorldState.{Node as StateNode, node_name};
+ghost use Rattle.fleet_world.specs.WorldView.{IsNode, IsFleet};
 ghost use Rattle.fleet_world.specs.Closing.{closing_at};
 ghost use Rattle.fleet_world.specs.Steps.{closing_of, closing_text};
 
@@ -25,9 +25,9 @@ fn put_plans(report: &mut Report, name: Name, drone: &Drone) -> Result<(), NoMem
     report.plan(name, PlanKind::Rally, drone.plan(PlanKind::Rally))
 }
 
-// What the end tells of a node of this name.
+// What the end reports of a node of this name.
 fn close_node(node: &Node, name: Name, report: &mut Report) -> Result<(), NoMemory>
-    ensures { OnOk result ((one : SceneNode) → IsNode one node.now → name ≡ node_name one
+    ensures { OnOk result ((one : StateNode) → IsNode one node.now → name ≡ node_name one
         → report.new ≡ with_text report.old (closing_of one)) }
 {
     match node {
@@ -37,16 +37,16 @@ fn close_node(node: &Node, name: Name, report: &mut Report) -> Result<(), NoMemo
 }
 
 impl Fleet {
-    // The plans of the node at a place, where it is a drone.
-    fn close_at(&self, place: usize, report: &mut Report) -> Result<(), NoMemory>
-        ensures { OnOk result ((nodes : List SceneNode) → IsFleet nodes self.now
-            → report.new ≡ with_text report.old (closing_at (slice_get nodes place))) }
+    // The plans of the node at an index, if it is a drone.
+    fn close_at(&self, index: usize, report: &mut Report) -> Result<(), NoMemory>
+        ensures { OnOk result ((nodes : List StateNode) → IsFleet nodes self.now
+            → report.new ≡ with_text report.old (closing_at (slice_get nodes index))) }
     {
-        let Some(name) = self.name_at(place) else {
+        let Some(name) = self.name_at(index) else {
             return Ok(());
         };
-        if place < self.nodes.len() {
-            close_node(&self.nodes[place], name, report)
+        if index < self.nodes.len() {
+            close_node(&self.nodes[index], name, report)
         } else {
             Ok(())
         }
@@ -54,11 +54,11 @@ impl Fleet {
 
     /// The plans of each drone in the order in which they were named.
     pub(crate) fn close(&self, report: &mut Report) -> Result<(), NoMemory>
-        ensures { OnOk result ((nodes : List SceneNode) → IsFleet nodes self.now
+        ensures { OnOk result ((nodes : List StateNode) → IsFleet nodes self.now
             → report.new ≡ with_text report.old (closing_text nodes)) }
     {
-        for place in 0..self.len() {
-            self.close_at(place, report)?;
+        for index in 0..self.len() {
+            self.close_at(index, report)?;
         }
         Ok(())
     }

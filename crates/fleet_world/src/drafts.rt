@@ -1,4 +1,4 @@
-// Items that join the draft.
+// Items that are added to the draft.
 ghost use Rattle.std.specs.Prelude.{◌≡◌, ◌≤◌, ◌++◌, ◌+ℤ◌, pos, false, OnOk, FitsSigned};
 ghost use Rattle.std.specs.Int.{w32};
 ghost use Rattle.plan_items.specs.Plans.{items_of};
@@ -19,7 +19,7 @@ fn moved(item: Item, by: u64) -> Item
     moved
 }
 
-// `count` items join a plan, the i-th from 0 with the x of the first plus i.
+// `count` items are added to a plan, the i-th from 0 with the x of the first plus i.
 pub(crate) fn put_items(plan: &mut Plan, count: u64, first: Item) -> Result<(), NoMemory>
     requires few { count ≤ 2000 }
     requires fits { leaves_range count first ≡ false }

@@ -13,10 +13,12 @@ pub enum Bound {
     Stations,
 }
 
-/// After it the world is given up.
+/// Why a line isn't done. After it the world isn't used any more.
 #[derive(Clone, Copy, Debug, PartialEq, Eq)]
 pub enum WorldFault {
+    /// One more than the limit would be made.
     Limit(Bound),
+    /// A node has no timestamp left, or no memory.
     Node(NodeFault),
     NoMemory,
 }

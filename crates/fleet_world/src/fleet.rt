@@ -3,12 +3,12 @@ ghost use Rattle.std.specs.Prelude.{◌≡◌, if◌then◌else◌, ◌+◌, ◌
 ghost use Rattle.mav_nodes.specs.Steps.{Side};
 ghost use Rattle.mav_nodes.specs.Nodes.{new_drone, new_station, order_refusal, station_obeys};
 ghost use Rattle.plan_upload.specs.Station.{StationState};
-ghost use Rattle.fleet_world.specs.Scene.{Node as SceneNode, Drone as SceneDrone, Station as SceneStation, node_name, is_named, is_station_named, drones_in, stations_in, stream_of};
-ghost use Rattle.fleet_world.specs.Seen.{no_fleet, IsFleet};
+ghost use Rattle.fleet_world.specs.WorldState.{Node as StateNode, Drone as StateDrone, Station as StateStation, node_name, is_named, is_station_named, drones_in, stations_in, stream_of};
+ghost use Rattle.fleet_world.specs.WorldView.{no_fleet, IsFleet};
 ghost use Rattle.fleet_world.specs.Steps.{as_station};
-ghost use Rattle.fleet_world.specs.Tellings.{node_called};
-ghost use Rattle.fleet_world.specs.Promises.{FleetDid, Moved, IsSpent, Refuses};
-ghost use Rattle.fleet_world.specs.Counts.{is_seen_drone, counted};
+ghost use Rattle.fleet_world.specs.NodeSteps.{node_called};
+ghost use Rattle.fleet_world.specs.Promises.{FleetOutcome, Moved, IsSpent, Refuses};
+ghost use Rattle.fleet_world.specs.Counts.{is_drone_view, counted};
 
 use crate::NoMemory;
 use crate::calls::Call;
@@ -40,7 +40,7 @@ pub(crate) struct Fleet {
 }
 
 impl Model for Fleet {
-    ghost use Rattle.fleet_world.specs.Seen.{Fleet};
+    ghost use Rattle.fleet_world.specs.WorldView.{Fleet};
 
     ghost Value = { Fleet };
 
@@ -60,7 +60,7 @@ pub(crate) fn stream(name: Name) -> Stream
 
 // 1 for a drone.
 fn drone_count(node: &Node) -> usize
-    ensures { result ≡ (if is_seen_drone node.now then 1 else 0) }
+    ensures { result ≡ (if is_drone_view node.now then 1 else 0) }
 {
     match node {
         Node::Drone(_) => 1,
@@ -69,7 +69,7 @@ fn drone_count(node: &Node) -> usize
 }
 
 fn count_drones(nodes: &[Node]) -> usize
-    ensures { result ≡ counted is_seen_drone nodes.now }
+    ensures { result ≡ counted is_drone_view nodes.now }
 {
     let mut count = 0;
     for node in nodes {
@@ -111,10 +111,10 @@ impl Fleet {
         self.clock += by;
     }
 
-    /// A drone of this system joins, at that place.
+    /// A drone of this system is added, at x and y in units of 1e-7 degrees.
     pub(crate) fn add_drone(&mut self, sys: u8, x: i32, y: i32) -> Result<(), NoMemory>
-        ensures joins { OnOk result ((nodes : List SceneNode) → IsFleet nodes self.old
-            → IsFleet (nodes ++ SceneDrone (new_drone self.old.key sys) ∷ []) self.new) }
+        ensures joins { OnOk result ((nodes : List StateNode) → IsFleet nodes self.old
+            → IsFleet (nodes ++ StateDrone (new_drone self.old.key sys) ∷ []) self.new) }
         ensures kept { OnOk result (self.new ≡ record self.old { nodes = self.new.nodes; roster = self.new.roster }) }
     {
         let drone = DroneNode::new(self.alloc, self.key, sys, x, y)?;
@@ -129,10 +129,10 @@ impl Fleet {
         })
     }
 
-    /// A station of this name joins.
+    /// A station of this name is added.
     pub(crate) fn add_station(&mut self, name: Name) -> Result<(), NoMemory>
-        ensures joins { OnOk result ((nodes : List SceneNode) → IsFleet nodes self.old
-            → IsFleet (nodes ++ SceneStation (new_station self.old.key (stream_of name) 0) ∷ []) self.new) }
+        ensures joins { OnOk result ((nodes : List StateNode) → IsFleet nodes self.old
+            → IsFleet (nodes ++ StateStation (new_station self.old.key (stream_of name) 0) ∷ []) self.new) }
         ensures kept { OnOk result (self.new ≡ record self.old { nodes = self.new.nodes; roster = self.new.roster }) }
     {
         let station = StationNode::new(self.alloc, self.key, stream(name), BOOT)?;
@@ -143,84 +143,84 @@ impl Fleet {
         })
     }
 
-    /// The name of the node at a place.
-    pub(crate) fn name_at(&self, place: usize) -> Option<Name>
-        ensures { (nodes : List SceneNode) → IsFleet nodes self.now → result ≡ option_map node_name (slice_get nodes place) }
+    /// The name of the node at an index.
+    pub(crate) fn name_at(&self, index: usize) -> Option<Name>
+        ensures { (nodes : List StateNode) → IsFleet nodes self.now → result ≡ option_map node_name (slice_get nodes index) }
     {
-        match self.roster.get(place) {
+        match self.roster.get(index) {
             Some(named) => Some(named.name),
             None => None,
         }
     }
 
-    // The node at a place does what it is asked.
+    // The node at an index does what it is asked.
     pub(crate) fn call_at(
         &mut self,
-        place: usize,
+        index: usize,
         call: &Call,
         datagram: &[u8],
     ) -> Result<Vec<News>, NodeFault>
-        ensures done { IfOk result (λ news. (nodes : List SceneNode) → IsFleet nodes self.old
-            → FleetDid nodes place (slice_get nodes place) (node_called call.now datagram.now self.old.clock) self.new news.items) }
-        ensures spent { IfErr result (λ fault. (nodes : List SceneNode) → IsFleet nodes self.old
-            → fault ≡ NodeFault.StampsSpent → IsSpent (slice_get nodes place) (node_called call.now datagram.now self.old.clock)) }
+        ensures done { IfOk result (λ news. (nodes : List StateNode) → IsFleet nodes self.old
+            → FleetOutcome nodes index (slice_get nodes index) (node_called call.now datagram.now self.old.clock) self.new news.items) }
+        ensures spent { IfErr result (λ fault. (nodes : List StateNode) → IsFleet nodes self.old
+            → fault ≡ NodeFault.StampsSpent → IsSpent (slice_get nodes index) (node_called call.now datagram.now self.old.clock)) }
         ensures kept { self.new ≡ record self.old { nodes = self.new.nodes } }
     {
-        if place < self.nodes.len() {
-            self.nodes[place].call(call, datagram, self.clock)
+        if index < self.nodes.len() {
+            self.nodes[index].call(call, datagram, self.clock)
         } else {
             Ok(Vec::new(self.alloc))
         }
     }
 
-    // The station at a place follows an order, or refuses it.
-    pub(crate) fn order_at(&mut self, place: usize, order: Order) -> Result<Vec<News>, OrderFault>
-        ensures done { IfOk result (λ news. (nodes : List SceneNode) → (node : Side StationState) → IsFleet nodes self.old
-            → slice_get nodes place ≡ Some (SceneStation node)
+    // The station at an index follows an order, or refuses it.
+    pub(crate) fn order_at(&mut self, index: usize, order: Order) -> Result<Vec<News>, OrderFault>
+        ensures done { IfOk result (λ news. (nodes : List StateNode) → (node : Side StationState) → IsFleet nodes self.old
+            → slice_get nodes index ≡ Some (StateStation node)
             → (order_refusal node.core order ≡ None)
-            × Moved nodes place (as_station (station_obeys self.old.clock order node)) self.new news.items) }
-        ensures fault { IfErr result (λ fault. (nodes : List SceneNode) → (node : Side StationState) → IsFleet nodes self.old
-            → slice_get nodes place ≡ Some (SceneStation node)
+            × Moved nodes index (as_station (station_obeys self.old.clock order node)) self.new news.items) }
+        ensures fault { IfErr result (λ fault. (nodes : List StateNode) → (node : Side StationState) → IsFleet nodes self.old
+            → slice_get nodes index ≡ Some (StateStation node)
             → Refuses self.old.clock node order (IsFleet nodes self.new) fault) }
         ensures kept { self.new ≡ record self.old { nodes = self.new.nodes } }
     {
-        if place < self.nodes.len() {
-            self.nodes[place].order(self.alloc, order, self.clock)
+        if index < self.nodes.len() {
+            self.nodes[index].order(self.alloc, order, self.clock)
         } else {
             Ok(Vec::new(self.alloc))
         }
     }
 
-    /// The place of the node of a name.
-    pub(crate) fn place_of(&self, name: Name) -> Option<usize>
-        ensures { (nodes : List SceneNode) → IsFleet nodes self.now → result ≡ position (is_named name) nodes }
+    /// The index of the node of a name.
+    pub(crate) fn index_of(&self, name: Name) -> Option<usize>
+        ensures { (nodes : List StateNode) → IsFleet nodes self.now → result ≡ position (is_named name) nodes }
     {
-        self.roster.place_of_name(name)
+        self.roster.index_of_name(name)
     }
 
-    /// The place of the station of a name.
-    pub(crate) fn place_of_station(&self, name: Name) -> Option<usize>
-        ensures { (nodes : List SceneNode) → IsFleet nodes self.now → result ≡ position (is_station_named name) nodes }
+    /// The index of the station of a name.
+    pub(crate) fn index_of_station(&self, name: Name) -> Option<usize>
+        ensures { (nodes : List StateNode) → IsFleet nodes self.now → result ≡ position (is_station_named name) nodes }
     {
-        self.roster.place_of(Role::Station, name)
+        self.roster.index_of(Role::Station, name)
     }
 
     pub(crate) fn len(&self) -> usize
-        ensures { (nodes : List SceneNode) → IsFleet nodes self.now → result ≡ length nodes }
+        ensures { (nodes : List StateNode) → IsFleet nodes self.now → result ≡ length nodes }
     {
         self.roster.len()
     }
 
     /// How many drones there are.
     pub(crate) fn drones(&self) -> usize
-        ensures { (nodes : List SceneNode) → IsFleet nodes self.now → result ≡ drones_in nodes }
+        ensures { (nodes : List StateNode) → IsFleet nodes self.now → result ≡ drones_in nodes }
     {
         count_drones(&self.nodes)
     }
 
     /// How many stations there are.
     pub(crate) fn stations(&self) -> usize
-        ensures { (nodes : List SceneNode) → IsFleet nodes self.now → result ≡ stations_in nodes }
+        ensures { (nodes : List StateNode) → IsFleet nodes self.now → result ≡ stations_in nodes }
     {
         self.roster.len().saturating_sub(self.drones())
     }

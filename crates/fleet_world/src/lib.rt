@@ -1,22 +1,22 @@
 //! A scenario's world: drones and stations that exchange signed datagrams, one scenario line at a time.
 //!
-//! `World::read` reads a line or answers the first reason against it, `World::line` does a line and answers its report,
-//! `World::finish` answers the closing plans. What a line does is a function of the scene (`after_line`); contracts say
-//! which scene a world is in (`IsScene`). Nothing here reads a file, sends a packet or waits.
+//! `World::read` reads a line or returns the first reason against it, `World::line` does a line and returns its report,
+//! `World::finish` returns the closing plans. What a line does is a function of the state (`after_line`); contracts say
+//! which state a world is in (`IsState`). Nothing here reads a file, sends a packet or waits.
 #![tactic(auto)]
 
-mod acting;
-mod calling;
 mod calls;
 mod closing;
 mod drafts;
+mod events;
 mod faults;
 mod fleet;
 mod flows;
+mod lines;
+mod node_calls;
 mod nodes;
 mod orders;
 mod sent;
-mod telling;
 mod world;
 
 pub use faults::{Bound, WorldFault};

@@ -3,11 +3,11 @@ ghost use Rattle.std.specs.Prelude.{◌≡◌, None, Some, [], IfOk, IfErr};
 ghost use Rattle.mav_nodes.specs.Steps.{Side};
 ghost use Rattle.mav_nodes.specs.Nodes.{order_refusal, station_obeys};
 ghost use Rattle.plan_upload.specs.Station.{StationState};
-ghost use Rattle.fleet_world.specs.Scene.{Node as SceneNode, Station as SceneStation};
-ghost use Rattle.fleet_world.specs.Seen.{IsNode};
+ghost use Rattle.fleet_world.specs.WorldState.{Node as StateNode, Station as StateStation};
+ghost use Rattle.fleet_world.specs.WorldView.{IsNode};
 ghost use Rattle.fleet_world.specs.Steps.{as_station};
-ghost use Rattle.fleet_world.specs.Tellings.{node_called};
-ghost use Rattle.fleet_world.specs.Promises.{NodeDid, Refuses};
+ghost use Rattle.fleet_world.specs.NodeSteps.{node_called};
+ghost use Rattle.fleet_world.specs.Promises.{NodeOutcome, Refuses};
 
 use crate::calls::Call;
 use mav_nodes::{DroneNode, News, NodeFault, Order, OrderFault, StationNode};
@@ -27,9 +27,9 @@ impl Node {
         datagram: &[u8],
         clock: u64,
     ) -> Result<Vec<News>, NodeFault>
-        ensures done { IfOk result (λ news. (node : SceneNode) → IsNode node self.old
-            → NodeDid (node_called call.now datagram.now clock node) self.new news.items) }
-        ensures spent { IfErr result (λ fault. (node : SceneNode) → IsNode node self.old
+        ensures done { IfOk result (λ news. (node : StateNode) → IsNode node self.old
+            → NodeOutcome (node_called call.now datagram.now clock node) self.new news.items) }
+        ensures spent { IfErr result (λ fault. (node : StateNode) → IsNode node self.old
             → fault ≡ NodeFault.StampsSpent → node_called call.now datagram.now clock node ≡ None) }
     {
         match (self, call) {
@@ -51,9 +51,9 @@ impl Node {
         order: Order,
         clock: u64,
     ) -> Result<Vec<News>, OrderFault>
-        ensures done { IfOk result (λ news. (node : Side StationState) → IsNode (SceneStation node) self.old
-            → (order_refusal node.core order ≡ None) × NodeDid (as_station (station_obeys clock order node)) self.new news.items) }
-        ensures fault { IfErr result (λ fault. (node : Side StationState) → IsNode (SceneStation node) self.old
+        ensures done { IfOk result (λ news. (node : Side StationState) → IsNode (StateStation node) self.old
+            → (order_refusal node.core order ≡ None) × NodeOutcome (as_station (station_obeys clock order node)) self.new news.items) }
+        ensures fault { IfErr result (λ fault. (node : Side StationState) → IsNode (StateStation node) self.old
             → Refuses clock node order (self.new ≡ self.old) fault) }
     {
         match self {

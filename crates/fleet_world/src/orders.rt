@@ -7,11 +7,11 @@ ghost use Rattle.plan_items.specs.Plans.{items_of};
 ghost use Rattle.plan_upload.specs.Kinds.{clear_number};
 ghost use Rattle.plan_upload.specs.Addresses.{node_of};
 ghost use Rattle.plan_upload.specs.Station.{StationState};
-ghost use Rattle.fleet_world.specs.Scene.{Scene, Node as SceneNode, Station as SceneStation};
-ghost use Rattle.fleet_world.specs.Seen.{IsFleet, IsScene};
+ghost use Rattle.fleet_world.specs.WorldState.{WorldState, Node as StateNode, Station as StateStation};
+ghost use Rattle.fleet_world.specs.WorldView.{IsFleet, IsState};
 ghost use Rattle.fleet_world.specs.Steps.{as_station, station_line, orders_to, begins, clears, gets};
-ghost use Rattle.fleet_world.specs.Tellings.{obeys};
-ghost use Rattle.fleet_world.specs.Promises.{Moved, Refuses, WorldDid, IsHalt, RefusedTold, IsGivenUp};
+ghost use Rattle.fleet_world.specs.NodeSteps.{obeys};
+ghost use Rattle.fleet_world.specs.Promises.{Moved, Refuses, WorldOutcome, IsStepError, RefusalReported, IsGivenUp};
 
 use crate::fleet::stream;
 use crate::{World, WorldFault};
@@ -25,7 +25,7 @@ use std::mem;
 impl World {
     // The flows that follow give what is sent from here on.
     fn skip_sent(&mut self)
-        ensures { (scene : Scene) → IsScene scene self.old.frames self.old → IsScene (station_line scene) self.old.frames self.new }
+        ensures { (state : WorldState) → IsState state self.old.frames self.old → IsState (station_line state) self.old.frames self.new }
     {
         self.given = self.sent.len();
     }
@@ -37,15 +37,15 @@ impl World {
         mem::replace(&mut self.draft, Plan::new(self.alloc))
     }
 
-    // A refusal is told, and a plan that is handed back becomes the draft.
+    // A refusal is reported, and a plan that is handed back becomes the draft.
     fn refuse(
         &mut self,
         station: Name,
         fault: OrderFault,
         report: &mut Report,
     ) -> Result<(), WorldFault>
-        ensures done { OnOk result (RefusedTold station fault self.old self.new report.old report.new) }
-        ensures halt { IfErr result (λ e. IsGivenUp fault e) }
+        ensures done { OnOk result (RefusalReported station fault self.old self.new report.old report.new) }
+        ensures error { IfErr result (λ e. IsGivenUp fault e) }
     {
         match fault {
             OrderFault::Begin(fault) => {
@@ -62,36 +62,36 @@ impl World {
         }
     }
 
-    // What the station at a place tells of an order.
-    fn news_of_order(&mut self, place: usize, order: Order) -> Result<Vec<News>, OrderFault>
-        ensures done { IfOk result (λ news. (nodes : List SceneNode) → (node : Side StationState) → IsFleet nodes self.old.fleet
-            → slice_get nodes place ≡ Some (SceneStation node)
+    // The news of the station at an index at an order.
+    fn news_of_order(&mut self, index: usize, order: Order) -> Result<Vec<News>, OrderFault>
+        ensures done { IfOk result (λ news. (nodes : List StateNode) → (node : Side StationState) → IsFleet nodes self.old.fleet
+            → slice_get nodes index ≡ Some (StateStation node)
             → (order_refusal node.core order ≡ None)
-            × Moved nodes place (as_station (station_obeys self.old.fleet.clock order node)) self.new.fleet news.items) }
-        ensures fault { IfErr result (λ fault. (nodes : List SceneNode) → (node : Side StationState) → IsFleet nodes self.old.fleet
-            → slice_get nodes place ≡ Some (SceneStation node)
+            × Moved nodes index (as_station (station_obeys self.old.fleet.clock order node)) self.new.fleet news.items) }
+        ensures fault { IfErr result (λ fault. (nodes : List StateNode) → (node : Side StationState) → IsFleet nodes self.old.fleet
+            → slice_get nodes index ≡ Some (StateStation node)
             → Refuses self.old.fleet.clock node order (IsFleet nodes self.new.fleet) fault) }
         ensures kept { self.new ≡ record self.old { fleet = record self.old.fleet { nodes = self.new.fleet.nodes } } }
     {
-        self.fleet.order_at(place, order)
+        self.fleet.order_at(index, order)
     }
 
-    // The station at a place follows an order, or refuses it.
+    // The station at an index follows an order, or refuses it.
     fn order_at(
         &mut self,
-        place: usize,
+        index: usize,
         station: Name,
         order: Order,
         report: &mut Report,
     ) -> Result<(), WorldFault>
-        ensures done { OnOk result ((scene : Scene) → (node : Side StationState) → IsScene scene self.old.frames self.old
-            → slice_get scene.nodes place ≡ Some (SceneStation node)
-            → WorldDid (obeys scene place station node order) self.old.frames self.new report.old report.new) }
-        ensures halt { IfErr result (λ fault. (scene : Scene) → (node : Side StationState) → IsScene scene self.old.frames self.old
-            → slice_get scene.nodes place ≡ Some (SceneStation node) → IsHalt (obeys scene place station node order) fault) }
+        ensures done { OnOk result ((state : WorldState) → (node : Side StationState) → IsState state self.old.frames self.old
+            → slice_get state.nodes index ≡ Some (StateStation node)
+            → WorldOutcome (obeys state index station node order) self.old.frames self.new report.old report.new) }
+        ensures error { IfErr result (λ fault. (state : WorldState) → (node : Side StationState) → IsState state self.old.frames self.old
+            → slice_get state.nodes index ≡ Some (StateStation node) → IsStepError (obeys state index station node order) fault) }
     {
-        match self.news_of_order(place, order) {
-            Ok(news) => self.tell(station, news.as_slice(), report),
+        match self.news_of_order(index, order) {
+            Ok(news) => self.report_news(station, news.as_slice(), report),
             Err(fault) => self.refuse(station, fault, report),
         }
     }
@@ -103,14 +103,14 @@ impl World {
         order: Order,
         report: &mut Report,
     ) -> Result<(), WorldFault>
-        ensures done { OnOk result ((scene : Scene) → IsScene scene self.old.frames self.old
-            → WorldDid (orders_to (station_line scene) station (λ k node. obeys (station_line scene) k (node_of node.link.me) node order)) self.old.frames self.new report.old report.new) }
-        ensures halt { IfErr result (λ fault. (scene : Scene) → IsScene scene self.old.frames self.old
-            → IsHalt (orders_to (station_line scene) station (λ k node. obeys (station_line scene) k (node_of node.link.me) node order)) fault) }
+        ensures done { OnOk result ((state : WorldState) → IsState state self.old.frames self.old
+            → WorldOutcome (orders_to (station_line state) station (λ k node. obeys (station_line state) k (node_of node.link.me) node order)) self.old.frames self.new report.old report.new) }
+        ensures error { IfErr result (λ fault. (state : WorldState) → IsState state self.old.frames self.old
+            → IsStepError (orders_to (station_line state) station (λ k node. obeys (station_line state) k (node_of node.link.me) node order)) fault) }
     {
         self.skip_sent();
-        match self.fleet.place_of_station(station) {
-            Some(place) => self.order_at(place, station, order, report),
+        match self.fleet.index_of_station(station) {
+            Some(index) => self.order_at(index, station, order, report),
             None => Ok(()),
         }
     }
@@ -123,10 +123,10 @@ impl World {
         kind: Option<PlanKind>,
         report: &mut Report,
     ) -> Result<(), WorldFault>
-        ensures done { OnOk result ((scene : Scene) → IsScene scene self.old.frames self.old
-            → WorldDid (clears (station_line scene) station drone (clear_number kind)) self.old.frames self.new report.old report.new) }
-        ensures halt { IfErr result (λ fault. (scene : Scene) → IsScene scene self.old.frames self.old
-            → IsHalt (clears (station_line scene) station drone (clear_number kind)) fault) }
+        ensures done { OnOk result ((state : WorldState) → IsState state self.old.frames self.old
+            → WorldOutcome (clears (station_line state) station drone (clear_number kind)) self.old.frames self.new report.old report.new) }
+        ensures error { IfErr result (λ fault. (state : WorldState) → IsState state self.old.frames self.old
+            → IsStepError (clears (station_line state) station drone (clear_number kind)) fault) }
     {
         let drone = stream(drone);
         self.order(station, Order::Clear { drone, kind }, report)
@@ -140,10 +140,10 @@ impl World {
         kind: PlanKind,
         report: &mut Report,
     ) -> Result<(), WorldFault>
-        ensures done { OnOk result ((scene : Scene) → IsScene scene self.old.frames self.old
-            → WorldDid (gets (station_line scene) station drone (number_of kind)) self.old.frames self.new report.old report.new) }
-        ensures halt { IfErr result (λ fault. (scene : Scene) → IsScene scene self.old.frames self.old
-            → IsHalt (gets (station_line scene) station drone (number_of kind)) fault) }
+        ensures done { OnOk result ((state : WorldState) → IsState state self.old.frames self.old
+            → WorldOutcome (gets (station_line state) station drone (number_of kind)) self.old.frames self.new report.old report.new) }
+        ensures error { IfErr result (λ fault. (state : WorldState) → IsState state self.old.frames self.old
+            → IsStepError (gets (station_line state) station drone (number_of kind)) fault) }
     {
         let drone = stream(drone);
         self.order(station, Order::Get { drone, kind }, report)
@@ -157,16 +157,16 @@ impl World {
         kind: PlanKind,
         report: &mut Report,
     ) -> Result<(), WorldFault>
-        ensures done { OnOk result ((scene : Scene) → IsScene scene self.old.frames self.old
-            → WorldDid (begins (station_line scene) station drone (number_of kind)) self.old.frames self.new report.old report.new) }
-        ensures halt { IfErr result (λ fault. (scene : Scene) → IsScene scene self.old.frames self.old
-            → IsHalt (begins (station_line scene) station drone (number_of kind)) fault) }
+        ensures done { OnOk result ((state : WorldState) → IsState state self.old.frames self.old
+            → WorldOutcome (begins (station_line state) station drone (number_of kind)) self.old.frames self.new report.old report.new) }
+        ensures error { IfErr result (λ fault. (state : WorldState) → IsState state self.old.frames self.old
+            → IsStepError (begins (station_line state) station drone (number_of kind)) fault) }
     {
         self.skip_sent();
-        let Some(place) = self.fleet.place_of_station(station) else {
+        let Some(index) = self.fleet.index_of_station(station) else {
             return Ok(());
         };
         let (drone, plan) = (stream(drone), self.take_draft());
-        self.order_at(place, station, Order::Begin { drone, kind, plan }, report)
+        self.order_at(index, station, Order::Begin { drone, kind, plan }, report)
     }
 }

@@ -1,7 +1,7 @@
 // The frames that were sent.
 ghost use Rattle.std.specs.Prelude.{◌≡◌, ◌≤◌, ◌++◌, ◌∷◌, [], length, option_map, slice_get, OnOk, OnErr, IfOk};
 ghost use Rattle.fleet_world.specs.Cuts.{cut, behind};
-ghost use Rattle.fleet_world.specs.Seen.{Kept, kept_as, bytes_of};
+ghost use Rattle.fleet_world.specs.WorldView.{Kept, kept_as, bytes_of};
 
 use crate::NoMemory;
 use mav_frame::{Frame, encode};
@@ -9,40 +9,40 @@ use mav_names::Name;
 use std::alloc::Global;
 use std::marker::Model;
 
-// A frame's sender, and where its bytes stand.
+// A frame's sender, and the offsets of its bytes: from `start`, up to `end`.
 #[derive(Clone, Copy)]
-struct Place {
+struct Span {
     from: Name,
     start: usize,
     end: usize,
 }
 
-/// The bytes of the sent frames, one behind the other, with their senders. Contracts see a pair for each frame.
+/// The bytes of the sent frames, one after another, with their senders. Contracts see a pair for each frame.
 #[derive(Drop)]
 pub(crate) struct SentFrames {
     bytes: Vec<u8>,
-    places: Vec<Place>,
+    spans: Vec<Span>,
 }
 
 impl Model for SentFrames {
     ghost use Rattle.std.specs.Prelude.{List};
-    ghost use Rattle.fleet_world.specs.Seen.{Kept};
+    ghost use Rattle.fleet_world.specs.WorldView.{Kept};
     ghost use Rattle.fleet_world.specs.Cuts.{cuts, AreWithin};
 
     ghost Value = { List Kept };
 
-    ghost view = { λ f. cuts f.bytes.items f.places.items };
+    ghost view = { λ f. cuts f.bytes.items f.spans.items };
 
-    ghost invariant = { λ f. AreWithin f.bytes.items f.places.items };
+    ghost invariant = { λ f. AreWithin f.bytes.items f.spans.items };
 }
 
-fn place_at(places: &[Place], place: usize) -> Option<Place>
-    ensures { result ≡ slice_get places.now place }
+fn span_at(spans: &[Span], index: usize) -> Option<Span>
+    ensures { result ≡ slice_get spans.now index }
 {
-    places.get(place).copied()
+    spans.get(index).copied()
 }
 
-fn part(bytes: &[u8], at: Place) -> &[u8]
+fn part(bytes: &[u8], at: Span) -> &[u8]
     requires order { at.start ≤ at.end }
     requires below { at.end ≤ length bytes.now }
     ensures { result.now ≡ (cut bytes.now at).1 }
@@ -50,15 +50,15 @@ fn part(bytes: &[u8], at: Place) -> &[u8]
     &bytes[at.start..at.end]
 }
 
-// The bytes of a sender's frame join the others, and stand there.
-fn append(bytes: &mut Vec<u8>, from: Name, frame: &[u8]) -> Result<Place, NoMemory>
+// Appends the bytes of a sender's frame, and returns their span.
+fn append(bytes: &mut Vec<u8>, from: Name, frame: &[u8]) -> Result<Span, NoMemory>
     ensures joined { OnOk result (bytes.new.items ≡ bytes.old.items ++ frame.now) }
-    ensures place { IfOk result (λ place. place ≡ behind from bytes.old.items frame.now) }
+    ensures span { IfOk result (λ span. span ≡ behind from bytes.old.items frame.now) }
     ensures kept { OnErr result (bytes.new.items ≡ bytes.old.items) }
 {
     let start = bytes.len();
     bytes.extend_from_slice(frame)?;
-    Ok(Place {
+    Ok(Span {
         from,
         start,
         end: bytes.len(),
@@ -71,7 +71,7 @@ impl SentFrames {
     {
         SentFrames {
             bytes: Vec::new(alloc),
-            places: Vec::new(alloc),
+            spans: Vec::new(alloc),
         }
     }
 
@@ -79,24 +79,24 @@ impl SentFrames {
     pub(crate) fn len(&self) -> usize
         ensures { result ≡ length self.now }
     {
-        self.places.len()
+        self.spans.len()
     }
 
-    /// Who sent the frame of a place, from 0.
-    pub(crate) fn sender(&self, place: usize) -> Option<Name>
-        ensures { result ≡ option_map (λ (kept : Kept). kept.0) (slice_get self.now place) }
+    /// Who sent the frame of an index, from 0.
+    pub(crate) fn sender(&self, index: usize) -> Option<Name>
+        ensures { result ≡ option_map (λ (kept : Kept). kept.0) (slice_get self.now index) }
     {
-        match place_at(&self.places, place) {
+        match span_at(&self.spans, index) {
             Some(at) => Some(at.from),
             None => None,
         }
     }
 
-    /// The bytes of the frame of a place; none where there is no such frame.
-    pub(crate) fn bytes(&self, place: usize) -> &[u8]
-        ensures { result.now ≡ bytes_of (slice_get self.now place) }
+    /// The bytes of the frame of an index; none if there is no such frame.
+    pub(crate) fn bytes(&self, index: usize) -> &[u8]
+        ensures { result.now ≡ bytes_of (slice_get self.now index) }
     {
-        match place_at(&self.places, place) {
+        match span_at(&self.spans, index) {
             Some(at) => part(&self.bytes, at),
             None => &[],
         }
@@ -108,8 +108,8 @@ impl SentFrames {
     {
         let mut bytes = [0; 280];
         let size = encode(frame, &mut bytes);
-        let place = append(&mut self.bytes, frame.from, &bytes[..size])?;
-        self.places.push(place)?;
+        let span = append(&mut self.bytes, frame.from, &bytes[..size])?;
+        self.spans.push(span)?;
         Ok(())
     }
 }

@@ -20,7 +20,7 @@ not_less a b e = grind arith
 pub not_zero : (n : ℕ) → (n == 0) ≡ false → 0 < n
 not_zero n e = grind arith
 
--- an item of a list in range, where there is one
+-- an item of a list in range, if there is one
 pub item_at : (items : List Item) (k : ℕ) → All ItemInRange items → IfSome (slice_get items k) ItemInRange
 item_at [] k h = tt
 item_at (x ∷ xs) zero h = All-head ItemInRange x xs h

@@ -71,7 +71,7 @@ pub record HeartbeatInRange (m : Heartbeat) : Type 0 where
   pub system_status : Is8 m.system_status
   pub mavlink_version : Is8 m.mavlink_version
 
--- a plan whose number of items a message can tell
+-- a plan whose number of items a message can hold
 pub record PlanInRange (plan : List Item) : Type 0 where
   pub size : Is16 (length plan)
   pub items : All ItemInRange plan

@@ -99,7 +99,7 @@ module _ (d s : Stream) (ne : d ≢ s) where
       (record { drone_next = omega arith; station_next = omega arith; shows = λ a b. (a, refl); drone = λ u x. side.speaks_drone q u x i.facts; station = λ ck k t l u x. side.speaks_station q ck k t l u x i.facts })
       (λ _. n) (omega arith) i.upload refl (λ _. sh) (λ k l z. z) (λ x. ((i.asked x).0, inr (i.asked x).1)) i.answers (λ ph _. new ph)
 
-  -- an Ack, where at most the own download is closed
+  -- an Ack, when at most the own download is closed
   pub on_ack : (p : Part) (g : Moments) (w : Option Download) (c k z : ℕ) → ((k : ℕ) (x : List Item) → Copies s k x p.drone.download → Copies s k x w) → Inv d s p g → CanAck (pair_of s p g) z → SentByDrone (acks (pair_of s p g) z) p.drone_next (an_ack c k) → ((pair_of s p g).phase ≡ 3 → Answers d s p.transaction g.counted g.first_open p.drone_next p.sent (Some (ack s c k))) → Inv d s (said_part d p (record p.drone { download = w }) (ack s c k)) (acked g p.drone_next z)
   on_ack p g w c k z cp i h n new = let q : Pair = pair_of s p g in drone_said d s ne p g (acked g p.drone_next z) (record p.drone { download = w }) (ack s c k) (acks q z) i refl (acks_ok q z i.facts h) (keeps_acks q z i.facts h) (λ _. n) (omega arith) i.upload refl (λ _. tt) cp (λ x. ((i.asked x).0, inr (i.asked x).1)) i.answers (λ ph _. new ph)
 
@@ -155,7 +155,7 @@ latest_zero c t u e = grind arith
 latest_other : (c t u : ℕ) → c ≢ 0 → (if c == 0 then t else u) ≡ u
 latest_other c t u e = grind arith
 
--- the code that answers a cancel tells the result
+-- the code that answers a cancel says what the result is
 cancel_code_of : (o : Option Bool) → CodeOf (result_number o) (cancel_code o)
 cancel_code_of None = inl (refl, refl)
 cancel_code_of (Some true) = inr (inl (refl, refl))

@@ -52,26 +52,26 @@ item_refuses p f h q = grind arith
 pub keeps_asks : (p : Pair) → Facts p → 0 < p.has_open → Keeps p (asks p)
 keeps_asks p f h = record { drone_next = omega arith; station_next = omega arith; shows = λ a b. (a, refl); drone = λ u x. side.asks_drone p u x f h; station = λ ck k t l u x. side.asks_station p ck k t l u x f h }
 
--- a place up to the last
+-- an index up to the last
 upto : (n i : ℕ) → i < n + 1 → (i < n) ⊎ (i ≡ n)
 upto n i h = grind arith
 
 -- what a delivered item of the transaction is
-pub record Delivered (d s : Stream) (p : Part) (q : Pair) (kind place : ℕ) (item : Item) : Type 0 where
+pub record Delivered (d s : Stream) (p : Part) (q : Pair) (kind index : ℕ) (item : Item) : Type 0 where
   pub late : q.last_count < q.drone_last
   pub attempt : 0 < q.first_ping → q.drone_last < q.first_ping
   pub counted : 0 < q.first_count
   pub kind_is : kind ≡ p.transaction.kind
-  pub within : place < length p.transaction.plan
-  pub item_is : slice_get p.transaction.plan place ≡ Some item
-  pub last : place + 1 ≡ length p.transaction.plan → q.final_sent ≡ 1
-  pub said : Said p.sent s p.transaction.since (Give (node_of d) place kind item)
+  pub within : index < length p.transaction.plan
+  pub item_is : slice_get p.transaction.plan index ≡ Some item
+  pub last : index + 1 ≡ length p.transaction.plan → q.final_sent ≡ 1
+  pub said : Said p.sent s p.transaction.since (Give (node_of d) index kind item)
 
 abbrev pub with_upload : Part → Option Upload → Part
 with_upload p u = record p { drone = record p.drone { upload = u } }
 
 module _ (d s : Stream) (ne : d ≢ s) where
-  -- one item more is a front of the plan, all sent
+  -- one item more is a prefix of the plan, all sent
   more : (sent : List Frame) (o : Transaction) (u : Upload) (x : Item) → Gathering d s sent o u → slice_get o.plan (length u.items) ≡ Some x → Said sent s o.since (Give (node_of d) (length u.items) o.kind x) → length (u.items ++ x ∷ []) < length o.plan → Gathering d s sent o (record u { items = u.items ++ x ∷ []; idle = 0 })
   more sent o u x g e t l =
       let len : length (u.items ++ x ∷ []) ≡ length u.items + 1 = length-append u.items (x ∷ []) in
@@ -183,7 +183,7 @@ module _ (d s : Stream) (ne : d ≢ s) where
       (λ _. more p.sent p.transaction u item gat x.item_is said (let l = less _ _ short in let t = gat.total in omega arith)))
       (λ long. on_last keeps p g u item i h gat x said (not_less _ _ long))
 
-  -- an item for which the truth is known where an upload of the station is open
+  -- an item for which the truth is known if an upload of the station is open
   pub on_item : (keeps : Bool) (p : Part) (g : Moments) (u : Option Upload) (seq kind : ℕ) (item : Item) → Inv d s (with_upload p u) g → (0 < (pair_of s (with_upload p u) g).has_open → Delivered d s (with_upload p u) (pair_of s (with_upload p u) g) kind seq item) → Own d s (with_upload p u) (item_comes keeps (with_upload p u).drone s u seq kind item)
   on_item keeps p g None seq kind item i x = record { needs = tt; moments = g; inv = i }
   on_item keeps p g (Some u) seq kind item i x =

@@ -1,4 +1,4 @@
--- The drone, at a frame of another stream: what it leaves as it was for the station.
+-- The drone, at a frame of another stream: what it leaves unchanged for the station.
 use Rattle.std.proofs.Common.{◌≡◌, ◌≢◌, ℕ, ◌+◌, Bool, true, false, if◌then◌else◌, ◌==◌, ◌&&◌, nat_lt, List, [], ◌∷◌, ◌++◌, length, Option, Some, None, refl, sym, ap, subst, ◌∙◌}
 use Rattle.std.specs.Prelude.{slice_get, not, is_some}
 use Rattle.mav_names.specs.declared.names.Stream.{Stream}

@@ -1,4 +1,4 @@
--- What a step of the drone tells, whatever the stream.
+-- What a step of the drone reports, whatever the stream.
 use Rattle.std.proofs.Common.{◌≡◌, ℕ, ◌+◌, ◌<◌, ◌⊎◌, inl, inr, Bool, true, false, if◌then◌else◌, ◌==◌, ◌&&◌, nat_lt, List, [], ◌∷◌, ◌++◌, length, Option, Some, None, refl, sym, ap, subst, arith}
 use Rattle.std.specs.Prelude.{slice_get, not, is_some}
 use Rattle.mav_names.specs.declared.names.Name.{Name}
@@ -214,7 +214,7 @@ module _ (keeps : Bool) (nodes : Nodes) (sound : Distinct nodes) (d : DroneState
   station me to hm sys (inr st) h z = st
   station me to hm sys (inl dr) h z = absurd (differ _ z (subst (λ n. is_for_drone n to ≡ false) (sym sys) (h dr me hm)))
 
-  -- it comes from a station, where no drone may say it
+  -- it comes from a station, and no drone may say it
   only : IsNode nodes t → (nodes.is_drone t ≡ true → ⊥) → nodes.is_station t ≡ true
   only (inr st) h = st
   only (inl dr) h = absurd (h dr)

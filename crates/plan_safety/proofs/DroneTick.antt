@@ -51,7 +51,7 @@ module _ (d s : Stream) (ne : d ≢ s) where
       (record { drone_next = omega arith; station_next = omega arith; shows = λ a b. (a, refl); drone = λ u x. side.speaks_drone q u x i.facts; station = λ ck k t l u x. side.speaks_station q ck k t l u x i.facts })
       (λ e. absurd (h e)) (omega arith) i.upload refl (λ e. absurd (h e)) (λ k l z. z) (λ x. ((i.asked x).0, inr (i.asked x).1)) i.answers (λ _ e. absurd (h e))
 
-  -- an aging upload is as it was
+  -- an aging upload is unchanged
   aged : (p : Part) (u : Upload) → Unmoved s (record p.drone { upload = Some u }) (record p.drone { upload = Some (record u { idle = u.idle + 1 }) })
   aged p u = record { has_open = refl; result = refl; gathers = λ n sent o x. λ z. let b = x z in record { kind = b.kind; total = b.total; short = b.short; same = b.same; said = b.said }; copies = λ k x z. z }
 

@@ -21,7 +21,7 @@ use Rattle.plan_safety.proofs.Fleet.{All, retold, part, view_transaction, view_o
 use Rattle.plan_safety.proofs.FleetMoves.{Goes}
 use Rattle.plan_safety.proofs.FleetDrone.{Stepped, admitted_node, steps}
 
--- what is shown is seen where it is open, and there alone
+-- what is shown is seen only by a download that is open
 far_sees : (d n : Stream) (k : ℕ) (p : List Item) (c : Option Opening) → d ≢ n → view_opening d (sees c n k p) ≡ view_opening d c
 far_sees d n k p None far = refl
 far_sees d n k p (Some c) far =
@@ -93,12 +93,12 @@ module _ (nodes : Nodes) (sound : Distinct nodes) (w : World) (m : Store) (n t :
   news_is news (Some b) = refl
 
   -- needs and what holds, for the news that the world keeps
-  pub as_told : (news : List StoreEvent) → Meets (after news).sent m news → All nodes (after news) (follows m news) → Goes nodes (after news) m
-  as_told news x y = record { needs = subst (Meets (after news).sent m) (sym (news_is news a)) x; all = subst (λ z. All nodes (after news) (follows m z)) (sym (news_is news a)) y }
+  pub as_reported : (news : List StoreEvent) → Meets (after news).sent m news → All nodes (after news) (follows m news) → Goes nodes (after news) m
+  as_reported news x y = record { needs = subst (Meets (after news).sent m) (sym (news_is news a)) x; all = subst (λ z. All nodes (after news) (follows m z)) (sym (news_is news a)) y }
 
   -- nothing happens to the plans
   quiet_goes : Done Quiet → Goes nodes (after []) m
-  quiet_goes h = as_told [] tt (steps nodes sound w m m n t stamp next e a Quiet [] all drone h (record {
+  quiet_goes h = as_reported [] tt (steps nodes sound w m m n t stamp next e a Quiet [] all drone h (record {
     transaction = λ _. refl;
     opening = λ _. refl;
     else_transaction = λ s _. refl;
@@ -122,7 +122,7 @@ module _ (nodes : Nodes) (sound : Distinct nodes) (w : World) (m : Store) (n t :
       let x : StoreEvent = Installed n k p t in
       let w' : World = record w { news = x ∷ [] } in
       let node = admitted_node (w.drone n) t stamp next e in
-      as_told (x ∷ []) (
+      as_reported (x ∷ []) (
         record {
           fresh = j.fresh;
           drone_is = j.drone;
@@ -181,11 +181,11 @@ module _ (nodes : Nodes) (sound : Distinct nodes) (w : World) (m : Store) (n t :
       by_test (λ news. Goes nodes (after news) m) (k == every_kind) (Cleared n 0 t ∷ Cleared n 1 t ∷ Cleared n 2 t ∷ []) (Cleared n k t ∷ [])
       (λ all_kinds. let ek : k ≡ every_kind = eq_true k every_kind all_kinds in
       let news : List StoreEvent = Cleared n 0 t ∷ Cleared n 1 t ∷ Cleared n 2 t ∷ [] in
-      as_told news (may_clear (m.opening t) n k 0 c (inr ek), (may_clear (m.opening t) n k 1 c (inr ek), (may_clear (m.opening t) n k 2 c (inr ek), tt)))
+      as_reported news (may_clear (m.opening t) n k 0 c (inr ek), (may_clear (m.opening t) n k 1 c (inr ek), (may_clear (m.opening t) n k 2 c (inr ek), tt)))
       (cleared k news (follows m news) h refl refl refl
       (λ i l. rw all_kinds (sym (replaced_here f2 n 2 [] i ∙ by_two i l (replaced_here f1 n 1 [] i) (replaced_here f n 0 [] i))))
       (λ d i far. replaced_far f2 n 2 [] d i far ∙ replaced_far f1 n 1 [] d i far ∙ replaced_far f n 0 [] d i far)))
-      (λ one. as_told (Cleared n k t ∷ []) (may_clear (m.opening t) n k k c (inl refl), tt)
+      (λ one. as_reported (Cleared n k t ∷ []) (may_clear (m.opening t) n k k c (inl refl), tt)
       (cleared k (Cleared n k t ∷ []) (does m (Cleared n k t)) h refl refl refl
       (λ i l. rw one (sym (replaced_here f n k [] i)))
       (λ d i far. replaced_far f n k [] d i far)))
@@ -213,7 +213,7 @@ module _ (nodes : Nodes) (sound : Distinct nodes) (w : World) (m : Store) (n t :
   shown_goes k p st l is_plan h =
       let x : StoreEvent = Shown n k p t in
       let c : Option Opening = sees (m.opening t) n k p in
-      as_told (x ∷ []) (is_plan ∙ all.plans n k l, tt)
+      as_reported (x ∷ []) (is_plan ∙ all.plans n k l, tt)
       (steps nodes sound w m (does m x) n t stamp next e a (Shows t k p) (x ∷ []) all drone h (record {
         transaction = λ _. refl;
         opening = λ _. ap (view_opening n) (at_same m.opening t c) ∙ near_sees n k p (m.opening t);
@@ -274,7 +274,7 @@ module _ (nodes : Nodes) (sound : Distinct nodes) (w : World) (m : Store) (n : S
       goes nodes sound w m n f.from f.timestamp (max (w.drone n).next f.timestamp) r.drone r.answer all drone r.event (frame_steps keeps k f e (less _ _ h)))
       (λ _. quiet_world nodes w m all)
 
-  -- one with this place, where there is one
+  -- one with this index, if there is one
   pub coming_goes : (keeps : Bool) (k : ℕ) (f : Option Frame) → slice_get w.sent k ≡ f → Goes nodes (to_drone w keeps n f) m
   coming_goes keeps k None e = quiet_world nodes w m all
   coming_goes keeps k (Some f) e = frame_goes keeps k f e

@@ -13,7 +13,7 @@ use Rattle.plan_safety.specs.Store.{Store, StoreEvent, Upload_begun, Clear_begun
 use Rattle.plan_safety.proofs.Keys.{by_test, same, apart, stream_eq, at_same, at_apart}
 use Rattle.plan_safety.proofs.Pair.{Pair, Facts}
 use Rattle.plan_safety.proofs.Part.{Seen, pair_of, stage_number, job_number, work_number, number_in}
-use Rattle.plan_safety.proofs.StationNews.{StationNews, Silent, Tells, Begins_upload, Begins_clear, Begins_get, Cancels, SeesClear, SeesPlan, SeesEnd, Tellable, tellable_more, Acted, with_station, OfDrone, station_transaction, station_opening, station_cancelled}
+use Rattle.plan_safety.proofs.StationNews.{StationNews, Silent, Reports, Begins_upload, Begins_clear, Begins_get, Cancels, SeesClear, SeesPlan, SeesEnd, Reportable, reportable_more, Acted, with_station, OfDrone, station_transaction, station_opening, station_cancelled}
 use Rattle.plan_safety.proofs.Fleet.{hidden, All, part, view_transaction, view_opening, view_operation, seen_of, AtDrone, view_fresh}
 use Rattle.plan_safety.proofs.FleetMoves.{Goes}
 use Rattle.plan_safety.proofs.FleetStation.{Views, steps}
@@ -110,7 +110,7 @@ shut_pieces job work a b c d e = grind arith
 -- only a call begins
 abbrev pub IsBegin : StationNews → Type 0
 IsBegin Silent = ⊥
-IsBegin (Tells told) = ⊥
+IsBegin (Reports told) = ⊥
 IsBegin (Begins_upload kind plan) = Unit {0}
 IsBegin (Begins_clear kind) = Unit {0}
 IsBegin (Begins_get kind) = Unit {0}
@@ -119,7 +119,7 @@ IsBegin Cancels = ⊥
 -- the news, for the store: of the station s with the drone e
 abbrev pub store_news : Stream → Stream → ℕ → ℕ → StationNews → List StoreEvent
 store_news s e now later Silent = []
-store_news s e now later (Tells told) = Ended s told ∷ []
+store_news s e now later (Reports told) = Ended s told ∷ []
 store_news s e now later (Begins_upload kind plan) = Upload_begun s e kind plan now later ∷ []
 store_news s e now later (Begins_clear kind) = Clear_begun s e kind later ∷ []
 store_news s e now later (Begins_get kind) = Get_begun s e kind later ∷ []
@@ -138,13 +138,13 @@ module _ (nodes : Nodes) (sound : Distinct nodes) (w : World) (m : Store) (s e :
   news_is news (Some a) = refl
 
   -- needs and what holds, for the news that the world keeps
-  as_told : (news : List StoreEvent) → Meets (after news).sent m news → All nodes (after news) (follows m news) → Goes nodes (after news) m
-  as_told news x y = record { needs = subst (Meets (after news).sent m) (sym (news_is news b)) x; all = subst (λ z. All nodes (after news) (follows m z)) (sym (news_is news b)) y }
+  as_reported : (news : List StoreEvent) → Meets (after news).sent m news → All nodes (after news) (follows m news) → Goes nodes (after news) m
+  as_reported news x y = record { needs = subst (Meets (after news).sent m) (sym (news_is news b)) x; all = subst (λ z. All nodes (after news) (follows m z)) (sym (news_is news b)) y }
 
   -- more is sent, or no less
-  sent_more : (news : List StoreEvent) (a : Option PlanMsg) (told : Told) → (let p = part w m e s in Tellable e s w.sent p.transaction p.opening p.cancelled told → Tellable e s (station_sends (record w { news = news }) s (record { state = t; last = last; next = next }) a).sent p.transaction p.opening p.cancelled told)
+  sent_more : (news : List StoreEvent) (a : Option PlanMsg) (told : Told) → (let p = part w m e s in Reportable e s w.sent p.transaction p.opening p.cancelled told → Reportable e s (station_sends (record w { news = news }) s (record { state = t; last = last; next = next }) a).sent p.transaction p.opening p.cancelled told)
   sent_more news None told h = h
-  sent_more news (Some a) told h = tellable_more e s w.sent _ (view_transaction e (m.transaction s)) (view_opening e (m.opening s)) (m.cancelled s) told h
+  sent_more news (Some a) told h = reportable_more e s w.sent _ (view_transaction e (m.transaction s)) (view_opening e (m.opening s)) (m.cancelled s) told h
 
   -- what holds, by the views
   keeps : (x : StationNews) (news : List StoreEvent) (m' : Store) → Done x → Views nodes m m' s e next (w.drone e).next x → All nodes (after news) m'
@@ -244,56 +244,56 @@ module _ (nodes : Nodes) (sound : Distinct nodes) (w : World) (m : Store) (s e :
   over_views x a c k some = opening_views x None m.cancelled a (sym (c _)) (λ d far. sym (opening_else e d (m.opening s) some far)) tt (sym k) (λ u far. refl)
 
   -- each outcome
-  told_goes : (told : Told) → Done (Tells told) → Goes nodes (after (Ended s told ∷ [])) m
-  told_goes Told_installed h =
-      let x : StationNews = Tells Told_installed in
+  reported_goes : (told : Told) → Done (Reports told) → Goes nodes (after (Ended s told ∷ [])) m
+  reported_goes Told_installed h =
+      let x : StationNews = Reports Told_installed in
       let news : List StoreEvent = Ended s Told_installed ∷ [] in
-      as_told news (view_placed e (m.transaction s) h.needs, tt) (keeps x news m h (same_views x m refl refl refl (λ o. refl) (λ c. refl) refl (λ u far. refl)))
-  told_goes (Told_not_installed code) h =
+      as_reported news (view_placed e (m.transaction s) h.needs, tt) (keeps x news m h (same_views x m refl refl refl (λ o. refl) (λ c. refl) refl (λ u far. refl)))
+  reported_goes (Told_not_installed code) h =
       let o : Transaction = m.transaction s in
-      let x : StationNews = Tells (Told_not_installed code) in
+      let x : StationNews = Reports (Told_not_installed code) in
       let news : List StoreEvent = Ended s (Told_not_installed code) ∷ [] in
       let view = view_fresh e o h.needs.0 in
       let more = sent_more news b (Told_not_installed code) h.needs in
-      as_told news (subst (λ (y : Transaction). (y.stage ≡ Fresh) × ((code ≡ 15) ⊎ RefusedWith (after news).sent y.drone s y code)) view.0 (more.0, to_drone (after news).sent (view_transaction e o) code (ap (λ (y : Transaction). y.drone) view.0 ∙ view.1) more.1), tt)
+      as_reported news (subst (λ (y : Transaction). (y.stage ≡ Fresh) × ((code ≡ 15) ⊎ RefusedWith (after news).sent y.drone s y code)) view.0 (more.0, to_drone (after news).sent (view_transaction e o) code (ap (λ (y : Transaction). y.drone) view.0 ∙ view.1) more.1), tt)
       (keeps x news (record m { transaction = at m.transaction s (staged o Closed) }) h
       (transaction_views x (staged o Closed) m.cancelled (view_staged e o) (λ c. refl) (λ d far. closed_not_fresh d o) (λ l. l) (λ f. absurd (cc)) refl (λ u far. refl)))
     where
       to_drone : (sent : List Frame) (v : Transaction) (code : ℕ) → v.drone ≡ e → (code ≡ 15) ⊎ RefusedWith sent e s v code → (code ≡ 15) ⊎ RefusedWith sent v.drone s v code
       to_drone sent v code is (inl h) = inl h
       to_drone sent v code is (inr h) = inr (subst (λ d. RefusedWith sent d s v code) (sym is) h)
-  told_goes Told_unknown h =
+  reported_goes Told_unknown h =
       let o : Transaction = m.transaction s in
-      let x : StationNews = Tells Told_unknown in
+      let x : StationNews = Reports Told_unknown in
       let news : List StoreEvent = Ended s Told_unknown ∷ [] in
       let view = view_open e o h.needs.0 in
       let more = sent_more news b Told_unknown h.needs in
       let is : (view_transaction e o).drone ≡ e = ap (λ (y : Transaction). y.drone) view.0 ∙ view.1 in
       let sent = (after news).sent in
       let v = view_transaction e o in
-      as_told news (
+      as_reported news (
         subst (λ (y : Transaction). (y.stage ≡ Closed → ⊥) × (y.lost ≡ true) × Acked sent y.drone s y.drone_since 1 × FinalSent sent s y × CancelSent sent s y) view.0
             (more.0, more.1, subst (λ d. Acked sent d s v.drone_since 1) (sym is) more.2, subst (λ d. (seq : ℕ) × (item : Item) × (seq + 1 ≡ length v.plan) × (slice_get v.plan seq ≡ Some item) × Said sent s v.since (Give (node_of d) seq v.kind item)) (sym is) more.3, subst (λ d. Said sent s v.since (Ack (node_of d) 15 v.kind)) (sym is) more.4),
         tt,
       )
       (keeps x news (record m { transaction = at m.transaction s (given_up o) }) h
       (transaction_views x (given_up o) m.cancelled (view_given e o) (λ c. refl) (λ d far. not_fresh_given d o) (λ l. l) (λ f. absurd (given_not_fresh o.stage f)) refl (λ u far. refl)))
-  told_goes Told_cleared h =
-      let x : StationNews = Tells Told_cleared in
+  reported_goes Told_cleared h =
+      let x : StationNews = Reports Told_cleared in
       let news : List StoreEvent = Ended s Told_cleared ∷ [] in
       let view = view_has_clear e (m.opening s) h.needs in
-      as_told news (view.0, tt) (keeps x news (record m { opening = at m.opening s None }) h (over_views x (λ o. refl) (λ c. refl) refl view.1))
-  told_goes (Told_got plan) h =
-      let x : StationNews = Tells (Told_got plan) in
+      as_reported news (view.0, tt) (keeps x news (record m { opening = at m.opening s None }) h (over_views x (λ o. refl) (λ c. refl) refl view.1))
+  reported_goes (Told_got plan) h =
+      let x : StationNews = Reports (Told_got plan) in
       let news : List StoreEvent = Ended s (Told_got plan) ∷ [] in
       let view = view_got e (m.opening s) plan h.needs in
-      as_told news (view.0, tt) (keeps x news (record m { opening = at m.opening s None }) h (over_views x (λ o. refl) (λ c. refl) refl view.1))
-  told_goes (Told_ended code) h =
-      let x : StationNews = Tells (Told_ended code) in
+      as_reported news (view.0, tt) (keeps x news (record m { opening = at m.opening s None }) h (over_views x (λ o. refl) (λ c. refl) refl view.1))
+  reported_goes (Told_ended code) h =
+      let x : StationNews = Reports (Told_ended code) in
       let news : List StoreEvent = Ended s (Told_ended code) ∷ [] in
       let more = sent_more news b (Told_ended code) h.needs in
       let view = view_end (after news).sent e s (m.cancelled s) (m.opening s) code more in
-      as_told news (view.0, tt) (keeps x news (record m { opening = at m.opening s None }) h (over_views x (λ o. refl) (λ c. refl) refl view.1))
+      as_reported news (view.0, tt) (keeps x news (record m { opening = at m.opening s None }) h (over_views x (λ o. refl) (λ c. refl) refl view.1))
 
   -- each operation that begins
   begun_upload : (k : ℕ) (p : List Item) → Done (Begins_upload k p) → (w.station s).state.operation ≡ None → Goes nodes (after (Upload_begun s e k p next (w.drone e).next ∷ [])) m
@@ -301,7 +301,7 @@ module _ (nodes : Nodes) (sound : Distinct nodes) (w : World) (m : Store) (s e :
       let x : StationNews = Begins_upload k p in
       let o : Transaction = begun e k p next (w.drone e).next in
       let event : StoreEvent = Upload_begun s e k p next (w.drone e).next in
-      as_told (event ∷ []) (no_fresh none, tt)
+      as_reported (event ∷ []) (no_fresh none, tt)
       (keeps x (event ∷ []) (does m event) h
       (transaction_views x o (at m.cancelled s false) (view_here e o refl) (λ c. refl)
       (λ d far. subst (λ (y : Transaction). stage_number y.stage ≢ 1) (sym (view_far d o (λ z. far (sym z)))) (λ z. absurd (omega arith)))
@@ -312,7 +312,7 @@ module _ (nodes : Nodes) (sound : Distinct nodes) (w : World) (m : Store) (s e :
       let x : StationNews = Begins_clear k in
       let c : Opening = opened e k A_clear (w.drone e).next in
       let event : StoreEvent = Clear_begun s e k (w.drone e).next in
-      as_told (event ∷ []) (no_opening none, tt)
+      as_reported (event ∷ []) (no_opening none, tt)
       (keeps x (event ∷ []) (does m event) h
       (opening_views x (Some c) (at m.cancelled s false) (λ o. refl) (opening_here c)
       (λ d far. opening_far d c (λ z. far (sym z)) ∙ sym (ap (view_opening d) (no_opening none))) drone (at_same m.cancelled s false) (λ u far. at_apart m.cancelled s u false far)))
@@ -322,19 +322,19 @@ module _ (nodes : Nodes) (sound : Distinct nodes) (w : World) (m : Store) (s e :
       let x : StationNews = Begins_get k in
       let c : Opening = opened e k (A_get None) (w.drone e).next in
       let event : StoreEvent = Get_begun s e k (w.drone e).next in
-      as_told (event ∷ []) (no_opening none, tt)
+      as_reported (event ∷ []) (no_opening none, tt)
       (keeps x (event ∷ []) (does m event) h
       (opening_views x (Some c) (at m.cancelled s false) (λ o. refl) (opening_here c)
       (λ d far. opening_far d c (λ z. far (sym z)) ∙ sym (ap (view_opening d) (no_opening none))) drone (at_same m.cancelled s false) (λ u far. at_apart m.cancelled s u false far)))
 
   -- each of these
   pub goes : (x : StationNews) → Done x → (IsBegin x → (w.station s).state.operation ≡ None) → Goes nodes (after (store_news s e next (w.drone e).next x)) m
-  goes Silent h free = as_told [] tt (keeps Silent [] m h (same_views Silent m refl refl refl (λ o. refl) (λ c. refl) refl (λ u far. refl)))
-  goes (Tells told) h free = told_goes told h
+  goes Silent h free = as_reported [] tt (keeps Silent [] m h (same_views Silent m refl refl refl (λ o. refl) (λ c. refl) refl (λ u far. refl)))
+  goes (Reports told) h free = reported_goes told h
   goes (Begins_upload k p) h free = begun_upload k p h (free tt)
   goes (Begins_clear k) h free = begun_clear k h (free tt)
   goes (Begins_get k) h free = begun_get k h (free tt)
   goes Cancels h free =
       let event : StoreEvent = Cancelled s in
-      as_told (event ∷ []) (tt, tt)
+      as_reported (event ∷ []) (tt, tt)
       (keeps Cancels (event ∷ []) (does m event) h (same_views Cancels (does m event) refl refl refl (λ o. refl) (λ c. refl) (at_same m.cancelled s true) (λ u far. at_apart m.cancelled s u true far)))

@@ -14,14 +14,14 @@ use Rattle.plan_upload.specs.declared.faults.OpFault.TheVariants.{PingsSpent}
 use Rattle.plan_upload.specs.Refusals.{busy_with, first_of, spent, empty_plan, unfit, upload_refusal, refusal}
 use Rattle.plan_upload.specs.Station.{StationState, StationStep, Operation, Uploads, Clears, Gets, Phase, Pinging, Cancelling, Sending, Clearing, Listing_items, Getting, Told, last_ping, stays, untold, addressee, phase_step, operation_step, operation_tick, station_tick, operation_cancel, phase_cancel, station_cancel, begins, operation_of, begin_upload, begin_clear, begin_get, is_synced}
 use Rattle.plan_safety.specs.Frames.{Frame, Said}
-use Rattle.plan_safety.specs.World.{Nodes, Distinct, World, StationNode, frame_of, quiet, station_sends, station_does, station_calls, told_news, cancel_news, clear_number, unless_refused, station_takes, station_steps, station_admits, to_station, station_speaks}
+use Rattle.plan_safety.specs.World.{Nodes, Distinct, World, StationNode, frame_of, quiet, station_sends, station_does, station_calls, outcome_news, cancel_news, clear_number, unless_refused, station_takes, station_steps, station_admits, to_station, station_speaks}
 use Rattle.plan_safety.specs.Store.{Store, StoreEvent, Upload_begun, Clear_begun, Get_begun, Cancelled, RefusedWith, at}
 use Rattle.plan_safety.proofs.Keys.{by_test, name_eq, stream_eq, less, both_true, split, at_same, at_apart}
 use Rattle.plan_safety.proofs.Pair.{Pair, Facts, SentByDrone, IsVerdict, hears, later_station, a_count, an_ack}
 use Rattle.plan_safety.proofs.StationSide as side
 use Rattle.plan_safety.proofs.Part.{Shows, shows_again, kind_of, shown_of, IsTo, Part, Moments, Inv, subject, pair_of, truth_at, said_at, truths_keep, keeps_truth, gathers_more, operates_more, IsAbout, answered_at}
 use Rattle.plan_safety.proofs.StationNews.{StationNews, Begins_upload, Begins_clear, Begins_get, Cancels, news_of, Acted, Heeds, with_station, OfDrone}
-use Rattle.plan_safety.proofs.StationCases.{with_operation, attempt_told}
+use Rattle.plan_safety.proofs.StationCases.{with_operation, attempt_reported}
 use Rattle.plan_safety.proofs.StationStep.{Heard, inv_heard, on_hears, on_cancel, on_tick}
 use Rattle.plan_safety.proofs.StationBegin.{on_begin, on_clear, on_get}
 use Rattle.plan_safety.proofs.Fleet.{All, part, part_of, view_operation, OfDrones, not_both}
@@ -110,25 +110,25 @@ own_move P e q t o a b c i =
     subst (λ z. P (record q { operation = z; synced = is_synced t.synced e; pings = t.pings })) (a ∙ view_own e t.operation o)
     (subst (λ z. P (record q { synced = z; pings = t.pings })) b (subst (λ z. P (record q { pings = z })) c i))
 
--- no call tells an outcome
-begins_told : (s : StationState) (o : Operation) → (begins s o).told ≡ None
-begins_told s o = by_test (λ (a : StationStep). a.told ≡ None) (is_synced s.synced o.drone) _ _ (λ _. refl) (λ _. attempt_told (record s { outcome = None }) o)
+-- no call reports an outcome
+begins_reported : (s : StationState) (o : Operation) → (begins s o).told ≡ None
+begins_reported s o = by_test (λ (a : StationStep). a.told ≡ None) (is_synced s.synced o.drone) _ _ (λ _. refl) (λ _. attempt_reported (record s { outcome = None }) o)
 
-cancel_told : (s : StationState) (o : Operation) → (operation_cancel s (Some o)).told ≡ None
-cancel_told s o = by_test (λ (a : StationStep). a.told ≡ None) o.terminating _ _ (λ _. refl) (λ _. by_phase o.phase)
+cancel_reported : (s : StationState) (o : Operation) → (operation_cancel s (Some o)).told ≡ None
+cancel_reported s o = by_test (λ (a : StationStep). a.told ≡ None) o.terminating _ _ (λ _. refl) (λ _. by_phase o.phase)
   where
     by_phase : (f : Phase) → (phase_cancel s o f).told ≡ None
     by_phase Pinging = refl
     by_phase Cancelling = refl
-    by_phase Sending = attempt_told s (record o { terminating = true })
-    by_phase Clearing = attempt_told s (record o { terminating = true })
-    by_phase Listing_items = attempt_told s (record o { terminating = true })
-    by_phase Getting = attempt_told s (record o { terminating = true })
+    by_phase Sending = attempt_reported s (record o { terminating = true })
+    by_phase Clearing = attempt_reported s (record o { terminating = true })
+    by_phase Listing_items = attempt_reported s (record o { terminating = true })
+    by_phase Getting = attempt_reported s (record o { terminating = true })
 
--- a step tells an outcome, or nothing
-told_is : (s e : Stream) (now later : ℕ) (told : Option Told) → store_news s e now later (news_of told) ≡ told_news s told
-told_is s e now later None = refl
-told_is s e now later (Some told) = refl
+-- a step reports an outcome, or nothing
+reported_is : (s e : Stream) (now later : ℕ) (told : Option Told) → store_news s e now later (news_of told) ≡ outcome_news s told
+reported_is s e now later None = refl
+reported_is s e now later (Some told) = refl
 
 -- neither begins an operation
 not_begin : (told : Option Told) → IsBegin (news_of told) → ⊥
@@ -202,7 +202,7 @@ module _ (nodes : Nodes) (sound : Distinct nodes) (w : World) (m : Store) (s : S
   pub hand_goes : Goes nodes (station_calls w s (w.station s) (stays (untold st)) []) m
   hand_goes = rests (record (w.station s) { state = untold st }) refl refl (λ d hd g i. i)
 
-  -- it stays as it is
+  -- it stays unchanged
   idle_goes : Goes nodes (station_does w s (w.station s) (stays st) []) m
   idle_goes = rests (w.station s) refl refl (λ d hd g i. i)
 
@@ -227,7 +227,7 @@ module _ (nodes : Nodes) (sound : Distinct nodes) (w : World) (m : Store) (s : S
   -- a step with an operation at the drone e, at a message or a tick
   acts : (e : Stream) (next : ℕ) (last : Stream → ℕ) (a : StationStep) → nodes.is_drone e ≡ true → ((d : Stream) → d ≢ e → last d ≡ (w.station s).last d) → (w.station s).next ≤ next → OfDrone e st.operation → Heeds e s st (with_station e (record (part w m e s) { station_last = last e; station_next = next }) st) a → Goes nodes (station_steps w s (record { state = st; last = last; next = next }) a) m
   acts e next last a drone same_last later before h =
-      subst (λ x. Goes nodes (station_sends (record w { news = x }) s (record { state = a.station; last = last; next = next }) a.answer) m) (told_is s e next (w.drone e).next a.told)
+      subst (λ x. Goes nodes (station_sends (record w { news = x }) s (record { state = a.station; last = last; next = next }) a.answer) m) (reported_is s e next (w.drone e).next a.told)
       (goes nodes sound w m s e next last a.station a.answer a.told all station drone same_last later before (news_of a.told) h (λ b. absurd (not_begin a.told b)))
 
   -- the part with the station's own operation
@@ -250,9 +250,9 @@ module _ (nodes : Nodes) (sound : Distinct nodes) (w : World) (m : Store) (s : S
       subst (λ d. (let u = with_operation t (Some (record o { drone = d })) in Inv e s (with_station e p u) g → Heeds e s u (with_station e p u) (operation_tick u (Some (record o { drone = d }))))) (sym is)
       (on_tick e s (not_here e hd) p g t o o.work o.phase)
 
-  -- a call that tells no outcome
+  -- a call that reports no outcome
   untold_call : (a : StationStep) (event : StoreEvent) → a.told ≡ None → Goes nodes (station_does w s (w.station s) a (event ∷ [])) m → Goes nodes (station_calls w s (w.station s) a (event ∷ [])) m
-  untold_call a event e h = subst (λ x. Goes nodes (station_does w s (w.station s) a (event ∷ told_news s x)) m) (sym e) h
+  untold_call a event e h = subst (λ x. Goes nodes (station_does w s (w.station s) a (event ∷ outcome_news s x)) m) (sym e) h
 
   -- what holds of the pair with the drone of the operation
   with_own : (o : Operation) → st.operation ≡ Some o → (hd : nodes.is_drone o.drone ≡ true) × (g : Moments) × Inv o.drone s (with_station o.drone (part w m o.drone s) (with_operation st (Some o))) g
@@ -278,7 +278,7 @@ module _ (nodes : Nodes) (sound : Distinct nodes) (w : World) (m : Store) (s : S
   cancel_goes (Some o) is =
       let k = with_own o is in
       let a = operation_cancel st (Some o) in
-      untold_call a (Cancelled s) (cancel_told st o) (goes nodes sound w m s o.drone (w.station s).next (w.station s).last a.station a.answer a.told all station k.0 (λ d far. refl) (omega arith) (subst (OfDrone o.drone) (sym is) refl) Cancels
+      untold_call a (Cancelled s) (cancel_reported st o) (goes nodes sound w m s o.drone (w.station s).next (w.station s).last a.station a.answer a.told all station k.0 (λ d far. refl) (omega arith) (subst (OfDrone o.drone) (sym is) refl) Cancels
       (subst (λ z. Acted o.drone s (with_operation st z) (with_station o.drone (part w m o.drone s) (with_operation st z)) (operation_cancel (with_operation st z) (Some o)) Cancels) (sym is) (cancels_own o.drone k.0 (part w m o.drone s) k.1 st o refl k.2))
       (λ b. absurd b))
 
@@ -301,21 +301,21 @@ module _ (nodes : Nodes) (sound : Distinct nodes) (w : World) (m : Store) (s : S
   begin_goes e kind plan hd =
       unless nodes w _ m (upload_refusal st (number_of kind) plan) all (λ r.
       let f = upload_free st (number_of kind) plan r in
-      untold_call (begin_upload st e (number_of kind) plan) (Upload_begun s e (number_of kind) plan (w.station s).next (w.drone e).next) (begins_told st (operation_of Uploads e (number_of kind) plan))
+      untold_call (begin_upload st e (number_of kind) plan) (Upload_begun s e (number_of kind) plan (w.station s).next (w.drone e).next) (begins_reported st (operation_of Uploads e (number_of kind) plan))
       (begun e (Begins_upload (number_of kind) plan) (λ t. begin_upload t e (number_of kind) plan) hd f.0 (λ p g i. on_begin e s (not_here e hd) p g st (number_of kind) plan f.1 i)))
 
   pub clear_goes : (e : Stream) (kind : Option PlanKind) → nodes.is_drone e ≡ true → Goes nodes (unless_refused (refusal st) w (station_calls w s (w.station s) (begin_clear st e (clear_number kind)) (Clear_begun s e (clear_number kind) (w.drone e).next ∷ []))) m
   clear_goes e kind hd =
       unless nodes w _ m (refusal st) all (λ r.
       let f = free st r in
-      untold_call (begin_clear st e (clear_number kind)) (Clear_begun s e (clear_number kind) (w.drone e).next) (begins_told st (operation_of Clears e (clear_number kind) []))
+      untold_call (begin_clear st e (clear_number kind)) (Clear_begun s e (clear_number kind) (w.drone e).next) (begins_reported st (operation_of Clears e (clear_number kind) []))
       (begun e (Begins_clear (clear_number kind)) (λ t. begin_clear t e (clear_number kind)) hd f.0 (λ p g i. on_clear e s (not_here e hd) p g st (clear_number kind) f.1 i)))
 
   pub get_goes : (e : Stream) (kind : PlanKind) → nodes.is_drone e ≡ true → Goes nodes (unless_refused (refusal st) w (station_calls w s (w.station s) (begin_get st e (number_of kind)) (Get_begun s e (number_of kind) (w.drone e).next ∷ []))) m
   get_goes e kind hd =
       unless nodes w _ m (refusal st) all (λ r.
       let f = free st r in
-      untold_call (begin_get st e (number_of kind)) (Get_begun s e (number_of kind) (w.drone e).next) (begins_told st (operation_of Gets e (number_of kind) []))
+      untold_call (begin_get st e (number_of kind)) (Get_begun s e (number_of kind) (w.drone e).next) (begins_reported st (operation_of Gets e (number_of kind) []))
       (begun e (Begins_get (number_of kind)) (λ t. begin_get t e (number_of kind)) hd f.0 (λ p g i. on_get e s (not_here e hd) p g st (number_of kind) f.1 i)))
 
   -- a frame that is admitted
@@ -382,7 +382,7 @@ module _ (nodes : Nodes) (sound : Distinct nodes) (w : World) (m : Store) (s : S
       (λ l. by_message k f is (less _ _ l) f.message refl)
       (λ _. quiet_world nodes w m all)
 
-  -- one with this place, where there is one
+  -- one with this index, if there is one
   pub coming_goes : (k : ℕ) (f : Option Frame) → slice_get w.sent k ≡ f → Goes nodes (to_station w s f) m
   coming_goes k None e = quiet_world nodes w m all
   coming_goes k (Some f) e = frame_goes k f e

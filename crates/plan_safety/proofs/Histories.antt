@@ -16,7 +16,7 @@ steps_follow : (sent : List Frame) (es : List StoreEvent) (h : List Step) → st
 steps_follow sent [] h = refl
 steps_follow sent (e ∷ es) h = steps_follow sent es (step sent e ∷ h)
 
--- and is a history, where it met its needs
+-- and is a history, if it met its needs
 steps_meet : (sent : List Frame) (es : List StoreEvent) (h : List Step) → Meets sent (store_of h) es → IsHistory h → IsHistory (steps_of sent es h)
 steps_meet sent [] h n v = v
 steps_meet sent (e ∷ es) h n v = steps_meet sent es (step sent e ∷ h) n.1 (n.0, v)

@@ -46,8 +46,8 @@ module _ (nodes : Nodes) (sound : Distinct nodes) where
   goes w m (Hands_out s) all = on_station w _ m s all (λ hs. station.hand_goes nodes sound w m s all hs)
   goes w m (Drone_ticks d) all = on_drone w _ m d all (λ hd. ticks.tick_goes nodes sound w m d all hd)
   goes w m (Station_ticks s) all = on_station w _ m s all (λ hs. station.station_tick_goes nodes sound w m s all hs)
-  goes w m (To_drone place d keeps) all = on_drone w _ m d all (λ hd. drone.coming_goes nodes sound w m d all hd keeps place (slice_get w.sent place) refl)
-  goes w m (To_station place s) all = on_station w _ m s all (λ hs. station.coming_goes nodes sound w m s all hs place (slice_get w.sent place) refl)
+  goes w m (To_drone index d keeps) all = on_drone w _ m d all (λ hd. drone.coming_goes nodes sound w m d all hd keeps index (slice_get w.sent index) refl)
+  goes w m (To_station index s) all = on_station w _ m s all (λ hs. station.coming_goes nodes sound w m s all hs index (slice_get w.sent index) refl)
   goes w m (Speaks node) all =
       by_test (λ v. Goes nodes v m) (nodes.is_drone node) _ _
       (λ hd. ticks.speak_goes nodes sound w m node all hd)

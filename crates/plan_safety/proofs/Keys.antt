@@ -98,7 +98,7 @@ stream_eq a b e =
     let y = both_true _ _ x.1 in
     stream_is a b (eq_true _ _ x.0) (eq_true _ _ y.0) (eq_true _ _ y.1)
 
--- streams that differ are told apart
+-- the test is false of streams that differ
 pub apart : (a b : Stream) → a ≢ b → same_stream a b ≡ false
 apart a b h = not_true _ (λ e. h (stream_eq a b e))
 
@@ -131,7 +131,7 @@ drone_not_everyone d c e = absurd (let z : d.comp ≡ 0 = ap (λ (n : Name). n.c
 pub for_itself : (d : Stream) → d.comp ≡ 1 → is_for_drone d.sys (node_of d) ≡ true
 for_itself d c = rw (number_same d.sys, c) refl
 
--- and another drone's name only where their systems are one
+-- and another drone's name only if their systems are one
 pub for_another : (d e : Stream) → is_for_drone d.sys (node_of e) ≡ true → d.sys ≡ e.sys
 for_another d e h = sym (eq_true _ _ (both_true _ _ h).0)
 

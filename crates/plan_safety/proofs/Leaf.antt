@@ -1,4 +1,4 @@
--- One answer of the drone: what each of its steps has to show.
+-- One answer of the drone: what has to be shown of each of its steps.
 use Rattle.std.proofs.Common.{◌≡◌, ◌≢◌, ℕ, ◌+◌, ◌<◌, inr, if◌then◌else◌, ◌==◌, List, ◌∷◌, length, Option, Some, None, sym, ap, subst, arith}
 use Rattle.std.specs.Prelude.{slice_get}
 use Rattle.mav_names.specs.declared.names.Stream.{Stream}

@@ -1,4 +1,4 @@
--- Laws of the abstract mission store: why an operation ended as it was told.
+-- Laws of the abstract mission store: why an operation ended as reported.
 use Rattle.std.proofs.Common.{◌≡◌, ◌≢◌, ℕ, ◌⊎◌, inl, inr, true, false, ◌==◌, ◌&&◌, List, [], ◌∷◌, Option, Some, None, refl, sym, ap, subst, ◌∙◌}
 use Rattle.mav_names.specs.declared.names.Stream.{Stream}
 use Rattle.plan_items.specs.declared.items.Item.{Item}
@@ -13,7 +13,7 @@ use Rattle.plan_safety.proofs.Keys.{by_test, eq_true, stream_eq, stream_ne, apar
 abbrev Lost : List Step → Store → Type 0
 Lost h m = (s : Stream) → (m.transaction s).lost ≡ true → RestartedSince h s (m.transaction s).drone
 
--- the latest transaction is another, that is lost only where the old one was
+-- the latest transaction is another, that is lost only if the old one was
 lost_at : (x : Step) (h : List Step) (m : Store) (t : Stream) (o : Transaction) → Lost h m → (o.lost ≡ true → (m.transaction t).lost ≡ true) → o.drone ≡ (m.transaction t).drone → ((s : Stream) → begins_upload x.event s ≡ false) → (s : Stream) → (at m.transaction t o s).lost ≡ true → RestartedSince (x ∷ h) s (at m.transaction t o s).drone
 lost_at x h m t o p l d b s =
     by_test (λ (y : Transaction). y.lost ≡ true → RestartedSince (x ∷ h) s y.drone) (same_stream s t) o (m.transaction s)
@@ -43,7 +43,7 @@ lost_step sent (Ended t Told_cleared) h m p = λ s f. inr (refl, p s f)
 lost_step sent (Ended t (Told_got l)) h m p = λ s f. inr (refl, p s f)
 lost_step sent (Ended t (Told_ended code)) h m p = λ s f. inr (refl, p s f)
 
--- where the latest upload is lost, its drone has started again since it began
+-- if the latest upload is lost, its drone has started again since it began
 pub lost_law : (h : List Step) → (s : Stream) → ((store_of h).transaction s).lost ≡ true → RestartedSince h s ((store_of h).transaction s).drone
 lost_law [] = λ s f. absurd (cc)
 lost_law (x ∷ h) = lost_step x.sent x.event h (store_of h) (lost_law h)
@@ -75,7 +75,7 @@ stopped_step sent (Ended t Told_cleared) h m p = λ s f. inr (refl, p s f)
 stopped_step sent (Ended t (Told_got l)) h m p = λ s f. inr (refl, p s f)
 stopped_step sent (Ended t (Told_ended code)) h m p = λ s f. inr (refl, p s f)
 
--- where the mark stands, the station was cancelled since its latest operation began
+-- if the mark is set, the station was cancelled since its latest operation began
 pub cancelled_law : (h : List Step) → (s : Stream) → (store_of h).cancelled s ≡ true → CancelledSince h s
 cancelled_law [] = λ s f. absurd (cc)
 cancelled_law (x ∷ h) = stopped_step x.sent x.event h (store_of h) (cancelled_law h)
@@ -186,10 +186,10 @@ ended_law h sent s code v = one ((store_of h).opening s) refl v.0
     one None is g = absurd g
     one (Some c) is g = (c, is, cause c g)
 
--- an upload that was told "not installed" with a code
+-- an upload that was reported as "not installed" with a code
 pub not_installed_law : (h : List Step) (sent : List Frame) (s : Stream) (code : ℕ) → IsHistory (step sent (Ended s (Told_not_installed code)) ∷ h) → NotInstalledBy h sent s code
 not_installed_law h sent s code v = v.0.1
 
--- an upload that was told "unknown"
+-- an upload that was reported as "unknown"
 pub unknown_law : (h : List Step) (sent : List Frame) (s : Stream) → IsHistory (step sent (Ended s Told_unknown) ∷ h) → UnknownBy h sent s
 unknown_law h sent s v = let n = v.0 in record { restarted = lost_law h s n.1; answered = n.2; final_sent = n.3; cancel_sent = n.4 }

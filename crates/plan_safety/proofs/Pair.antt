@@ -7,7 +7,7 @@ use Rattle.plan_items.specs.declared.messages.PlanMsg.TheVariants.{Count, Reques
 use Rattle.plan_upload.specs.Addresses.{everyone}
 
 pub record Pair : Type 0 where
-  -- The drone: 1 where an upload of the station is open there.
+  -- The drone: 1 if an upload of the station is open there.
   pub has_open : ℕ
   -- Its last upload result for the station: 0 none, 1 not installed, 2 installed.
   pub result : ℕ
@@ -25,12 +25,12 @@ pub record Pair : Type 0 where
   -- The number of this resynchronisation attempt's PING, and the next PING number.
   pub number : ℕ
   pub next_ping : ℕ
-  -- 1 where the station is synchronised with the drone.
+  -- 1 if the station is synchronised with the drone.
   pub synced : ℕ
   -- The greatest timestamp of the drone that the station admitted, and its own next one.
   pub station_last : ℕ
   pub station_next : ℕ
-  -- The latest upload transaction: 0 closed, 1 fresh, 2 installed; 1 where the drone has started again since.
+  -- The latest upload transaction: 0 closed, 1 fresh, 2 installed; 1 if the drone has started again since.
   pub stage : ℕ
   pub lost : ℕ
   -- What else is open: 0 nothing, 1 a clear, 2 a download.

@@ -24,7 +24,7 @@ pub record Part : Type 0 where
   pub drone : DroneState
   pub drone_last : ℕ
   pub drone_next : ℕ
-  pub operation : Option Operation  -- the station's, where it is at the drone
+  pub operation : Option Operation  -- the station's, if it is at the drone
   pub synced : Bool
   pub pings : ℕ
   pub station_last : ℕ
@@ -175,7 +175,7 @@ abbrev pub Copies : Stream → ℕ → List Item → Option Download → Type 0
 Copies s kind plan None = Unit {0}
 Copies s kind plan (Some c) = c.stream ≡ s → (c.kind ≡ kind) × (c.items ≡ plan)
 
--- in phase 6 the station has gathered a proper front of that plan
+-- in phase 6 the station has gathered a proper prefix of that plan
 abbrev pub GathersIn : List Item → Phase → List Item → ℕ → Type 0
 GathersIn plan Pinging got total = Unit {0}
 GathersIn plan Cancelling got total = Unit {0}
@@ -200,7 +200,7 @@ abbrev pub Coded : List Frame → Stream → Stream → Transaction → Option �
 Coded sent d s t None = Unit {0}
 Coded sent d s t (Some code) = RefusedWith sent d s t code
 
--- a clear or a download terminates only where it was cancelled
+-- a clear or a download terminates only if it was cancelled
 abbrev pub Terminates : Bool → Work → Bool → Type 0
 Terminates cancelled Uploads terminating = Unit {0}
 Terminates cancelled Clears terminating = terminating ≡ true → cancelled ≡ true
@@ -277,7 +277,7 @@ abbrev pub Truths : Stream → Stream → Pair → Subject → List Frame → Ty
 Truths d s p j [] = Unit {0}
 Truths d s p j (f ∷ fs) = Truth d s p j f × Truths d s p j fs
 
--- what was gathered is a front of the transaction's plan, all of it sent
+-- what was gathered is a prefix of the transaction's plan, all of it sent
 pub record Gathering (d s : Stream) (sent : List Frame) (t : Transaction) (u : Upload) : Type 0 where
   pub kind : u.kind ≡ t.kind
   pub total : u.total ≡ length t.plan
@@ -289,8 +289,8 @@ abbrev pub Gathers : Stream → Stream → List Frame → Transaction → Option
 Gathers d s sent t None = Unit {0}
 Gathers d s sent t (Some u) = u.stream ≡ s → Gathering d s sent t u
 
--- what is true of an acknowledgement of the drone at this time, where `earlier` are the frames before it: it refuses the
--- upload, where it refuses a Count since the first one was sent, or anything since the upload was opened
+-- what is true of an acknowledgement of the drone at this time; `earlier` are the frames before it: it refuses the
+-- upload, if it refuses a Count since the first one was sent, or anything since the upload was opened
 abbrev pub Answers : Stream → Stream → Transaction → ℕ → ℕ → ℕ → List Frame → Option PlanMsg → Type 0
 Answers d s t counted opened time earlier (Some (Ping to usec n)) = Unit {0}
 Answers d s t counted opened time earlier (Some (Count to n k)) = Unit {0}
@@ -503,9 +503,9 @@ answered_here d s t counted opened f fs c k from is about h =
     ]
 
 -- such an acknowledgement of the drone, in its place, refused the upload
-pub answered_at : (d s : Stream) (t : Transaction) (counted opened : ℕ) (fs : List Frame) (place : ℕ) (f : Frame) (c k : ℕ) → slice_get fs place ≡ Some f → f.from ≡ d → f.message ≡ Some (Ack (node_of s) c k) → IsAbout counted opened f.timestamp c → Answered d s t counted opened fs → RefusedWith fs d s t c
-answered_at d s t counted opened [] place f c k e from is about a = absurd (cc)
+pub answered_at : (d s : Stream) (t : Transaction) (counted opened : ℕ) (fs : List Frame) (index : ℕ) (f : Frame) (c k : ℕ) → slice_get fs index ≡ Some f → f.from ≡ d → f.message ≡ Some (Ack (node_of s) c k) → IsAbout counted opened f.timestamp c → Answered d s t counted opened fs → RefusedWith fs d s t c
+answered_at d s t counted opened [] index f c k e from is about a = absurd (cc)
 answered_at d s t counted opened (g ∷ fs) zero f c k e from is about a =
     let same : f ≡ g = cc in
     answered_here d s t counted opened g fs c k (subst (λ (x : Frame). x.from ≡ d) same from) (subst (λ (x : Frame). x.message ≡ Some (Ack (node_of s) c k)) same is) (subst (λ (x : Frame). IsAbout counted opened x.timestamp c) same about) a.0
-answered_at d s t counted opened (g ∷ fs) (suc place) f c k e from is about a = inr (answered_at d s t counted opened fs place f c k e from is about a.1)
+answered_at d s t counted opened (g ∷ fs) (suc index) f c k e from is about a = inr (answered_at d s t counted opened fs index f c k e from is about a.1)

@@ -11,7 +11,7 @@ use Rattle.plan_safety.specs.Store.{Installed, Cleared, Ended}
 use Rattle.plan_safety.specs.World.{Distinct, Clears, Gets, Cancels, To_drone, To_station}
 use Rattle.plan_safety.specs.History.{final}
 use Rattle.plan_safety.proofs.Keys.{either_true, stream_eq}
-use Rattle.plan_safety.specs.Examples.{drone_7, station_a, station_b, small_fleet, small_start, one_waypoint, two_waypoints, exchange, resynchronisation, upload_of_two, upload_nearly, upload_told, restart_and_cancel, download_of_two, upload_of_one, two_stations}
+use Rattle.plan_safety.specs.Examples.{drone_7, station_a, station_b, small_fleet, small_start, one_waypoint, two_waypoints, exchange, resynchronisation, upload_of_two, upload_nearly, upload_reported, restart_and_cancel, download_of_two, upload_of_one, two_stations}
 
 -- the two stations
 either_station : (s : Stream) → (same_stream s station_a || same_stream s station_b) ≡ true → (s ≡ station_a) ⊎ (s ≡ station_b)
@@ -27,7 +27,7 @@ not_for_drone : (s : Stream) → (s ≡ station_a) ⊎ (s ≡ station_b) → is_
 not_for_drone s (inl a) = subst (λ x. is_for_drone 7 (node_of x) ≡ false) (sym a) refl
 not_for_drone s (inr b) = subst (λ x. is_for_drone 7 (node_of x) ≡ false) (sym b) refl
 
--- names tell the three nodes apart
+-- the names of the three nodes are distinct
 pub distinct : Distinct small_fleet
 distinct = record {
   component = λ d h. ap (λ (x : Stream). x.comp) (stream_eq d drone_7 h);
@@ -40,17 +40,17 @@ pub installs : (final small_fleet small_start (upload_of_two station_a)).news �
 unfolding item_fault plan_fault whole_fault
 installs = refl
 
-pub tells : (final small_fleet small_start (upload_told station_a)).news ≡ Ended station_a Told_installed ∷ []
+pub reports : (final small_fleet small_start (upload_reported station_a)).news ≡ Ended station_a Told_installed ∷ []
 unfolding item_fault plan_fault whole_fault
-tells = refl
+reports = refl
 
-pub clears : (final small_fleet small_start (upload_told station_a ++ Clears station_a drone_7 None ∷ To_drone 0 drone_7 true ∷ [])).news ≡ Cleared drone_7 0 station_a ∷ Cleared drone_7 1 station_a ∷ Cleared drone_7 2 station_a ∷ []
+pub clears : (final small_fleet small_start (upload_reported station_a ++ Clears station_a drone_7 None ∷ To_drone 0 drone_7 true ∷ [])).news ≡ Cleared drone_7 0 station_a ∷ Cleared drone_7 1 station_a ∷ Cleared drone_7 2 station_a ∷ []
 unfolding item_fault plan_fault whole_fault
 clears = refl
 
-pub tells_cleared : (final small_fleet small_start (upload_told station_a ++ Clears station_a drone_7 None ∷ exchange station_a)).news ≡ Ended station_a Told_cleared ∷ []
+pub reports_cleared : (final small_fleet small_start (upload_reported station_a ++ Clears station_a drone_7 None ∷ exchange station_a)).news ≡ Ended station_a Told_cleared ∷ []
 unfolding item_fault plan_fault whole_fault
-tells_cleared = refl
+reports_cleared = refl
 
 pub downloads : (final small_fleet small_start (download_of_two station_a)).news ≡ Ended station_a (Told_got two_waypoints) ∷ []
 unfolding item_fault plan_fault whole_fault
@@ -70,14 +70,14 @@ unfolding item_fault plan_fault whole_fault
 unknown_lost = refl
 
 -- a cancelled download
-pub ends : (final small_fleet small_start (upload_told station_a ++ Gets station_a drone_7 Mission ∷ Cancels station_a ∷ resynchronisation station_a)).news ≡ Ended station_a (Told_ended 15) ∷ []
+pub ends : (final small_fleet small_start (upload_reported station_a ++ Gets station_a drone_7 Mission ∷ Cancels station_a ∷ resynchronisation station_a)).news ≡ Ended station_a (Told_ended 15) ∷ []
 unfolding item_fault plan_fault whole_fault
 ends = refl
 
-pub alternates : (plan_at ((final small_fleet small_start (upload_told station_a)).drone drone_7).state.plans 0 ≡ two_waypoints) × (plan_at ((final small_fleet small_start (upload_told station_a ++ upload_of_one station_b)).drone drone_7).state.plans 0 ≡ one_waypoint) × (plan_at ((final small_fleet small_start two_stations).drone drone_7).state.plans 0 ≡ two_waypoints)
+pub alternates : (plan_at ((final small_fleet small_start (upload_reported station_a)).drone drone_7).state.plans 0 ≡ two_waypoints) × (plan_at ((final small_fleet small_start (upload_reported station_a ++ upload_of_one station_b)).drone drone_7).state.plans 0 ≡ one_waypoint) × (plan_at ((final small_fleet small_start two_stations).drone drone_7).state.plans 0 ≡ two_waypoints)
 unfolding item_fault plan_fault whole_fault
 alternates = (refl, refl, refl)
 
-pub second_tells : (final small_fleet small_start (upload_told station_a ++ upload_of_one station_b)).news ≡ Ended station_b Told_installed ∷ []
+pub second_reports : (final small_fleet small_start (upload_reported station_a ++ upload_of_one station_b)).news ≡ Ended station_b Told_installed ∷ []
 unfolding item_fault plan_fault whole_fault
-second_tells = refl
+second_reports = refl

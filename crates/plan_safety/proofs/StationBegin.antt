@@ -83,7 +83,7 @@ none_open (Some c) e = absurd (some c.job e)
     some (A_get x) e = absurd (omega arith)
 
 module _ (d s : Stream) (ne : d ≢ s) where
-  -- an upload begins, where a PING number is left
+  -- an upload begins, if a PING number is left
   pub on_begin : (p : Part) (g : Moments) (t : StationState) (kind : ℕ) (plan : List Item) → nat_lt t.pings last_ping ≡ true → (let u = with_operation t None in Inv d s (with_station d p u) g → Acted d s u (with_station d p u) (begin_upload u d kind plan) (Begins_upload kind plan))
   on_begin p g t kind plan left i =
       let u = with_operation t None in
@@ -152,7 +152,7 @@ module _ (d s : Stream) (ne : d ≢ s) where
       })
       (λ e. absurd (differ _ left e)))
 
-  -- a clear begins, where a PING number is left
+  -- a clear begins, if a PING number is left
   pub on_clear : (p : Part) (g : Moments) (t : StationState) (kind : ℕ) → nat_lt t.pings last_ping ≡ true → (let u = with_operation t None in Inv d s (with_station d p u) g → Acted d s u (with_station d p u) (begin_clear u d kind) (Begins_clear kind))
   on_clear p g t kind left i =
       let u = with_operation t None in
@@ -220,7 +220,7 @@ module _ (d s : Stream) (ne : d ≢ s) where
       })
       (λ e. absurd (differ _ left e)))
 
-  -- a download begins, where a PING number is left
+  -- a download begins, if a PING number is left
   pub on_get : (p : Part) (g : Moments) (t : StationState) (kind : ℕ) → nat_lt t.pings last_ping ≡ true → (let u = with_operation t None in Inv d s (with_station d p u) g → Acted d s u (with_station d p u) (begin_get u d kind) (Begins_get kind))
   on_get p g t kind left i =
       let u = with_operation t None in

@@ -57,7 +57,7 @@ clear_new p jkind kind total plan e f on a b = grind arith
 listing_new : (p : Pair) (jkind kind total : ℕ) (plan : ℕ → Option Item) (e : ℕ) → Facts p → p.work ≡ 3 → 0 < e → e ≤ p.station_next → SentByStation (starts_listing p e) jkind kind total plan p.station_next (a_list jkind)
 listing_new p jkind kind total plan e f on a b = grind arith
 
--- what an answer to a cancel tells the station
+-- what an answer to a cancel says to the station
 pub record Synchronises (p : Pair) (c k : ℕ) : Type 0 where
   pub phase : p.phase ≡ 2
   pub late : p.first_reply < p.station_last
@@ -75,7 +75,7 @@ pub record CanEnd (p : Pair) : Type 0 where
   pub heard : p.last_shown ≤ p.station_last
   pub late : p.drone_last < p.last_cancel → p.result < 2
 
--- the answer to a cancel makes an end safe, and tells the result
+-- the answer to a cancel makes an end safe, and says what the result is
 synced_can : (p : Pair) (c k : ℕ) → Facts p → Synchronises p c k → CanEnd p
 synced_can p c k f h = grind arith
 
@@ -165,12 +165,12 @@ some_job p f e = grind arith
 first_job_sent : (p : Pair) → Facts p → p.first_job ≤ p.station_next
 first_job_sent p f = grind arith
 
--- an attempt tells no outcome
-pub attempt_told : (u : StationState) (o : Operation) → (resynchronises u o).told ≡ None
-attempt_told u o = by_test (λ (a : StationStep). a.told ≡ None) (nat_lt u.pings last_ping) _ _ (λ _. refl) (λ _. refl)
+-- an attempt reports no outcome
+pub attempt_reported : (u : StationState) (o : Operation) → (resynchronises u o).told ≡ None
+attempt_reported u o = by_test (λ (a : StationStep). a.told ≡ None) (nat_lt u.pings last_ping) _ _ (λ _. refl) (λ _. refl)
 
 module _ (d s : Stream) (ne : d ≢ s) where
-  -- an attempt begins, and the operation is terminating where a Count was sent
+  -- an attempt begins, and the operation is terminating if a Count was sent
   pub on_silent_attempt : (p : Part) (g : Moments) (t : StationState) (o : Operation) (f : Phase) (code : Option ℕ) (terminating : Bool) → Inv d s (with_station d p (with_operation t (op o d f))) g → (0 < g.first_count → 0 < flag terminating) → Coded p.sent d s p.transaction code → Terminates p.cancelled o.work terminating → Acted d s (with_operation t (op o d f)) (with_station d p (with_operation t (op o d f))) (resynchronises (with_operation t (op o d f)) (record o { drone = d; phase = f; code = code; terminating = terminating })) Silent
   on_silent_attempt p g t o f code terminating i end cd tm =
       let u = with_operation t (op o d f) in
@@ -225,7 +225,7 @@ module _ (d s : Stream) (ne : d ≢ s) where
   on_attempt p g t o f code terminating i end cd tm =
       let u = with_operation t (op o d f) in
       let o' : Operation = record o { drone = d; phase = f; code = code; terminating = terminating } in
-      subst (λ x. Acted d s u (with_station d p u) (resynchronises u o') (news_of x)) (sym (attempt_told u o')) (on_silent_attempt p g t o f code terminating i end cd tm)
+      subst (λ x. Acted d s u (with_station d p u) (resynchronises u o') (news_of x)) (sym (attempt_reported u o')) (on_silent_attempt p g t o f code terminating i end cd tm)
 
   -- synchronised, and not terminating: it starts
   on_start : (p : Part) (g : Moments) (t : StationState) (o : Operation) (w : Work) (c k : ℕ) → (let u = with_operation t (op (record o { work = w; terminating = false }) d Cancelling) in Inv d s (with_station d p u) g → Synchronises (pair_of s (with_station d p u) g) c k → Heeds d s u (with_station d p u) (starts (synchronised u d) (record o { work = w; terminating = false; drone = d; phase = Cancelling })))

@@ -14,10 +14,10 @@ use Rattle.plan_safety.proofs.Keys.{flag}
 use Rattle.plan_safety.proofs.Pair.{Pair, Facts, SentByStation}
 use Rattle.plan_safety.proofs.Part.{Seen, Part, Moments, pair_of, subject, Named, Truths, Final, Operates, Inv, Keeps, keeps_truth, truths_keep, gathers_more, shown_of, number_in, job_number, since_of, IsGet, Answered}
 
--- what a step tells: an outcome, that an operation began, or that it was cancelled
+-- what a step reports: an outcome, that an operation began, or that it was cancelled
 pub data StationNews : Type 0 where
   Silent : StationNews
-  Tells : (told : Told) → StationNews
+  Reports : (told : Told) → StationNews
   Begins_upload : (kind : ℕ) (plan : List Item) → StationNews
   Begins_clear : (kind : ℕ) → StationNews
   Begins_get : (kind : ℕ) → StationNews
@@ -25,7 +25,7 @@ pub data StationNews : Type 0 where
 
 abbrev pub news_of : Option Told → StationNews
 news_of None = Silent
-news_of (Some told) = Tells told
+news_of (Some told) = Reports told
 
 -- a clear is open; a download that was shown this plan; what ends one with a code
 abbrev pub SeesClear : Option Seen → Type 0
@@ -42,34 +42,34 @@ SeesEnd sent d s cancelled (Some c) code =
     Acked sent d s c.drone_since code ⊎ (((code ≡ 15) × (cancelled ≡ true)) ⊎ ((code ≡ 4) × TooMany c.kind c.job))
 
 -- what an outcome needs of the pair
-abbrev pub Tellable : Stream → Stream → List Frame → Transaction → Option Seen → Bool → Told → Type 0
-Tellable d s sent t c cancelled Told_installed = t.stage ≡ In_place
-Tellable d s sent t c cancelled (Told_not_installed code) = (t.stage ≡ Fresh) × ((code ≡ 15) ⊎ RefusedWith sent d s t code)
-Tellable d s sent t c cancelled Told_unknown = (t.stage ≡ Closed → ⊥) × (t.lost ≡ true) × Acked sent d s t.drone_since 1 × Final sent d s t × Said sent s t.since (Ack (node_of d) 15 t.kind)
-Tellable d s sent t c cancelled Told_cleared = SeesClear c
-Tellable d s sent t c cancelled (Told_got plan) = SeesPlan c plan
-Tellable d s sent t c cancelled (Told_ended code) = SeesEnd sent d s cancelled c code
+abbrev pub Reportable : Stream → Stream → List Frame → Transaction → Option Seen → Bool → Told → Type 0
+Reportable d s sent t c cancelled Told_installed = t.stage ≡ In_place
+Reportable d s sent t c cancelled (Told_not_installed code) = (t.stage ≡ Fresh) × ((code ≡ 15) ⊎ RefusedWith sent d s t code)
+Reportable d s sent t c cancelled Told_unknown = (t.stage ≡ Closed → ⊥) × (t.lost ≡ true) × Acked sent d s t.drone_since 1 × Final sent d s t × Said sent s t.since (Ack (node_of d) 15 t.kind)
+Reportable d s sent t c cancelled Told_cleared = SeesClear c
+Reportable d s sent t c cancelled (Told_got plan) = SeesPlan c plan
+Reportable d s sent t c cancelled (Told_ended code) = SeesEnd sent d s cancelled c code
 
 abbrev pub StationNeeds : Stream → Stream → List Frame → Transaction → Option Seen → Bool → StationNews → Type 0
 StationNeeds d s sent t c cancelled Silent = Unit {0}
-StationNeeds d s sent t c cancelled (Tells told) = Tellable d s sent t c cancelled told
+StationNeeds d s sent t c cancelled (Reports told) = Reportable d s sent t c cancelled told
 StationNeeds d s sent t c cancelled (Begins_upload kind plan) = t.stage ≡ Fresh → ⊥
 StationNeeds d s sent t c cancelled (Begins_clear kind) = c ≡ None
 StationNeeds d s sent t c cancelled (Begins_get kind) = c ≡ None
 StationNeeds d s sent t c cancelled Cancels = Unit {0}
 
 -- the transaction afterwards; `now` and `later` are the next timestamps of the station and the drone
-abbrev pub told_transaction : Transaction → Told → Transaction
-told_transaction t Told_installed = t
-told_transaction t (Told_not_installed code) = staged t Closed
-told_transaction t Told_unknown = given_up t
-told_transaction t Told_cleared = t
-told_transaction t (Told_got plan) = t
-told_transaction t (Told_ended code) = t
+abbrev pub reported_transaction : Transaction → Told → Transaction
+reported_transaction t Told_installed = t
+reported_transaction t (Told_not_installed code) = staged t Closed
+reported_transaction t Told_unknown = given_up t
+reported_transaction t Told_cleared = t
+reported_transaction t (Told_got plan) = t
+reported_transaction t (Told_ended code) = t
 
 abbrev pub station_transaction : Stream → ℕ → ℕ → Transaction → StationNews → Transaction
 station_transaction d now later t Silent = t
-station_transaction d now later t (Tells told) = told_transaction t told
+station_transaction d now later t (Reports told) = reported_transaction t told
 station_transaction d now later t (Begins_upload kind plan) = begun d kind plan now later
 station_transaction d now later t (Begins_clear kind) = t
 station_transaction d now later t (Begins_get kind) = t
@@ -79,17 +79,17 @@ station_transaction d now later t Cancels = t
 abbrev pub seen : ℕ → Job → ℕ → Option Seen
 seen kind job since = Some (record { kind = kind; job = job; drone_since = since })
 
-abbrev pub told_opening : Option Seen → Told → Option Seen
-told_opening c Told_installed = c
-told_opening c (Told_not_installed code) = c
-told_opening c Told_unknown = c
-told_opening c Told_cleared = None
-told_opening c (Told_got plan) = None
-told_opening c (Told_ended code) = None
+abbrev pub reported_opening : Option Seen → Told → Option Seen
+reported_opening c Told_installed = c
+reported_opening c (Told_not_installed code) = c
+reported_opening c Told_unknown = c
+reported_opening c Told_cleared = None
+reported_opening c (Told_got plan) = None
+reported_opening c (Told_ended code) = None
 
 abbrev pub station_opening : ℕ → Option Seen → StationNews → Option Seen
 station_opening later c Silent = c
-station_opening later c (Tells told) = told_opening c told
+station_opening later c (Reports told) = reported_opening c told
 station_opening later c (Begins_upload kind plan) = c
 station_opening later c (Begins_clear kind) = seen kind A_clear later
 station_opening later c (Begins_get kind) = seen kind (A_get None) later
@@ -97,7 +97,7 @@ station_opening later c Cancels = c
 
 abbrev pub station_cancelled : Bool → StationNews → Bool
 station_cancelled b Silent = b
-station_cancelled b (Tells told) = b
+station_cancelled b (Reports told) = b
 station_cancelled b (Begins_upload kind plan) = false
 station_cancelled b (Begins_clear kind) = false
 station_cancelled b (Begins_get kind) = false
@@ -174,7 +174,7 @@ station_said d s ne p g h t x q i is f k n named l o c m ask old = record {
   answers = λ ph. (λ e _. absurd (ne (sym e)), old ph);
 }
 
--- more sent frames tell no less
+-- more sent frames show no less
 pub acked_more : (sent : List Frame) (f : Frame) (d s : Stream) (since code : ℕ) → Acked sent d s since code → Acked (f ∷ sent) d s since code
 acked_more sent f d s since code h = (h.0, inr h.1)
 
@@ -187,13 +187,13 @@ or_refused : (sent : List Frame) (f : Frame) (d s : Stream) (t : Transaction) (c
 or_refused sent f d s t code (inl h) = inl h
 or_refused sent f d s t code (inr h) = inr (inr h)
 
-pub tellable_more : (d s : Stream) (sent : List Frame) (f : Frame) (t : Transaction) (c : Option Seen) (cancelled : Bool) (told : Told) → Tellable d s sent t c cancelled told → Tellable d s (f ∷ sent) t c cancelled told
-tellable_more d s sent f t c cancelled Told_installed h = h
-tellable_more d s sent f t c cancelled (Told_not_installed code) h = (h.0, or_refused sent f d s t code h.1)
-tellable_more d s sent f t c cancelled Told_unknown h = (h.0, h.1, acked_more sent f d s t.drone_since 1 h.2, (h.3.0, h.3.1, h.3.2, h.3.3, inr h.3.4), inr h.4)
-tellable_more d s sent f t c cancelled Told_cleared h = h
-tellable_more d s sent f t c cancelled (Told_got plan) h = h
-tellable_more d s sent f t c cancelled (Told_ended code) h = end_more d s sent f cancelled c code h
+pub reportable_more : (d s : Stream) (sent : List Frame) (f : Frame) (t : Transaction) (c : Option Seen) (cancelled : Bool) (told : Told) → Reportable d s sent t c cancelled told → Reportable d s (f ∷ sent) t c cancelled told
+reportable_more d s sent f t c cancelled Told_installed h = h
+reportable_more d s sent f t c cancelled (Told_not_installed code) h = (h.0, or_refused sent f d s t code h.1)
+reportable_more d s sent f t c cancelled Told_unknown h = (h.0, h.1, acked_more sent f d s t.drone_since 1 h.2, (h.3.0, h.3.1, h.3.2, h.3.3, inr h.3.4), inr h.4)
+reportable_more d s sent f t c cancelled Told_cleared h = h
+reportable_more d s sent f t c cancelled (Told_got plan) h = h
+reportable_more d s sent f t c cancelled (Told_ended code) h = end_more d s sent f cancelled c code h
 
 -- the three causes of an end
 pub end_acked : (d s : Stream) (sent : List Frame) (cancelled : Bool) (c : Option Seen) (code : ℕ) → 0 < number_in c (λ (x : Seen). job_number x.job) → Acked sent d s (since_of c) code → SeesEnd sent d s cancelled c code

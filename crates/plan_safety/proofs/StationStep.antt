@@ -50,7 +50,7 @@ item_new p jkind kind total plan last i x f h l is e = (omega arith, λ y. absur
 cancel_new : (p : Pair) (jkind kind total : ℕ) (plan : ℕ → Option Item) (k : ℕ) → SentByStation (cancels p) jkind kind total plan p.station_next (an_ack 15 k)
 cancel_new p jkind kind total plan k = (omega arith, λ _. omega arith, λ _ _ _. refl)
 
--- what an acknowledgement tells in each phase
+-- what an acknowledgement says in each phase
 done_can : (p : Pair) (k : ℕ) → Facts p → p.phase ≡ 3 → p.asked ≡ 1 → SentByDrone p p.station_last (an_ack 0 k) → CanEnd p
 done_can p k f ph a h = grind arith
 
@@ -441,7 +441,7 @@ module _ (d s : Stream) (ne : d ≢ s) where
       (λ _. let b = getting_can q i.facts refl in on_ended d s ne p g u c i b.0 b.1 (end_acked d s p.sent p.cancelled p.opening c (some_job q i.facts b.1) (ended_by p w to c k b.1 me said (getting_began q i.facts refl))))
   on_hears p g t o w f x i h sh me said by = rested p g (with_operation t (op (record o { work = w }) d f)) i refl
 
-  -- a cancel of the station's own, where it was marked in the store
+  -- a cancel of the station's own, if it was marked in the store
   marked : (p : Part) (g : Moments) (t : StationState) (o : Operation) (f : Phase) → phase_number f < 3 → (let u = with_operation t (op o d f) in Inv d s (with_station d (record p { cancelled = true }) u) g → Heeds d s u (with_station d (record p { cancelled = true }) u) (becomes u (record o { terminating = true; drone = d; phase = f })))
   marked p g t o f l i =
       let v = with_station d (record p { cancelled = true }) (with_operation t (op o d f)) in

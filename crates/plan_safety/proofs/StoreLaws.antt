@@ -62,7 +62,7 @@ not_new f n o h s = by_test (λ (x : Transaction). x.stage ≡ Fresh → x ≡ f
 not_new_here : (f : Stream → Transaction) (n : Stream) (o : Transaction) → (o.stage ≡ Fresh → ⊥) → (s : Stream) → (at f n o s).stage ≡ Fresh → s ≢ n
 not_new_here f n o h s = by_test (λ (x : Transaction). x.stage ≡ Fresh → s ≢ n) (same_stream s n) o (f s) (λ _ e. absurd (h e)) (λ e _. stream_ne _ _ e)
 
--- given up is not fresh, and installed only where it was
+-- given up is not fresh, and installed only if it was
 given_not_fresh : (s : Stage) → unless_placed s ≡ Fresh → ⊥
 given_not_fresh Fresh e = absurd (cc)
 given_not_fresh In_place e = absurd (cc)
@@ -238,11 +238,11 @@ plans_law h v = (sound h v).plans
 pub once_law : (h : List Step) → IsHistory h → (s : Stream) (n : ℕ) → tally installs h s n ≤ 1
 once_law h v = (sound h v).once
 
--- one that is told "not installed" isn't installed, before or after
+-- one reported as "not installed" isn't installed, before or after
 pub never_law : (h : List Step) → IsHistory h → (s : Stream) (n : ℕ) → 0 < tally refuses h s n → tally installs h s n ≡ 0
 never_law h v = (sound h v).never
 
--- one that is told "installed" is
+-- one reported as "installed" is
 pub installed_law : (h : List Step) (sent : List Frame) (s : Stream) → IsHistory (step sent (Ended s Told_installed) ∷ h) → tally installs h s (uploads h s) ≡ 1
 installed_law h sent s v = let p = sound h v.1 in let a = p.placed s v.0 in let b = p.once s (uploads h s) in omega arith
 

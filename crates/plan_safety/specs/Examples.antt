@@ -52,8 +52,8 @@ upload_nearly station =
     Begins station drone_7 Mission two_waypoints ∷ resynchronisation station ++ exchange station ++ exchange station
 
 -- the acknowledgement comes to the station
-abbrev pub upload_told : Stream → List Event
-upload_told station = upload_of_two station ++ To_station 0 station ∷ []
+abbrev pub upload_reported : Stream → List Event
+upload_reported station = upload_of_two station ++ To_station 0 station ∷ []
 
 -- the drone starts again with a low bound of 50, the station's clock passes that, and it resynchronises
 abbrev pub restart_and_cancel : Stream → List Event
@@ -62,7 +62,7 @@ restart_and_cancel station = Restarts drone_7 50 ∷ Station_waits station 60 �
 -- a download of the two waypoints
 abbrev pub download_of_two : Stream → List Event
 download_of_two station =
-    upload_told station ++ Gets station drone_7 Mission ∷ exchange station ++ exchange station ++ exchange station
+    upload_reported station ++ Gets station drone_7 Mission ∷ exchange station ++ exchange station ++ exchange station
 
 -- an upload of one waypoint, and its acknowledgement
 abbrev pub upload_of_one : Stream → List Event
@@ -75,4 +75,4 @@ upload_again station = Begins station drone_7 Mission two_waypoints ∷ exchange
 
 -- the first station uploads, the second replaces that plan, and the first uploads again
 abbrev pub two_stations : List Event
-two_stations = upload_told station_a ++ upload_of_one station_b ++ upload_again station_a
+two_stations = upload_reported station_a ++ upload_of_one station_b ++ upload_again station_a

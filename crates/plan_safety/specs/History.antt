@@ -113,7 +113,7 @@ Uploaded (x ∷ h) s number drone kind plan = (BegunWith x.event s drone kind pl
 abbrev pub IsHeld : List Step → Stream → ℕ → List Item → Type 0
 IsHeld h drone kind plan = (plan ≡ []) ⊎ ((s : Stream) × (number : ℕ) × Uploaded h s number drone kind plan × (0 < tally installs h s number))
 
--- an installation: of the station's latest upload, fully transmitted, not installed and not told "not installed" before
+-- an installation: of the station's latest upload, fully transmitted, not installed and not reported as "not installed" before
 pub record Installation (h : List Step) (sent : List Frame) (s drone : Stream) (kind : ℕ) (plan : List Item) : Type 0 where
   pub latest : Uploaded h s (uploads h s) drone kind plan
   pub fully_sent : FullySent sent s ((store_of h).transaction s)
@@ -139,11 +139,11 @@ HeldSince (x ∷ h) s drone kind plan = ((store_of (x ∷ h)).plan drone kind �
 abbrev pub GotHeld : List Step → Stream → List Item → Type 0
 GotHeld h s plan = (c : Opening) × ((store_of h).opening s ≡ Some c) × HeldSince h s c.drone c.kind plan
 
--- why an upload was told "not installed": with a code that the drone refused it with, or 15
+-- why an upload was reported as "not installed": with a code that the drone refused it with, or 15
 abbrev pub NotInstalledBy : List Step → List Frame → Stream → ℕ → Type 0
 NotInstalledBy h sent s code = let t = (store_of h).transaction s in (code ≡ 15) ⊎ RefusedWith sent t.drone s t code
 
--- why an upload was told "unknown": since it began the drone has started again, the last item and a cancel were
+-- why an upload was reported as "unknown": since it began the drone has started again, the last item and a cancel were
 -- sent, and the drone answered code 1
 pub record UnknownBy (h : List Step) (sent : List Frame) (s : Stream) : Type 0 where
   pub restarted : RestartedSince h s ((store_of h).transaction s).drone
@@ -151,14 +151,14 @@ pub record UnknownBy (h : List Step) (sent : List Frame) (s : Stream) : Type 0 w
   pub final_sent : FinalSent sent s ((store_of h).transaction s)
   pub cancel_sent : CancelSent sent s ((store_of h).transaction s)
 
--- why a clear or a download ended: with a code that the drone sent since it began, with 15 where it was
--- cancelled, or with 4 where the drone's plan has more items than its kind has room for
+-- why a clear or a download ended: with a code that the drone sent since it began, with 15 if it was
+-- cancelled, or with 4 if the drone's plan has more items than its kind has room for
 abbrev pub EndedBy : List Step → List Frame → Stream → ℕ → Type 0
 EndedBy h sent s code =
     (c : Opening) × ((store_of h).opening s ≡ Some c)
     × (Acked sent c.drone s c.drone_since code ⊎ (((code ≡ 15) × CancelledSince h s) ⊎ ((code ≡ 4) × TooMany c.kind c.job)))
 
--- the steps of a list of events, in front of earlier ones
+-- the steps of a list of events, at the start of earlier ones
 abbrev pub steps_of : List Frame → List StoreEvent → List Step → List Step
 steps_of sent [] h = h
 steps_of sent (e ∷ es) h = steps_of sent es (step sent e ∷ h)

@@ -52,7 +52,7 @@ pub data StoreEvent : Type 0 where
   Clear_begun : (station drone : Stream) (kind drone_since : ℕ) → StoreEvent
   Cleared : (drone : Stream) (kind : ℕ) (station : Stream) → StoreEvent
   Get_begun : (station drone : Stream) (kind drone_since : ℕ) → StoreEvent
-  -- a drone tells a station how many items its plan has
+  -- a drone reports to a station how many items its plan has
   Shown : (drone : Stream) (kind : ℕ) (plan : List Item) (station : Stream) → StoreEvent
   Cancelled : (station : Stream) → StoreEvent
   -- an operation of the station ends with this outcome
@@ -84,8 +84,8 @@ ItemAsked sent drone station t = (seq : ℕ) × SaidAfter (λ earlier. CountSent
 abbrev pub RefusesCount : ℕ → Type 0
 RefusesCount code = (code ≡ 3) ⊎ ((code ≡ 4) ⊎ ((code ≡ 5) ⊎ (code ≡ 14)))
 
--- the codes that refuse a count or an item, or the whole plan: by a fault, or with ERROR where it couldn't be kept;
--- and OPERATION_CANCELLED, where the drone has given the upload up
+-- the codes that refuse a count or an item, or the whole plan: by a fault, or with ERROR if it couldn't be kept;
+-- and OPERATION_CANCELLED, if the drone has given the upload up
 abbrev pub RefusesUpload : ℕ → Type 0
 RefusesUpload code = RefusesCount code ⊎ (((fault : PlanFault) × (code ≡ code_of fault)) ⊎ ((code ≡ 1) ⊎ (code ≡ 15)))
 
@@ -154,7 +154,7 @@ MayEnd sent station t opening cancelled Told_cleared = HasClear opening
 MayEnd sent station t opening cancelled (Told_got plan) = HasGot opening plan
 MayEnd sent station t opening cancelled (Told_ended code) = EndCause sent station cancelled opening code
 
--- what an event needs, where `sent` are the frames sent so far
+-- what an event needs; `sent` are the frames sent so far
 abbrev pub Needs : List Frame → Store → StoreEvent → Type 0
 -- an upload begins: the station's earlier one is installed or closed
 Needs sent m (Upload_begun station drone kind plan since drone_since) = (m.transaction station).stage ≡ Fresh → ⊥

@@ -22,7 +22,7 @@ pub record Nodes : Type 0 where
   pub is_drone : Stream → Bool
   pub is_station : Stream → Bool
 
--- Names tell nodes apart: a drone is component 1 of its system, and alone there as a drone; stations have
+-- Names are distinct: a drone is component 1 of its system, and alone there as a drone; stations have
 -- names of their own; and no station has a name that a drone takes for its own, (its system, 1) or (its system, 0).
 -- It holds wherever each node has one stream, and no two nodes the same name, none of component 0.
 pub record Distinct (n : Nodes) : Type 0 where
@@ -58,9 +58,9 @@ pub data Event : Type 0 where
   Hands_out : (station : Stream) → Event
   Drone_ticks : (drone : Stream) → Event
   Station_ticks : (station : Stream) → Event
-  -- the sent frame with this place comes to a drone; `keeps` says whether its store keeps new plans
-  To_drone : (place : ℕ) (drone : Stream) (keeps : Bool) → Event
-  To_station : (place : ℕ) (station : Stream) → Event
+  -- the sent frame with this index comes to a drone; `keeps` says whether its store keeps new plans
+  To_drone : (index : ℕ) (drone : Stream) (keeps : Bool) → Event
+  To_station : (index : ℕ) (station : Stream) → Event
   -- it sends a message of another service
   Speaks : (node : Stream) → Event
   -- its clock: its next timestamp is at least that from now on
@@ -95,9 +95,9 @@ drone_news d (Installs by kind items) = Installed d kind items by ∷ []
 drone_news d (Empties by kind) = clears d by kind
 drone_news d (Shows to kind items) = Shown d kind items to ∷ []
 
-abbrev pub told_news : Stream → Option Told → List StoreEvent
-told_news s None = []
-told_news s (Some told) = Ended s told ∷ []
+abbrev pub outcome_news : Stream → Option Told → List StoreEvent
+outcome_news s None = []
+outcome_news s (Some told) = Ended s told ∷ []
 
 abbrev pub drone_does : World → Stream → DroneNode → DroneStep → World
 drone_does w d x r = drone_sends (record w { news = drone_news d r.event }) d (record x { state = r.drone }) r.answer
@@ -105,9 +105,9 @@ drone_does w d x r = drone_sends (record w { news = drone_news d r.event }) d (r
 abbrev pub station_does : World → Stream → StationNode → StationStep → List StoreEvent → World
 station_does w s y a news = station_sends (record w { news = news }) s (record y { state = a.station }) a.answer
 
--- a call of a station: what it begins or cancels, and what it tells
+-- a call of a station: what it begins or cancels, and what it reports
 abbrev pub station_calls : World → Stream → StationNode → StationStep → List StoreEvent → World
-station_calls w s y a news = station_does w s y a (news ++ told_news s a.told)
+station_calls w s y a news = station_does w s y a (news ++ outcome_news s a.told)
 
 -- an admitted frame: a message of another service changes nothing
 abbrev pub drone_takes : Bool → DroneState → Stream → Option PlanMsg → DroneStep
@@ -118,16 +118,16 @@ abbrev pub station_takes : StationState → Stream → Option PlanMsg → Statio
 station_takes y from None = stays y
 station_takes y from (Some m) = station_step y from m
 
--- a frame is admitted where its timestamp is greater than the last one admitted of its stream
+-- a frame is admitted if its timestamp is greater than the last one admitted of its stream
 abbrev pub drone_admits : World → Bool → Stream → DroneNode → Frame → World
 drone_admits w keeps d x f =
     if nat_lt (x.last f.from) f.timestamp
     then drone_does w d (record x { last = at x.last f.from f.timestamp; next = max x.next f.timestamp }) (drone_takes keeps x.state f.from f.message)
     else quiet w
 
--- a step of a station at a frame or a tick: what it tells
+-- a step of a station at a frame or a tick: what it reports
 abbrev pub station_steps : World → Stream → StationNode → StationStep → World
-station_steps w s y a = station_does w s y a (told_news s a.told)
+station_steps w s y a = station_does w s y a (outcome_news s a.told)
 
 abbrev pub station_admits : World → Stream → StationNode → Frame → World
 station_admits w s y f =
@@ -167,7 +167,7 @@ clear_number None = every_kind
 clear_number (Some kind) = number_of kind
 
 -- what a drone is after its restart: it admits what is later than the low bound, and sends later than that.
--- Where the low bound is at least all that it admitted and sent, all its last timestamps are the low bound
+-- If the low bound is at least all that it admitted and sent, all its last timestamps are the low bound
 abbrev pub restarted : DroneNode → ℕ → DroneNode
 restarted x low = record { state = restored x.state; last = λ s. max (x.last s) low; next = max x.next (low + 1) }
 
@@ -202,8 +202,8 @@ happens n w (Cancels s) =
 happens n w (Hands_out s) = where_station n s w (station_calls w s (w.station s) (stays (untold (w.station s).state)) [])
 happens n w (Drone_ticks d) = where_drone n d w (drone_ticked w d (w.drone d) (drone_tick (w.drone d).state))
 happens n w (Station_ticks s) = where_station n s w (station_steps w s (w.station s) (station_tick (w.station s).state))
-happens n w (To_drone place d keeps) = where_drone n d w (to_drone w keeps d (slice_get w.sent place))
-happens n w (To_station place s) = where_station n s w (to_station w s (slice_get w.sent place))
+happens n w (To_drone index d keeps) = where_drone n d w (to_drone w keeps d (slice_get w.sent index))
+happens n w (To_station index s) = where_station n s w (to_station w s (slice_get w.sent index))
 happens n w (Speaks node) =
     if n.is_drone node then drone_speaks w node (w.drone node) else where_station n node w (station_speaks w node (w.station node))
 happens n w (Drone_waits d t) =

@@ -6,7 +6,7 @@ ghost use Rattle.plan_safety.specs.Safety.{SamePlans, IsExecution};
 ghost use Rattle.plan_safety.specs.History.{IsHistory, final, history, store_of};
 
 /// For every list of events, after each of them the plans of all drones are the store's, and the event
-/// met what the store's tables need. The one premise is that names tell nodes apart.
+/// met what the store's tables need. The one premise is that names are distinct.
 pub fn every_execution()
     ensures { (nodes : Nodes) → Distinct nodes → (start : Start) → (events : List Event) → IsExecution nodes (first_world start) first_store events }
 {}

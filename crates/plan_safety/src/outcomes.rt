@@ -1,4 +1,4 @@
-// Why operations end as they are told.
+// Why operations end with the outcomes that are reported.
 ghost use Rattle.std.specs.Prelude.{ℕ, List, ◌∷◌};
 ghost use Rattle.mav_names.specs.declared.names.Stream.{Stream};
 ghost use Rattle.plan_upload.specs.Station.{Told_not_installed, Told_unknown, Told_ended};
@@ -7,7 +7,7 @@ ghost use Rattle.plan_safety.specs.Store.{Ended};
 ghost use Rattle.plan_safety.specs.History.{Step, step, IsHistory, NotInstalledBy, UnknownBy, EndedBy};
 
 /// The code of NotInstalled is 15, or one with which the drone refused this upload's Count, or the upload
-/// after it has asked for an item. Unknown comes only where since the upload began the drone has started
+/// after it has asked for an item. Unknown comes only if since the upload began the drone has started
 /// again, the last item and a cancel were sent, and the drone answered code 1. Ended has a code that the
 /// drone sent since the operation began, or 15 after a cancel, or 4 for too long a plan.
 pub fn every_outcome()

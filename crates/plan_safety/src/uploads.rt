@@ -10,8 +10,8 @@ ghost use Rattle.plan_safety.specs.World.{Nodes, Distinct, Start, Event, first_w
 ghost use Rattle.plan_safety.specs.History.{Step, step, store_of, IsHistory, IsHeld, Installation, installs, refuses, tally, uploads, final, history};
 
 /// Each plan is empty or exactly that of one installed upload; an upload is installed at most once,
-/// while it is its station's latest and was fully transmitted; one that is told "not installed" isn't
-/// installed, before or after; one that is told "installed" is.
+/// while it is its station's latest and was fully transmitted; one reported as "not installed" isn't
+/// installed, before or after; one reported as "installed" is.
 pub fn every_upload()
     ensures held { (h : List Step) → IsHistory h → (d : Stream) → (kind : ℕ) → IsHeld h d kind ((store_of h).plan d kind) }
     ensures once { (h : List Step) → IsHistory h → (s : Stream) → (number : ℕ) → tally installs h s number ≤ 1 }

@@ -11,9 +11,9 @@ use Rattle.command_line.specs.Built.{built, is_built}
 use Rattle.command_line.specs.Commands.{command_word, needs_key}
 use Rattle.command_line.specs.Forms.{stdin_files, ArePlain, IsFile}
 use Rattle.command_line.specs.Grammar.{Asked, Asks, Bare}
-use Rattle.command_ends.specs.Runs.{Script, end_of, output_of as output_by}
-use Rattle.command_ends.specs.Endings.{code_of}
-use Rattle.key_input.specs.KeyText.{default_key}
+use Rattle.run_status.specs.Runs.{CommandSpec, end_of, output_of as output_by}
+use Rattle.run_status.specs.Endings.{code_of}
+use Rattle.key_file.specs.KeyText.{default_key}
 use Rattle.fleet_command.specs.Examples.{one_item, the_key, IsInstalledOnce}
 use Rattle.fleet_command.proofs.Theorem.{theorem_of}
 use Rattle.fleet_command.proofs.Worked.{one_item_authentic, installed_once}
@@ -89,30 +89,30 @@ pub awake : (0 < 2 ^ 64 - 1 → 0 + 1000000 ≤ 0) → ⊥
 awake busy = omega (arith, busy (omega arith))
 
 -- a script's input, and what is written of it, by computation
-module _ (s : Script) (bytes text : List ℕ) (done : code_of (end_of (s.stop true bytes)) ≡ 0) (whole : output_by s (end_of (s.stop true bytes)) true bytes ≡ text) (main : Input) (before after : SureWrites) (code : ℕ) (input : main.left_before ≡ Some bytes) (no_fault : Fails main → ⊥) (no_idle : Idles main → ⊥) (promises : promised_over (sure_output before after) code s main) where
-  pub status_told : (code ≡ 0) ⊎ ((code ≡ 5) ⊎ (code ≡ 7))
-  status_told = elim (promises.told bytes input no_fault no_idle) [
+module _ (s : CommandSpec) (bytes text : List ℕ) (done : code_of (end_of (s.stop true bytes)) ≡ 0) (whole : output_by s (end_of (s.stop true bytes)) true bytes ≡ text) (main : Input) (before after : SureWrites) (code : ℕ) (input : main.left_before ≡ Some bytes) (no_fault : Fails main → ⊥) (no_idle : Idles main → ⊥) (promises : promised_over (sure_output before after) code s main) where
+  pub status_reported : (code ≡ 0) ⊎ ((code ≡ 5) ⊎ (code ≡ 7))
+  status_reported = elim (promises.determined bytes input no_fault no_idle) [
     | inl p ↦ inl (p.0 ∙ done)
     | inr q ↦ inr q
   ]
 
-  pub text_told : Some before.sent ≡ Some [] → code ≡ 0 → Some after.sent ≡ Some text
-  text_told empty zero = elim (promises.told bytes input no_fault no_idle) [
+  pub text_reported : Some before.sent ≡ Some [] → code ≡ 0 → Some after.sent ≡ Some text
+  text_reported empty zero = elim (promises.determined bytes input no_fault no_idle) [
     | inl p ↦ p.1 ∙ (ap (λ (b : Option (List ℕ)). append_known b (output_by s (end_of (s.stop true bytes)) true bytes)) empty ∙ ap Some whole)
     | inr q ↦ elim q [ inl e ↦ absurd (omega (arith, e, zero)) | inr e ↦ absurd (omega (arith, e, zero)) ]
   ]
 
 -- and what the main theorem says of the upload of one item
-pub installed_told : (old new : SureReads) (before after : SureWrites) (code : ℕ) → Some old.left ≡ Some one_item → code ≡ 0 → CarriesOver default_key false (sure_output before after) code (sure_input old new) → IsInstalledOnce
-installed_told old new before after code scenario zero carries =
+pub installed_reported : (old new : SureReads) (before after : SureWrites) (code : ℕ) → Some old.left ≡ Some one_item → code ≡ 0 → CarriesOver default_key false (sure_output before after) code (sure_input old new) → IsInstalledOnce
+installed_reported old new before after code scenario zero carries =
     installed_once (theorem_of the_key false (around (sure_input old new) (sure_output before after)) one_item (Some old.left) (Some new.left) (Some before.sent) (Some after.sent) code carries zero scenario (λ spent. spent.1) one_item_authentic)
 
 -- and what completeness says of it
 not_refused : (before after : ℕ) → before ≡ 0 → after ≡ 0 → Rose before after → ⊥
 not_refused before after none still rose = omega (arith, none, still, rose)
 
-pub completed_told : (old new : SureReads) (key_old key_new : SureReads) (before after : SureWrites) (code : ℕ) → Some old.left ≡ Some one_item → before.faults ≡ 0 → after.faults ≡ 0 → FleetsComplete false false (sure_output before after) code (sure_input key_old key_new) (sure_input old new) → (code ≡ 0) ⊎ (code ≡ 7)
-completed_told old new key_old key_new before after code scenario none still complete =
+pub completed_reported : (old new : SureReads) (key_old key_new : SureReads) (before after : SureWrites) (code : ℕ) → Some old.left ≡ Some one_item → before.faults ≡ 0 → after.faults ≡ 0 → FleetsComplete false false (sure_output before after) code (sure_input key_old key_new) (sure_input old new) → (code ≡ 0) ⊎ (code ≡ 7)
+completed_reported old new key_old key_new before after code scenario none still complete =
     elim (complete default_key refl one_item scenario one_item_playable one_item_authentic (record { reads = sure; gives = awake; writes = not_refused before.faults after.faults none still })) [
       | inl done ↦ inl done.0
       | inr memory ↦ inr memory

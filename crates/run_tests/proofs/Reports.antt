@@ -33,13 +33,13 @@ heartbeat = Heartbeat (record { ty = 2; autopilot = 0; base_mode = 0; custom_mod
 abbrev acknowledgement : Message
 acknowledgement = CommandAck (record { command = 400; result = 0; progress = 0; result_param2 = pos 0; target_system = 255; target_component = 190 })
 
-pub frames_are_told_whole :
+pub frames_are_reported_whole :
     events_text true (Sent 1 frame heartbeat ∷ [])
     ≡ codes "1 1.1 HEARTBEAT\n fd090000070101000000000000000200000403c578\n"
 unfolding digits encode_with check.after_byte
-frames_are_told_whole = refl
+frames_are_reported_whole = refl
 
-pub messages_are_told_with_their_targets :
+pub messages_are_reported_with_their_targets :
     events_text false (
     Sent 2 frame acknowledgement
     ∷ Sent 3 frame (message_of_plan (Count station 3 255))
@@ -49,12 +49,12 @@ pub messages_are_told_with_their_targets :
     )
     ≡ codes "2 1.1 COMMAND_ACK to 255.190\n3 1.1 COUNT all 3 to 255.190\ndrop 255.190 3\nno frame 12\n"
 unfolding digits
-messages_are_told_with_their_targets = refl
+messages_are_reported_with_their_targets = refl
 
 abbrev vertex : Item
 vertex = record { frame = 0; command = 5001; current = 0; autocontinue = 1; p = 0x40400000 ∷ 0 ∷ 0 ∷ 0x7fc000ab ∷ []; x = neg_ℤ (pos 100); y = pos 0; z = 0xbf800000 }
 
-pub changes_and_ends_are_told :
+pub changes_and_ends_are_reported :
     events_text true (
     Installed drone 0 (vertex ∷ []) station
     ∷ Emptied drone 2
@@ -64,9 +64,9 @@ pub changes_and_ends_are_told :
     )
     ≡ codes "install 1.1 mission 1 from 255.190\nclear 1.1 rally\nrefused 255.190 busy 1\noutcome 255.190 not installed 14\n"
 unfolding digits
-changes_and_ends_are_told = refl
+changes_and_ends_are_reported = refl
 
 -- words of items are eight digits
-pub plans_are_told : plan_text drone 1 (vertex ∷ []) ≡ codes "plan 1.1 fence 1\n0 0 5001 0 1 40400000 00000000 00000000 7fc000ab -100 0 bf800000\n"
+pub plans_are_reported : plan_text drone 1 (vertex ∷ []) ≡ codes "plan 1.1 fence 1\n0 0 5001 0 1 40400000 00000000 00000000 7fc000ab -100 0 bf800000\n"
 unfolding digits encode_with
-plans_are_told = refl
+plans_are_reported = refl

@@ -251,8 +251,8 @@ fn is_given_up(alloc: Global) -> Result<bool, AllocError> {
         key: Idler { idles: 0 },
     };
     let status = status_of(alloc, "fleet f", &mut inputs, &mut out);
-    let told = out.sent() == b"turns spent 1000000\n".as_slice();
-    Ok(status == 11 && told && inputs.main.idles == 1_000_000)
+    let reported = out.sent() == b"turns spent 1000000\n".as_slice();
+    Ok(status == 11 && reported && inputs.main.idles == 1_000_000)
 }
 
 #[test]

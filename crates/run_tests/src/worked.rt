@@ -49,7 +49,7 @@ fn run_one(
     ensures decoded { map string_bytes words.now ≡ codes "decode" ∷ codes "file" ∷ []
         → ⟦<SureSource as Source>⟧.left inputs.old.main ≡ Some one_heartbeat
         → result ≡ 0 → ⟦<SureSink as Sink>⟧.sent out.new ≡ Some one_heartbeat_text }
-    ensures told { map string_bytes words.now ≡ codes "dialect" ∷ []
+    ensures reported { map string_bytes words.now ≡ codes "dialect" ∷ []
         → result ≡ 0 → ⟦<SureSink as Sink>⟧.sent out.new ≡ Some profile_layouts }
 {
     run(alloc, words, inputs, out, &mut MemClock::new(0))
@@ -101,7 +101,7 @@ fn statuses(alloc: Global) -> Result<[u8; 3], AllocError> {
 }
 
 #[test]
-fn the_contract_alone_tells_what_is_written(rt: HostRuntime) -> Result<(), Fail> {
+fn the_contract_alone_reports_what_is_written(rt: HostRuntime) -> Result<(), Fail> {
     assert_eq!(rt; statuses(rt.alloc())?, [0, 0, 0]);
     Ok(())
 }

@@ -4,7 +4,7 @@ use Rattle.std.specs.List.{list_all}
 use Rattle.std.proofs.lemmas.Bool.{lt-leb}
 use Rattle.scenario_lines.specs.Words.{is_digit, is_numeral, digits_onto, digits_value}
 
--- two or more bytes are a numeral where the first is a digit but 0, and the others are digits
+-- two or more bytes are a numeral if the first is a digit but 0, and the others are digits
 pub numeral_longer : (word : List ℕ) → 2 ≤ length word
     → is_numeral word ≡ ((is_digit (get_or word 0 0) && not (get_or word 0 0 == 48)) && list_all is_digit (drop 1 word))
 numeral_longer [] h = absurd (omega arith)
@@ -16,7 +16,7 @@ pub digits_onto-ge : (n : ℕ) (ds : List ℕ) → n ≤ digits_onto n ds
 digits_onto-ge n [] = omega arith
 digits_onto-ge n (d ∷ ds) = omega (arith, digits_onto-ge (n * 10 + (d - 48)) ds)
 
--- the digits from a place on, taken one by one
+-- the digits from an index on, taken one by one
 pub digits_onto-more : (n : ℕ) (ds : List ℕ) (i : ℕ) → i < length ds
     → digits_onto n (drop i ds) ≡ digits_onto (n * 10 + (get_or ds i 0 - 48)) (drop (i + 1) ds)
 digits_onto-more n ds i h = rw (add-one, drop-cons ds i 0) refl

@@ -4,7 +4,7 @@ use Rattle.std.specs.Str.{bytes_eq}
 use Rattle.std.proofs.lemmas.Slice.Eq.{bytes_eq-Decides}
 use Rattle.scenario_lines.specs.declared.faults.Reason.TheVariants.{Later}
 use Rattle.scenario_lines.specs.Words.{word_at}
-use Rattle.scenario_lines.specs.Standing.{Standing}
+use Rattle.scenario_lines.specs.LineContext.{LineContext}
 use Rattle.scenario_lines.specs.Reasons.{is_unbuilt}
 use Rattle.scenario_lines.specs.Readings.{reading}
 use Rattle.scenario_lines.proofs.Forms.{starts}
@@ -16,7 +16,7 @@ pub by_or : (a b : Bool) (P : Type 0) → (a ≡ true → P) → (b ≡ true →
 by_or true b P f g h = f refl
 by_or false b P f g h = g h
 
-later_word : (s : Standing) (words : List (List ℕ)) → is_unbuilt (word_at words 0) ≡ true → reading s words ≡ Err Later
+later_word : (s : LineContext) (words : List (List ℕ)) → is_unbuilt (word_at words 0) ≡ true → reading s words ≡ Err Later
 later_word s words =
     by_or (bytes_eq (word_at words 0) (codes "command")) _ (reading s words ≡ Err Later)
     (λ e. starts (λ ws. reading s ws ≡ Err Later) _ _ (λ ws. refl) words (spelled _ (codes "command") (sym e)))
@@ -26,5 +26,5 @@ later_word s words =
     (λ e. starts (λ ws. reading s ws ≡ Err Later) _ _ (λ ws. refl) words (spelled _ (codes "sim") (sym e)))
     (λ e. starts (λ ws. reading s ws ≡ Err Later) _ _ (λ ws. refl) words (spelled _ (codes "where") (sym e)))))
 
-pub unbuilt_reads : (s : Standing) (words : List (List ℕ)) (word : List ℕ) → word ≡ word_at words 0 → true ≡ is_unbuilt word → reading s words ≡ Err Later
+pub unbuilt_reads : (s : LineContext) (words : List (List ℕ)) (word : List ℕ) → word ≡ word_at words 0 → true ≡ is_unbuilt word → reading s words ≡ Err Later
 unbuilt_reads s words word is h = later_word s words (sym (h ∙ ap is_unbuilt is))

@@ -9,7 +9,7 @@ use Rattle.scenario_lines.specs.declared.faults.Reason.TheVariants.{Count, Numbe
 use Rattle.scenario_lines.specs.declared.lines.Line.{Line}
 use Rattle.scenario_lines.specs.declared.lines.Line.TheVariants.{Drone, Station, Item as OneItem, Items, Begin, Cancel, Clear, Get, Heartbeat, Deliver, Flow, Noise, Tick, Clock}
 use Rattle.scenario_lines.specs.Words.{word_at, number_in, integer_of, bytes_word, name_of_word}
-use Rattle.scenario_lines.specs.Standing.{Standing, drone_name, has_name, has_drone, has_station}
+use Rattle.scenario_lines.specs.LineContext.{LineContext, drone_name, has_name, has_drone, has_station}
 use Rattle.scenario_lines.specs.Grammar.{first_reason, against, whole_at, signed_at, name_at, kind_at, kind_or_all_at, bytes_at, kind_word, kind_or_all, most_whole, most_draft, most_clock}
 use Rattle.scenario_lines.specs.Reasons.{state_reason, leaves_range}
 use Rattle.scenario_lines.specs.Readings.{answered, reading, of_words, read_drone, read_station, read_one_item, read_items, read_empty, read_begin, read_cancel, read_clear, read_get, read_heartbeat, read_deliver, read_flow, read_noise, read_tick, read_clock}
@@ -26,19 +26,19 @@ two_last : {A : Type 0} (bad worse : Bool) (r q : Reason) (v : A)
 two_last true worse r q v = refl
 two_last false worse r q v = at_last worse q v
 
--- the test of the number of words stands first
+-- the test of the number of words comes first
 counted_first : (n : ℕ) (words : List (List ℕ)) (m : Option Reason) (v : Line) (said : Result Line Reason) → said ≡ answered m v
     → answered (if not (length words == n) then Some Count else m) v ≡ of_words n words said
 counted_first n words m v said h =
     first (not (length words == n)) Count m v ∙ ap (λ r. if not (length words == n) then Err Count else r) (sym h)
 
 -- drone SYS [X Y]
-drone_said : (s : Standing) (words : List (List ℕ)) (sys : ℕ) (x y : ℤ) → whole_at words 1 ≡ sys → signed_at words 2 ≡ x → signed_at words 3 ≡ y
+drone_said : (s : LineContext) (words : List (List ℕ)) (sys : ℕ) (x y : ℤ) → whole_at words 1 ≡ sys → signed_at words 2 ≡ x → signed_at words 3 ≡ y
     → (if has_name s.nodes (drone_name sys) then Err Twice else Ok (Drone sys x y))
     ≡ answered (state_reason s (Drone (whole_at words 1) (signed_at words 2) (signed_at words 3))) (Drone (whole_at words 1) (signed_at words 2) (signed_at words 3))
 drone_said s words sys x y e0 e1 e2 = rw (← e0, ← e1, ← e2) (at_last _ Twice _)
 
-drone_two : (s : Standing) (ws : List (List ℕ)) → length (codes "drone" ∷ ws) ≡ 2 → reading s (codes "drone" ∷ ws) ≡ read_drone s.nodes (codes "drone" ∷ ws)
+drone_two : (s : LineContext) (ws : List (List ℕ)) → length (codes "drone" ∷ ws) ≡ 2 → reading s (codes "drone" ∷ ws) ≡ read_drone s.nodes (codes "drone" ∷ ws)
 drone_two s ws two =
     let no_x : signed_at (codes "drone" ∷ ws) 2 ≡ pos 0 = rw (get_or_past (codes "drone" ∷ ws) 2 [] (omega arith)) refl in
     let no_y : signed_at (codes "drone" ∷ ws) 3 ≡ pos 0 = rw (get_or_past (codes "drone" ∷ ws) 3 [] (omega arith)) refl in
@@ -46,7 +46,7 @@ drone_two s ws two =
     (sym (step (number_in 1 255 (word_at (codes "drone" ∷ ws) 1)) None _ Number _ _ (λ sys is_sys.
     drone_said s (codes "drone" ∷ ws) sys (pos 0) (pos 0) (number_wider 1 255 sys (word_at (codes "drone" ∷ ws) 1) (lit≤ tt) is_sys) no_x no_y)))
 
-drone_four : (s : Standing) (ws : List (List ℕ)) → length (codes "drone" ∷ ws) ≡ 4 → reading s (codes "drone" ∷ ws) ≡ read_drone s.nodes (codes "drone" ∷ ws)
+drone_four : (s : LineContext) (ws : List (List ℕ)) → length (codes "drone" ∷ ws) ≡ 4 → reading s (codes "drone" ∷ ws) ≡ read_drone s.nodes (codes "drone" ∷ ws)
 drone_four s ws four =
     rw four
     (sym (step (number_in 1 255 (word_at (codes "drone" ∷ ws) 1)) _ _ Number _ _ (λ sys is_sys.
@@ -54,12 +54,12 @@ drone_four s ws four =
     step (integer_of (word_at (codes "drone" ∷ ws) 3)) None _ Number _ _ (λ y is_y.
     drone_said s (codes "drone" ∷ ws) sys x y (number_wider 1 255 sys (word_at (codes "drone" ∷ ws) 1) (lit≤ tt) is_sys) (the_value _ _ x is_x) (the_value _ _ y is_y))))))
 
-drone_count : (s : Standing) (ws : List (List ℕ)) → (length (codes "drone" ∷ ws) ≡ 2 → ⊥) → (length (codes "drone" ∷ ws) ≡ 4 → ⊥)
+drone_count : (s : LineContext) (ws : List (List ℕ)) → (length (codes "drone" ∷ ws) ≡ 2 → ⊥) → (length (codes "drone" ∷ ws) ≡ 4 → ⊥)
     → reading s (codes "drone" ∷ ws) ≡ read_drone s.nodes (codes "drone" ∷ ws)
 drone_count s ws two four =
     rw (ne_eqb (length (codes "drone" ∷ ws)) 2 two, ne_eqb (length (codes "drone" ∷ ws)) 4 four) refl
 
-drone_at : (s : Standing) (ws : List (List ℕ)) → reading s (codes "drone" ∷ ws) ≡ read_drone s.nodes (codes "drone" ∷ ws)
+drone_at : (s : LineContext) (ws : List (List ℕ)) → reading s (codes "drone" ∷ ws) ≡ read_drone s.nodes (codes "drone" ∷ ws)
 drone_at s ws =
     elim (cases_eq (length (codes "drone" ∷ ws)) 2) [
       | inl two ↦ drone_two s ws two
@@ -71,12 +71,12 @@ drone_at s ws =
     ]
 
 -- station SYS COMP
-station_said : (s : Standing) (words : List (List ℕ)) (sys comp : ℕ) → whole_at words 1 ≡ sys → whole_at words 2 ≡ comp
+station_said : (s : LineContext) (words : List (List ℕ)) (sys comp : ℕ) → whole_at words 1 ≡ sys → whole_at words 2 ≡ comp
     → (if has_name s.nodes (record { sys = sys; comp = comp }) then Err Twice else Ok (Station sys comp))
     ≡ answered (state_reason s (Station (whole_at words 1) (whole_at words 2))) (Station (whole_at words 1) (whole_at words 2))
 station_said s words sys comp e0 e1 = rw (← e0, ← e1) (at_last _ Twice _)
 
-station_at : (s : Standing) (ws : List (List ℕ)) → reading s (codes "station" ∷ ws) ≡ read_station s.nodes (codes "station" ∷ ws)
+station_at : (s : LineContext) (ws : List (List ℕ)) → reading s (codes "station" ∷ ws) ≡ read_station s.nodes (codes "station" ∷ ws)
 station_at s ws =
     counted_first 3 (codes "station" ∷ ws) _ _ _
     (step (number_in 1 255 (word_at (codes "station" ∷ ws) 1)) _ _ Number _ _ (λ sys is_sys.
@@ -85,14 +85,14 @@ station_at s ws =
     (number_wider 1 255 comp (word_at (codes "station" ∷ ws) 2) (lit≤ tt) is_comp))))
 
 -- item F C X Y [Z [P1 [P2 [P3 [P4]]]]]
-item_words_read : (s : Standing) (ws : List (List ℕ)) → 5 ≤ length (codes "item" ∷ ws) → length (codes "item" ∷ ws) ≤ 10
+item_words_read : (s : LineContext) (ws : List (List ℕ)) → 5 ≤ length (codes "item" ∷ ws) → length (codes "item" ∷ ws) ≤ 10
     → reading s (codes "item" ∷ ws) ≡ read_one_item s.drafted (codes "item" ∷ ws)
 item_words_read s ws low high =
     rw (enough 5 (length (codes "item" ∷ ws)) low high, le-ltb (length (codes "item" ∷ ws)) 5 low, le-ltb 10 (length (codes "item" ∷ ws)) high)
     (sym (item-reads s.nodes (codes "item" ∷ ws) 1 (state_reason s (OneItem (item_said (codes "item" ∷ ws) 1))) (OneItem (item_said (codes "item" ∷ ws) 1))
     (λ item. if nat_lt most_draft (s.drafted + 1) then Err Draft else Ok (OneItem item)) (at_last _ Draft _)))
 
-item_at : (s : Standing) (ws : List (List ℕ)) → reading s (codes "item" ∷ ws) ≡ read_one_item s.drafted (codes "item" ∷ ws)
+item_at : (s : LineContext) (ws : List (List ℕ)) → reading s (codes "item" ∷ ws) ≡ read_one_item s.drafted (codes "item" ∷ ws)
 item_at s ws =
     elim (cases_lt (length (codes "item" ∷ ws)) 5) [
       | inl few ↦ rw (too_few 5 (length (codes "item" ∷ ws)) few, lt-ltb (length (codes "item" ∷ ws)) 5 few) refl
@@ -104,12 +104,12 @@ item_at s ws =
     ]
 
 -- items N F C X Y [Z [P1 [P2 [P3 [P4]]]]]
-items_said : (s : Standing) (words : List (List ℕ)) (n : ℕ) → whole_at words 1 ≡ n
+items_said : (s : LineContext) (words : List (List ℕ)) (n : ℕ) → whole_at words 1 ≡ n
     → (if leaves_range n (item_said words 2) then Err Range else if nat_lt most_draft (s.drafted + n) then Err Draft else Ok (Items n (item_said words 2)))
     ≡ answered (state_reason s (Items (whole_at words 1) (item_said words 2))) (Items (whole_at words 1) (item_said words 2))
 items_said s words n e = rw (← e) (two_last _ _ Range Draft _)
 
-items_words_read : (s : Standing) (ws : List (List ℕ)) → 6 ≤ length (codes "items" ∷ ws) → length (codes "items" ∷ ws) ≤ 11
+items_words_read : (s : LineContext) (ws : List (List ℕ)) → 6 ≤ length (codes "items" ∷ ws) → length (codes "items" ∷ ws) ≤ 11
     → reading s (codes "items" ∷ ws) ≡ read_items s.drafted (codes "items" ∷ ws)
 items_words_read s ws low high =
     rw (enough 6 (length (codes "items" ∷ ws)) low high, le-ltb (length (codes "items" ∷ ws)) 6 low, le-ltb 11 (length (codes "items" ∷ ws)) high)
@@ -118,7 +118,7 @@ items_words_read s ws low high =
     (λ item. if leaves_range n item then Err Range else if nat_lt most_draft (s.drafted + n) then Err Draft else Ok (Items n item))
     (items_said s (codes "items" ∷ ws) n (number_wider 1 2000 n (word_at (codes "items" ∷ ws) 1) (lit≤ tt) is_n)))))
 
-items_at : (s : Standing) (ws : List (List ℕ)) → reading s (codes "items" ∷ ws) ≡ read_items s.drafted (codes "items" ∷ ws)
+items_at : (s : LineContext) (ws : List (List ℕ)) → reading s (codes "items" ∷ ws) ≡ read_items s.drafted (codes "items" ∷ ws)
 items_at s ws =
     elim (cases_lt (length (codes "items" ∷ ws)) 6) [
       | inl few ↦ rw (too_few 6 (length (codes "items" ∷ ws)) few, lt-ltb (length (codes "items" ∷ ws)) 6 few) refl
@@ -130,7 +130,7 @@ items_at s ws =
     ]
 
 -- empty
-empty_at : (s : Standing) (ws : List (List ℕ)) → reading s (codes "empty" ∷ ws) ≡ read_empty (codes "empty" ∷ ws)
+empty_at : (s : LineContext) (ws : List (List ℕ)) → reading s (codes "empty" ∷ ws) ≡ read_empty (codes "empty" ∷ ws)
 empty_at s ws = counted_first 1 (codes "empty" ∷ ws) _ _ _ refl
 
 -- begin STATION DRONE KIND
@@ -138,7 +138,7 @@ begin_said : (words : List (List ℕ)) (station drone : Name) (kind : PlanKind) 
     → answered None (Begin station drone kind) ≡ answered None (Begin (name_at words 1) (name_at words 2) (kind_at words 3))
 begin_said words station drone kind e0 e1 e2 = rw (← e0, ← e1, ← e2) refl
 
-begin_at : (s : Standing) (ws : List (List ℕ)) → reading s (codes "begin" ∷ ws) ≡ read_begin s.nodes (codes "begin" ∷ ws)
+begin_at : (s : LineContext) (ws : List (List ℕ)) → reading s (codes "begin" ∷ ws) ≡ read_begin s.nodes (codes "begin" ∷ ws)
 begin_at s ws =
     counted_first 4 (codes "begin" ∷ ws) _ _ _
     (named_step (has_station s.nodes) (name_of_word (word_at (codes "begin" ∷ ws) 1)) _ None _ _ (λ station is_station.
@@ -147,7 +147,7 @@ begin_at s ws =
     begin_said (codes "begin" ∷ ws) station drone kind (the_value _ _ station is_station) (the_value _ _ drone is_drone) (the_value _ _ kind is_kind)))))
 
 -- cancel STATION
-cancel_at : (s : Standing) (ws : List (List ℕ)) → reading s (codes "cancel" ∷ ws) ≡ read_cancel s.nodes (codes "cancel" ∷ ws)
+cancel_at : (s : LineContext) (ws : List (List ℕ)) → reading s (codes "cancel" ∷ ws) ≡ read_cancel s.nodes (codes "cancel" ∷ ws)
 cancel_at s ws =
     counted_first 2 (codes "cancel" ∷ ws) _ _ _
     (named_step (has_station s.nodes) (name_of_word (word_at (codes "cancel" ∷ ws) 1)) None None _ _ (λ station is_station.
@@ -158,7 +158,7 @@ clear_said : (words : List (List ℕ)) (station drone : Name) (kind : Option Pla
     → answered None (Clear station drone kind) ≡ answered None (Clear (name_at words 1) (name_at words 2) (kind_or_all_at words 3))
 clear_said words station drone kind e0 e1 e2 = rw (← e0, ← e1, ← e2) refl
 
-clear_at : (s : Standing) (ws : List (List ℕ)) → reading s (codes "clear" ∷ ws) ≡ read_clear s.nodes (codes "clear" ∷ ws)
+clear_at : (s : LineContext) (ws : List (List ℕ)) → reading s (codes "clear" ∷ ws) ≡ read_clear s.nodes (codes "clear" ∷ ws)
 clear_at s ws =
     counted_first 4 (codes "clear" ∷ ws) _ _ _
     (named_step (has_station s.nodes) (name_of_word (word_at (codes "clear" ∷ ws) 1)) _ None _ _ (λ station is_station.
@@ -171,7 +171,7 @@ get_said : (words : List (List ℕ)) (station drone : Name) (kind : PlanKind) �
     → answered None (Get station drone kind) ≡ answered None (Get (name_at words 1) (name_at words 2) (kind_at words 3))
 get_said words station drone kind e0 e1 e2 = rw (← e0, ← e1, ← e2) refl
 
-get_at : (s : Standing) (ws : List (List ℕ)) → reading s (codes "get" ∷ ws) ≡ read_get s.nodes (codes "get" ∷ ws)
+get_at : (s : LineContext) (ws : List (List ℕ)) → reading s (codes "get" ∷ ws) ≡ read_get s.nodes (codes "get" ∷ ws)
 get_at s ws =
     counted_first 4 (codes "get" ∷ ws) _ _ _
     (named_step (has_station s.nodes) (name_of_word (word_at (codes "get" ∷ ws) 1)) _ None _ _ (λ station is_station.
@@ -180,7 +180,7 @@ get_at s ws =
     get_said (codes "get" ∷ ws) station drone kind (the_value _ _ station is_station) (the_value _ _ drone is_drone) (the_value _ _ kind is_kind)))))
 
 -- heartbeat NODE
-heartbeat_at : (s : Standing) (ws : List (List ℕ)) → reading s (codes "heartbeat" ∷ ws) ≡ read_heartbeat s.nodes (codes "heartbeat" ∷ ws)
+heartbeat_at : (s : LineContext) (ws : List (List ℕ)) → reading s (codes "heartbeat" ∷ ws) ≡ read_heartbeat s.nodes (codes "heartbeat" ∷ ws)
 heartbeat_at s ws =
     counted_first 2 (codes "heartbeat" ∷ ws) _ _ _
     (named_step (has_name s.nodes) (name_of_word (word_at (codes "heartbeat" ∷ ws) 1)) None None _ _ (λ node is_node.
@@ -191,7 +191,7 @@ deliver_said : (words : List (List ℕ)) (i : ℕ) (node : Name) → whole_at wo
     → answered None (Deliver i node) ≡ answered None (Deliver (whole_at words 1) (name_at words 2))
 deliver_said words i node e0 e1 = rw (← e0, ← e1) refl
 
-deliver_at : (s : Standing) (ws : List (List ℕ)) → reading s (codes "deliver" ∷ ws) ≡ read_deliver s.nodes (codes "deliver" ∷ ws)
+deliver_at : (s : LineContext) (ws : List (List ℕ)) → reading s (codes "deliver" ∷ ws) ≡ read_deliver s.nodes (codes "deliver" ∷ ws)
 deliver_at s ws =
     counted_first 3 (codes "deliver" ∷ ws) _ _ _
     (step (number_in 1 most_whole (word_at (codes "deliver" ∷ ws) 1)) _ None Number _ _ (λ i is_i.
@@ -199,7 +199,7 @@ deliver_at s ws =
     deliver_said (codes "deliver" ∷ ws) i node (number_wider 1 most_whole i (word_at (codes "deliver" ∷ ws) 1) (lit≤ tt) is_i) (the_value _ _ node is_node))))
 
 -- flow K
-flow_at : (s : Standing) (ws : List (List ℕ)) → reading s (codes "flow" ∷ ws) ≡ read_flow (codes "flow" ∷ ws)
+flow_at : (s : LineContext) (ws : List (List ℕ)) → reading s (codes "flow" ∷ ws) ≡ read_flow (codes "flow" ∷ ws)
 flow_at s ws =
     counted_first 2 (codes "flow" ∷ ws) _ _ _
     (step (number_in 0 most_whole (word_at (codes "flow" ∷ ws) 1)) None None Number _ _ (λ k is_k.
@@ -210,7 +210,7 @@ noise_said : (words : List (List ℕ)) (node : Name) (bytes : List ℕ) → name
     → answered None (Noise node bytes) ≡ answered None (Noise (name_at words 1) (bytes_at words 2))
 noise_said words node bytes e0 e1 = rw (← e0, ← e1) refl
 
-noise_at : (s : Standing) (ws : List (List ℕ)) → reading s (codes "noise" ∷ ws) ≡ read_noise s.nodes (codes "noise" ∷ ws)
+noise_at : (s : LineContext) (ws : List (List ℕ)) → reading s (codes "noise" ∷ ws) ≡ read_noise s.nodes (codes "noise" ∷ ws)
 noise_at s ws =
     counted_first 3 (codes "noise" ∷ ws) _ _ _
     (named_step (has_name s.nodes) (name_of_word (word_at (codes "noise" ∷ ws) 1)) _ None _ _ (λ node is_node.
@@ -218,18 +218,18 @@ noise_at s ws =
     noise_said (codes "noise" ∷ ws) node bytes (the_value _ _ node is_node) (the_value _ _ bytes is_bytes))))
 
 -- tick NODE
-tick_at : (s : Standing) (ws : List (List ℕ)) → reading s (codes "tick" ∷ ws) ≡ read_tick s.nodes (codes "tick" ∷ ws)
+tick_at : (s : LineContext) (ws : List (List ℕ)) → reading s (codes "tick" ∷ ws) ≡ read_tick s.nodes (codes "tick" ∷ ws)
 tick_at s ws =
     counted_first 2 (codes "tick" ∷ ws) _ _ _
     (named_step (has_name s.nodes) (name_of_word (word_at (codes "tick" ∷ ws) 1)) None None _ _ (λ node is_node.
     ap (λ name. Ok (Tick name)) (sym (the_value _ _ node is_node))))
 
 -- clock N
-clock_said : (s : Standing) (words : List (List ℕ)) (n : ℕ) → whole_at words 1 ≡ n
+clock_said : (s : LineContext) (words : List (List ℕ)) (n : ℕ) → whole_at words 1 ≡ n
     → (if nat_lt most_clock (s.clock + n) then Err ClockReason else Ok (Clock n)) ≡ answered (state_reason s (Clock (whole_at words 1))) (Clock (whole_at words 1))
 clock_said s words n e = rw (← e) (at_last _ ClockReason _)
 
-clock_at : (s : Standing) (ws : List (List ℕ)) → reading s (codes "clock" ∷ ws) ≡ read_clock s.clock (codes "clock" ∷ ws)
+clock_at : (s : LineContext) (ws : List (List ℕ)) → reading s (codes "clock" ∷ ws) ≡ read_clock s.clock (codes "clock" ∷ ws)
 clock_at s ws =
     counted_first 2 (codes "clock" ∷ ws) _ _ _
     (step (number_in 0 most_whole (word_at (codes "clock" ∷ ws) 1)) None _ Number _ _ (λ n is_n.
@@ -240,47 +240,47 @@ pub starts : (P : List (List ℕ) → Type 0) (b : ℕ) (bs : List ℕ) → ((ws
 starts P b bs h [] e = cc
 starts P b bs h (w ∷ ws) e = let Q : List ℕ → Type 0 = λ v. P (v ∷ ws) in subst Q (sym e) (h ws)
 
-pub drone_reads : (s : Standing) (words : List (List ℕ)) → word_at words 0 ≡ codes "drone" → reading s words ≡ read_drone s.nodes words
+pub drone_reads : (s : LineContext) (words : List (List ℕ)) → word_at words 0 ≡ codes "drone" → reading s words ≡ read_drone s.nodes words
 drone_reads s words e = starts (λ ws. reading s ws ≡ read_drone s.nodes ws) _ _ (drone_at s) words e
 
-pub station_reads : (s : Standing) (words : List (List ℕ)) → word_at words 0 ≡ codes "station" → reading s words ≡ read_station s.nodes words
+pub station_reads : (s : LineContext) (words : List (List ℕ)) → word_at words 0 ≡ codes "station" → reading s words ≡ read_station s.nodes words
 station_reads s words e = starts (λ ws. reading s ws ≡ read_station s.nodes ws) _ _ (station_at s) words e
 
-pub item_reads : (s : Standing) (words : List (List ℕ)) → word_at words 0 ≡ codes "item" → reading s words ≡ read_one_item s.drafted words
+pub item_reads : (s : LineContext) (words : List (List ℕ)) → word_at words 0 ≡ codes "item" → reading s words ≡ read_one_item s.drafted words
 item_reads s words e = starts (λ ws. reading s ws ≡ read_one_item s.drafted ws) _ _ (item_at s) words e
 
-pub items_reads : (s : Standing) (words : List (List ℕ)) → word_at words 0 ≡ codes "items" → reading s words ≡ read_items s.drafted words
+pub items_reads : (s : LineContext) (words : List (List ℕ)) → word_at words 0 ≡ codes "items" → reading s words ≡ read_items s.drafted words
 items_reads s words e = starts (λ ws. reading s ws ≡ read_items s.drafted ws) _ _ (items_at s) words e
 
-pub empty_reads : (s : Standing) (words : List (List ℕ)) → word_at words 0 ≡ codes "empty" → reading s words ≡ read_empty words
+pub empty_reads : (s : LineContext) (words : List (List ℕ)) → word_at words 0 ≡ codes "empty" → reading s words ≡ read_empty words
 empty_reads s words e = starts (λ ws. reading s ws ≡ read_empty ws) _ _ (empty_at s) words e
 
-pub begin_reads : (s : Standing) (words : List (List ℕ)) → word_at words 0 ≡ codes "begin" → reading s words ≡ read_begin s.nodes words
+pub begin_reads : (s : LineContext) (words : List (List ℕ)) → word_at words 0 ≡ codes "begin" → reading s words ≡ read_begin s.nodes words
 begin_reads s words e = starts (λ ws. reading s ws ≡ read_begin s.nodes ws) _ _ (begin_at s) words e
 
-pub cancel_reads : (s : Standing) (words : List (List ℕ)) → word_at words 0 ≡ codes "cancel" → reading s words ≡ read_cancel s.nodes words
+pub cancel_reads : (s : LineContext) (words : List (List ℕ)) → word_at words 0 ≡ codes "cancel" → reading s words ≡ read_cancel s.nodes words
 cancel_reads s words e = starts (λ ws. reading s ws ≡ read_cancel s.nodes ws) _ _ (cancel_at s) words e
 
-pub clear_reads : (s : Standing) (words : List (List ℕ)) → word_at words 0 ≡ codes "clear" → reading s words ≡ read_clear s.nodes words
+pub clear_reads : (s : LineContext) (words : List (List ℕ)) → word_at words 0 ≡ codes "clear" → reading s words ≡ read_clear s.nodes words
 clear_reads s words e = starts (λ ws. reading s ws ≡ read_clear s.nodes ws) _ _ (clear_at s) words e
 
-pub get_reads : (s : Standing) (words : List (List ℕ)) → word_at words 0 ≡ codes "get" → reading s words ≡ read_get s.nodes words
+pub get_reads : (s : LineContext) (words : List (List ℕ)) → word_at words 0 ≡ codes "get" → reading s words ≡ read_get s.nodes words
 get_reads s words e = starts (λ ws. reading s ws ≡ read_get s.nodes ws) _ _ (get_at s) words e
 
-pub heartbeat_reads : (s : Standing) (words : List (List ℕ)) → word_at words 0 ≡ codes "heartbeat" → reading s words ≡ read_heartbeat s.nodes words
+pub heartbeat_reads : (s : LineContext) (words : List (List ℕ)) → word_at words 0 ≡ codes "heartbeat" → reading s words ≡ read_heartbeat s.nodes words
 heartbeat_reads s words e = starts (λ ws. reading s ws ≡ read_heartbeat s.nodes ws) _ _ (heartbeat_at s) words e
 
-pub deliver_reads : (s : Standing) (words : List (List ℕ)) → word_at words 0 ≡ codes "deliver" → reading s words ≡ read_deliver s.nodes words
+pub deliver_reads : (s : LineContext) (words : List (List ℕ)) → word_at words 0 ≡ codes "deliver" → reading s words ≡ read_deliver s.nodes words
 deliver_reads s words e = starts (λ ws. reading s ws ≡ read_deliver s.nodes ws) _ _ (deliver_at s) words e
 
-pub flow_reads : (s : Standing) (words : List (List ℕ)) → word_at words 0 ≡ codes "flow" → reading s words ≡ read_flow words
+pub flow_reads : (s : LineContext) (words : List (List ℕ)) → word_at words 0 ≡ codes "flow" → reading s words ≡ read_flow words
 flow_reads s words e = starts (λ ws. reading s ws ≡ read_flow ws) _ _ (flow_at s) words e
 
-pub noise_reads : (s : Standing) (words : List (List ℕ)) → word_at words 0 ≡ codes "noise" → reading s words ≡ read_noise s.nodes words
+pub noise_reads : (s : LineContext) (words : List (List ℕ)) → word_at words 0 ≡ codes "noise" → reading s words ≡ read_noise s.nodes words
 noise_reads s words e = starts (λ ws. reading s ws ≡ read_noise s.nodes ws) _ _ (noise_at s) words e
 
-pub tick_reads : (s : Standing) (words : List (List ℕ)) → word_at words 0 ≡ codes "tick" → reading s words ≡ read_tick s.nodes words
+pub tick_reads : (s : LineContext) (words : List (List ℕ)) → word_at words 0 ≡ codes "tick" → reading s words ≡ read_tick s.nodes words
 tick_reads s words e = starts (λ ws. reading s ws ≡ read_tick s.nodes ws) _ _ (tick_at s) words e
 
-pub clock_reads : (s : Standing) (words : List (List ℕ)) → word_at words 0 ≡ codes "clock" → reading s words ≡ read_clock s.clock words
+pub clock_reads : (s : LineContext) (words : List (List ℕ)) → word_at words 0 ≡ codes "clock" → reading s words ≡ read_clock s.clock words
 clock_reads s words e = starts (λ ws. reading s ws ≡ read_clock s.clock ws) _ _ (clock_at s) words e

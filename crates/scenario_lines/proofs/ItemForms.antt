@@ -1,11 +1,11 @@
--- Lines of items where nothing else is read.
+-- Lines of items, if nothing else is read.
 use Rattle.std.proofs.Common.{◌≡◌, ℕ, Bool, true, false, if◌then◌else◌, List, [], ◌∷◌, codes, refl, sym, subst, Option, Some, None, Ok}
 use Rattle.std.specs.Str.{bytes_eq}
 use Rattle.scenario_lines.specs.declared.faults.Reason.{Reason}
 use Rattle.scenario_lines.specs.declared.faults.Reason.TheVariants.{Word}
 use Rattle.scenario_lines.specs.declared.lines.Line.{Line}
 use Rattle.scenario_lines.specs.Words.{word_at}
-use Rattle.scenario_lines.specs.Standing.{standing_of}
+use Rattle.scenario_lines.specs.LineContext.{context_of}
 use Rattle.scenario_lines.specs.Grammar.{line_from}
 use Rattle.scenario_lines.specs.Reasons.{is_item_word}
 use Rattle.scenario_lines.specs.Permits.{IsOfItems}
@@ -15,11 +15,11 @@ use Rattle.scenario_lines.proofs.FirstWords.{spelled, by_or}
 
 pub item_only : (drafted : ℕ) (words : List (List ℕ)) → word_at words 0 ≡ codes "item" → reading_items drafted words ≡ read_one_item drafted words
 item_only drafted words e =
-    starts (λ ws. reading_items drafted ws ≡ read_one_item drafted ws) _ _ (λ ws. item_reads (standing_of [] drafted 0) (codes "item" ∷ ws) refl) words e
+    starts (λ ws. reading_items drafted ws ≡ read_one_item drafted ws) _ _ (λ ws. item_reads (context_of [] drafted 0) (codes "item" ∷ ws) refl) words e
 
 pub items_only : (drafted : ℕ) (words : List (List ℕ)) → word_at words 0 ≡ codes "items" → reading_items drafted words ≡ read_items drafted words
 items_only drafted words e =
-    starts (λ ws. reading_items drafted ws ≡ read_items drafted ws) _ _ (λ ws. items_reads (standing_of [] drafted 0) (codes "items" ∷ ws) refl) words e
+    starts (λ ws. reading_items drafted ws ≡ read_items drafted ws) _ _ (λ ws. items_reads (context_of [] drafted 0) (codes "items" ∷ ws) refl) words e
 
 of_items : (words : List (List ℕ)) → is_item_word (word_at words 0) ≡ true → IsOfItems (line_from words)
 of_items words =

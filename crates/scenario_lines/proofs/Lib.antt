@@ -1,4 +1,4 @@
-pub mod Places
+pub mod Indices
 pub mod Digits
 pub mod Names
 pub mod WireWords

@@ -11,7 +11,7 @@ use Rattle.scenario_lines.specs.declared.faults.Reason.{Reason}
 use Rattle.scenario_lines.specs.declared.lines.Line.{Line}
 use Rattle.scenario_lines.specs.declared.lines.Line.TheVariants.{Blank}
 use Rattle.scenario_lines.specs.Words.{words_of, word_at, is_numeral, digits_value, number_in, name_of_word}
-use Rattle.scenario_lines.specs.Standing.{Standing, has_name, has_drone, has_station}
+use Rattle.scenario_lines.specs.LineContext.{LineContext, has_name, has_drone, has_station}
 use Rattle.scenario_lines.specs.Grammar.{Form, form, Argument, Whole, Signed, Wire, A_station, A_drone, A_node, A_kind, A_kind_or_all, Digits, form_of, counts, arguments_at, misfit, known, item_words, first_reason, line_from, line_of, is_blank, most_whole, most_line_bytes, whole_at, name_at, bytes_at, no_name}
 use Rattle.scenario_lines.specs.Reasons.{state_reason, words_reason, reason_against, is_unbuilt}
 use Rattle.scenario_lines.specs.Permits.{IsInRange, IsPermitted}
@@ -27,15 +27,15 @@ neither : (m n : Option Reason) → first_reason m n ≡ None → (m ≡ None) �
 neither None n h = (refl, h)
 neither (Some r) n h = cc
 
--- the arguments fit, and nothing known of the world stands against the line
-fitted : (s : Standing) (words : List (List ℕ)) (f : Form) → words_reason s words (Some f) ≡ None
+-- the arguments fit, and nothing known of the world is a reason against the line
+fitted : (s : LineContext) (words : List (List ℕ)) (f : Form) → words_reason s words (Some f) ≡ None
     → (misfit s.nodes (arguments_at f (length words)) words 1 ≡ None) × (state_reason s (line_from words) ≡ None)
 fitted s words f h =
     let built = no_first (is_unbuilt (word_at words 0)) _ _ h in
     let counted = no_first (not (counts f (length words))) _ _ built.1 in
     neither _ _ counted.1
 
-no_state_reason : (s : Standing) (words : List (List ℕ)) (form : Option Form) → words_reason s words form ≡ None → state_reason s (line_from words) ≡ None
+no_state_reason : (s : LineContext) (words : List (List ℕ)) (form : Option Form) → words_reason s words form ≡ None → state_reason s (line_from words) ≡ None
 no_state_reason s words None h = cc
 no_state_reason s words (Some f) h = (fitted s words f h).1
 
@@ -112,71 +112,71 @@ fourth false true c = refl
 fourth false false true = refl
 fourth false false false = refl
 
-no_line : (s : Standing) (words : List (List ℕ)) (args : List Argument) (P : Type 0) → is_unbuilt (word_at words 0) ≡ true
+no_line : (s : LineContext) (words : List (List ℕ)) (args : List Argument) (P : Type 0) → is_unbuilt (word_at words 0) ≡ true
     → words_reason s words (form args) ≡ None → P
 no_line s words args P is h = let built = no_first (is_unbuilt (word_at words 0)) _ _ h in cc
 
-abbrev Ranged : Standing → List (List ℕ) → Option Form → Line → Type 0
+abbrev Ranged : LineContext → List (List ℕ) → Option Form → Line → Type 0
 Ranged s words form line = words_reason s words form ≡ None → IsInRange s line
 
 -- the arguments of a form that has no further groups
-needs_fit : (s : Standing) (words : List (List ℕ)) (args : List Argument) → words_reason s words (form args) ≡ None → misfit s.nodes (args ++ []) words 1 ≡ None
+needs_fit : (s : LineContext) (words : List (List ℕ)) (args : List Argument) → words_reason s words (form args) ≡ None → misfit s.nodes (args ++ []) words 1 ≡ None
 needs_fit s words args h = (fitted s words (record { needed = args; further = [] }) h).0
 
-station_named : (s : Standing) (words : List (List ℕ)) (more : List Argument) → words_reason s words (form (A_station ∷ more)) ≡ None
+station_named : (s : LineContext) (words : List (List ℕ)) (more : List Argument) → words_reason s words (form (A_station ∷ more)) ≡ None
     → IsTrue (has_station s.nodes (name_at words 1)) × (misfit s.nodes (more ++ []) words 2 ≡ None)
 station_named s words more h =
     let fit = fits_first _ _ _ (needs_fit s words (A_station ∷ more) h) in
     (known_named (has_station s.nodes) (name_of_word (word_at words 1)) no_name fit.0, fit.1)
 
-node_named : (s : Standing) (words : List (List ℕ)) (more : List Argument) → words_reason s words (form (A_node ∷ more)) ≡ None
+node_named : (s : LineContext) (words : List (List ℕ)) (more : List Argument) → words_reason s words (form (A_node ∷ more)) ≡ None
     → IsTrue (has_name s.nodes (name_at words 1)) × (misfit s.nodes (more ++ []) words 2 ≡ None)
 node_named s words more h =
     let fit = fits_first _ _ _ (needs_fit s words (A_node ∷ more) h) in
     (known_named (has_name s.nodes) (name_of_word (word_at words 1)) no_name fit.0, fit.1)
 
-both_named : (s : Standing) (words : List (List ℕ)) (kind : Argument) → words_reason s words (form (A_station ∷ A_drone ∷ kind ∷ [])) ≡ None
+both_named : (s : LineContext) (words : List (List ℕ)) (kind : Argument) → words_reason s words (form (A_station ∷ A_drone ∷ kind ∷ [])) ≡ None
     → IsTrue (has_station s.nodes (name_at words 1)) × IsTrue (has_drone s.nodes (name_at words 2))
 both_named s words kind h =
     let station = station_named s words (A_drone ∷ kind ∷ []) h in
     let drone = fits_first _ _ _ station.1 in
     (station.0, known_named (has_drone s.nodes) (name_of_word (word_at words 2)) no_name drone.0)
 
-drone_ranged : (s : Standing) (words : List (List ℕ)) (further : List (List Argument))
+drone_ranged : (s : LineContext) (words : List (List ℕ)) (further : List (List Argument))
     → words_reason s words (Some (record { needed = Whole 1 255 ∷ []; further = further })) ≡ None → 1 ≤ whole_at words 1
 drone_ranged s words further h =
     let fit = fits_first _ _ _ (fitted s words (record { needed = Whole 1 255 ∷ []; further = further }) h).0 in
     (whole_bounds 1 255 words 1 (lit≤ tt) fit.0).0
 
-station_ranged : (s : Standing) (words : List (List ℕ)) → words_reason s words (form (Whole 1 255 ∷ Whole 1 255 ∷ [])) ≡ None
+station_ranged : (s : LineContext) (words : List (List ℕ)) → words_reason s words (form (Whole 1 255 ∷ Whole 1 255 ∷ [])) ≡ None
     → (1 ≤ whole_at words 1) × (1 ≤ whole_at words 2)
 station_ranged s words h =
     let sys = fits_first _ _ _ (needs_fit s words (Whole 1 255 ∷ Whole 1 255 ∷ []) h) in
     let comp = fits_first _ _ _ sys.1 in
     ((whole_bounds 1 255 words 1 (lit≤ tt) sys.0).0, (whole_bounds 1 255 words 2 (lit≤ tt) comp.0).0)
 
-items_ranged : (s : Standing) (words : List (List ℕ)) (more : List Argument) (further : List (List Argument))
+items_ranged : (s : LineContext) (words : List (List ℕ)) (more : List Argument) (further : List (List Argument))
     → words_reason s words (Some (record { needed = Whole 1 2000 ∷ more; further = further })) ≡ None
     → (1 ≤ whole_at words 1) × (whole_at words 1 ≤ 2000)
 items_ranged s words more further h =
     let fit = fits_first _ _ _ (fitted s words (record { needed = Whole 1 2000 ∷ more; further = further }) h).0 in
     whole_bounds 1 2000 words 1 (lit≤ tt) fit.0
 
-deliver_ranged : (s : Standing) (words : List (List ℕ)) → words_reason s words (form (Whole 1 most_whole ∷ A_node ∷ [])) ≡ None
+deliver_ranged : (s : LineContext) (words : List (List ℕ)) → words_reason s words (form (Whole 1 most_whole ∷ A_node ∷ [])) ≡ None
     → (1 ≤ whole_at words 1) × IsTrue (has_name s.nodes (name_at words 2))
 deliver_ranged s words h =
     let i = fits_first _ _ _ (needs_fit s words (Whole 1 most_whole ∷ A_node ∷ []) h) in
     let node = fits_first _ _ _ i.1 in
     ((whole_bounds 1 most_whole words 1 (lit≤ tt) i.0).0, known_named (has_name s.nodes) (name_of_word (word_at words 2)) no_name node.0)
 
-noise_ranged : (s : Standing) (words : List (List ℕ)) → words_reason s words (form (A_node ∷ Digits ∷ [])) ≡ None
+noise_ranged : (s : LineContext) (words : List (List ℕ)) → words_reason s words (form (A_node ∷ Digits ∷ [])) ≡ None
     → IsTrue (has_name s.nodes (name_at words 1)) × (1 ≤ length (bytes_at words 2))
 noise_ranged s words h =
     let node = node_named s words (Digits ∷ []) h in
     let bytes = fits_first _ _ _ node.1 in
     (node.0, bytes_some (word_at words 2) (nat_lt 0 (length (word_at words 2))) refl bytes.0)
 
-in_range : (s : Standing) (words : List (List ℕ)) → words_reason s words (form_of (word_at words 0)) ≡ None → IsInRange s (line_from words)
+in_range : (s : LineContext) (words : List (List ℕ)) → words_reason s words (form_of (word_at words 0)) ≡ None → IsInRange s (line_from words)
 in_range s words =
     let w = word_at words 0 in
     choose (Ranged s words) (bytes_eq w (codes "drone")) _ _ _ _ (drone_ranged s words ((Signed ∷ Signed ∷ []) ∷ []))
@@ -200,17 +200,17 @@ in_range s words =
     (unbuilt (Ranged s words) (bytes_eq w (codes "where")) _ _ Blank (λ is h. no_line s words (A_drone ∷ []) _ (rw is (fourth (bytes_eq w (codes "command")) (bytes_eq w (codes "params")) (bytes_eq w (codes "sim")))) h)
     (λ h. tt)))))))))))))))))))
 
-words_permitted : (s : Standing) (words : List (List ℕ)) → words_reason s words (form_of (word_at words 0)) ≡ None → IsPermitted s (line_from words)
+words_permitted : (s : LineContext) (words : List (List ℕ)) → words_reason s words (form_of (word_at words 0)) ≡ None → IsPermitted s (line_from words)
 words_permitted s words h = (in_range s words h, no_state_reason s words _ h)
 
-text_permitted : (s : Standing) (text : List ℕ) (blank : Bool) → is_blank text ≡ blank
+text_permitted : (s : LineContext) (text : List ℕ) (blank : Bool) → is_blank text ≡ blank
     → (if blank then None else words_reason s (words_of text) (form_of (word_at (words_of text) 0))) ≡ None
     → IsPermitted s (if blank then Blank else line_from (words_of text))
 text_permitted s text true is h = (tt, refl)
 text_permitted s text false is h = words_permitted s (words_of text) h
 
 -- a line that has no reason against it is permitted
-pub read_is_permitted : (s : Standing) (text : List ℕ) → reason_against s text ≡ None → IsPermitted s (line_of text)
+pub read_is_permitted : (s : LineContext) (text : List ℕ) → reason_against s text ≡ None → IsPermitted s (line_of text)
 read_is_permitted s text h =
     let short = no_first (nat_lt most_line_bytes (length text)) _ _ h in
     text_permitted s text (is_blank text) refl short.1

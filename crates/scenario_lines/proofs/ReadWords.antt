@@ -12,13 +12,13 @@ use Rattle.scenario_lines.specs.Words.{word_at, is_numeral, digits_value, number
 use Rattle.scenario_lines.specs.Grammar.{Argument, Wire, misfit, known, first_reason, may_count, further_arguments, most_whole, wire_at, item_words}
 use Rattle.scenario_lines.specs.Readings.{answered, and_then, wire_or_zero, named_in}
 
--- a reason that stands first
+-- a reason that comes first
 pub first : {A : Type 0} (bad : Bool) (r : Reason) (m : Option Reason) (v : A)
     → answered (if bad then Some r else m) v ≡ (if bad then Err r else answered m v)
 first true r m v = refl
 first false r m v = refl
 
--- an answer to some words, of which the first is read
+-- a result for some words, of which the first is read
 pub ok_then : {A B : Type 0} (o : Result A Reason) (x : A) (rest : A → Result B Reason) (said : Result B Reason)
     → Ok x ≡ o → said ≡ rest x → said ≡ and_then o rest
 ok_then o x rest said is h = rw (← is) h
@@ -27,7 +27,7 @@ ok_then o x rest said is h = rw (← is) h
 pub err_then : {A B : Type 0} (o : Result A Reason) (r : Reason) (rest : A → Result B Reason) → Err r ≡ o → Err r ≡ and_then o rest
 err_then o r rest is = rw (← is) refl
 
--- one word that is read, and the others behind it
+-- one word that is read, and the others after it
 pub step : {A B : Type 0} (o : Option A) (m n : Option Reason) (r : Reason) (v : B) (rest : A → Result B Reason)
     → ((x : A) → o ≡ Some x → rest x ≡ answered (first_reason m n) v)
     → and_then (ok_or o r) rest ≡ answered (first_reason (if is_some o then m else Some r) n) v
@@ -47,7 +47,7 @@ in_role : {B : Type 0} (b : Bool) (name : Name) (m n : Option Reason) (v : B) (r
 in_role true name m n v rest h = h refl
 in_role false name m n v rest h = refl
 
--- the name of a node that is read, and the words behind it
+-- the name of a node that is read, and the words after it
 pub named_step : {B : Type 0} (has : Name → Bool) (o : Option Name) (m n : Option Reason) (v : B) (rest : Name → Result B Reason)
     → ((name : Name) → o ≡ Some name → rest name ≡ answered (first_reason m n) v)
     → and_then (named_in has o) rest ≡ answered (first_reason (if known has o then m else Some NodeReason) n) v
@@ -101,7 +101,7 @@ wire_left_out nodes words k gs n v rest last out h =
     let zeros = rw (none_further (k + 1) (length words) gs next) at (h 0 (no_wire words k out)) in
     rw (le-ltb k (length words) out) zeros
 
--- a wire word that may be left out, and the words behind it
+-- a wire word that may be left out, and the words after it
 pub wire_step : {B C : Type 0} (nodes : List Named) (words : List (List ℕ)) (k : ℕ) (gs : List (List Argument)) (n : Option Reason) (v : C)
     (rest : ℕ → Result B Reason) (last : B → Result C Reason)
     → ((w : ℕ) → wire_at words k ≡ w → and_then (rest w) last ≡ answered (first_reason (misfit nodes (further_arguments (k + 1) gs (length words)) words (k + 1)) n) v)

@@ -1,4 +1,4 @@
--- What is read of a line's words, as an answer about the whole line.
+-- What is read of a line's words, as a result for the whole line.
 use Rattle.std.proofs.Common.{◌≡◌, ℕ, ◌≤◌, false, List, length, refl, sym, ◌∙◌, ap, subst, Option, Some, None, Result, Ok, Err, IfOk, IfErr}
 use Rattle.std.proofs.lemmas.Bool.{le-ltb}
 use Rattle.scenario_lines.specs.declared.faults.Reason.{Reason}
@@ -6,7 +6,7 @@ use Rattle.scenario_lines.specs.declared.faults.LineFault.{LineFault}
 use Rattle.scenario_lines.specs.declared.faults.LineFault.TheVariants.{Bad, NoMemory}
 use Rattle.scenario_lines.specs.declared.lines.Line.{Line}
 use Rattle.scenario_lines.specs.Words.{words_of}
-use Rattle.scenario_lines.specs.Standing.{Standing}
+use Rattle.scenario_lines.specs.LineContext.{LineContext}
 use Rattle.scenario_lines.specs.Grammar.{is_blank, line_of, most_line_bytes}
 use Rattle.scenario_lines.specs.Reasons.{reason_against, item_reason_against}
 use Rattle.scenario_lines.specs.Readings.{answered, Says, reading, reading_items}
@@ -24,12 +24,12 @@ a_reason None said reason h = cc
 a_reason (Some other) said reason h = cc
 
 -- a line that is neither too long nor blank, and what is read of its words
-pub line_read : (s : Standing) (text : List ℕ) (words : List (List ℕ)) (line : Line) → length text ≤ most_line_bytes → is_blank text ≡ false
+pub line_read : (s : LineContext) (text : List ℕ) (words : List (List ℕ)) (line : Line) → length text ≤ most_line_bytes → is_blank text ≡ false
     → words ≡ words_of text → Ok line ≡ reading s words → (reason_against s text ≡ None) × (line ≡ line_of text)
 line_read s text words line short full is_words h =
     rw (le-ltb most_line_bytes (length text) short, full) (no_reason _ _ line (h ∙ ap (reading s) is_words))
 
-pub line_refused : (s : Standing) (text : List ℕ) (words : List (List ℕ)) (reason : Reason) → length text ≤ most_line_bytes → is_blank text ≡ false
+pub line_refused : (s : LineContext) (text : List ℕ) (words : List (List ℕ)) (reason : Reason) → length text ≤ most_line_bytes → is_blank text ≡ false
     → words ≡ words_of text → Err reason ≡ reading s words → reason_against s text ≡ Some reason
 line_refused s text words reason short full is_words h =
     rw (le-ltb most_line_bytes (length text) short, full) (a_reason _ _ reason (h ∙ ap (reading s) is_words))
@@ -47,19 +47,19 @@ items_refused drafted text words reason short full is_words h =
 
 -- ---- the clauses of a read line, by what is said of its words
 
-pub said_ok : (s : Standing) (text : List ℕ) (words : List (List ℕ)) (r : Result Line LineFault) → length text ≤ most_line_bytes → is_blank text ≡ false
+pub said_ok : (s : LineContext) (text : List ℕ) (words : List (List ℕ)) (r : Result Line LineFault) → length text ≤ most_line_bytes → is_blank text ≡ false
     → words ≡ words_of text → Says (reading s words) r → IfOk r (λ line. (reason_against s text ≡ None) × (line ≡ line_of text))
 said_ok s text words (Ok line) short full is_words said = line_read s text words line short full is_words (sym said)
 said_ok s text words (Err e) short full is_words said = tt
 
-pub said_permitted : (s : Standing) (text : List ℕ) (words : List (List ℕ)) (r : Result Line LineFault) → length text ≤ most_line_bytes → is_blank text ≡ false
+pub said_permitted : (s : LineContext) (text : List ℕ) (words : List (List ℕ)) (r : Result Line LineFault) → length text ≤ most_line_bytes → is_blank text ≡ false
     → words ≡ words_of text → Says (reading s words) r → IfOk r (IsPermitted s)
 said_permitted s text words (Ok line) short full is_words said =
     let found = line_read s text words line short full is_words (sym said) in
     subst (IsPermitted s) (sym found.1) (read_is_permitted s text found.0)
 said_permitted s text words (Err e) short full is_words said = tt
 
-pub said_bad : (s : Standing) (text : List ℕ) (words : List (List ℕ)) (r : Result Line LineFault) → length text ≤ most_line_bytes → is_blank text ≡ false
+pub said_bad : (s : LineContext) (text : List ℕ) (words : List (List ℕ)) (r : Result Line LineFault) → length text ≤ most_line_bytes → is_blank text ≡ false
     → words ≡ words_of text → Says (reading s words) r → IfErr r (λ e. IfBad e (λ reason. reason_against s text ≡ Some reason))
 said_bad s text words (Ok line) short full is_words said = tt
 said_bad s text words (Err (Bad reason)) short full is_words said = line_refused s text words reason short full is_words (sym said)

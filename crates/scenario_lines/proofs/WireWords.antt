@@ -23,7 +23,7 @@ wire_word-other word h (Ok bytes) was =
     let twice = (decode_of-ok word bytes was).2 in
     four_bytes-other bytes (λ four. h (omega (arith, twice, four)))
 
--- a decoding into four bytes that is refused
+-- a decoding into four bytes that fails
 refused : (word : List ℕ) (r : Result (List ℕ) FromHexError) → r ≡ decode_sized word 4 → None ≡ result_ok r → (e : FromHexError) × (decode_sized word 4 ≡ Err e)
 refused word (Ok bytes) was none = cc
 refused word (Err e) was none = (e, sym was)

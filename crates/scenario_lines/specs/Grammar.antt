@@ -1,5 +1,5 @@
 -- The grammar of scenario lines: the form of each line, the first reason against a line, and what a line
--- says where there is none.
+-- says if there is none.
 use Rattle.std.specs.Prelude.{ℕ, ℤ, pos, ◌+◌, ◌-◌, ◌^◌, ◌==◌, ◌||◌, nat_lt, Bool, true, false, if◌then◌else◌, is_some, List, [], ◌∷◌, ◌++◌, length, codes, Option, Some, None, unwrap_or}
 use Rattle.std.specs.Str.{bytes_eq}
 use Rattle.mav_names.specs.declared.names.Name.{Name}
@@ -12,9 +12,9 @@ use Rattle.scenario_lines.specs.declared.lines.Line.{Line}
 use Rattle.scenario_lines.specs.declared.lines.Line.TheVariants.{Blank, Drone, Station, Item as OneItem, Items, Empty, Begin, Cancel, Clear, Get, Heartbeat, Deliver, Flow, Noise, Tick, Clock}
 use Rattle.scenario_lines.specs.declared.roster.Named.{Named}
 use Rattle.scenario_lines.specs.Words.{words_of, word_at, number_in, integer_of, wire_word, bytes_word, name_of_word}
-use Rattle.scenario_lines.specs.Standing.{has_name, has_drone, has_station}
+use Rattle.scenario_lines.specs.LineContext.{has_name, has_drone, has_station}
 
--- what may stand at a place of a line
+-- what a word of a line may be
 pub data Argument : Type 0 where
   Whole : (low high : ℕ) → Argument  -- a whole number in this range
   Signed : Argument  -- one of 32 bits, with its sign
@@ -26,7 +26,7 @@ pub data Argument : Type 0 where
   A_kind_or_all : Argument
   Digits : Argument  -- hexadecimal digits, two for each of one or more bytes
 
--- the form of a line: what stands behind its first word, and the groups of words that may follow, one by one
+-- the form of a line: the arguments after its first word, and the groups of words that may follow, one by one
 pub record Form : Type 0 where
   pub needed : List Argument
   pub further : List (List Argument)
@@ -106,7 +106,7 @@ abbrev pub known : (Name → Bool) → Option Name → Bool
 known has None = false
 known has (Some name) = has name
 
--- a word is what may stand there
+-- a word is such an argument
 abbrev pub fits : List Named → Argument → List ℕ → Bool
 fits nodes (Whole low high) word = is_some (number_in low high word)
 fits nodes Signed word = is_some (integer_of word)
@@ -135,7 +135,7 @@ abbrev pub misfit : List Named → List Argument → List (List ℕ) → ℕ →
 misfit nodes [] words k = None
 misfit nodes (a ∷ more) words k = if fits nodes a (word_at words k) then misfit nodes more words (k + 1) else Some (reason_for a)
 
--- the number of words is one that the form allows, behind `n` words that are there already
+-- the number of words is one that the form allows, after `n` words that are there already
 abbrev pub may_count : ℕ → List (List Argument) → ℕ → Bool
 may_count n [] count = count == n
 may_count n (group ∷ groups) count = (count == n) || may_count (n + length group) groups count
@@ -158,7 +158,7 @@ first_reason (Some reason) next = Some reason
 abbrev pub against : Bool → Reason → Option Reason
 against bad reason = if bad then Some reason else None
 
--- an item by the words behind F, which is word `k`; those that are left out are zeros
+-- an item by the words after F, which is word `k`; those that are left out are 0
 abbrev pub wire_at : List (List ℕ) → ℕ → ℕ
 wire_at words k = unwrap_or (wire_word (word_at words k)) 0
 

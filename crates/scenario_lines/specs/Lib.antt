@@ -1,5 +1,5 @@
 pub mod Words
-pub mod Standing
+pub mod LineContext
 pub mod Grammar
 pub mod Reasons
 pub mod Permits

@@ -3,11 +3,11 @@
 use Rattle.std.specs.Prelude.{◌≡◌, ◌≤◌, IsTrue, None, length}
 use Rattle.scenario_lines.specs.declared.lines.Line.{Line}
 use Rattle.scenario_lines.specs.declared.lines.Line.TheVariants.{Blank, Drone, Station, Item as OneItem, Items, Empty, Begin, Cancel, Clear, Get, Heartbeat, Deliver, Flow, Noise, Tick, Clock}
-use Rattle.scenario_lines.specs.Standing.{Standing, has_name, has_drone, has_station}
+use Rattle.scenario_lines.specs.LineContext.{LineContext, has_name, has_drone, has_station}
 use Rattle.scenario_lines.specs.Reasons.{state_reason}
 
 -- the ranges of a line's numbers, and its names
-abbrev pub IsInRange : Standing → Line → Type 0
+abbrev pub IsInRange : LineContext → Line → Type 0
 IsInRange s Blank = Unit {0}
 IsInRange s (Drone sys x y) = 1 ≤ sys
 IsInRange s (Station sys comp) = (1 ≤ sys) × (1 ≤ comp)
@@ -25,7 +25,7 @@ IsInRange s (Noise node bytes) = IsTrue (has_name s.nodes node) × (1 ≤ length
 IsInRange s (Tick node) = IsTrue (has_name s.nodes node)
 IsInRange s (Clock n) = Unit {0}
 
-abbrev pub IsPermitted : Standing → Line → Type 0
+abbrev pub IsPermitted : LineContext → Line → Type 0
 IsPermitted s line = IsInRange s line × (state_reason s line ≡ None)
 
 -- the lines of a file of items

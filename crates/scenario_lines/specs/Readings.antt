@@ -1,4 +1,4 @@
--- What the reader of each form answers, word by word from left to right.
+-- What the reader of each form returns, word by word from left to right.
 use Rattle.std.specs.Prelude.{◌≡◌, ℕ, ℤ, pos, ◌+◌, ◌==◌, ◌||◌, not, nat_lt, Bool, if◌then◌else◌, List, [], ◌∷◌, length, Option, Some, None, Ok, Err}
 use Rattle.std.specs.declared.result.Result.{Result}
 use Rattle.std.specs.Option.{ok_or}
@@ -13,7 +13,7 @@ use Rattle.scenario_lines.specs.declared.lines.Line.{Line}
 use Rattle.scenario_lines.specs.declared.lines.Line.TheVariants.{Drone, Station, Item as OneItem, Items, Empty, Begin, Cancel, Clear, Get, Heartbeat, Deliver, Flow, Noise, Tick, Clock}
 use Rattle.scenario_lines.specs.declared.roster.Named.{Named}
 use Rattle.scenario_lines.specs.Words.{word_at, number_in, integer_of, wire_word, bytes_word, name_of_word}
-use Rattle.scenario_lines.specs.Standing.{Standing, drone_name, has_name, has_drone, has_station}
+use Rattle.scenario_lines.specs.LineContext.{LineContext, drone_name, has_name, has_drone, has_station}
 use Rattle.scenario_lines.specs.Grammar.{form_of, kind_word, kind_or_all, line_from, most_whole, most_draft, most_clock}
 use Rattle.scenario_lines.specs.Reasons.{leaves_range, words_reason, item_words_reason}
 
@@ -23,10 +23,10 @@ answered None value = Ok value
 answered (Some reason) value = Err reason
 
 -- what is read of the words of a line that isn't blank
-abbrev pub reading : Standing → List (List ℕ) → Result Line Reason
+abbrev pub reading : LineContext → List (List ℕ) → Result Line Reason
 reading s words = answered (words_reason s words (form_of (word_at words 0))) (line_from words)
 
--- an answer says what was read, unless memory was wanted
+-- a result is what was read, unless memory ran out
 abbrev pub Says : {A : Type 0} → Result A Reason → Result A LineFault → Type 0
 Says said (Ok value) = said ≡ Ok value
 Says said (Err (Bad reason)) = said ≡ Err reason
@@ -90,7 +90,7 @@ read_item words k =
       z = z;
     }))))))))))
 
--- what is read behind the test of the number of words
+-- what is read after the test of the number of words
 abbrev pub of_words : {A : Type 0} → ℕ → List (List ℕ) → Result A Reason → Result A Reason
 of_words count words said = if not (length words == count) then Err Count else said
 

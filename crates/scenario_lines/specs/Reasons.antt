@@ -7,7 +7,7 @@ use Rattle.scenario_lines.specs.declared.faults.Reason.TheVariants.{Long, Word, 
 use Rattle.scenario_lines.specs.declared.lines.Line.{Line}
 use Rattle.scenario_lines.specs.declared.lines.Line.TheVariants.{Blank, Drone, Station, Item as OneItem, Items, Empty, Begin, Cancel, Clear, Get, Heartbeat, Deliver, Flow, Noise, Tick, Clock}
 use Rattle.scenario_lines.specs.Words.{words_of, word_at}
-use Rattle.scenario_lines.specs.Standing.{Standing, standing_of, drone_name, has_name}
+use Rattle.scenario_lines.specs.LineContext.{LineContext, context_of, drone_name, has_name}
 use Rattle.scenario_lines.specs.Grammar.{Form, form_of, counts, arguments_at, misfit, first_reason, against, line_from, is_blank, most_line_bytes, most_draft, most_clock}
 
 -- the first words of lines that aren't built yet
@@ -24,7 +24,7 @@ abbrev pub leaves_range : ℕ → Item → Bool
 leaves_range n item = is_too_great (item.x +ℤ pos (n - 1))
 
 -- a reason that what is known of the world has against what a line says
-abbrev pub state_reason : Standing → Line → Option Reason
+abbrev pub state_reason : LineContext → Line → Option Reason
 state_reason s Blank = None
 state_reason s (Drone sys x y) = against (has_name s.nodes (drone_name sys)) Twice
 state_reason s (Station sys comp) = against (has_name s.nodes (record { sys = sys; comp = comp })) Twice
@@ -43,7 +43,7 @@ state_reason s (Noise node bytes) = None
 state_reason s (Tick node) = None
 state_reason s (Clock n) = against (nat_lt most_clock (s.clock + n)) ClockReason
 
-abbrev pub words_reason : Standing → List (List ℕ) → Option Form → Option Reason
+abbrev pub words_reason : LineContext → List (List ℕ) → Option Form → Option Reason
 words_reason s words None = Some Word
 words_reason s words (Some f) =
     if is_unbuilt (word_at words 0) then Some Later
@@ -51,19 +51,19 @@ words_reason s words (Some f) =
     else first_reason (misfit s.nodes (arguments_at f (length words)) words 1) (state_reason s (line_from words))
 
 -- the first reason against a line
-abbrev pub reason_against : Standing → List ℕ → Option Reason
+abbrev pub reason_against : LineContext → List ℕ → Option Reason
 reason_against s text =
     if nat_lt most_line_bytes (length text) then Some Long
     else if is_blank text then None
     else words_reason s (words_of text) (form_of (word_at (words_of text) 0))
 
--- the first reason against a line where lines of items alone are read, behind so many items
+-- the first reason against a line if lines of items alone are read, after so many items
 abbrev pub is_item_word : List ℕ → Bool
 is_item_word word = bytes_eq word (codes "item") || bytes_eq word (codes "items")
 
 abbrev pub item_words_reason : ℕ → List (List ℕ) → Option Reason
 item_words_reason drafted words =
-    if is_item_word (word_at words 0) then words_reason (standing_of [] drafted 0) words (form_of (word_at words 0)) else Some Word
+    if is_item_word (word_at words 0) then words_reason (context_of [] drafted 0) words (form_of (word_at words 0)) else Some Word
 
 abbrev pub item_reason_against : ℕ → List ℕ → Option Reason
 item_reason_against drafted text =

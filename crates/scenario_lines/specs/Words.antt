@@ -13,14 +13,14 @@ is_space b = b == 32
 abbrev pub words_of : List ℕ → List (List ℕ)
 words_of text = slice_split is_space text
 
--- the word at a place, from 0
+-- the word at an index, from 0
 abbrev pub word_at : List (List ℕ) → ℕ → List ℕ
 word_at words k = slice_index_or words k []
 
 abbrev pub is_digit : ℕ → Bool
 is_digit b = nat_le 48 b && nat_le b 57
 
--- the number of decimal digits, behind those that were read before
+-- the number of decimal digits, after those that were read before
 abbrev pub digits_onto : ℕ → List ℕ → ℕ
 digits_onto n [] = n
 digits_onto n (d ∷ ds) = digits_onto (n * 10 + (d - 48)) ds
@@ -40,7 +40,7 @@ number_in low high word =
     if is_numeral word && (nat_le low (digits_value word) && nat_le (digits_value word) high)
     then Some (digits_value word) else None
 
--- a whole number of 32 bits, with `-` in front where it is below 0
+-- a whole number of 32 bits, with a leading `-` if it is below 0
 abbrev pub negative_of : Option ℕ → Option ℤ
 negative_of None = None
 negative_of (Some n) = Some (negsuc (n - 1))

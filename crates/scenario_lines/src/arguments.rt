@@ -11,96 +11,96 @@ use plan_items::{Item, PlanKind};
 impl Words<'_> {
     ghost use Rattle.std.specs.Prelude.{◌≡◌, ◌<◌};
     ghost use Rattle.scenario_lines.specs.Readings.{whole, signed, signed_or_zero, wire_or_zero, named, plan_kind, plan_kind_or_all, read_item};
-    ghost use Rattle.scenario_lines.specs.Standing.{has_name, has_drone, has_station};
+    ghost use Rattle.scenario_lines.specs.LineContext.{has_name, has_drone, has_station};
 
-    pub(crate) fn whole(&self, place: usize, low: u64, high: u64) -> Result<u64, Reason>
-        ensures exact { result ≡ whole self.now place low high }
+    pub(crate) fn whole(&self, index: usize, low: u64, high: u64) -> Result<u64, Reason>
+        ensures exact { result ≡ whole self.now index low high }
         ensures least { IfOk result (λ n. low ≤ n) }
         ensures most { IfOk result (λ n. n ≤ high) }
     {
-        number(self.at(place), low, high).ok_or(Reason::Number)
+        number(self.at(index), low, high).ok_or(Reason::Number)
     }
 
-    pub(crate) fn signed(&self, place: usize) -> Result<i32, Reason>
-        ensures { result ≡ signed self.now place }
+    pub(crate) fn signed(&self, index: usize) -> Result<i32, Reason>
+        ensures { result ≡ signed self.now index }
     {
-        integer(self.at(place)).ok_or(Reason::Number)
+        integer(self.at(index)).ok_or(Reason::Number)
     }
 
-    pub(crate) fn signed_or_zero(&self, place: usize) -> Result<i32, Reason>
-        ensures { result ≡ signed_or_zero self.now place }
+    pub(crate) fn signed_or_zero(&self, index: usize) -> Result<i32, Reason>
+        ensures { result ≡ signed_or_zero self.now index }
     {
-        if place < self.len() {
-            self.signed(place)
+        if index < self.len() {
+            self.signed(index)
         } else {
             Ok(0)
         }
     }
 
-    pub(crate) fn wire_or_zero(&self, place: usize) -> Result<u32, Reason>
-        ensures { result ≡ wire_or_zero self.now place }
+    pub(crate) fn wire_or_zero(&self, index: usize) -> Result<u32, Reason>
+        ensures { result ≡ wire_or_zero self.now index }
     {
-        if place < self.len() {
-            wire_word(self.at(place)).ok_or(Reason::Hex)
+        if index < self.len() {
+            wire_word(self.at(index)).ok_or(Reason::Hex)
         } else {
             Ok(0)
         }
     }
 
-    pub(crate) fn kind(&self, place: usize) -> Result<PlanKind, Reason>
-        ensures { result ≡ plan_kind self.now place }
+    pub(crate) fn kind(&self, index: usize) -> Result<PlanKind, Reason>
+        ensures { result ≡ plan_kind self.now index }
     {
-        kind(self.at(place)).ok_or(Reason::Kind)
+        kind(self.at(index)).ok_or(Reason::Kind)
     }
 
-    pub(crate) fn kind_or_all(&self, place: usize) -> Result<Option<PlanKind>, Reason>
-        ensures { result ≡ plan_kind_or_all self.now place }
+    pub(crate) fn kind_or_all(&self, index: usize) -> Result<Option<PlanKind>, Reason>
+        ensures { result ≡ plan_kind_or_all self.now index }
     {
-        kind_or_all(self.at(place)).ok_or(Reason::Kind)
+        kind_or_all(self.at(index)).ok_or(Reason::Kind)
     }
 
-    /// The node that the word at `place` names, in any role.
-    pub(crate) fn node(&self, place: usize, roster: &Roster) -> Result<Name, Reason>
-        ensures { result ≡ named (has_name roster.now) self.now place }
+    /// The node that the word at `index` names, in any role.
+    pub(crate) fn node(&self, index: usize, roster: &Roster) -> Result<Name, Reason>
+        ensures { result ≡ named (has_name roster.now) self.now index }
     {
-        match name(self.at(place)) {
+        match name(self.at(index)) {
             Some(name) if roster.has_name(name) => Ok(name),
             _ => Err(Reason::Node),
         }
     }
 
-    pub(crate) fn drone(&self, place: usize, roster: &Roster) -> Result<Name, Reason>
-        ensures { result ≡ named (has_drone roster.now) self.now place }
+    pub(crate) fn drone(&self, index: usize, roster: &Roster) -> Result<Name, Reason>
+        ensures { result ≡ named (has_drone roster.now) self.now index }
     {
-        match name(self.at(place)) {
+        match name(self.at(index)) {
             Some(name) if roster.has_in_role(Role::Drone, name) => Ok(name),
             _ => Err(Reason::Node),
         }
     }
 
-    pub(crate) fn station(&self, place: usize, roster: &Roster) -> Result<Name, Reason>
-        ensures { result ≡ named (has_station roster.now) self.now place }
+    pub(crate) fn station(&self, index: usize, roster: &Roster) -> Result<Name, Reason>
+        ensures { result ≡ named (has_station roster.now) self.now index }
     {
-        match name(self.at(place)) {
+        match name(self.at(index)) {
             Some(name) if roster.has_in_role(Role::Station, name) => Ok(name),
             _ => Err(Reason::Node),
         }
     }
 
-    /// The item whose frame is the word at `place`.
-    pub(crate) fn item(&self, place: usize) -> Result<Item, Reason>
-        requires { place < 100 }
-        ensures { result ≡ read_item self.now place }
+    /// The item whose frame is the word at `index`.
+    pub(crate) fn item(&self, index: usize) -> Result<Item, Reason>
+        requires { index < 100 }
+        ensures { result ≡ read_item self.now index }
     {
-        let frame = self.whole(place, 0, 255)? as u8;
-        let command = self.whole(place + 1, 0, 65535)? as u16;
-        let x = self.signed(place + 2)?;
-        let y = self.signed(place + 3)?;
-        let z = self.wire_or_zero(place + 4)?;
-        let p1 = self.wire_or_zero(place + 5)?;
-        let p2 = self.wire_or_zero(place + 6)?;
-        let p3 = self.wire_or_zero(place + 7)?;
-        let p4 = self.wire_or_zero(place + 8)?;
+        let frame = self.whole(index, 0, 255)? as u8;
+        let command = self.whole(index + 1, 0, 65535)? as u16;
+        let x = self.signed(index + 2)?;
+        let y = self.signed(index + 3)?;
+        let z = self.wire_or_zero(index + 4)?;
+        let p1 = self.wire_or_zero(index + 5)?;
+        let p2 = self.wire_or_zero(index + 6)?;
+        let p3 = self.wire_or_zero(index + 7)?;
+        let p4 = self.wire_or_zero(index + 8)?;
         Ok(Item {
             frame,
             command,

@@ -1,4 +1,4 @@
-// Why a line is refused.
+// Why a line is rejected.
 use std::alloc::AllocError;
 
 /// The first reason against a scenario line, in this order but for the arguments, which are tested
@@ -17,6 +17,7 @@ pub enum Reason {
     Number,
     /// No node of that name was named before in that role.
     Node,
+    /// No kind of plan: not `mission`, `fence` or `rally`, nor `all` where that is allowed.
     Kind,
     /// Hexadecimal digits: eight of a word, or two for each of one or more bytes.
     Hex,
@@ -30,6 +31,7 @@ pub enum Reason {
     Clock,
 }
 
+/// Why a line isn't read.
 #[derive(Clone, Copy, Debug, PartialEq, Eq)]
 pub enum LineFault {
     Bad(Reason),

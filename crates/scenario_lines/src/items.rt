@@ -1,4 +1,4 @@
-// The lines that add items to a draft, behind so many items.
+// The lines that add items to a draft, after so many items.
 ghost use Rattle.std.specs.Prelude.{◌≡◌, ◌≤◌};
 ghost use Rattle.scenario_lines.specs.Reasons.{leaves_range};
 ghost use Rattle.scenario_lines.specs.Readings.{read_one_item, read_items};

@@ -6,8 +6,8 @@
 #![tactic(auto)]
 
 mod arguments;
+mod delivery_lines;
 mod faults;
-mod happenings;
 mod items;
 mod laws;
 mod lines;

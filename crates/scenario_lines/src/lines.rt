@@ -18,11 +18,11 @@ pub enum Line {
         sys: u8,
         comp: u8,
     },
-    /// One item joins the draft.
+    /// One item is added to the draft.
     Item {
         item: Item,
     },
-    /// `n` items join the draft, the i-th from 0 with the x of the first plus i.
+    /// `n` items are added to the draft, the i-th from 0 with the x of the first plus i.
     Items {
         n: u64,
         first: Item,

@@ -1,6 +1,6 @@
 // The lines that name nodes.
 ghost use Rattle.std.specs.Prelude.{◌≡◌};
-ghost use Rattle.scenario_lines.specs.Standing.{drone_name};
+ghost use Rattle.scenario_lines.specs.LineContext.{drone_name};
 ghost use Rattle.scenario_lines.specs.Readings.{read_drone, read_station};
 
 use crate::words::Words;

@@ -35,7 +35,7 @@ fn is_numeral(word: &[u8]) -> bool
     }
 }
 
-/// The number of decimal digits, where it is at most `high`.
+/// The number that decimal digits represent, if it is at most `high`.
 fn value_up_to(digits: &[u8], high: u64) -> Option<u64>
     ensures exact { result ≡ (if nat_le (digits_value digits.now) high then Some (digits_value digits.now) else None) }
     ensures most { IfSome result (λ n. n ≤ high) }
@@ -68,7 +68,7 @@ pub(crate) fn number(word: &[u8], low: u64, high: u64) -> Option<u64>
     Some(value)
 }
 
-/// A whole number of 32 bits, with `-` in front where it is below 0.
+/// A whole number of 32 bits, with a leading `-` if it is below 0.
 pub(crate) fn integer(word: &[u8]) -> Option<i32>
     ensures { result ≡ integer_of word.now }
 {

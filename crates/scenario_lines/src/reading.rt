@@ -2,14 +2,14 @@
 ghost use Rattle.std.specs.Prelude.{◌≡◌, false, IfOk, IfErr, Some, None, codes};
 ghost use Rattle.std.specs.Str.{bytes_eq};
 ghost use Rattle.scenario_lines.specs.Words.{word_at};
-ghost use Rattle.scenario_lines.specs.Standing.{standing_of};
+ghost use Rattle.scenario_lines.specs.LineContext.{context_of};
 ghost use Rattle.scenario_lines.specs.Faults.{IfBad};
 ghost use Rattle.scenario_lines.specs.Grammar.{is_blank, line_of};
 ghost use Rattle.scenario_lines.specs.Reasons.{is_unbuilt, reason_against, item_reason_against};
 ghost use Rattle.scenario_lines.specs.Readings.{Says, reading, reading_items};
 ghost use Rattle.scenario_lines.specs.Permits.{IsPermitted, IsOfItems};
 
-use crate::happenings::{
+use crate::delivery_lines::{
     read_clock, read_deliver, read_flow, read_heartbeat, read_noise, read_tick,
 };
 use crate::items::{read_item, read_items};
@@ -46,7 +46,7 @@ fn is_unbuilt(word: &[u8]) -> bool
 /// The line of some words but `noise`.
 fn read_words(roster: &Roster, drafted: usize, clock: u64, words: &Words) -> Result<Line, Reason>
     requires { bytes_eq (word_at words.now 0) (codes "noise") ≡ false }
-    ensures { result ≡ reading (standing_of roster.now drafted clock) words.now }
+    ensures { result ≡ reading (context_of roster.now drafted clock) words.now }
 {
     match words.at(0) {
         first if is_word(first, "drone") => read_drone(roster, words),
@@ -94,9 +94,9 @@ pub fn read(
     clock: u64,
     text: &[u8],
 ) -> Result<Line, LineFault>
-    ensures ok { IfOk result (λ line. (reason_against (standing_of roster.now drafted clock) text.now ≡ None) × (line ≡ line_of text.now)) }
-    ensures permitted { IfOk result (IsPermitted (standing_of roster.now drafted clock)) }
-    ensures bad { IfErr result (λ e. IfBad e (λ r. reason_against (standing_of roster.now drafted clock) text.now ≡ Some r)) }
+    ensures ok { IfOk result (λ line. (reason_against (context_of roster.now drafted clock) text.now ≡ None) × (line ≡ line_of text.now)) }
+    ensures permitted { IfOk result (IsPermitted (context_of roster.now drafted clock)) }
+    ensures bad { IfErr result (λ e. IfBad e (λ r. reason_against (context_of roster.now drafted clock) text.now ≡ Some r)) }
 {
     if text.len() > MOST_LINE_BYTES {
         return Err(LineFault::Bad(Reason::Long));
@@ -111,7 +111,7 @@ pub fn read(
     faulted(read_words(roster, drafted, clock, &words))
 }
 
-/// The same where lines of items alone are read, as in a file of items, behind `drafted` items: any
+/// The same if lines of items alone are read, as in a file of items, after `drafted` items: any
 /// other first word is `word`.
 pub fn read_item_line(alloc: Global, drafted: usize, text: &[u8]) -> Result<Line, LineFault>
     ensures ok { IfOk result (λ line. (item_reason_against drafted text.now ≡ None) × (line ≡ line_of text.now)) }

@@ -1,7 +1,7 @@
 // The nodes that were named, by their roles and names.
 ghost use Rattle.std.specs.Prelude.{◌≡◌, OnOk, OnErr, ◌++◌, [], ◌∷◌, length, position, slice_get};
 ghost use Rattle.std.specs.List.{list_any};
-ghost use Rattle.scenario_lines.specs.Standing.{same_name, same_role, is_called, is_in_role, has_name};
+ghost use Rattle.scenario_lines.specs.LineContext.{same_name, same_role, is_called, is_in_role, has_name};
 
 use crate::NoMemory;
 use mav_names::Name;
@@ -73,7 +73,7 @@ impl Roster {
         }
     }
 
-    /// Adds a node behind the others. Whether its name is taken isn't asked.
+    /// Adds a node after the others. Whether its name is taken isn't asked.
     pub fn push(&mut self, node: Named) -> Result<(), NoMemory>
         ensures ok { OnOk result (self.new ≡ self.old ++ node ∷ []) }
         ensures err { OnErr result (self.new ≡ self.old) }
@@ -82,20 +82,22 @@ impl Roster {
         Ok(())
     }
 
+    /// How many nodes were named.
     pub fn len(&self) -> usize
         ensures { result ≡ length self.now }
     {
         self.nodes.len()
     }
 
-    pub fn get(&self, place: usize) -> Option<Named>
-        ensures { result ≡ slice_get self.now place }
+    /// The node of an index, from 0, in the order in which they were named.
+    pub fn get(&self, index: usize) -> Option<Named>
+        ensures { result ≡ slice_get self.now index }
     {
-        self.nodes.get(place).copied()
+        self.nodes.get(index).copied()
     }
 
-    /// The place of the first node of this name in this role.
-    pub fn place_of(&self, role: Role, name: Name) -> Option<usize>
+    /// The index of the first node of this name in this role.
+    pub fn index_of(&self, role: Role, name: Name) -> Option<usize>
         ensures { result ≡ position (is_in_role role name) self.now }
     {
         self.nodes
@@ -103,8 +105,8 @@ impl Roster {
             .position(|node| is_in_role(*node, role, name))
     }
 
-    /// The place of the first node of this name.
-    pub fn place_of_name(&self, name: Name) -> Option<usize>
+    /// The index of the first node of this name.
+    pub fn index_of_name(&self, name: Name) -> Option<usize>
         ensures { result ≡ position (is_called name) self.now }
     {
         self.nodes.iter().position(|node| is_called(*node, name))

@@ -37,11 +37,11 @@ impl<'a> Words<'a> {
         self.words.len()
     }
 
-    /// The word at a place, from 0, and no byte past the last one.
-    pub(crate) fn at(&self, place: usize) -> &[u8]
-        ensures { result.now ≡ word_at self.now place }
+    /// The word at an index, from 0, and no byte past the last one.
+    pub(crate) fn at(&self, index: usize) -> &[u8]
+        ensures { result.now ≡ word_at self.now index }
     {
-        match self.words.get(place) {
+        match self.words.get(index) {
             Some(word) => *word,
             None => b"",
         }

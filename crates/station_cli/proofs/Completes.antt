@@ -5,11 +5,11 @@ use Rattle.std.proofs.lemmas.Slice.Eq.{bytes_eq-Decides}
 use Rattle.hex.specs.Hex.{decode_sized}
 use Rattle.hex.specs.declared.error.FromHexError.{FromHexError}
 use Rattle.mav_ports.specs.Gets.{IsSpent}
-use Rattle.command_ends.proofs.Ends.{whole_taken}
-use Rattle.key_input.specs.KeyText.{is_line_end, key_with, key_or_default}
-use Rattle.key_input.specs.Script.{most_key_bytes, refusal_of, key_script}
-use Rattle.key_input.proofs.Stays.{goes_on}
-use Rattle.fleet_command.specs.Script.{fleet_script}
+use Rattle.run_status.proofs.Ends.{whole_taken}
+use Rattle.key_file.specs.KeyText.{is_line_end, key_with, key_or_default}
+use Rattle.key_file.specs.Spec.{most_key_bytes, refusal_of, key_spec}
+use Rattle.key_file.proofs.Stays.{goes_on}
+use Rattle.fleet_command.specs.Spec.{fleet_spec}
 use Rattle.fleet_command.proofs.Completeness.{completed}
 use Rattle.station_cli.specs.Seen.{Input, Output, around, promised_over}
 use Rattle.station_cli.specs.Fleets.{Fleets, FleetsComplete}
@@ -48,7 +48,7 @@ key_short (b ∷ bs) k e =
     omega (arith, end, length-drop 64 (b ∷ bs))
 
 -- nothing stops the reading of such a text
-key_goes : (bytes k : List ℕ) → key_or_default bytes ≡ Some k → key_script.stop true bytes ≡ None
+key_goes : (bytes k : List ℕ) → key_or_default bytes ≡ Some k → key_spec.stop true bytes ≡ None
 key_goes bytes k e = goes_on true bytes (key_short bytes k e) ∙ ap refusal_of e
 
 -- ---- the run
@@ -58,9 +58,9 @@ some_is a b e = cc
 
 pub fleets_complete : (named_key frames : Bool) (out : Output) (code : ℕ) (key main : Input) → (key.spent → IsSpent key.left_after) → Fleets named_key frames (promised_over out code) (code ≢ 0) key main → FleetsComplete named_key frames out code key main
 fleets_complete false frames out code key main spent d k is =
-    let run : promised_over out code (fleet_script k frames) main = subst (λ u. promised_over out code (fleet_script u frames) main) (sym is) d in
+    let run : promised_over out code (fleet_spec k frames) main = subst (λ u. promised_over out code (fleet_spec u frames) main) (sym is) d in
     completed k frames (around main out) main.left_before main.left_after out.sent_before out.sent_after code run
-fleets_complete true frames out code key main spent (inl (run, halted, within, unread)) k (text, there, read, good) = λ bytes told can authentic sound.
+fleets_complete true frames out code key main spent (inl (run, halted, within, unread)) k (text, there, read, good) = λ bytes reported can authentic sound.
     elim (run.complete text there (key_goes text k read) good.reads good.gives good.writes) [
       | inl zero ↦ absurd (halted zero)
       | inr memory ↦ inr memory
@@ -68,5 +68,5 @@ fleets_complete true frames out code key main spent (inl (run, halted, within, u
 fleets_complete true frames out code key main spent (inr (used, holds, d)) k (text, there, read, good) =
     let same : text ≡ holds.taken = whole_taken text holds.taken key.left_before key.left_after there holds.took (spent holds.at_end) in
     let is : used ≡ k = some_is used k (sym holds.read ∙ ap key_or_default (sym same) ∙ read) in
-    let run : promised_over out code (fleet_script k frames) main = subst (λ u. promised_over out code (fleet_script u frames) main) is d in
+    let run : promised_over out code (fleet_spec k frames) main = subst (λ u. promised_over out code (fleet_spec u frames) main) is d in
     completed k frames (around main out) main.left_before main.left_after out.sent_before out.sent_after code run

@@ -4,15 +4,15 @@ use Rattle.std.specs.Result.{result_err}
 use Rattle.std.specs.Io.KnownBytes.{append_known}
 use Rattle.mav_ports.specs.Puts.{SentFront}
 use Rattle.mav_ports.proofs.Known.{append_known_nil}
-use Rattle.command_ends.specs.declared.stops.Stop.TheVariants.{Bad, AtLimit, StampsSpent}
-use Rattle.command_ends.specs.declared.halts.Halt.{Halt}
-use Rattle.command_ends.specs.declared.halts.Halt.TheVariants.{Usage, Stopped, ReadFault, WriteFault, NoMemory, TurnsSpent}
-use Rattle.command_ends.specs.Endings.{code_of}
-use Rattle.command_ends.specs.Tells.{HaltTold, Tells}
-use Rattle.station_cli.specs.Usage.{UsageTold}
+use Rattle.run_status.specs.declared.input_errors.InputError.TheVariants.{Bad, AtLimit, StampsSpent}
+use Rattle.run_status.specs.declared.run_ends.RunEnd.{RunEnd}
+use Rattle.run_status.specs.declared.run_ends.RunEnd.TheVariants.{Usage, Stopped, ReadFault, WriteFault, NoMemory, TurnsSpent}
+use Rattle.run_status.specs.Endings.{code_of}
+use Rattle.run_status.specs.StatusText.{StatusWritten, WritesStatus}
+use Rattle.station_cli.specs.Usage.{UsageReported}
 
 -- status 2 is that of words alone
-usage_code : (halt : Halt) → code_of (Some halt) ≡ 2 → halt ≡ Usage
+usage_code : (run_end : RunEnd) → code_of (Some run_end) ≡ 2 → run_end ≡ Usage
 usage_code Usage e = refl
 usage_code (Stopped (Bad place reason)) e = absurd (omega arith)
 usage_code (Stopped (AtLimit limit)) e = absurd (omega arith)
@@ -22,46 +22,46 @@ usage_code WriteFault e = absurd (omega arith)
 usage_code NoMemory e = absurd (omega arith)
 usage_code TurnsSpent e = absurd (omega arith)
 
-usage_halted : (rm ra : ℕ) (sm sa : Option (List ℕ)) (halt : Halt) (told : Result (Unit {0}) Halt) → HaltTold halt told rm ra sm sa → code_of (result_err told) ≡ 2 → halt ≡ Usage
-usage_halted rm ra sm sa halt told (inl (is, same, said)) two = usage_code halt (ap (λ t. code_of (result_err t)) (sym is) ∙ two)
-usage_halted rm ra sm sa halt told (inr (inl (is, rose, front))) two = absurd (let five : code_of (Some WriteFault) ≡ 2 = ap (λ t. code_of (result_err t)) (sym is) ∙ two in omega (arith, five))
-usage_halted rm ra sm sa halt told (inr (inr (is, other, same, unsent))) two = absurd (let seven : code_of (Some NoMemory) ≡ 2 = ap (λ t. code_of (result_err t)) (sym is) ∙ two in omega (arith, seven))
+usage_halted : (rm ra : ℕ) (sm sa : Option (List ℕ)) (run_end : RunEnd) (reported : Result (Unit {0}) RunEnd) → StatusWritten run_end reported rm ra sm sa → code_of (result_err reported) ≡ 2 → run_end ≡ Usage
+usage_halted rm ra sm sa run_end reported (inl (is, same, said)) two = usage_code run_end (ap (λ t. code_of (result_err t)) (sym is) ∙ two)
+usage_halted rm ra sm sa run_end reported (inr (inl (is, rose, front))) two = absurd (let five : code_of (Some WriteFault) ≡ 2 = ap (λ t. code_of (result_err t)) (sym is) ∙ two in omega (arith, five))
+usage_halted rm ra sm sa run_end reported (inr (inr (is, other, same, unsent))) two = absurd (let seven : code_of (Some NoMemory) ≡ 2 = ap (λ t. code_of (result_err t)) (sym is) ∙ two in omega (arith, seven))
 
-pub usage_ended : (rm ra : ℕ) (sm sa : Option (List ℕ)) (ended told : Result (Unit {0}) Halt) → Tells ended told rm ra sm sa → code_of (result_err told) ≡ 2 → IsErrOf ended Usage
-usage_ended rm ra sm sa (Ok x) told (is, same, unsent) two = absurd (let done : Result (Unit {0}) Halt = Ok x in let none : code_of (result_err done) ≡ 2 = ap (λ t. code_of (result_err t)) (sym is) ∙ two in omega (arith, none))
-usage_ended rm ra sm sa (Err halt) told tells two = ap Err (usage_halted rm ra sm sa halt told tells two)
+pub usage_ended : (rm ra : ℕ) (sm sa : Option (List ℕ)) (ended reported : Result (Unit {0}) RunEnd) → WritesStatus ended reported rm ra sm sa → code_of (result_err reported) ≡ 2 → IsErrOf ended Usage
+usage_ended rm ra sm sa (Ok x) reported (is, same, unsent) two = absurd (let done : Result (Unit {0}) RunEnd = Ok x in let none : code_of (result_err done) ≡ 2 = ap (λ t. code_of (result_err t)) (sym is) ∙ two in omega (arith, none))
+usage_ended rm ra sm sa (Err run_end) reported writes two = ap Err (usage_halted rm ra sm sa run_end reported writes two)
 
 -- the output refused a write only where the run ends so
-pub five_only : (told : Result (Unit {0}) Halt) → code_of (result_err told) ≢ 5 → (IsErrOf told WriteFault → ⊥)
-five_only told other is = other (ap (λ t. code_of (result_err t)) is)
+pub five_only : (reported : Result (Unit {0}) RunEnd) → code_of (result_err reported) ≢ 5 → (IsErrOf reported WriteFault → ⊥)
+five_only reported other is = other (ap (λ t. code_of (result_err t)) is)
 
 front_of_nothing : (before after : Option (List ℕ)) (part rest text : List ℕ) → part ++ rest ≡ [] → after ≡ append_known before part → SentFront before after text
 front_of_nothing before after [] rest text e sent = (text, record { part = []; whole = refl; appended = sent })
 front_of_nothing before after (b ∷ part) rest text never sent = absurd (cc never)
 
 -- the status and the output
-usage_told : (rm ra : ℕ) (sm sa : Option (List ℕ)) (told : Result (Unit {0}) Halt) → HaltTold Usage told rm ra sm sa → UsageTold (code_of (result_err told)) rm ra sm sa
-usage_told rm ra sm sa told (inl (is, same, said)) = inl (ap (λ t. code_of (result_err t)) is, said)
-usage_told rm ra sm sa told (inr (inl (is, rose, front))) = inr (inl (ap (λ t. code_of (result_err t)) is, rose, front))
-usage_told rm ra sm sa told (inr (inr (is, other, same, unsent))) = inr (inr (ap (λ t. code_of (result_err t)) is, unsent))
+usage_reported : (rm ra : ℕ) (sm sa : Option (List ℕ)) (reported : Result (Unit {0}) RunEnd) → StatusWritten Usage reported rm ra sm sa → UsageReported (code_of (result_err reported)) rm ra sm sa
+usage_reported rm ra sm sa reported (inl (is, same, said)) = inl (ap (λ t. code_of (result_err t)) is, said)
+usage_reported rm ra sm sa reported (inr (inl (is, rose, front))) = inr (inl (ap (λ t. code_of (result_err t)) is, rose, front))
+usage_reported rm ra sm sa reported (inr (inr (is, other, same, unsent))) = inr (inr (ap (λ t. code_of (result_err t)) is, unsent))
 
-memory_told : (rm ra : ℕ) (sm sa : Option (List ℕ)) (told : Result (Unit {0}) Halt) → HaltTold NoMemory told rm ra sm sa → UsageTold (code_of (result_err told)) rm ra sm sa
-memory_told rm ra sm sa told (inl (is, same, said)) = inr (inr (ap (λ t. code_of (result_err t)) is, said ∙ sym (append_known_nil sm)))
-memory_told rm ra sm sa told (inr (inl (is, rose, (rest, s)))) = inr (inl (ap (λ t. code_of (result_err t)) is, rose, front_of_nothing sm sa s.part rest (codes "usage\n") s.whole s.appended))
-memory_told rm ra sm sa told (inr (inr (is, other, same, unsent))) = inr (inr (ap (λ t. code_of (result_err t)) is, unsent))
+memory_reported : (rm ra : ℕ) (sm sa : Option (List ℕ)) (reported : Result (Unit {0}) RunEnd) → StatusWritten NoMemory reported rm ra sm sa → UsageReported (code_of (result_err reported)) rm ra sm sa
+memory_reported rm ra sm sa reported (inl (is, same, said)) = inr (inr (ap (λ t. code_of (result_err t)) is, said ∙ sym (append_known_nil sm)))
+memory_reported rm ra sm sa reported (inr (inl (is, rose, (rest, s)))) = inr (inl (ap (λ t. code_of (result_err t)) is, rose, front_of_nothing sm sa s.part rest (codes "usage\n") s.whole s.appended))
+memory_reported rm ra sm sa reported (inr (inr (is, other, same, unsent))) = inr (inr (ap (λ t. code_of (result_err t)) is, unsent))
 
-pub words_told : (rb rm ra : ℕ) (sb sm sa : Option (List ℕ)) (ended told : Result (Unit {0}) Halt) → IsErrOf ended Usage ⊎ IsErrOf ended NoMemory → ((IsErrOf ended WriteFault → ⊥) → rm ≡ rb) → sm ≡ sb → Tells ended told rm ra sm sa → UsageTold (code_of (result_err told)) rb ra sb sa
-words_told rb rm ra sb sm sa ended told (inl is) sound unsent tells =
+pub words_reported : (rb rm ra : ℕ) (sb sm sa : Option (List ℕ)) (ended reported : Result (Unit {0}) RunEnd) → IsErrOf ended Usage ⊎ IsErrOf ended NoMemory → ((IsErrOf ended WriteFault → ⊥) → rm ≡ rb) → sm ≡ sb → WritesStatus ended reported rm ra sm sa → UsageReported (code_of (result_err reported)) rb ra sb sa
+words_reported rb rm ra sb sm sa ended reported (inl is) sound unsent writes =
     let same : rm ≡ rb = sound (λ e. cc (is, e)) in
-    subst (λ n. UsageTold (code_of (result_err told)) n ra sb sa) same (subst (λ s. UsageTold (code_of (result_err told)) rm ra s sa) unsent
-    (usage_told rm ra sm sa told (subst (λ e. Tells e told rm ra sm sa) is tells)))
-words_told rb rm ra sb sm sa ended told (inr is) sound unsent tells =
+    subst (λ n. UsageReported (code_of (result_err reported)) n ra sb sa) same (subst (λ s. UsageReported (code_of (result_err reported)) rm ra s sa) unsent
+    (usage_reported rm ra sm sa reported (subst (λ e. WritesStatus e reported rm ra sm sa) is writes)))
+words_reported rb rm ra sb sm sa ended reported (inr is) sound unsent writes =
     let same : rm ≡ rb = sound (λ e. cc (is, e)) in
-    subst (λ n. UsageTold (code_of (result_err told)) n ra sb sa) same (subst (λ s. UsageTold (code_of (result_err told)) rm ra s sa) unsent
-    (memory_told rm ra sm sa told (subst (λ e. Tells e told rm ra sm sa) is tells)))
+    subst (λ n. UsageReported (code_of (result_err reported)) n ra sb sa) same (subst (λ s. UsageReported (code_of (result_err reported)) rm ra s sa) unsent
+    (memory_reported rm ra sm sa reported (subst (λ e. WritesStatus e reported rm ra sm sa) is writes)))
 
 -- a run that halted isn't done
-code_some : (halt : Halt) → code_of (Some halt) ≢ 0
+code_some : (run_end : RunEnd) → code_of (Some run_end) ≢ 0
 code_some Usage e = omega (arith, e)
 code_some (Stopped (Bad place reason)) e = omega (arith, e)
 code_some (Stopped (AtLimit limit)) e = omega (arith, e)
@@ -71,11 +71,11 @@ code_some WriteFault e = omega (arith, e)
 code_some NoMemory e = omega (arith, e)
 code_some TurnsSpent e = omega (arith, e)
 
-halted_told : (rm ra : ℕ) (sm sa : Option (List ℕ)) (halt : Halt) (told : Result (Unit {0}) Halt) → HaltTold halt told rm ra sm sa → code_of (result_err told) ≢ 0
-halted_told rm ra sm sa halt told (inl (is, same, said)) e = code_some halt (ap (λ t. code_of (result_err t)) (sym is) ∙ e)
-halted_told rm ra sm sa halt told (inr (inl (is, rose, front))) e = code_some WriteFault (ap (λ t. code_of (result_err t)) (sym is) ∙ e)
-halted_told rm ra sm sa halt told (inr (inr (is, other, same, unsent))) e = code_some NoMemory (ap (λ t. code_of (result_err t)) (sym is) ∙ e)
+halted_reported : (rm ra : ℕ) (sm sa : Option (List ℕ)) (run_end : RunEnd) (reported : Result (Unit {0}) RunEnd) → StatusWritten run_end reported rm ra sm sa → code_of (result_err reported) ≢ 0
+halted_reported rm ra sm sa run_end reported (inl (is, same, said)) e = code_some run_end (ap (λ t. code_of (result_err t)) (sym is) ∙ e)
+halted_reported rm ra sm sa run_end reported (inr (inl (is, rose, front))) e = code_some WriteFault (ap (λ t. code_of (result_err t)) (sym is) ∙ e)
+halted_reported rm ra sm sa run_end reported (inr (inr (is, other, same, unsent))) e = code_some NoMemory (ap (λ t. code_of (result_err t)) (sym is) ∙ e)
 
-pub halted_code : (rm ra : ℕ) (sm sa : Option (List ℕ)) (ended told : Result (Unit {0}) Halt) → IsErr ended → Tells ended told rm ra sm sa → code_of (result_err told) ≢ 0
-halted_code rm ra sm sa (Ok x) told never tells e = cc never
-halted_code rm ra sm sa (Err halt) told err tells e = halted_told rm ra sm sa halt told tells e
+pub halted_code : (rm ra : ℕ) (sm sa : Option (List ℕ)) (ended reported : Result (Unit {0}) RunEnd) → IsErr ended → WritesStatus ended reported rm ra sm sa → code_of (result_err reported) ≢ 0
+halted_code rm ra sm sa (Ok x) reported never writes e = cc never
+halted_code rm ra sm sa (Err run_end) reported err writes e = halted_reported rm ra sm sa run_end reported writes e

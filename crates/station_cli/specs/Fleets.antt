@@ -1,9 +1,9 @@
 -- What is read of the inputs that a line of `fleet` names, what holds of that run, and when it is done.
 use Rattle.std.specs.Prelude.{◌≡◌, ◌≢◌, ℕ, Bool, true, false, List, None, Some}
 use Rattle.std.specs.declared.option.Option.{Option}
-use Rattle.key_input.specs.KeyText.{default_key, key_or_default}
-use Rattle.command_ends.specs.Runs.{Script}
-use Rattle.fleet_command.specs.Script.{fleet_script}
+use Rattle.key_file.specs.KeyText.{default_key, key_or_default}
+use Rattle.run_status.specs.Runs.{CommandSpec}
+use Rattle.fleet_command.specs.Spec.{fleet_spec}
 use Rattle.fleet_command.specs.Theorem.{Carries}
 use Rattle.fleet_command.specs.Completeness.{NoFault, Completes}
 use Rattle.station_cli.specs.Seen.{Input, Output, around, promised_over}
@@ -15,9 +15,9 @@ or_default None = default_key
 or_default (Some key) = key
 
 -- the main input is played under it
-abbrev pub Fleets : (named_key frames : Bool) → (Script → Input → Type 0) → (halted : Type 0) → (key main : Input) → Type 0
+abbrev pub Fleets : (named_key frames : Bool) → (CommandSpec → Input → Type 0) → (halted : Type 0) → (key main : Input) → Type 0
 Fleets named_key frames runs halted key main =
-    WithKey named_key runs halted main.unread key (λ k. runs (fleet_script (or_default k) frames) main)
+    WithKey named_key runs halted main.unread key (λ k. runs (fleet_spec (or_default k) frames) main)
 
 -- the main theorem of a run under a key
 abbrev pub CarriesOver : List ℕ → Bool → Output → ℕ → Input → Type 0

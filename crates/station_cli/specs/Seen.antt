@@ -2,8 +2,8 @@
 use Rattle.std.specs.Prelude.{◌≡◌, ℕ, List}
 use Rattle.std.specs.declared.option.Option.{Option}
 use Rattle.mav_ports.specs.Gets.{IsSpent}
-use Rattle.command_ends.specs.declared.halts.Halt.{Halt}
-use Rattle.command_ends.specs.Runs.{Script, Outside, outside, Untold, Promises}
+use Rattle.run_status.specs.declared.run_ends.RunEnd.{RunEnd}
+use Rattle.run_status.specs.Runs.{CommandSpec, PortOutcome, port_outcome, RunBeforeStatus, Promises}
 
 pub record Input : Type 1 where
   -- it answered End, and nothing is left of it
@@ -45,13 +45,13 @@ output_of faults sent old new = record {
   sent_after = sent new;
 }
 
-abbrev pub around : Input → Output → Outside
-around input out = outside input.spent input.faults_before input.faults_after input.idles_before input.idles_after out.refusals_before out.refusals_after
+abbrev pub around : Input → Output → PortOutcome
+around input out = port_outcome input.spent input.faults_before input.faults_after input.idles_before input.idles_after out.refusals_before out.refusals_after
 
 -- a command's run over an input, before the text of its halt
-abbrev pub untold_over : Output → Option Halt → Script → Input → Type 0
-untold_over out end s input = Untold s (around input out) input.left_before input.left_after out.sent_before out.sent_after end
+abbrev pub before_status_over : Output → Option RunEnd → CommandSpec → Input → Type 0
+before_status_over out end s input = RunBeforeStatus s (around input out) input.left_before input.left_after out.sent_before out.sent_after end
 
 -- what is promised of a command's run over an input
-abbrev pub promised_over : Output → ℕ → Script → Input → Type 0
+abbrev pub promised_over : Output → ℕ → CommandSpec → Input → Type 0
 promised_over out code s input = Promises s (around input out) input.left_before input.left_after out.sent_before out.sent_after code

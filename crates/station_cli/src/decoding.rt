@@ -4,16 +4,16 @@ ghost use Rattle.std.specs.Result.{result_err};
 ghost use Rattle.command_line.specs.Forms.{has_given};
 ghost use Rattle.command_line.specs.Lines.{given_of};
 ghost use Rattle.station_cli.specs.Decoding.{Decodes, DecodesWith};
-ghost use Rattle.station_cli.specs.Seen.{input_of, output_of, untold_over};
+ghost use Rattle.station_cli.specs.Seen.{input_of, output_of, before_status_over};
 
 use crate::keys::named_key;
 use crate::wants::Inputs;
-use command_ends::Halt;
 use command_line::{Line, OptionName};
 use decode_command::{Known, decode, decode_by};
 use dialect_command::read_definitions;
 use mav_ports::{Sink, Source};
 use mav_sign::Key;
+use run_status::RunEnd;
 use std::alloc::Global;
 
 // Reads the definitions, and decodes the main input by them.
@@ -22,13 +22,13 @@ fn decode_named<S: Source, K: Sink>(
     key: Option<Key>,
     inputs: &mut Inputs<S>,
     out: &mut K,
-) -> Result<(), Halt>
+) -> Result<(), RunEnd>
     ensures decoded { DecodesWith key true
-        (untold_over (output_of K.faults K.sent out.old out.new) (result_err result)) (IsErr result)
+        (before_status_over (output_of K.faults K.sent out.old out.new) (result_err result)) (IsErr result)
         (input_of S.has_ended S.faults S.idles S.left inputs.old.defs inputs.new.defs)
         (input_of S.has_ended S.faults S.idles S.left inputs.old.main inputs.new.main) }
     ensures unread { inputs.new.key ≡ inputs.old.key }
-    ensures sound { ¬ IsErrOf result Halt.WriteFault → K.faults out.new ≡ K.faults out.old }
+    ensures sound { ¬ IsErrOf result RunEnd.WriteFault → K.faults out.new ≡ K.faults out.old }
 {
     let dialect = read_definitions(alloc, &mut inputs.defs)?;
     decode_by(alloc, Known { dialect, key }, &mut inputs.main, out)
@@ -41,16 +41,16 @@ fn decode_with<S: Source, K: Sink>(
     key: Option<Key>,
     inputs: &mut Inputs<S>,
     out: &mut K,
-) -> Result<(), Halt>
+) -> Result<(), RunEnd>
     ensures decoded { DecodesWith key
         (has_given OptionName.Defs (map given_of line.now.settings.items))
-        (untold_over (output_of K.faults K.sent out.old out.new) (result_err result)) (IsErr result)
+        (before_status_over (output_of K.faults K.sent out.old out.new) (result_err result)) (IsErr result)
         (input_of S.has_ended S.faults S.idles S.left inputs.old.defs inputs.new.defs)
         (input_of S.has_ended S.faults S.idles S.left inputs.old.main inputs.new.main) }
     ensures unread_defs { has_given OptionName.Defs (map given_of line.now.settings.items) ≡ false
         → inputs.new.defs ≡ inputs.old.defs }
     ensures unread_key { inputs.new.key ≡ inputs.old.key }
-    ensures sound { ¬ IsErrOf result Halt.WriteFault → K.faults out.new ≡ K.faults out.old }
+    ensures sound { ¬ IsErrOf result RunEnd.WriteFault → K.faults out.new ≡ K.faults out.old }
 {
     if line.has(OptionName::Defs) {
         decode_named(alloc, key, inputs, out)
@@ -65,11 +65,11 @@ pub(crate) fn run_decode<S: Source, K: Sink>(
     line: &Line,
     inputs: &mut Inputs<S>,
     out: &mut K,
-) -> Result<(), Halt>
+) -> Result<(), RunEnd>
     ensures decoded { Decodes
         (has_given OptionName.Key (map given_of line.now.settings.items))
         (has_given OptionName.Defs (map given_of line.now.settings.items))
-        (untold_over (output_of K.faults K.sent out.old out.new) (result_err result)) (IsErr result)
+        (before_status_over (output_of K.faults K.sent out.old out.new) (result_err result)) (IsErr result)
         (input_of S.has_ended S.faults S.idles S.left inputs.old.key inputs.new.key)
         (input_of S.has_ended S.faults S.idles S.left inputs.old.defs inputs.new.defs)
         (input_of S.has_ended S.faults S.idles S.left inputs.old.main inputs.new.main) }
@@ -77,7 +77,7 @@ pub(crate) fn run_decode<S: Source, K: Sink>(
         → inputs.new.defs ≡ inputs.old.defs }
     ensures unread_key { has_given OptionName.Key (map given_of line.now.settings.items) ≡ false
         → inputs.new.key ≡ inputs.old.key }
-    ensures sound { ¬ IsErrOf result Halt.WriteFault → K.faults out.new ≡ K.faults out.old }
+    ensures sound { ¬ IsErrOf result RunEnd.WriteFault → K.faults out.new ≡ K.faults out.old }
 {
     let key = named_key(line, &mut inputs.key)?;
     decode_with(alloc, line, key, inputs, out)

@@ -4,16 +4,16 @@ ghost use Rattle.std.specs.Result.{result_err};
 ghost use Rattle.command_line.specs.Forms.{has_given};
 ghost use Rattle.command_line.specs.Lines.{given_of};
 ghost use Rattle.station_cli.specs.Fleets.{Fleets, or_default};
-ghost use Rattle.station_cli.specs.Seen.{input_of, output_of, untold_over};
+ghost use Rattle.station_cli.specs.Seen.{input_of, output_of, before_status_over};
 
 use crate::keys::named_key;
 use crate::wants::Inputs;
-use command_ends::Halt;
 use command_line::{Line, OptionName};
 use fleet_command::fleet;
-use key_input::default_key;
+use key_file::default_key;
 use mav_ports::{Sink, Source};
 use mav_sign::Key;
+use run_status::RunEnd;
 use std::alloc::Global;
 
 fn or_default(key: Option<Key>) -> Key
@@ -31,17 +31,17 @@ pub(crate) fn run_fleet<S: Source, K: Sink>(
     line: &Line,
     inputs: &mut Inputs<S>,
     out: &mut K,
-) -> Result<(), Halt>
+) -> Result<(), RunEnd>
     ensures fleet { Fleets
         (has_given OptionName.Key (map given_of line.now.settings.items))
         (has_given OptionName.Frames (map given_of line.now.settings.items))
-        (untold_over (output_of K.faults K.sent out.old out.new) (result_err result)) (IsErr result)
+        (before_status_over (output_of K.faults K.sent out.old out.new) (result_err result)) (IsErr result)
         (input_of S.has_ended S.faults S.idles S.left inputs.old.key inputs.new.key)
         (input_of S.has_ended S.faults S.idles S.left inputs.old.main inputs.new.main) }
     ensures unread_defs { inputs.new.defs ≡ inputs.old.defs }
     ensures unread_key { has_given OptionName.Key (map given_of line.now.settings.items) ≡ false
         → inputs.new.key ≡ inputs.old.key }
-    ensures sound { ¬ IsErrOf result Halt.WriteFault → K.faults out.new ≡ K.faults out.old }
+    ensures sound { ¬ IsErrOf result RunEnd.WriteFault → K.faults out.new ≡ K.faults out.old }
 {
     let key = or_default(named_key(line, &mut inputs.key)?);
     let frames = line.has(OptionName::Frames);

@@ -3,7 +3,7 @@ ghost use Rattle.std.specs.Prelude.{◌≡◌, ◌≢◌, ◌⊎◌, ⊤, true, 
 ghost use Rattle.std.specs.Prelude.{IsErrOf, map, string_bytes};
 ghost use Rattle.std.specs.Result.{result_err};
 ghost use Rattle.mav_ports.specs.Gets.{IsSpent};
-ghost use Rattle.command_ends.specs.Runs.{Untold, Promises, outside};
+ghost use Rattle.run_status.specs.Runs.{RunBeforeStatus, Promises, port_outcome};
 ghost use Rattle.command_line.specs.Built.{is_built, built};
 ghost use Rattle.command_line.specs.Forms.{has_given};
 ghost use Rattle.command_line.specs.Grammar.{Asked, Asks, AskNothing};
@@ -11,16 +11,16 @@ ghost use Rattle.command_line.specs.Lines.{given_of};
 ghost use Rattle.dialect_command.specs.Script.{dialect_script, profile_script};
 ghost use Rattle.station_cli.specs.Decoding.{Decodes};
 ghost use Rattle.station_cli.specs.Fleets.{Fleets, FleetsCarry, FleetsComplete};
-ghost use Rattle.station_cli.specs.Seen.{input_of, output_of, untold_over, promised_over};
-ghost use Rattle.station_cli.specs.Usage.{UsageTold};
+ghost use Rattle.station_cli.specs.Seen.{input_of, output_of, before_status_over, promised_over};
+ghost use Rattle.station_cli.specs.Usage.{UsageReported};
 
 use crate::decoding::run_decode;
 use crate::fleets::run_fleet;
 use crate::wants::Inputs;
-use command_ends::{Halt, code_of, tell};
 use command_line::{Command, Line, OptionName, WantedFault, read};
 use dialect_command::{dialect, profile};
 use mav_ports::{Clock, Sink, Source};
+use run_status::{RunEnd, code_of, write_status};
 use std::alloc::Global;
 
 // Runs `dialect`: over the definitions where the line names them, else over the profile.
@@ -29,17 +29,17 @@ fn run_dialect<S: Source, K: Sink>(
     named: bool,
     defs: &mut S,
     out: &mut K,
-) -> Result<(), Halt>
-    ensures named { named ≡ true → Untold dialect_script (outside
+) -> Result<(), RunEnd>
+    ensures named { named ≡ true → RunBeforeStatus dialect_script (port_outcome
         (S.has_ended defs.new × IsSpent (S.left defs.new)) (S.faults defs.old) (S.faults defs.new)
         (S.idles defs.old) (S.idles defs.new) (K.faults out.old) (K.faults out.new))
         (S.left defs.old) (S.left defs.new) (K.sent out.old) (K.sent out.new)
         (result_err result) }
-    ensures unnamed { named ≡ false → Untold profile_script
-        (outside ⊤ 0 0 0 0 (K.faults out.old) (K.faults out.new))
+    ensures unnamed { named ≡ false → RunBeforeStatus profile_script
+        (port_outcome ⊤ 0 0 0 0 (K.faults out.old) (K.faults out.new))
         (Some []) (Some []) (K.sent out.old) (K.sent out.new) (result_err result) }
     ensures unread { named ≡ false → defs.new ≡ defs.old }
-    ensures sound { ¬ IsErrOf result Halt.WriteFault → K.faults out.new ≡ K.faults out.old }
+    ensures sound { ¬ IsErrOf result RunEnd.WriteFault → K.faults out.new ≡ K.faults out.old }
 {
     if named {
         dialect(alloc, defs, out)
@@ -54,17 +54,17 @@ fn run_line<S: Source, K: Sink>(
     line: &Line,
     inputs: &mut Inputs<S>,
     out: &mut K,
-) -> Result<(), Halt>
+) -> Result<(), RunEnd>
     requires { IsTrue (is_built line.now.command) }
     ensures fleet { line.now.command ≡ Command.Fleet → Fleets
         (has_given OptionName.Key (map given_of line.now.settings.items))
         (has_given OptionName.Frames (map given_of line.now.settings.items))
-        (untold_over (output_of K.faults K.sent out.old out.new) (result_err result)) (IsErr result)
+        (before_status_over (output_of K.faults K.sent out.old out.new) (result_err result)) (IsErr result)
         (input_of S.has_ended S.faults S.idles S.left inputs.old.key inputs.new.key)
         (input_of S.has_ended S.faults S.idles S.left inputs.old.main inputs.new.main) }
     ensures dialect { line.now.command ≡ Command.Dialect
         → has_given OptionName.Defs (map given_of line.now.settings.items) ≡ true
-        → Untold dialect_script (outside
+        → RunBeforeStatus dialect_script (port_outcome
         (S.has_ended inputs.new.defs × IsSpent (S.left inputs.new.defs))
         (S.faults inputs.old.defs) (S.faults inputs.new.defs)
         (S.idles inputs.old.defs) (S.idles inputs.new.defs) (K.faults out.old) (K.faults out.new))
@@ -72,12 +72,12 @@ fn run_line<S: Source, K: Sink>(
         (K.sent out.old) (K.sent out.new) (result_err result) }
     ensures profile { line.now.command ≡ Command.Dialect
         → has_given OptionName.Defs (map given_of line.now.settings.items) ≡ false
-        → Untold profile_script (outside ⊤ 0 0 0 0 (K.faults out.old) (K.faults out.new))
+        → RunBeforeStatus profile_script (port_outcome ⊤ 0 0 0 0 (K.faults out.old) (K.faults out.new))
         (Some []) (Some []) (K.sent out.old) (K.sent out.new) (result_err result) }
     ensures decode { line.now.command ≡ Command.Decode → Decodes
         (has_given OptionName.Key (map given_of line.now.settings.items))
         (has_given OptionName.Defs (map given_of line.now.settings.items))
-        (untold_over (output_of K.faults K.sent out.old out.new) (result_err result)) (IsErr result)
+        (before_status_over (output_of K.faults K.sent out.old out.new) (result_err result)) (IsErr result)
         (input_of S.has_ended S.faults S.idles S.left inputs.old.key inputs.new.key)
         (input_of S.has_ended S.faults S.idles S.left inputs.old.defs inputs.new.defs)
         (input_of S.has_ended S.faults S.idles S.left inputs.old.main inputs.new.main) }
@@ -86,8 +86,8 @@ fn run_line<S: Source, K: Sink>(
         → inputs.new.defs ≡ inputs.old.defs }
     ensures unread_key { has_given OptionName.Key (map given_of line.now.settings.items) ≡ false
         → inputs.new.key ≡ inputs.old.key }
-    ensures sound { ¬ IsErrOf result Halt.WriteFault → K.faults out.new ≡ K.faults out.old }
-    ensures not_usage { ¬ IsErrOf result Halt.Usage }
+    ensures sound { ¬ IsErrOf result RunEnd.WriteFault → K.faults out.new ≡ K.faults out.old }
+    ensures not_usage { ¬ IsErrOf result RunEnd.Usage }
 {
     match line.command {
         Command::Fleet => run_fleet(alloc, line, inputs, out),
@@ -105,16 +105,16 @@ fn run_words<S: Source, K: Sink>(
     words: &[String],
     inputs: &mut Inputs<S>,
     out: &mut K,
-) -> Result<(), Halt>
+) -> Result<(), RunEnd>
     ensures fleet { (asked : Asked) → Asks built (map string_bytes words.now) asked
         → asked.command ≡ Command.Fleet → Fleets
         (has_given OptionName.Key asked.settings) (has_given OptionName.Frames asked.settings)
-        (untold_over (output_of K.faults K.sent out.old out.new) (result_err result)) (IsErr result)
+        (before_status_over (output_of K.faults K.sent out.old out.new) (result_err result)) (IsErr result)
         (input_of S.has_ended S.faults S.idles S.left inputs.old.key inputs.new.key)
         (input_of S.has_ended S.faults S.idles S.left inputs.old.main inputs.new.main) }
     ensures dialect { (asked : Asked) → Asks built (map string_bytes words.now) asked
         → asked.command ≡ Command.Dialect → has_given OptionName.Defs asked.settings ≡ true
-        → Untold dialect_script (outside
+        → RunBeforeStatus dialect_script (port_outcome
         (S.has_ended inputs.new.defs × IsSpent (S.left inputs.new.defs))
         (S.faults inputs.old.defs) (S.faults inputs.new.defs)
         (S.idles inputs.old.defs) (S.idles inputs.new.defs) (K.faults out.old) (K.faults out.new))
@@ -122,22 +122,22 @@ fn run_words<S: Source, K: Sink>(
         (K.sent out.old) (K.sent out.new) (result_err result) }
     ensures profile { (asked : Asked) → Asks built (map string_bytes words.now) asked
         → asked.command ≡ Command.Dialect → has_given OptionName.Defs asked.settings ≡ false
-        → Untold profile_script (outside ⊤ 0 0 0 0 (K.faults out.old) (K.faults out.new))
+        → RunBeforeStatus profile_script (port_outcome ⊤ 0 0 0 0 (K.faults out.old) (K.faults out.new))
         (Some []) (Some []) (K.sent out.old) (K.sent out.new) (result_err result) }
     ensures decode { (asked : Asked) → Asks built (map string_bytes words.now) asked
         → asked.command ≡ Command.Decode → Decodes
         (has_given OptionName.Key asked.settings) (has_given OptionName.Defs asked.settings)
-        (untold_over (output_of K.faults K.sent out.old out.new) (result_err result)) (IsErr result)
+        (before_status_over (output_of K.faults K.sent out.old out.new) (result_err result)) (IsErr result)
         (input_of S.has_ended S.faults S.idles S.left inputs.old.key inputs.new.key)
         (input_of S.has_ended S.faults S.idles S.left inputs.old.defs inputs.new.defs)
         (input_of S.has_ended S.faults S.idles S.left inputs.old.main inputs.new.main) }
-    ensures usage { IsErrOf result Halt.Usage → AskNothing built (map string_bytes words.now) }
+    ensures usage { IsErrOf result RunEnd.Usage → AskNothing built (map string_bytes words.now) }
     ensures usage_only { AskNothing built (map string_bytes words.now)
-        → IsErrOf result Halt.Usage ⊎ IsErrOf result Halt.NoMemory }
+        → IsErrOf result RunEnd.Usage ⊎ IsErrOf result RunEnd.NoMemory }
     ensures untouched { AskNothing built (map string_bytes words.now)
         → (inputs.new.main ≡ inputs.old.main) × (inputs.new.defs ≡ inputs.old.defs)
         × (inputs.new.key ≡ inputs.old.key) × (K.sent out.new ≡ K.sent out.old) }
-    ensures sound { ¬ IsErrOf result Halt.WriteFault → K.faults out.new ≡ K.faults out.old }
+    ensures sound { ¬ IsErrOf result RunEnd.WriteFault → K.faults out.new ≡ K.faults out.old }
     ensures unread_main { (asked : Asked) → Asks built (map string_bytes words.now) asked
         → asked.command ≡ Command.Dialect → inputs.new.main ≡ inputs.old.main }
     ensures unread_defs { (asked : Asked) → Asks built (map string_bytes words.now) asked
@@ -147,8 +147,8 @@ fn run_words<S: Source, K: Sink>(
 {
     let line = match read(alloc, words) {
         Ok(line) => line,
-        Err(WantedFault::Usage) => return Err(Halt::Usage),
-        Err(WantedFault::NoMemory) => return Err(Halt::NoMemory),
+        Err(WantedFault::Usage) => return Err(RunEnd::Usage),
+        Err(WantedFault::NoMemory) => return Err(RunEnd::NoMemory),
     };
     run_line(alloc, &line, inputs, out)
 }
@@ -201,7 +201,7 @@ pub fn run<S: Source, K: Sink, C: Clock>(
     // `dialect --defs F`, over the definitions
     ensures dialect { (asked : Asked) → Asks built (map string_bytes words.now) asked
         → asked.command ≡ Command.Dialect → has_given OptionName.Defs asked.settings ≡ true
-        → Promises dialect_script (outside
+        → Promises dialect_script (port_outcome
         (S.has_ended inputs.new.defs × IsSpent (S.left inputs.new.defs))
         (S.faults inputs.old.defs) (S.faults inputs.new.defs)
         (S.idles inputs.old.defs) (S.idles inputs.new.defs) (K.faults out.old) (K.faults out.new))
@@ -210,7 +210,7 @@ pub fn run<S: Source, K: Sink, C: Clock>(
     // `dialect`, over no input
     ensures profile { (asked : Asked) → Asks built (map string_bytes words.now) asked
         → asked.command ≡ Command.Dialect → has_given OptionName.Defs asked.settings ≡ false
-        → Promises profile_script (outside ⊤ 0 0 0 0 (K.faults out.old) (K.faults out.new))
+        → Promises profile_script (port_outcome ⊤ 0 0 0 0 (K.faults out.old) (K.faults out.new))
         (Some []) (Some []) (K.sent out.old) (K.sent out.new) result }
     // `decode [--defs F] [--key F] FILE`: the run halts at the key, and no other input is read; or at
     // the definitions, where `dialect` would, with nothing told of them and the main input unread; or
@@ -226,7 +226,7 @@ pub fn run<S: Source, K: Sink, C: Clock>(
     // text or there was no memory.
     ensures usage { result ≡ 2 → AskNothing built (map string_bytes words.now) }
     ensures usage_only { AskNothing built (map string_bytes words.now)
-        → UsageTold result (K.faults out.old) (K.faults out.new) (K.sent out.old) (K.sent out.new) }
+        → UsageReported result (K.faults out.old) (K.faults out.new) (K.sent out.old) (K.sent out.new) }
     // An input that the words don't name isn't read.
     ensures unread { AskNothing built (map string_bytes words.now)
         → (inputs.new.main ≡ inputs.old.main) × (inputs.new.defs ≡ inputs.old.defs)
@@ -243,5 +243,5 @@ pub fn run<S: Source, K: Sink, C: Clock>(
 {
     let _ = clock;
     let ended = run_words(alloc, words, inputs, out);
-    code_of(tell(alloc, ended, out))
+    code_of(write_status(alloc, ended, out))
 }

@@ -1,6 +1,6 @@
 use Rattle.std.proofs.Common.{◌++◌, take, arith}
 use Rattle.std.proofs.lemmas.Result.{err_from_is_err_and}
-use Rattle.command_ends.proofs.Untolds.{took_more}
+use Rattle.run_status.proofs.RunsBeforeStatus.{took_more}
 use Rattle.mav_ports.specs.Gets.{IsSpent}
 use Rattle.dialect_command.specs.Reads.{of_input}
 use Rattle.dialect_command.proofs.Readings.{halts_long, halts_memory, passes}

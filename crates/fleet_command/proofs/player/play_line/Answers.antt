@@ -27,4 +27,4 @@ pub returns-in-Err-clause-played : goal.returns-in-Err-clause-played
 returns-in-Err-clause-played g c =
     let read = c.in-Ok.ensures.ok in
     λ frames p before holds.
-    line_fails [] frames p c.args.world.now c.args.number c.args.text.now c.in-Ok.line c.in-Err.fault c.fails.result before (g.K.Sink.sent c.args.out.now) holds read.0 read.1 c.in-Err.ensures.halt c.fails.ensures
+    line_fails [] frames p c.args.world.now c.args.number c.args.text.now c.in-Ok.line c.in-Err.fault c.fails.result before (g.K.Sink.sent c.args.out.now) holds read.0 read.1 c.in-Err.ensures.error c.fails.ensures

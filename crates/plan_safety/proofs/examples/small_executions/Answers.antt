@@ -3,11 +3,11 @@ use Rattle.plan_safety.proofs.examples.small_executions.Goals as goal
 
 pub returns : goal.returns
 returns c = record {
-  names_tell_apart = shown.distinct;
+  names_are_distinct = shown.distinct;
   installs = shown.installs;
-  tells_installed = shown.tells;
+  reports_installed = shown.reports;
   clears = shown.clears;
-  tells_cleared = shown.tells_cleared;
+  reports_cleared = shown.reports_cleared;
   downloads = shown.downloads;
   refuses = shown.refuses;
   loses_an_installed_one = shown.unknown_installed;

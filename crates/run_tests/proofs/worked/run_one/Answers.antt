@@ -8,34 +8,34 @@ use Rattle.dialect_command.specs.Examples.{profile_layouts}
 use Rattle.dialect_command.proofs.Worked.{profile_output}
 use Rattle.fleet_command.specs.Examples.{one_item, one_item_installed}
 use Rattle.fleet_command.proofs.Worked.{script as playing, one_item_code, one_item_output}
-use Rattle.run_tests.proofs.Plainly.{asked, asked_dialect, asks_fleet, asks_decode, asks_dialect, sure_input, no_input, sure, awake, status_told, text_told, installed_told, completed_told}
+use Rattle.run_tests.proofs.Plainly.{asked, asked_dialect, asks_fleet, asks_decode, asks_dialect, sure_input, no_input, sure, awake, status_reported, text_reported, installed_reported, completed_reported}
 use Rattle.run_tests.proofs.worked.run_one.Goals as goal
 
 pub returns-clause-status : goal.returns-clause-status
 returns-clause-status c = elim c.requires.one [
-  | inl fleet ↦ status_told playing one_item one_item_installed one_item_code one_item_output (sure_input c.args.inputs.now.main c.run.new.inputs.main) c.args.out.now c.run.new.out c.run.result fleet.1 sure awake (c.run.ensures.fleet (asked Fleet) (asks_fleet (map string_bytes c.args.words.now) fleet.0) refl)
+  | inl fleet ↦ status_reported playing one_item one_item_installed one_item_code one_item_output (sure_input c.args.inputs.now.main c.run.new.inputs.main) c.args.out.now c.run.new.out c.run.result fleet.1 sure awake (c.run.ensures.fleet (asked Fleet) (asks_fleet (map string_bytes c.args.words.now) fleet.0) refl)
   | inr others ↦ elim others [
-    | inl decode ↦ status_told decoding one_heartbeat one_heartbeat_text one_heartbeat_code one_heartbeat_output (sure_input c.args.inputs.now.main c.run.new.inputs.main) c.args.out.now c.run.new.out c.run.result decode.1 sure awake (c.run.ensures.decode (asked Decode) (asks_decode (map string_bytes c.args.words.now) decode.0) refl)
-    | inr words ↦ status_told profile_script [] profile_layouts refl profile_output no_input c.args.out.now c.run.new.out c.run.result refl sure awake (c.run.ensures.profile asked_dialect (asks_dialect (map string_bytes c.args.words.now) words) refl refl)
+    | inl decode ↦ status_reported decoding one_heartbeat one_heartbeat_text one_heartbeat_code one_heartbeat_output (sure_input c.args.inputs.now.main c.run.new.inputs.main) c.args.out.now c.run.new.out c.run.result decode.1 sure awake (c.run.ensures.decode (asked Decode) (asks_decode (map string_bytes c.args.words.now) decode.0) refl)
+    | inr words ↦ status_reported profile_script [] profile_layouts refl profile_output no_input c.args.out.now c.run.new.out c.run.result refl sure awake (c.run.ensures.profile asked_dialect (asks_dialect (map string_bytes c.args.words.now) words) refl refl)
   ]
 ]
 
 pub returns-clause-report : goal.returns-clause-report
 returns-clause-report c = λ words scenario.
-    text_told playing one_item one_item_installed one_item_code one_item_output (sure_input c.args.inputs.now.main c.run.new.inputs.main) c.args.out.now c.run.new.out c.run.result scenario sure awake (c.run.ensures.fleet (asked Fleet) (asks_fleet (map string_bytes c.args.words.now) words) refl) c.requires.empty
+    text_reported playing one_item one_item_installed one_item_code one_item_output (sure_input c.args.inputs.now.main c.run.new.inputs.main) c.args.out.now c.run.new.out c.run.result scenario sure awake (c.run.ensures.fleet (asked Fleet) (asks_fleet (map string_bytes c.args.words.now) words) refl) c.requires.empty
 
 pub returns-clause-installed : goal.returns-clause-installed
 returns-clause-installed c = λ words scenario zero.
-    installed_told c.args.inputs.now.main c.run.new.inputs.main c.args.out.now c.run.new.out c.run.result scenario zero (c.run.ensures.main_theorem (asked Fleet) (asks_fleet (map string_bytes c.args.words.now) words) refl)
+    installed_reported c.args.inputs.now.main c.run.new.inputs.main c.args.out.now c.run.new.out c.run.result scenario zero (c.run.ensures.main_theorem (asked Fleet) (asks_fleet (map string_bytes c.args.words.now) words) refl)
 
 pub returns-clause-completed : goal.returns-clause-completed
 returns-clause-completed c = λ words scenario none still.
-    completed_told c.args.inputs.now.main c.run.new.inputs.main c.args.inputs.now.key c.run.new.inputs.key c.args.out.now c.run.new.out c.run.result scenario none still (c.run.ensures.completeness (asked Fleet) (asks_fleet (map string_bytes c.args.words.now) words) refl)
+    completed_reported c.args.inputs.now.main c.run.new.inputs.main c.args.inputs.now.key c.run.new.inputs.key c.args.out.now c.run.new.out c.run.result scenario none still (c.run.ensures.completeness (asked Fleet) (asks_fleet (map string_bytes c.args.words.now) words) refl)
 
 pub returns-clause-decoded : goal.returns-clause-decoded
 returns-clause-decoded c = λ words stream.
-    text_told decoding one_heartbeat one_heartbeat_text one_heartbeat_code one_heartbeat_output (sure_input c.args.inputs.now.main c.run.new.inputs.main) c.args.out.now c.run.new.out c.run.result stream sure awake (c.run.ensures.decode (asked Decode) (asks_decode (map string_bytes c.args.words.now) words) refl) c.requires.empty
+    text_reported decoding one_heartbeat one_heartbeat_text one_heartbeat_code one_heartbeat_output (sure_input c.args.inputs.now.main c.run.new.inputs.main) c.args.out.now c.run.new.out c.run.result stream sure awake (c.run.ensures.decode (asked Decode) (asks_decode (map string_bytes c.args.words.now) words) refl) c.requires.empty
 
-pub returns-clause-told : goal.returns-clause-told
-returns-clause-told c = λ words.
-    text_told profile_script [] profile_layouts refl profile_output no_input c.args.out.now c.run.new.out c.run.result refl sure awake (c.run.ensures.profile asked_dialect (asks_dialect (map string_bytes c.args.words.now) words) refl refl) c.requires.empty
+pub returns-clause-reported : goal.returns-clause-reported
+returns-clause-reported c = λ words.
+    text_reported profile_script [] profile_layouts refl profile_output no_input c.args.out.now c.run.new.out c.run.result refl sure awake (c.run.ensures.profile asked_dialect (asks_dialect (map string_bytes c.args.words.now) words) refl refl) c.requires.empty

@@ -1,4 +1,4 @@
--- The place of the first point parts the name.
+-- The index of the first point splits the name.
 use Rattle.std.proofs.Common.{sym, ◌∙◌}
 use Rattle.scenario_lines.proofs.Names.{no_point, no_system, no_component, a_name}
 use Rattle.scenario_lines.proofs.name_words.name.Goals as goal

@@ -1,4 +1,4 @@
--- What is said of the words is the answer about the line.
+-- What is read of the words is the result for the line.
 use Rattle.std.proofs.Common.{sym}
 use Rattle.scenario_lines.proofs.WholeLines.{said_of, items_ok, items_of_items, items_bad}
 use Rattle.scenario_lines.proofs.reading.read_item_line.Goals as goal

@@ -1,6 +1,6 @@
 -- Each form, read word by word, is what the grammar says of its first word.
 use Rattle.std.proofs.Common.{sym, ◌∙◌}
-use Rattle.scenario_lines.specs.Standing.{standing_of}
+use Rattle.scenario_lines.specs.LineContext.{context_of}
 use Rattle.scenario_lines.proofs.Forms.{drone_reads, station_reads, item_reads, items_reads, empty_reads, begin_reads, cancel_reads, clear_reads, get_reads, heartbeat_reads, deliver_reads, flow_reads, tick_reads, clock_reads}
 use Rattle.scenario_lines.proofs.FirstWords.{spelled, unbuilt_reads}
 use Rattle.scenario_lines.proofs.reading.read_words.Goals as goal
@@ -8,72 +8,72 @@ use Rattle.scenario_lines.proofs.reading.read_words.Goals as goal
 pub returns-then-is_word : goal.returns-then-is_word
 returns-then-is_word c =
     c.read_drone.ensures
-    ∙ sym (drone_reads (standing_of c.args.roster.now c.args.drafted c.args.clock) c.args.words.now (sym c.at-first.ensures ∙ spelled _ _ c.if-is_word.ensures))
+    ∙ sym (drone_reads (context_of c.args.roster.now c.args.drafted c.args.clock) c.args.words.now (sym c.at-first.ensures ∙ spelled _ _ c.if-is_word.ensures))
 
 pub returns-then-is_word-2 : goal.returns-then-is_word-2
 returns-then-is_word-2 c =
     c.read_station.ensures
-    ∙ sym (station_reads (standing_of c.args.roster.now c.args.drafted c.args.clock) c.args.words.now (sym c.at-first.ensures ∙ spelled _ _ c.if-is_word-2.ensures))
+    ∙ sym (station_reads (context_of c.args.roster.now c.args.drafted c.args.clock) c.args.words.now (sym c.at-first.ensures ∙ spelled _ _ c.if-is_word-2.ensures))
 
 pub returns-then-is_word-3 : goal.returns-then-is_word-3
 returns-then-is_word-3 c =
     c.read_item.ensures
-    ∙ sym (item_reads (standing_of c.args.roster.now c.args.drafted c.args.clock) c.args.words.now (sym c.at-first.ensures ∙ spelled _ _ c.if-is_word-3.ensures))
+    ∙ sym (item_reads (context_of c.args.roster.now c.args.drafted c.args.clock) c.args.words.now (sym c.at-first.ensures ∙ spelled _ _ c.if-is_word-3.ensures))
 
 pub returns-then-is_word-4 : goal.returns-then-is_word-4
 returns-then-is_word-4 c =
     c.read_items.ensures
-    ∙ sym (items_reads (standing_of c.args.roster.now c.args.drafted c.args.clock) c.args.words.now (sym c.at-first.ensures ∙ spelled _ _ c.if-is_word-4.ensures))
+    ∙ sym (items_reads (context_of c.args.roster.now c.args.drafted c.args.clock) c.args.words.now (sym c.at-first.ensures ∙ spelled _ _ c.if-is_word-4.ensures))
 
 pub returns-then-is_word-5 : goal.returns-then-is_word-5
 returns-then-is_word-5 c =
     c.read_empty.ensures
-    ∙ sym (empty_reads (standing_of c.args.roster.now c.args.drafted c.args.clock) c.args.words.now (sym c.at-first.ensures ∙ spelled _ _ c.if-is_word-5.ensures))
+    ∙ sym (empty_reads (context_of c.args.roster.now c.args.drafted c.args.clock) c.args.words.now (sym c.at-first.ensures ∙ spelled _ _ c.if-is_word-5.ensures))
 
 pub returns-then-is_word-6 : goal.returns-then-is_word-6
 returns-then-is_word-6 c =
     c.read_begin.ensures
-    ∙ sym (begin_reads (standing_of c.args.roster.now c.args.drafted c.args.clock) c.args.words.now (sym c.at-first.ensures ∙ spelled _ _ c.if-is_word-6.ensures))
+    ∙ sym (begin_reads (context_of c.args.roster.now c.args.drafted c.args.clock) c.args.words.now (sym c.at-first.ensures ∙ spelled _ _ c.if-is_word-6.ensures))
 
 pub returns-then-is_word-7 : goal.returns-then-is_word-7
 returns-then-is_word-7 c =
     c.read_cancel.ensures
-    ∙ sym (cancel_reads (standing_of c.args.roster.now c.args.drafted c.args.clock) c.args.words.now (sym c.at-first.ensures ∙ spelled _ _ c.if-is_word-7.ensures))
+    ∙ sym (cancel_reads (context_of c.args.roster.now c.args.drafted c.args.clock) c.args.words.now (sym c.at-first.ensures ∙ spelled _ _ c.if-is_word-7.ensures))
 
 pub returns-then-is_word-8 : goal.returns-then-is_word-8
 returns-then-is_word-8 c =
     c.read_clear.ensures
-    ∙ sym (clear_reads (standing_of c.args.roster.now c.args.drafted c.args.clock) c.args.words.now (sym c.at-first.ensures ∙ spelled _ _ c.if-is_word-8.ensures))
+    ∙ sym (clear_reads (context_of c.args.roster.now c.args.drafted c.args.clock) c.args.words.now (sym c.at-first.ensures ∙ spelled _ _ c.if-is_word-8.ensures))
 
 pub returns-then-is_word-9 : goal.returns-then-is_word-9
 returns-then-is_word-9 c =
     c.read_get.ensures
-    ∙ sym (get_reads (standing_of c.args.roster.now c.args.drafted c.args.clock) c.args.words.now (sym c.at-first.ensures ∙ spelled _ _ c.if-is_word-9.ensures))
+    ∙ sym (get_reads (context_of c.args.roster.now c.args.drafted c.args.clock) c.args.words.now (sym c.at-first.ensures ∙ spelled _ _ c.if-is_word-9.ensures))
 
 pub returns-then-is_word-10 : goal.returns-then-is_word-10
 returns-then-is_word-10 c =
     c.read_heartbeat.ensures
-    ∙ sym (heartbeat_reads (standing_of c.args.roster.now c.args.drafted c.args.clock) c.args.words.now (sym c.at-first.ensures ∙ spelled _ _ c.if-is_word-10.ensures))
+    ∙ sym (heartbeat_reads (context_of c.args.roster.now c.args.drafted c.args.clock) c.args.words.now (sym c.at-first.ensures ∙ spelled _ _ c.if-is_word-10.ensures))
 
 pub returns-then-is_word-11 : goal.returns-then-is_word-11
 returns-then-is_word-11 c =
     c.read_deliver.ensures
-    ∙ sym (deliver_reads (standing_of c.args.roster.now c.args.drafted c.args.clock) c.args.words.now (sym c.at-first.ensures ∙ spelled _ _ c.if-is_word-11.ensures))
+    ∙ sym (deliver_reads (context_of c.args.roster.now c.args.drafted c.args.clock) c.args.words.now (sym c.at-first.ensures ∙ spelled _ _ c.if-is_word-11.ensures))
 
 pub returns-then-is_word-12 : goal.returns-then-is_word-12
 returns-then-is_word-12 c =
     c.read_flow.ensures
-    ∙ sym (flow_reads (standing_of c.args.roster.now c.args.drafted c.args.clock) c.args.words.now (sym c.at-first.ensures ∙ spelled _ _ c.if-is_word-12.ensures))
+    ∙ sym (flow_reads (context_of c.args.roster.now c.args.drafted c.args.clock) c.args.words.now (sym c.at-first.ensures ∙ spelled _ _ c.if-is_word-12.ensures))
 
 pub returns-then-is_word-13 : goal.returns-then-is_word-13
 returns-then-is_word-13 c =
     c.read_tick.ensures
-    ∙ sym (tick_reads (standing_of c.args.roster.now c.args.drafted c.args.clock) c.args.words.now (sym c.at-first.ensures ∙ spelled _ _ c.if-is_word-13.ensures))
+    ∙ sym (tick_reads (context_of c.args.roster.now c.args.drafted c.args.clock) c.args.words.now (sym c.at-first.ensures ∙ spelled _ _ c.if-is_word-13.ensures))
 
 pub returns-then-is_word-14 : goal.returns-then-is_word-14
 returns-then-is_word-14 c =
     c.read_clock.ensures
-    ∙ sym (clock_reads (standing_of c.args.roster.now c.args.drafted c.args.clock) c.args.words.now (sym c.at-first.ensures ∙ spelled _ _ c.if-is_word-14.ensures))
+    ∙ sym (clock_reads (context_of c.args.roster.now c.args.drafted c.args.clock) c.args.words.now (sym c.at-first.ensures ∙ spelled _ _ c.if-is_word-14.ensures))
 
 pub returns-then-is_unbuilt : goal.returns-then-is_unbuilt
-returns-then-is_unbuilt c = sym (unbuilt_reads (standing_of c.args.roster.now c.args.drafted c.args.clock) c.args.words.now _ c.at-first.ensures c.if-is_unbuilt.ensures)
+returns-then-is_unbuilt c = sym (unbuilt_reads (context_of c.args.roster.now c.args.drafted c.args.clock) c.args.words.now _ c.at-first.ensures c.if-is_unbuilt.ensures)

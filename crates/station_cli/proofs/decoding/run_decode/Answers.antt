@@ -4,7 +4,7 @@ use Rattle.std.proofs.lemmas.Result.{err_from_is_err_and}
 use Rattle.command_line.specs.declared.commands.OptionName.TheVariants.{Defs, Key}
 use Rattle.command_line.specs.Forms.{has_given}
 use Rattle.command_line.specs.Lines.{given_of}
-use Rattle.station_cli.specs.Seen.{input_of, output_of, untold_over}
+use Rattle.station_cli.specs.Seen.{input_of, output_of, before_status_over}
 use Rattle.station_cli.proofs.Decoded.{decodes_behind, at_key}
 use Rattle.station_cli.proofs.decoding.run_decode.Goals as goal
 
@@ -18,7 +18,7 @@ returns-clause-decoded g c =
     let old = c.args.inputs.now in let new = c.decode_with.new.inputs in
     decodes_behind g.S.Source.has_ended g.S.Source.faults g.S.Source.idles g.S.Source.left old.key c.named_key.new.key new.key c.decode_with.ensures.unread_key
     (has_given Key (map given_of c.args.line.now.settings.items)) (has_given Defs (map given_of c.args.line.now.settings.items))
-    (untold_over (output_of g.K.Sink.faults g.K.Sink.sent c.args.out.now c.decode_with.new.out) (result_err c.decode_with.result)) (IsErr c.decode_with.result)
+    (before_status_over (output_of g.K.Sink.faults g.K.Sink.sent c.args.out.now c.decode_with.new.out) (result_err c.decode_with.result)) (IsErr c.decode_with.result)
     (input_of g.S.Source.has_ended g.S.Source.faults g.S.Source.idles g.S.Source.left old.defs new.defs)
     (input_of g.S.Source.has_ended g.S.Source.faults g.S.Source.idles g.S.Source.left old.main new.main)
     c.in_ok-key.key c.in_ok-key.ensures.is c.decode_with.ensures.decoded

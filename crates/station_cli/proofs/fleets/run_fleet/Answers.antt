@@ -4,7 +4,7 @@ use Rattle.std.proofs.lemmas.Result.{err_from_is_err_and}
 use Rattle.command_line.specs.declared.commands.OptionName.TheVariants.{Frames, Key}
 use Rattle.command_line.specs.Forms.{has_given}
 use Rattle.command_line.specs.Lines.{given_of}
-use Rattle.station_cli.specs.Seen.{input_of, output_of, untold_over}
+use Rattle.station_cli.specs.Seen.{input_of, output_of, before_status_over}
 use Rattle.station_cli.proofs.Decoded.{at_key}
 use Rattle.station_cli.proofs.Scenarios.{fleets_behind}
 use Rattle.station_cli.proofs.fleets.run_fleet.Goals as goal
@@ -19,8 +19,8 @@ returns-clause-fleet g c =
     let old = c.args.inputs.now in
     fleets_behind
     (has_given Key (map given_of c.args.line.now.settings.items)) (has_given Frames (map given_of c.args.line.now.settings.items))
-    (untold_over (output_of g.K.Sink.faults g.K.Sink.sent c.args.out.now c.fleet.new.out) (result_err c.fleet.result)) (IsErr c.fleet.result)
+    (before_status_over (output_of g.K.Sink.faults g.K.Sink.sent c.args.out.now c.fleet.new.out) (result_err c.fleet.result)) (IsErr c.fleet.result)
     (input_of g.S.Source.has_ended g.S.Source.faults g.S.Source.idles g.S.Source.left old.key c.named_key.new.key)
     (input_of g.S.Source.has_ended g.S.Source.faults g.S.Source.idles g.S.Source.left old.main c.fleet.new.main)
     c.in_ok-named_key.field-0 c.or_default-key.result c.has-frames.result
-    c.in_ok-named_key.ensures.is c.or_default-key.ensures c.has-frames.ensures c.fleet.ensures.untold
+    c.in_ok-named_key.ensures.is c.or_default-key.ensures c.has-frames.ensures c.fleet.ensures.before_status

@@ -1,65 +1,65 @@
 use Rattle.std.proofs.Common.{◌∙◌, refl, sym}
 use Rattle.std.specs.Result.{result_err}
-use Rattle.command_ends.proofs.Untolds.{ran_told, sound_told}
-use Rattle.command_ends.proofs.Ends.{promised}
+use Rattle.run_status.proofs.RunsBeforeStatus.{run_reported, sound_reported}
+use Rattle.run_status.proofs.Ends.{promised}
 use Rattle.mav_profile.specs.Profile.{profile_definitions}
 use Rattle.dialect_command.specs.Script.{dialect_script, profile_script}
 use Rattle.dialect_command.proofs.Stays.{reading_steady, telling_steady}
-use Rattle.station_cli.proofs.Usages.{words_told, halted_code, usage_ended, five_only}
-use Rattle.station_cli.proofs.Decoded.{told_over, decodes_told}
-use Rattle.station_cli.proofs.Scenarios.{fleets_told, fleets_carry}
+use Rattle.station_cli.proofs.Usages.{words_reported, halted_code, usage_ended, five_only}
+use Rattle.station_cli.proofs.Decoded.{reported_over, decodes_reported}
+use Rattle.station_cli.proofs.Scenarios.{fleets_reported, fleets_carry}
 use Rattle.station_cli.proofs.Completes.{fleets_complete}
 use Rattle.station_cli.proofs.runs.run.Goals as goal
 
 pub returns-clause-fleet : goal.returns-clause-fleet
 returns-clause-fleet g c = λ asked asks is.
     let ended = c.run_words-ended in
-    rw c.code_of.ensures (fleets_told _ _ _ _ (told_over _ _ _ _ _ _ ended.result c.tell.result ended.ensures.sound c.tell.ensures.tells)
-    (λ halted. halted_code _ _ _ _ ended.result c.tell.result halted c.tell.ensures.tells)
+    rw c.code_of.ensures (fleets_reported _ _ _ _ (reported_over _ _ _ _ _ _ ended.result c.write_status.result ended.ensures.sound c.write_status.ensures.writes)
+    (λ halted. halted_code _ _ _ _ ended.result c.write_status.result halted c.write_status.ensures.writes)
     _ _ _ _ (λ spent. spent.1) (λ spent. spent.1) (ended.ensures.fleet asked asks is))
 
 pub returns-clause-main_theorem : goal.returns-clause-main_theorem
 returns-clause-main_theorem g c = λ asked asks is.
     let ended = c.run_words-ended in
-    rw c.code_of.ensures (fleets_carry _ _ _ _ _ _ (fleets_told _ _ _ _ (told_over _ _ _ _ _ _ ended.result c.tell.result ended.ensures.sound c.tell.ensures.tells)
-    (λ halted. halted_code _ _ _ _ ended.result c.tell.result halted c.tell.ensures.tells)
+    rw c.code_of.ensures (fleets_carry _ _ _ _ _ _ (fleets_reported _ _ _ _ (reported_over _ _ _ _ _ _ ended.result c.write_status.result ended.ensures.sound c.write_status.ensures.writes)
+    (λ halted. halted_code _ _ _ _ ended.result c.write_status.result halted c.write_status.ensures.writes)
     _ _ _ _ (λ spent. spent.1) (λ spent. spent.1) (ended.ensures.fleet asked asks is)))
 
 pub returns-clause-completeness : goal.returns-clause-completeness
 returns-clause-completeness g c = λ asked asks is.
     let ended = c.run_words-ended in
-    rw c.code_of.ensures (fleets_complete _ _ _ _ _ _ (λ spent. spent.1) (fleets_told _ _ _ _ (told_over _ _ _ _ _ _ ended.result c.tell.result ended.ensures.sound c.tell.ensures.tells)
-    (λ halted. halted_code _ _ _ _ ended.result c.tell.result halted c.tell.ensures.tells)
+    rw c.code_of.ensures (fleets_complete _ _ _ _ _ _ (λ spent. spent.1) (fleets_reported _ _ _ _ (reported_over _ _ _ _ _ _ ended.result c.write_status.result ended.ensures.sound c.write_status.ensures.writes)
+    (λ halted. halted_code _ _ _ _ ended.result c.write_status.result halted c.write_status.ensures.writes)
     _ _ _ _ (λ spent. spent.1) (λ spent. spent.1) (ended.ensures.fleet asked asks is)))
 
 pub returns-clause-dialect : goal.returns-clause-dialect
 returns-clause-dialect g c = λ asked asks is named.
     let ended = c.run_words-ended in
-    rw c.code_of.ensures (promised dialect_script (reading_steady dialect_script.closing) _ _ _ _ _ (result_err c.tell.result) (λ spent. spent.1)
-    (ran_told dialect_script _ _ _ _ _ _ _ _ _ _ _ _ _ ended.result c.tell.result (ended.ensures.dialect asked asks is named) ended.ensures.sound c.tell.ensures.tells))
+    rw c.code_of.ensures (promised dialect_script (reading_steady dialect_script.closing) _ _ _ _ _ (result_err c.write_status.result) (λ spent. spent.1)
+    (run_reported dialect_script _ _ _ _ _ _ _ _ _ _ _ _ _ ended.result c.write_status.result (ended.ensures.dialect asked asks is named) ended.ensures.sound c.write_status.ensures.writes))
 
 pub returns-clause-profile : goal.returns-clause-profile
 returns-clause-profile g c = λ asked asks is unnamed.
     let ended = c.run_words-ended in
-    rw c.code_of.ensures (promised profile_script (telling_steady profile_definitions) _ _ _ _ _ (result_err c.tell.result) (λ spent. refl)
-    (ran_told profile_script _ 0 0 0 0 _ _ _ _ _ _ _ _ ended.result c.tell.result (ended.ensures.profile asked asks is unnamed) ended.ensures.sound c.tell.ensures.tells))
+    rw c.code_of.ensures (promised profile_script (telling_steady profile_definitions) _ _ _ _ _ (result_err c.write_status.result) (λ spent. refl)
+    (run_reported profile_script _ 0 0 0 0 _ _ _ _ _ _ _ _ ended.result c.write_status.result (ended.ensures.profile asked asks is unnamed) ended.ensures.sound c.write_status.ensures.writes))
 
 pub returns-clause-usage_only : goal.returns-clause-usage_only
 returns-clause-usage_only g c = λ nothing.
     let ended = c.run_words-ended in
-    rw c.code_of.ensures (words_told _ _ _ _ _ _ ended.result c.tell.result (ended.ensures.usage_only nothing) ended.ensures.sound (ended.ensures.untouched nothing).3 c.tell.ensures.tells)
+    rw c.code_of.ensures (words_reported _ _ _ _ _ _ ended.result c.write_status.result (ended.ensures.usage_only nothing) ended.ensures.sound (ended.ensures.untouched nothing).3 c.write_status.ensures.writes)
 
 pub returns-clause-decode : goal.returns-clause-decode
 returns-clause-decode g c = λ asked asks is.
     let ended = c.run_words-ended in
-    rw c.code_of.ensures (decodes_told _ _ _ _ (told_over _ _ _ _ _ _ ended.result c.tell.result ended.ensures.sound c.tell.ensures.tells)
-    (λ halted. halted_code _ _ _ _ ended.result c.tell.result halted c.tell.ensures.tells)
+    rw c.code_of.ensures (decodes_reported _ _ _ _ (reported_over _ _ _ _ _ _ ended.result c.write_status.result ended.ensures.sound c.write_status.ensures.writes)
+    (λ halted. halted_code _ _ _ _ ended.result c.write_status.result halted c.write_status.ensures.writes)
     _ _ _ _ _ (λ spent. spent.1) (λ spent. spent.1) (λ spent. spent.1) (ended.ensures.decode asked asks is))
 
 pub returns-clause-usage : goal.returns-clause-usage
 returns-clause-usage g c = λ two.
     let ended = c.run_words-ended in
-    ended.ensures.usage (usage_ended _ _ _ _ ended.result c.tell.result c.tell.ensures.tells (sym c.code_of.ensures ∙ two))
+    ended.ensures.usage (usage_ended _ _ _ _ ended.result c.write_status.result c.write_status.ensures.writes (sym c.code_of.ensures ∙ two))
 
 pub returns-clause-unread : goal.returns-clause-unread
 returns-clause-unread g c = λ nothing.
@@ -69,4 +69,4 @@ returns-clause-unread g c = λ nothing.
 pub returns-clause-sound : goal.returns-clause-sound
 returns-clause-sound g c = λ other.
     let ended = c.run_words-ended in
-    sound_told _ _ _ _ _ ended.result c.tell.result ended.ensures.sound c.tell.ensures.tells (five_only c.tell.result (λ five. other (c.code_of.ensures ∙ five)))
+    sound_reported _ _ _ _ _ ended.result c.write_status.result ended.ensures.sound c.write_status.ensures.writes (five_only c.write_status.result (λ five. other (c.code_of.ensures ∙ five)))

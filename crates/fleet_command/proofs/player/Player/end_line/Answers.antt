@@ -2,7 +2,7 @@ use Rattle.std.proofs.Common.{◌≡◌, refl, ap, subst, ◌∙◌, arith, ℕ,
 use Rattle.std.proofs.lemmas.Bool.{lt-ltb, le-ltb}
 use Rattle.std.proofs.lemmas.Result.{err_from_is_err_and}
 use Rattle.scenario_lines.specs.Reasons.{reason_against}
-use Rattle.fleet_world.specs.Scene.{standing_of}
+use Rattle.fleet_world.specs.WorldState.{context_of}
 use Rattle.fleet_world.specs.Scenario.{Played, Too_many_lines, stopped, judged, report_of, without_cr, line_played}
 use Rattle.fleet_command.specs.Plays.{Holds, HaltedAt}
 use Rattle.fleet_command.proofs.player.Player.end_line.Goals as goal
@@ -10,8 +10,8 @@ use Rattle.fleet_command.proofs.player.Player.end_line.Goals as goal
 too_many : (p : Played) (number : ℕ) (raw : List ℕ) → 100000 < number → line_played p number raw ≡ stopped p Too_many_lines
 too_many p number raw many = rw (lt-ltb 100000 number many) refl
 
--- what a line leads to that isn't too long, where there are not too many
-in_bounds : (p : Played) (number : ℕ) (raw text : List ℕ) → number ≤ 100000 → length raw ≤ 4096 → text ≡ without_cr raw → judged p number text (reason_against (standing_of p.scene) text) ≡ line_played p number raw
+-- what a line leads to that isn't too long, if there are not too many
+in_bounds : (p : Played) (number : ℕ) (raw text : List ℕ) → number ≤ 100000 → length raw ≤ 4096 → text ≡ without_cr raw → judged p number text (reason_against (context_of p.state) text) ≡ line_played p number raw
 in_bounds p number raw text few short is = rw (is, le-ltb 100000 number few, le-ltb 4096 (length raw) short) refl
 
 pub returns-then-self-gt-MOST_LINES-clause-played : goal.returns-then-self-gt-MOST_LINES-clause-played

@@ -1,6 +1,6 @@
 use Rattle.std.proofs.Common.{◌≡◌, ◌≤◌, ◌<◌, ◌+◌, ◌∷◌, ◌++◌, [], ℕ, List, length, get_or, subst, sym, ap, ◌∙◌, take, drop, suc, refl, arith, append_assoc, append-nil, Ok, Err}
-use Rattle.command_ends.specs.declared.halts.Halt.{Halt}
-use Rattle.command_ends.specs.declared.halts.Halt.TheVariants.{WriteFault}
+use Rattle.run_status.specs.declared.run_ends.RunEnd.{RunEnd}
+use Rattle.run_status.specs.declared.run_ends.RunEnd.TheVariants.{WriteFault}
 use Rattle.std.proofs.lemmas.List.{take_more, take_all}
 use Rattle.mav_ports.specs.Counts.{Rose}
 use Rattle.std.proofs.lemmas.Result.{err_from_is_err_and}
@@ -16,8 +16,8 @@ piece_next taken piece i below =
 starts : (n : ℕ) → n + 0 ≤ n
 starts n = omega arith
 
-not_ok : {T : Type 0} (x : T) (halt : Halt) → Ok x ≡ Err halt → ⊥
-not_ok x halt e = cc
+not_ok : {T : Type 0} (x : T) (run_end : RunEnd) → Ok x ≡ Err run_end → ⊥
+not_ok x run_end e = cc
 
 falls : (new at start i : ℕ) → new + 1 ≤ at → at + i ≤ start → new + (i + 1) ≤ start
 falls new at start i one before = omega arith
@@ -30,10 +30,10 @@ returns-in_err-take-clause-halted g c =
     let e = err_from_is_err_and c.from_residual.result c.from_residual.ensures.1 in
     let i = c.loop-byte.byte-index in
     let piece = c.args.piece.now in
-    let halt = c.in_err-take.field-0.0 in
+    let run_end = c.in_err-take.field-0.0 in
     let now = g.K.Sink.sent c.take.new.out in
     rw (e.1, e.2) (λ key frames taken before r ended.
-    subst (λ bytes. HaltedBy key frames halt ended bytes before now) (piece_from key frames taken piece i c.loop-byte-test.true)
+    subst (λ bytes. HaltedBy key frames run_end ended bytes before now) (piece_from key frames taken piece i c.loop-byte-test.true)
     (c.in_err-take.ensures.halted key frames (taken ++ take i piece) before (c.loop-byte.invariant.reading key frames taken before r) ended (drop (suc i) piece)))
 
 pub loop-byte-init : goal.loop-byte-init

@@ -1,21 +1,21 @@
 use Rattle.std.proofs.Common.{◌≡◌, ◌≤◌, ◌+◌, ◌∷◌, ◌++◌, [], ℕ, List, Bool, Option, Result, Ok, Err, OnOk, refl, arith, length, length-append, ◌<◌}
 use Rattle.std.proofs.lemmas.Result.{err_from_is_err_and}
-use Rattle.fleet_world.specs.Seen.{World}
+use Rattle.fleet_world.specs.WorldView.{WorldView}
 use Rattle.fleet_world.specs.Scenario.{line_played}
-use Rattle.command_ends.specs.declared.halts.Halt.{Halt}
+use Rattle.run_status.specs.declared.run_ends.RunEnd.{RunEnd}
 use Rattle.fleet_command.specs.Plays.{Reading, Leads, budget}
 use Rattle.fleet_command.proofs.Steps.{HaltedBy, if_err_leads, halted_next, reading_front, reading_next, reading_held, reading_long}
 use Rattle.fleet_command.proofs.player.Player.take.Goals as goal
 
 -- what a line that is done leaves to read
-next_on : {T : Type 0} (key : List ℕ) (frames : Bool) (result : Result T Halt) (taken : List ℕ) (old_world world : World) (number next b : ℕ) (part line : List ℕ) (before old now : Option (List ℕ)) (r : Reading key frames taken old_world number part before old) → b ≡ 10 → Leads frames result (line_played r.soFar number part) world before now → OnOk result ((next ≡ number + 1) × (line ≡ []) × (number ≤ 100000)) → OnOk result (Reading key frames (taken ++ b ∷ []) world next line before now)
+next_on : {T : Type 0} (key : List ℕ) (frames : Bool) (result : Result T RunEnd) (taken : List ℕ) (old_world world : WorldView) (number next b : ℕ) (part line : List ℕ) (before old now : Option (List ℕ)) (r : Reading key frames taken old_world number part before old) → b ≡ 10 → Leads frames result (line_played r.soFar number part) world before now → OnOk result ((next ≡ number + 1) × (line ≡ []) × (number ≤ 100000)) → OnOk result (Reading key frames (taken ++ b ∷ []) world next line before now)
 next_on key frames (Ok x) taken old_world world number next b part line before old now r at_end leads (e, f, _) = rw (e, f) (reading_next key frames taken old_world world number b part before old now r at_end leads)
-next_on key frames (Err halt) taken old_world world number next b part line before old now r at_end leads moved = tt
+next_on key frames (Err run_end) taken old_world world number next b part line before old now r at_end leads moved = tt
 
 -- a line that is done spends a byte
-next_spends : {T : Type 0} (result : Result T Halt) (number next : ℕ) (part line : List ℕ) → length part ≤ 4096 → OnOk result ((next ≡ number + 1) × (line ≡ []) × (number ≤ 100000)) → OnOk result (budget next line + 1 ≤ budget number part)
+next_spends : {T : Type 0} (result : Result T RunEnd) (number next : ℕ) (part line : List ℕ) → length part ≤ 4096 → OnOk result ((next ≡ number + 1) × (line ≡ []) × (number ≤ 100000)) → OnOk result (budget next line + 1 ≤ budget number part)
 next_spends (Ok x) number next part line short (e, f, few) = rw (e, f) (omega arith)
-next_spends (Err halt) number next part line short moved = tt
+next_spends (Err run_end) number next part line short moved = tt
 
 held_spends : (number b : ℕ) (part now : List ℕ) → number ≤ 100001 → length part + 1 ≤ 4096 → now ≡ part ++ b ∷ [] → budget number now + 1 ≤ budget number part
 held_spends number b part now few short is = rw is (omega (arith, length-append part (b ∷ [])))
@@ -32,9 +32,9 @@ returns-then-byte-eq10-clause-halted g c = λ key frames taken before r ended re
     let old = c.args.self.now in
     let now = g.K.Sink.sent c.end_line.new.out in
     if_err_leads key frames c.end_line.result (line_played r.soFar old.number old.line.items) c.end_line.new.self.world before now
-    (λ halt. HaltedBy key frames halt ended (taken ++ c.args.byte ∷ rest) before now)
+    (λ run_end. HaltedBy key frames run_end ended (taken ++ c.args.byte ∷ rest) before now)
     (c.end_line.ensures.played frames r.soFar before r.holds)
-    (λ halt halted. halted_next key frames halt taken old.world old.number c.args.byte old.line.items before (g.K.Sink.sent c.args.out.now) now r c.if-byte-eq10.true ended rest halted)
+    (λ run_end halted. halted_next key frames run_end taken old.world old.number c.args.byte old.line.items before (g.K.Sink.sent c.args.out.now) now r c.if-byte-eq10.true ended rest halted)
 
 pub returns-then-byte-eq10-clause-spends : goal.returns-then-byte-eq10-clause-spends
 returns-then-byte-eq10-clause-spends g c =

@@ -1,6 +1,6 @@
 use Rattle.mav_nodes.specs.Nodes.{new_drone}
-use Rattle.fleet_world.specs.Scene.{Drone}
-use Rattle.fleet_world.specs.Seen.{Fleet}
+use Rattle.fleet_world.specs.WorldState.{Drone}
+use Rattle.fleet_world.specs.WorldView.{Fleet}
 use Rattle.fleet_world.proofs.FleetCalls.{fleet_joined}
 use Rattle.fleet_world.proofs.fleet.Fleet.add_drone.Goals as goal
 

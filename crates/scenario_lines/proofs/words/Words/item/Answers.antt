@@ -1,4 +1,4 @@
--- Each word is read where the words before it are; the first that isn't is the reason.
+-- Each word is read if the words before it are; the first that isn't gives the reason.
 use Rattle.std.proofs.lemmas.Result.{err_from_is_err_and}
 use Rattle.scenario_lines.proofs.ReadWords.{ok_then, err_then}
 use Rattle.scenario_lines.proofs.words.Words.item.Goals as goal

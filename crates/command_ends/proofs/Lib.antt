@@ -1,2 +1,0 @@
-pub mod Untolds
-pub mod Ends

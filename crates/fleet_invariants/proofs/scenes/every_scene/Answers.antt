@@ -1,8 +1,0 @@
-use Rattle.fleet_invariants.proofs.Plays as plays
-use Rattle.fleet_invariants.proofs.scenes.every_scene.Goals as goal
-
-pub returns-clause-whole : goal.returns-clause-whole
-returns-clause-whole c = plays.sound_scene
-
-pub returns-clause-lines : goal.returns-clause-lines
-returns-clause-lines c = plays.sound_lines

@@ -1,0 +1,108 @@
+-- What a sound state gives: who is at an index, which timestamps are fresh, and that they are admitted.
+use Rattle.std.proofs.Common.{◌≡◌, ◌≢◌, ◌∙◌, ℕ, ◌+◌, ◌<◌, ◌≤◌, max, true, List, [], ◌∷◌, length, slice_get, Some, refl, sym, ap, subst, arith}
+use Rattle.mav_names.specs.declared.names.Name.{Name}
+use Rattle.mav_names.specs.declared.names.Stream.{Stream}
+use Rattle.mav_frame.specs.Packet.{Packet}
+use Rattle.plan_items.specs.declared.messages.PlanMsg.{PlanMsg}
+use Rattle.plan_items.specs.declared.messages.PlanMsg.TheVariants.{Ping}
+use Rattle.plan_upload.specs.Addresses.{node_of, same_name, everyone, is_for_drone}
+use Rattle.plan_upload.specs.Drone.{DroneState, rests, drone_step}
+use Rattle.plan_upload.specs.Station.{StationState, stays, addressee, station_step}
+use Rattle.mav_nodes.specs.Steps.{Side}
+use Rattle.scenario_lines.specs.LineContext.{drone_name}
+use Rattle.mav_sign.specs.declared.admission.Admit.TheVariants.{Admitted}
+use Rattle.mav_sign.specs.History.{Entry, answer_to, last_of, previous_in, accepted_in, streams_of, next_in}
+use Rattle.mav_nodes.specs.Links.{Link, tries}
+use Rattle.fleet_world.specs.WorldState.{WorldState, Node, Drone, Station, node_name, stream_of, drones_in, stations_in}
+use Rattle.fleet_invariants.specs.Sound.{link_of, Holds, Sound}
+use Rattle.fleet_invariants.proofs.Lists.{some_is}
+use Rattle.fleet_invariants.proofs.Histories.{next_later, trying_previous}
+use Rattle.fleet_invariants.proofs.Tests.{name_is}
+use Rattle.fleet_liveness.proofs.Names.{names_apart, not_everyone, not_for_drone, drone_rests, station_rests}
+use Rattle.fleet_liveness.proofs.Hearing.{Carries, admitted}
+
+pub both_roles : (nodes : List Node) → length nodes ≡ drones_in nodes + stations_in nodes
+both_roles [] = refl
+both_roles (Drone n ∷ ns) = let e = both_roles ns in omega arith
+both_roles (Station n ∷ ns) = let e = both_roles ns in omega arith
+
+-- two nodes at one index are one
+pub same_place : (nodes : List Node) (i j : ℕ) (a b : Node) → slice_get nodes i ≡ Some a → slice_get nodes j ≡ Some b → i ≡ j → a ≡ b
+same_place nodes i j a b ea eb e = some_is (sym ea ∙ ap (slice_get nodes) e ∙ eb)
+
+module _ (s : WorldState) (g : Sound s) where
+  pub few_streams : (i : ℕ) (a : Node) → slice_get s.nodes i ≡ Some a → length (streams_of (link_of a).history) ≤ 32
+  few_streams i a e =
+      let l = (g.links i a e).streams in
+      let n = both_roles s.nodes in
+      let d = g.drones in
+      let t = g.stations in
+      omega arith
+
+  -- what a node last admitted of another is not above what that one last sent
+  pub last_before : (i j : ℕ) (a b : Node) → slice_get s.nodes i ≡ Some a → slice_get s.nodes j ≡ Some b → (name : Name) → node_name b ≡ name
+      → (l : ℕ) → last_of (stream_of name) (link_of a).history ≡ Some l → l ≤ previous_in (link_of b).history
+  last_before i j a b ea eb name named l e =
+      let w = (g.links i a ea).lasts (stream_of name) l e in
+      let from = w.sent.from in
+      let is : w.packet.from ≡ name = ap node_of w.stream_is in
+      let index : from.index ≡ j = g.apart from.index j from.node b from.found eb (from.name_is ∙ is ∙ sym named) in
+      let node : from.node ≡ b = same_place s.nodes from.index j from.node b from.found eb index in
+      let below : w.sent.stamp ≤ previous_in (link_of b).history = subst (λ (n : Node). w.sent.stamp ≤ previous_in (link_of n).history) node w.sent.by_latest in
+      subst (λ t. t ≤ previous_in (link_of b).history) w.stamp_is below
+
+  -- the name of a node is a name
+  pub some_name : (name : Name) → Holds s.nodes name → (1 ≤ name.sys) × (1 ≤ name.comp)
+  some_name name h = subst (λ (n : Name). (1 ≤ n.sys) × (1 ≤ n.comp)) h.name_is (own h.node (g.links h.index h.node h.found).me)
+    where
+      own : (a : Node) → (1 ≤ (link_of a).me.sys) × ((link_of a).me.sys < 256) × (1 ≤ (link_of a).me.comp) × ((link_of a).me.comp < 256) × ((link_of a).me.link ≡ 0) → (1 ≤ (node_name a).sys) × (1 ≤ (node_name a).comp)
+      own (Drone n) h = (h.0, h.2)
+      own (Station n) h = (h.0, h.2)
+
+  -- a message for a node is left alone at every other index
+  pub drone_leaves : (to : Name) (h : Holds s.nodes to) (j : ℕ) (y : Side DroneState) → slice_get s.nodes j ≡ Some (Drone y) → j ≢ h.index → (from : Stream) (m : PlanMsg) → addressee m ≡ to → drone_step true y.core from m ≡ rests y.core
+  drone_leaves to h j y there ne from m is =
+      let some = some_name to h in
+      let core = g.cores j (Drone y) there in
+      let own : drone_name y.core.sys ≡ node_name (Drone y) = name_is (drone_name y.core.sys) (node_name (Drone y)) core.1 (sym core.2) in
+      let other : to ≢ drone_name y.core.sys = λ e. ne (g.apart j h.index (Drone y) h.node there h.found (sym (h.name_is ∙ e ∙ own))) in
+      drone_rests y.core from m
+      (ap (is_for_drone y.core.sys) is ∙ not_for_drone y.core.sys to some.1 other)
+      (ap (λ n. same_name n everyone) is ∙ not_everyone to some.0)
+
+  pub station_leaves : (to : Name) (h : Holds s.nodes to) (j : ℕ) (y : Side StationState) → slice_get s.nodes j ≡ Some (Station y) → j ≢ h.index → (from : Stream) (m : PlanMsg) → addressee m ≡ to → station_step y.core from m ≡ stays y.core
+  station_leaves to h j y there ne from m is =
+      let core = g.cores j (Station y) there in
+      station_rests y.core from m (ap (λ n. same_name n y.core.me) is ∙ names_apart to y.core.me (λ e. ne (g.apart j h.index (Station y) h.node there h.found (sym (h.name_is ∙ e ∙ core.1)))))
+
+  -- so is what is for all, by stations
+  pub station_leaves_ping : (j : ℕ) (y : Side StationState) → slice_get s.nodes j ≡ Some (Station y) → (from : Stream) (boot number : ℕ) → station_step y.core from (Ping everyone boot number) ≡ stays y.core
+  station_leaves_ping j y there from boot number =
+      let core = g.cores j (Station y) there in
+      let some = (g.links j (Station y) there).me.0 in
+      let sys : y.core.me.sys ≡ y.link.me.sys = ap (λ (n : Name). n.sys) core.1 in
+      station_rests y.core from (Ping everyone boot number) (names_apart everyone y.core.me (λ e. let z : 0 ≡ y.core.me.sys = ap (λ (n : Name). n.sys) e in absurd (omega arith)))
+
+  -- a frame that carries a message is admitted if its timestamp is fresh
+  pub is_admitted : (i : ℕ) (a : Node) → slice_get s.nodes i ≡ Some a → (p : Packet) (stamp : ℕ) (m : PlanMsg) → Carries s.key p stamp m → s.clock ≤ stamp
+      → ((l : ℕ) → last_of (stream_of p.from) (link_of a).history ≡ Some l → l < stamp) → answer_to (link_of a).key (link_of a).history p ≡ Admitted
+  is_admitted i a e p stamp m c clock fresh =
+      let link = g.links i a e in
+      let few = few_streams i a e in
+      let local = link.local in
+      let frames = g.frames in
+      ap (λ k. answer_to k (link_of a).history p) link.key
+      ∙ admitted s.key p stamp m c (link_of a).history fresh (omega arith) (omega arith)
+
+-- the timestamp of the next frame is above what was sent, and not below the clock
+pub next_fresh : (key : List ℕ) (link : Link) (p : Packet) (clock : ℕ) → previous_in link.history < next_in (tries p link).history clock
+next_fresh key link p clock =
+    let later = next_later (tries p link).history clock in
+    let same = trying_previous link.history p (answer_to link.key link.history p) in
+    omega arith
+
+pub next_recent : (history : List Entry) (clock : ℕ) → clock ≤ next_in history clock
+next_recent history clock = above (previous_in history + 1) clock (accepted_in history)
+  where
+    above : (a b c : ℕ) → b ≤ max a (max b c)
+    above a b c = grind arith

@@ -1,0 +1,8 @@
+-- What lines are read against, by the state that a world is in.
+use Rattle.std.proofs.Common.{◌≡◌, Bool, length}
+use Rattle.fleet_world.specs.WorldState.{WorldState, context_of}
+use Rattle.fleet_world.specs.WorldView.{WorldView, IsState, context_in}
+
+pub context_is : (state : WorldState) (frames : Bool) (world : WorldView) → IsState state frames world → context_in world ≡ context_of state
+context_is state frames world is =
+    λ i. record { nodes = is.fleet.names i; drafted = length (is.draft i); clock = is.clock i }

@@ -1,0 +1,65 @@
+-- What a node does at a call or an order, and what the world reports of it.
+use Rattle.std.specs.Prelude.{ℕ, ◌+◌, nat_le, if◌then◌else◌, List, [], ◌∷◌, ◌++◌, length, slice_get, Option, Some, None, Ok, Err}
+use Rattle.std.specs.declared.result.Result.{Result}
+use Rattle.mav_names.specs.declared.names.Name.{Name}
+use Rattle.mav_nodes.specs.News.{NodeEvent}
+use Rattle.mav_nodes.specs.Links.{Outcome}
+use Rattle.mav_nodes.specs.Steps.{Side}
+use Rattle.mav_nodes.specs.Nodes.{station_obeys, order_refusal, order_plan}
+use Rattle.mav_nodes.specs.declared.orders.Order.{Order}
+use Rattle.plan_items.specs.declared.plans.Plan.{Plan}
+use Rattle.plan_items.specs.Plans.{items_of}
+use Rattle.plan_upload.specs.declared.faults.OpFault.{OpFault}
+use Rattle.plan_upload.specs.Station.{StationState}
+use Rattle.fleet_report.specs.Events.{Event, Refused, events_text}
+use Rattle.fleet_report.specs.Reports.{ReportState, with_text}
+use Rattle.fleet_world.specs.declared.faults.Bound.TheVariants.{Frames}
+use Rattle.fleet_world.specs.declared.calls.Call.{Call}
+use Rattle.fleet_world.specs.declared.calls.Call.TheVariants.{Take, Noise, Heartbeat, Tick}
+use Rattle.fleet_world.specs.WorldState.{WorldState, Node}
+use Rattle.fleet_world.specs.WorldView.{Kept, WorldView, bytes_of}
+use Rattle.fleet_world.specs.Steps.{Step, StepError, At_limit, most_frames, packets_in, reported_by, as_station, node_does, node_receives, node_beats, node_ticks}
+
+-- a report with the text of these events more
+abbrev pub reports : ReportState → List Event → ReportState
+reports report events = with_text report (events_text report.frames events)
+
+-- a node of this name has done this: its frames are the next of the scenario
+abbrev pub reports_news : WorldState → Name → List NodeEvent → Result Step StepError
+reports_news s name events =
+    if nat_le (length s.sent + length (packets_in events)) most_frames then Ok (record {
+      state = record s { sent = s.sent ++ packets_in events };
+      events = reported_by name (length s.sent) events;
+    })
+    else Err (At_limit Frames)
+
+-- what a node does at a call; `datagram` is what it is to take
+abbrev pub node_called : Call → List ℕ → ℕ → Node → Outcome Node
+node_called (Take number) datagram clock node = node_receives clock datagram node
+node_called (Noise bytes) datagram clock node = node_receives clock datagram node
+node_called Heartbeat datagram clock node = node_beats clock node
+node_called Tick datagram clock node = node_ticks clock node
+
+-- the datagram of a call, after these frames were sent
+abbrev pub datagram_of : List Kept → Call → List ℕ
+datagram_of sent (Take number) = bytes_of (slice_get sent number)
+datagram_of sent (Noise bytes) = bytes
+datagram_of sent Heartbeat = []
+datagram_of sent Tick = []
+
+-- what a node of a world does at a call
+abbrev pub called : WorldView → Call → Node → Outcome Node
+called w call node = node_called call (datagram_of w.sent call) w.fleet.clock node
+
+-- the draft after the plan of a refused order is handed back
+abbrev pub handed_back : WorldState → Option Plan → WorldState
+handed_back s None = s
+handed_back s (Some plan) = record s { draft = items_of plan }
+
+-- an order that a station refuses, or follows
+abbrev pub obeys_or : WorldState → ℕ → Name → Side StationState → Order → Option OpFault → Result Step StepError
+obeys_or s k name node order (Some why) = Ok (record { state = handed_back s (order_plan order); events = Refused name why ∷ [] })
+obeys_or s k name node order None = node_does s k name (as_station (station_obeys s.clock order node))
+
+abbrev pub obeys : WorldState → ℕ → Name → Side StationState → Order → Result Step StepError
+obeys s k name node order = obeys_or s k name node order (order_refusal node.core order)

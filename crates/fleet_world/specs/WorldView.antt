@@ -1,0 +1,71 @@
+-- What contracts see of a world, and which state it is.
+use Rattle.std.specs.Prelude.{ℕ, ◌≡◌, Bool, List, [], ◌∷◌, length, map, Option, Some, None}
+use Rattle.mav_names.specs.declared.names.Name.{Name}
+use Rattle.mav_frame.specs.Packet.{Packet}
+use Rattle.mav_frame.specs.Encoding.{encoding}
+use Rattle.mav_nodes.specs.Nodes.{IsDrone, IsStation}
+use Rattle.plan_items.specs.declared.items.Item.{Item}
+use Rattle.scenario_lines.specs.declared.roster.Named.{Named}
+use Rattle.scenario_lines.specs.LineContext.{LineContext}
+use Rattle.fleet_world.specs.declared.nodes.Node.{Node as ViewNode}
+use Rattle.fleet_world.specs.declared.nodes.Node.TheVariants.{Drone as ViewDrone, Station as ViewStation}
+use Rattle.fleet_world.specs.WorldState.{WorldState, Node, Drone, Station, names_of}
+
+-- a node: its end of the links represents the history
+abbrev pub IsNode : Node → ViewNode → Type 0
+IsNode (Drone n) (ViewDrone v) = IsDrone n v
+IsNode (Station n) (ViewStation v) = IsStation n v
+IsNode node seen = ⊥
+
+-- nodes, pairwise
+abbrev pub AreNodes : List Node → List ViewNode → Type 0
+AreNodes [] [] = Unit {0}
+AreNodes (n ∷ ns) (v ∷ vs) = IsNode n v × AreNodes ns vs
+AreNodes nodes seen = ⊥
+
+-- the nodes of a world, their key and their clock
+pub record Fleet : Type 0 where
+  pub key : List ℕ
+  pub nodes : List ViewNode
+  pub roster : List Named
+  pub clock : ℕ
+
+abbrev pub no_fleet : List ℕ → Fleet
+no_fleet key = record { key = key; nodes = []; roster = []; clock = 0 }
+
+pub record IsFleet (nodes : List Node) (fleet : Fleet) : Type 0 where
+  pub are : AreNodes nodes fleet.nodes
+  pub names : fleet.roster ≡ names_of nodes
+
+-- a sent frame by its sender and its bytes
+abbrev pub Kept : Type 0
+Kept = Name × List ℕ
+
+abbrev pub kept_as : Packet → Kept
+kept_as packet = (packet.from, encoding packet)
+
+-- the bytes of a sent frame, if there is one
+abbrev pub bytes_of : Option Kept → List ℕ
+bytes_of None = []
+bytes_of (Some kept) = kept.1
+
+pub record WorldView : Type 0 where
+  pub fleet : Fleet
+  pub sent : List Kept
+  pub given : ℕ
+  pub draft : List Item
+  pub frames : Bool  -- whether reports print frames whole
+
+-- the world is in this state
+pub record IsState (state : WorldState) (frames : Bool) (world : WorldView) : Type 0 where
+  pub key : world.fleet.key ≡ state.key
+  pub fleet : IsFleet state.nodes world.fleet
+  pub clock : world.fleet.clock ≡ state.clock
+  pub sent : world.sent ≡ map kept_as state.sent
+  pub given : world.given ≡ state.given
+  pub draft : world.draft ≡ state.draft
+  pub frames_is : world.frames ≡ frames
+
+-- what the lines that follow are read against
+abbrev pub context_in : WorldView → LineContext
+context_in world = record { nodes = world.fleet.roster; drafted = length world.draft; clock = world.fleet.clock }

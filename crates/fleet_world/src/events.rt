@@ -1,0 +1,90 @@
+// The events of a node's news: its frames are kept, and all of it is reported.
+ghost use Rattle.std.specs.Prelude.{◌≡◌, if◌then◌else◌, List, [], ◌∷◌, length, map, OnOk};
+ghost use Rattle.mav_nodes.specs.News.{NodeEvent, shown, said_by, events_of};
+ghost use Rattle.plan_upload.specs.Addresses.{node_of};
+ghost use Rattle.fleet_world.specs.Counts.{is_frame, counted};
+ghost use Rattle.fleet_world.specs.Steps.{packets_in};
+ghost use Rattle.fleet_world.specs.Promises.{Reported};
+
+use crate::NoMemory;
+use crate::sent::SentFrames;
+use fleet_report::Report;
+use mav_names::{Name, Stream};
+use mav_nodes::News;
+
+// The node that a stream comes from.
+fn sender(stream: Stream) -> Name
+    ensures { result ≡ node_of stream }
+{
+    Name {
+        sys: stream.sys,
+        comp: stream.comp,
+    }
+}
+
+// 1 for a frame.
+fn frame_count(piece: &News) -> usize
+    ensures { result ≡ (if is_frame piece.now then 1 else 0) }
+{
+    match piece {
+        News::Sent(_, _) => 1,
+        _ => 0,
+    }
+}
+
+fn count_frames(news: &[News]) -> usize
+    ensures { result ≡ counted is_frame news.now }
+{
+    let mut count = 0;
+    for piece in news {
+        count += frame_count(piece);
+    }
+    count
+}
+
+/// How many frames are among the news.
+pub(crate) fn frames_in(news: &[News]) -> usize
+    ensures { (events : List NodeEvent) → events_of news.now ≡ map shown events → result ≡ length (packets_in events) }
+{
+    count_frames(news)
+}
+
+// One piece of news of a node.
+fn report_one(
+    sent: &mut SentFrames,
+    name: Name,
+    piece: &News,
+    report: &mut Report,
+) -> Result<(), NoMemory>
+    ensures { OnOk result ((event : NodeEvent) → said_by piece.now ≡ shown event
+        → Reported name (event ∷ []) sent.old sent.new report.old report.new) }
+{
+    match piece {
+        News::Sent(frame, message) => {
+            sent.push(frame)?;
+            report.sent(sent.len(), frame, message)
+        }
+        News::Installed { kind, count, by } => {
+            report.installed(name, *kind, usize::from(*count), sender(*by))
+        }
+        News::Emptied { kind } => report.emptied(name, *kind),
+        News::Dropped(answer) => report.dropped(name, *answer),
+        News::Outcome(outcome) => report.ended(name, outcome),
+    }
+}
+
+/// The news of a node, one after another.
+pub(crate) fn report_all(
+    sent: &mut SentFrames,
+    name: Name,
+    news: &[News],
+    report: &mut Report,
+) -> Result<(), NoMemory>
+    ensures { OnOk result ((events : List NodeEvent) → events_of news.now ≡ map shown events
+        → Reported name events sent.old sent.new report.old report.new) }
+{
+    for piece in news {
+        report_one(sent, name, piece, report)?;
+    }
+    Ok(())
+}

@@ -1,0 +1,131 @@
+// What each line does.
+ghost use Rattle.std.specs.Prelude.{◌≡◌, ◌≤◌, [], false, OnOk, IfErr};
+ghost use Rattle.scenario_lines.specs.Permits.{IsPermitted};
+ghost use Rattle.scenario_lines.specs.Reasons.{leaves_range, state_reason};
+ghost use Rattle.scenario_lines.specs.declared.lines.Line.TheVariants as line;
+ghost use Rattle.fleet_world.specs.WorldState.{WorldState};
+ghost use Rattle.fleet_world.specs.WorldView.{IsState, context_in};
+ghost use Rattle.fleet_world.specs.Steps.{after_line};
+ghost use Rattle.fleet_world.specs.Promises.{WorldOutcome, Quietly, IsStepError};
+
+use crate::calls::Call;
+use crate::drafts::put_items;
+use crate::fleet::stream;
+use crate::{Bound, World, WorldFault};
+use fleet_report::Report;
+use mav_names::Name;
+use mav_nodes::Order;
+use plan_items::{Item, Plan};
+use scenario_lines::Line;
+
+const MOST_DRONES: usize = 16;
+
+const MOST_STATIONS: usize = 16;
+
+impl World {
+    /// Does one line, and reports its events.
+    pub(crate) fn act(&mut self, line: Line, report: &mut Report) -> Result<(), WorldFault>
+        requires { IsPermitted (context_in self.old) line }
+        ensures done { OnOk result ((state : WorldState) → IsState state self.old.frames self.old
+            → WorldOutcome (after_line state line) self.old.frames self.new report.old report.new) }
+        ensures error { IfErr result (λ fault. (state : WorldState) → IsState state self.old.frames self.old
+            → IsStepError (after_line state line) fault) }
+    {
+        match line {
+            Line::Blank => Ok(()),
+            Line::Drone { sys, x, y } => self.add_drone(sys, x, y),
+            Line::Station { sys, comp } => self.add_station(Name { sys, comp }),
+            Line::Item { item } => self.add_item(item),
+            Line::Items { n, first } => self.add_items(n, first),
+            Line::Empty => self.empty_draft(),
+            Line::Begin {
+                station,
+                drone,
+                kind,
+            } => self.begin(station, drone, kind, report),
+            Line::Cancel { station } => self.order(station, Order::Cancel, report),
+            Line::Clear {
+                station,
+                drone,
+                kind,
+            } => self.clear(station, drone, kind, report),
+            Line::Get {
+                station,
+                drone,
+                kind,
+            } => self.get(station, drone, kind, report),
+            Line::Heartbeat { node } => self.call(node, &Call::Heartbeat, report),
+            Line::Deliver { i, node } => self.deliver(i, node, report),
+            Line::Flow { k } => self.flow(k, report),
+            Line::Noise { node, bytes } => self.call(node, &Call::Noise(bytes), report),
+            Line::Tick { node } => self.call(node, &Call::Tick, report),
+            Line::Clock { n } => self.advance(n),
+        }
+    }
+
+    fn add_drone(&mut self, sys: u8, x: i32, y: i32) -> Result<(), WorldFault>
+        ensures done { OnOk result ((state : WorldState) → IsState state self.old.frames self.old
+            → Quietly (after_line state (line.Drone sys x y)) self.old.frames self.new) }
+        ensures error { IfErr result (λ fault. (state : WorldState) → IsState state self.old.frames self.old
+            → IsStepError (after_line state (line.Drone sys x y)) fault) }
+    {
+        if self.fleet.drones() >= MOST_DRONES {
+            return Err(WorldFault::Limit(Bound::Drones));
+        }
+        self.fleet.add_drone(sys, x, y)?;
+        Ok(())
+    }
+
+    fn add_station(&mut self, name: Name) -> Result<(), WorldFault>
+        ensures done { OnOk result ((state : WorldState) → IsState state self.old.frames self.old
+            → Quietly (after_line state (line.Station name.sys name.comp)) self.old.frames self.new) }
+        ensures error { IfErr result (λ fault. (state : WorldState) → IsState state self.old.frames self.old
+            → IsStepError (after_line state (line.Station name.sys name.comp)) fault) }
+    {
+        if self.fleet.stations() >= MOST_STATIONS {
+            return Err(WorldFault::Limit(Bound::Stations));
+        }
+        self.fleet.add_station(name)?;
+        Ok(())
+    }
+
+    fn add_item(&mut self, item: Item) -> Result<(), WorldFault>
+        ensures done { OnOk result ((state : WorldState) → IsState state self.old.frames self.old
+            → Quietly (after_line state (line.Item item)) self.old.frames self.new) }
+        ensures error { IfErr result (λ fault. fault ≡ WorldFault.NoMemory) }
+    {
+        self.draft.push(item)?;
+        Ok(())
+    }
+
+    fn add_items(&mut self, count: u64, first: Item) -> Result<(), WorldFault>
+        requires few { count ≤ 2000 }
+        requires fits { leaves_range count first ≡ false }
+        ensures done { OnOk result ((state : WorldState) → IsState state self.old.frames self.old
+            → Quietly (after_line state (line.Items count first)) self.old.frames self.new) }
+        ensures error { IfErr result (λ fault. fault ≡ WorldFault.NoMemory) }
+    {
+        put_items(&mut self.draft, count, first)?;
+        Ok(())
+    }
+
+    fn empty_draft(&mut self) -> Result<(), WorldFault>
+        ensures done { OnOk result ((state : WorldState) → IsState state self.old.frames self.old
+            → Quietly (after_line state line.Empty) self.old.frames self.new) }
+        ensures error { IfErr result (λ fault. fault ≡ WorldFault.NoMemory) }
+    {
+        self.draft = Plan::new(self.alloc);
+        Ok(())
+    }
+
+    // The clock goes up.
+    fn advance(&mut self, by: u64) -> Result<(), WorldFault>
+        requires { state_reason (context_in self.old) (line.Clock by) ≡ None }
+        ensures done { OnOk result ((state : WorldState) → IsState state self.old.frames self.old
+            → Quietly (after_line state (line.Clock by)) self.old.frames self.new) }
+        ensures error { IfErr result (λ fault. fault ≡ WorldFault.NoMemory) }
+    {
+        self.fleet.advance(by);
+        Ok(())
+    }
+}

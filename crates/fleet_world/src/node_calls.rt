@@ -1,0 +1,127 @@
+// Calls of nodes, and what is reported of them.
+ghost use Rattle.std.specs.Prelude.{◌≡◌, ◌-◌, ◌+◌, nat_le, List, [], map, length, option_map, slice_get, OnOk, IfOk, IfErr};
+ghost use Rattle.mav_nodes.specs.News.{NodeEvent, shown, events_of};
+ghost use Rattle.fleet_world.specs.WorldState.{WorldState, Node as StateNode};
+ghost use Rattle.fleet_world.specs.WorldView.{IsFleet, IsState};
+ghost use Rattle.fleet_world.specs.Steps.{most_frames, calls, calls_at, delivers};
+ghost use Rattle.fleet_world.specs.NodeSteps.{called, datagram_of, reports_news};
+ghost use Rattle.fleet_world.specs.Promises.{FleetOutcome, IsSpent, WorldOutcome, IsStepError};
+
+use crate::calls::Call;
+use crate::events::{frames_in, report_all};
+use crate::sent::SentFrames;
+use crate::{Bound, World, WorldFault};
+use fleet_report::Report;
+use mav_names::Name;
+use mav_nodes::{News, NodeFault};
+
+const MOST_FRAMES: usize = 100_000;
+
+// After so many frames there is room for more of them.
+fn has_room(sent: usize, frames: usize) -> bool
+    ensures { result ≡ nat_le (sent + frames) most_frames }
+{
+    sent <= MOST_FRAMES && frames <= MOST_FRAMES - sent
+}
+
+// The datagram of a call.
+fn datagram_of<'a>(sent: &'a SentFrames, call: &'a Call) -> &'a [u8]
+    ensures { result.now ≡ datagram_of sent.now call.now }
+{
+    match call {
+        Call::Take(number) => sent.bytes(*number),
+        Call::Noise(bytes) => bytes.bytes(),
+        Call::Heartbeat | Call::Tick => &[],
+    }
+}
+
+impl World {
+    // Reports the news of the node of this name: its frames are the next of the scenario.
+    pub(crate) fn report_news(
+        &mut self,
+        name: Name,
+        news: &[News],
+        report: &mut Report,
+    ) -> Result<(), WorldFault>
+        ensures done { OnOk result ((state : WorldState) → (events : List NodeEvent) → IsState state self.old.frames self.old
+            → events_of news.now ≡ map shown events
+            → WorldOutcome (reports_news state name events) self.old.frames self.new report.old report.new) }
+        ensures error { IfErr result (λ fault. (state : WorldState) → (events : List NodeEvent) → IsState state self.old.frames self.old
+            → events_of news.now ≡ map shown events → IsStepError (reports_news state name events) fault) }
+    {
+        if !has_room(self.sent.len(), frames_in(news)) {
+            return Err(WorldFault::Limit(Bound::Frames));
+        }
+        report_all(&mut self.sent, name, news, report)?;
+        Ok(())
+    }
+
+    // The news of the node at an index at a call.
+    fn news_of(&mut self, index: usize, call: &Call) -> Result<Vec<News>, NodeFault>
+        ensures done { IfOk result (λ news. (nodes : List StateNode) → IsFleet nodes self.old.fleet
+            → FleetOutcome nodes index (slice_get nodes index) (called self.old call.now) self.new.fleet news.items) }
+        ensures spent { IfErr result (λ fault. (nodes : List StateNode) → IsFleet nodes self.old.fleet
+            → fault ≡ NodeFault.StampsSpent → IsSpent (slice_get nodes index) (called self.old call.now)) }
+        ensures kept { self.new ≡ record self.old { fleet = record self.old.fleet { nodes = self.new.fleet.nodes } } }
+    {
+        let datagram = datagram_of(&self.sent, call);
+        self.fleet.call_at(index, call, datagram)
+    }
+
+    // The node at an index is called.
+    pub(crate) fn call_at(
+        &mut self,
+        index: usize,
+        call: &Call,
+        report: &mut Report,
+    ) -> Result<(), WorldFault>
+        ensures done { OnOk result ((state : WorldState) → IsState state self.old.frames self.old
+            → WorldOutcome (calls_at state index (slice_get state.nodes index) (called self.old call.now)) self.old.frames self.new report.old report.new) }
+        ensures error { IfErr result (λ fault. (state : WorldState) → IsState state self.old.frames self.old
+            → IsStepError (calls_at state index (slice_get state.nodes index) (called self.old call.now)) fault) }
+    {
+        let Some(name) = self.fleet.name_at(index) else {
+            return Ok(());
+        };
+        let news = self.news_of(index, call)?;
+        self.report_news(name, news.as_slice(), report)
+    }
+
+    // The node of this name is called.
+    pub(crate) fn call(
+        &mut self,
+        name: Name,
+        call: &Call,
+        report: &mut Report,
+    ) -> Result<(), WorldFault>
+        ensures done { OnOk result ((state : WorldState) → IsState state self.old.frames self.old
+            → WorldOutcome (calls state name (called self.old call.now)) self.old.frames self.new report.old report.new) }
+        ensures error { IfErr result (λ fault. (state : WorldState) → IsState state self.old.frames self.old
+            → IsStepError (calls state name (called self.old call.now)) fault) }
+    {
+        match self.fleet.index_of(name) {
+            Some(index) => self.call_at(index, call, report),
+            None => Ok(()),
+        }
+    }
+
+    // The sent frame of that number, from 1, is given to the node of this name.
+    pub(crate) fn deliver(
+        &mut self,
+        number: u64,
+        name: Name,
+        report: &mut Report,
+    ) -> Result<(), WorldFault>
+        ensures done { OnOk result ((state : WorldState) → IsState state self.old.frames self.old
+            → WorldOutcome (delivers state number name (slice_get state.sent (number - 1))) self.old.frames self.new report.old report.new) }
+        ensures error { IfErr result (λ fault. (state : WorldState) → IsState state self.old.frames self.old
+            → IsStepError (delivers state number name (slice_get state.sent (number - 1))) fault) }
+    {
+        let index = number.saturating_sub(1) as usize;
+        if index < self.sent.len() {
+            return self.call(name, &Call::Take(index), report);
+        }
+        report.missing(number)?;
+        Ok(())
+    }
+}

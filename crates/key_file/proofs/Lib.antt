@@ -1,0 +1,3 @@
+pub mod NoKeys
+pub mod Stays
+pub mod RunsBeforeStatus

@@ -1,0 +1,2 @@
+pub mod RunsBeforeStatus
+pub mod Ends

@@ -1,0 +1,81 @@
+-- How a run ends: its status, and the text of the status.
+use Rattle.std.specs.Prelude.{ℕ, List, [], ◌++◌, codes, Option, Some, None}
+use Rattle.std.specs.Fmt.{decimal}
+use Rattle.run_status.specs.declared.input_errors.Place.{Place}
+use Rattle.run_status.specs.declared.input_errors.Place.TheVariants.{Line, Key as KeyPlace, Definitions, Operation}
+use Rattle.run_status.specs.declared.input_errors.Reason.{Reason}
+use Rattle.run_status.specs.declared.input_errors.Reason.TheVariants.{Long, Word, Later, Count, Number, Node, Kind, Hex, Twice, Range, Draft, Clock, Key, Json, Shape, FieldType, Name, TwiceId, TwiceName, Layout, TooMany, Refused}
+use Rattle.run_status.specs.declared.input_errors.Bound.{Bound}
+use Rattle.run_status.specs.declared.input_errors.Bound.TheVariants.{Lines, Frames, Drones, Stations, DefinitionBytes, InputBytes}
+use Rattle.run_status.specs.declared.input_errors.InputError.{InputError}
+use Rattle.run_status.specs.declared.input_errors.InputError.TheVariants.{Bad, AtLimit, StampsSpent}
+use Rattle.run_status.specs.declared.run_ends.RunEnd.{RunEnd}
+use Rattle.run_status.specs.declared.run_ends.RunEnd.TheVariants.{Usage, Stopped, ReadFault, WriteFault, NoMemory, TurnsSpent}
+
+abbrev pub reason_word : Reason → List ℕ
+reason_word Long = codes "long"
+reason_word Word = codes "word"
+reason_word Later = codes "later"
+reason_word Count = codes "count"
+reason_word Number = codes "number"
+reason_word Node = codes "node"
+reason_word Kind = codes "kind"
+reason_word Hex = codes "hex"
+reason_word Twice = codes "twice"
+reason_word Range = codes "range"
+reason_word Draft = codes "draft"
+reason_word Clock = codes "clock"
+reason_word Key = codes "key"
+reason_word Json = codes "json"
+reason_word Shape = codes "shape"
+reason_word FieldType = codes "type"
+reason_word Name = codes "name"
+reason_word TwiceId = codes "twice id"
+reason_word TwiceName = codes "twice name"
+reason_word Layout = codes "layout"
+reason_word TooMany = codes "too many"
+reason_word Refused = codes "refused"
+
+-- a bound as it is printed, with its number
+abbrev pub bound_words : Bound → List ℕ
+bound_words Lines = codes "lines 100000"
+bound_words Frames = codes "frames 100000"
+bound_words Drones = codes "drones 16"
+bound_words Stations = codes "stations 16"
+bound_words DefinitionBytes = codes "bytes 16777216"
+bound_words InputBytes = codes "bytes 268435456"
+
+abbrev pub place_text : Place → List ℕ
+place_text (Line line) = codes "line " ++ decimal line
+place_text KeyPlace = codes "key"
+place_text Definitions = codes "definitions"
+place_text Operation = codes "operation"
+
+abbrev pub error_text : InputError → List ℕ
+error_text (Bad place reason) = codes "bad " ++ (place_text place ++ (codes ": " ++ (reason_word reason ++ codes "\n")))
+error_text (AtLimit limit) = codes "limit " ++ (bound_words limit ++ codes "\n")
+error_text StampsSpent = codes "stamps spent\n"
+
+abbrev pub error_code : InputError → ℕ
+error_code (Bad place reason) = 3
+error_code (AtLimit limit) = 6
+error_code StampsSpent = 13
+
+-- the status of a run that was done, or that halted
+abbrev pub code_of : Option RunEnd → ℕ
+code_of None = 0
+code_of (Some Usage) = 2
+code_of (Some (Stopped stop)) = error_code stop
+code_of (Some ReadFault) = 4
+code_of (Some WriteFault) = 5
+code_of (Some NoMemory) = 7
+code_of (Some TurnsSpent) = 11
+
+-- what is printed after the report
+abbrev pub text_of : RunEnd → List ℕ
+text_of Usage = codes "usage\n"
+text_of (Stopped stop) = error_text stop
+text_of ReadFault = codes "read fault\n"
+text_of WriteFault = []
+text_of NoMemory = []
+text_of TurnsSpent = codes "turns spent 1000000\n"

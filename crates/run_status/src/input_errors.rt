@@ -1,0 +1,152 @@
+// What in an input ends a run, and how it is printed.
+ghost use Rattle.std.specs.Prelude.{◌≡◌, IfOk, string_bytes};
+ghost use Rattle.run_status.specs.Endings.{reason_word, bound_words, place_text, error_code, error_text};
+
+use crate::NoMemory;
+use std::alloc::Global;
+
+/// Where an input has an error.
+#[derive(Clone, Copy, Debug, PartialEq, Eq)]
+pub enum Place {
+    /// A line of the main input, counted from 1.
+    Line(usize),
+    /// The key, which `--key` names.
+    Key,
+    /// The definitions, which `--defs` names.
+    Definitions,
+    Operation,
+}
+
+/// What is wrong there. Each is printed as one or two words.
+#[derive(Clone, Copy, Debug, PartialEq, Eq)]
+pub enum Reason {
+    Long,
+    Word,
+    Later,
+    Count,
+    Number,
+    Node,
+    Kind,
+    Hex,
+    Twice,
+    Range,
+    Draft,
+    Clock,
+    Key,
+    Json,
+    Shape,
+    FieldType,
+    Name,
+    TwiceId,
+    TwiceName,
+    Layout,
+    TooMany,
+    Refused,
+}
+
+/// A limit of the program, which is printed with its number.
+#[derive(Clone, Copy, Debug, PartialEq, Eq)]
+pub enum Bound {
+    Lines,
+    Frames,
+    Drones,
+    Stations,
+    /// Bytes of definitions.
+    DefinitionBytes,
+    /// Bytes of an input that is decoded.
+    InputBytes,
+}
+
+/// An error of an input, at which a run stops.
+#[derive(Clone, Copy, Debug, PartialEq, Eq)]
+pub enum InputError {
+    Bad(Place, Reason),
+    AtLimit(Bound),
+    /// A node has no timestamp left for a frame: the next one would pass 2^48 - 1.
+    StampsSpent,
+}
+
+impl Reason {
+    fn word(self) -> &'static str
+        ensures { result.now ≡ reason_word self }
+    {
+        match self {
+            Reason::Long => "long",
+            Reason::Word => "word",
+            Reason::Later => "later",
+            Reason::Count => "count",
+            Reason::Number => "number",
+            Reason::Node => "node",
+            Reason::Kind => "kind",
+            Reason::Hex => "hex",
+            Reason::Twice => "twice",
+            Reason::Range => "range",
+            Reason::Draft => "draft",
+            Reason::Clock => "clock",
+            Reason::Key => "key",
+            Reason::Json => "json",
+            Reason::Shape => "shape",
+            Reason::FieldType => "type",
+            Reason::Name => "name",
+            Reason::TwiceId => "twice id",
+            Reason::TwiceName => "twice name",
+            Reason::Layout => "layout",
+            Reason::TooMany => "too many",
+            Reason::Refused => "refused",
+        }
+    }
+}
+
+impl Bound {
+    fn words(self) -> &'static str
+        ensures { result.now ≡ bound_words self }
+    {
+        match self {
+            Bound::Lines => "lines 100000",
+            Bound::Frames => "frames 100000",
+            Bound::Drones => "drones 16",
+            Bound::Stations => "stations 16",
+            Bound::DefinitionBytes => "bytes 16777216",
+            Bound::InputBytes => "bytes 268435456",
+        }
+    }
+}
+
+impl Place {
+    fn text(self, alloc: Global) -> Result<String, NoMemory>
+        ensures { IfOk result (λ text. string_bytes text ≡ place_text self) }
+    {
+        match self {
+            Place::Line(line) => format!(in alloc; "line {line}"),
+            Place::Key => String::from_str(alloc, "key"),
+            Place::Definitions => String::from_str(alloc, "definitions"),
+            Place::Operation => String::from_str(alloc, "operation"),
+        }
+    }
+}
+
+impl InputError {
+    /// The exit status.
+    pub(crate) fn code(self) -> u8
+        ensures { result ≡ error_code self }
+    {
+        match self {
+            InputError::Bad(..) => 3,
+            InputError::AtLimit(_) => 6,
+            InputError::StampsSpent => 13,
+        }
+    }
+
+    pub(crate) fn text(self, alloc: Global) -> Result<String, NoMemory>
+        ensures { IfOk result (λ text. string_bytes text ≡ error_text self) }
+    {
+        match self {
+            InputError::Bad(place, reason) => {
+                let place = place.text(alloc)?;
+                format!(in alloc; "bad {}: {}\n", place.as_str(), reason.word())
+            }
+            InputError::AtLimit(limit) => format!(in alloc; "limit {}\n", limit.words()),
+            InputError::StampsSpent => String::from_str(alloc, "stamps spent\n"),
+        }
+    }
+}
