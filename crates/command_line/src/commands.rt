@@ -4,7 +4,7 @@ ghost use Rattle.command_line.specs.Commands.{command_word, option_word, has_val
 ghost use Rattle.command_line.specs.Built.{is_built, is_option_built};
 
 /// What the program does.
-#[derive(Clone, Copy, Debug, PartialEq, Eq)]
+#[derive(Clone, Copy)]
 pub enum Command {
     Fleet,
     Dialect,
@@ -16,7 +16,7 @@ pub enum Command {
 }
 
 /// An option that some command has.
-#[derive(Clone, Copy, Debug, PartialEq, Eq)]
+#[derive(Clone, Copy)]
 pub enum OptionName {
     Frames,
     Key,

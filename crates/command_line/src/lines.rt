@@ -2,14 +2,14 @@
 use crate::commands::{Command, OptionName};
 
 /// An option and its value, which is empty for one without.
-#[derive(Debug, Drop)]
+#[derive(Drop)]
 pub struct Setting {
     pub name: OptionName,
     pub value: String,
 }
 
 /// What the words ask for.
-#[derive(Debug, Drop)]
+#[derive(Drop)]
 pub struct Line {
     pub command: Command,
     /// The options, in the order given.

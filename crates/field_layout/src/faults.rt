@@ -7,7 +7,7 @@ use crate::fields::byte_len;
 use crate::{Label, MessageDef, NoMemory};
 
 /// The first fault of a definition, in the order of the variants.
-#[derive(Debug, Drop)]
+#[derive(Drop)]
 pub enum LayoutFault {
     /// It has no base field.
     NoFields,

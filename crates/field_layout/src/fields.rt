@@ -6,7 +6,7 @@ use crate::{Label, Ty};
 use std::marker::Model;
 
 /// A field of a message: `len` is the number of its elements, and 0 for a single value.
-#[derive(Debug, Drop)]
+#[derive(Drop)]
 pub struct Field {
     pub ty: Ty,
     pub len: u8,
@@ -15,7 +15,7 @@ pub struct Field {
 
 /// A message as its definition gives it, with fields in definition order. Contracts see it as its id, its name and
 /// two lists of fields (MAVLink guide, XML Schema: messages).
-#[derive(Debug, Drop)]
+#[derive(Drop)]
 pub struct MessageDef {
     pub id: u32,
     pub name: Label,

@@ -5,7 +5,7 @@ ghost use Rattle.std.specs.Str.{bytes_eq};
 use std::marker::Model;
 
 /// A text of any bytes, which contracts see as the list of its bytes.
-#[derive(Debug, Drop)]
+#[derive(Drop)]
 pub struct Label {
     bytes: Vec<u8>,
 }

@@ -4,7 +4,7 @@ ghost use Rattle.field_layout.specs.Types.{element_size, type_name};
 
 /// The type of a field's elements (MAVLink guide, Field Types). `Version` is `uint8_t_mavlink_version`, a `uint8_t`
 /// that holds the sender's protocol version.
-#[derive(Clone, Copy, Debug, PartialEq, Eq)]
+#[derive(Clone, Copy)]
 pub enum Ty {
     I8,
     U8,

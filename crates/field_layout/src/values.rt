@@ -7,7 +7,7 @@ use std::marker::Model;
 
 /// The values of a message: for each field, in definition order with the extensions last, its elements as raw words.
 /// A signed number or a float is the word of its bits, in the element's size. Contracts see the list of these lists.
-#[derive(Debug, Drop)]
+#[derive(Drop)]
 pub struct Values {
     words: Vec<Vec<u64>>,
 }

@@ -5,7 +5,7 @@ ghost use Rattle.plan_items.specs.Validation.{code_of};
 use crate::MissionResult;
 
 /// Why an item or a plan isn't valid, in the order of the tests.
-#[derive(Clone, Copy, Debug, PartialEq, Eq)]
+#[derive(Clone, Copy)]
 pub enum PlanFault {
     /// A frame that the kind of plan doesn't have, or that the command can't have.
     UnsupportedFrame,

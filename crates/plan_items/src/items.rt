@@ -1,7 +1,7 @@
 // One item of a plan.
 
 /// An item as MISSION_ITEM_INT carries it (MAVLink guide, Mission Protocol: Mission Items).
-#[derive(Clone, Copy, Debug, PartialEq, Eq)]
+#[derive(Clone, Copy)]
 pub struct Item {
     pub frame: u8,
     pub command: u16,

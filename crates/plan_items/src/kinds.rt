@@ -3,7 +3,7 @@ ghost use Rattle.std.specs.Prelude.{◌≡◌};
 ghost use Rattle.plan_items.specs.Kinds.{number_of, limit_of, kind_of};
 
 /// A kind of plan (MAVLink common messages, MAV_MISSION_TYPE).
-#[derive(Clone, Copy, Debug, PartialEq, Eq)]
+#[derive(Clone, Copy)]
 pub enum PlanKind {
     Mission,
     Fence,

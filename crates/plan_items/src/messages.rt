@@ -4,7 +4,7 @@ use mav_names::Name;
 
 /// A message about a plan, for the node `to` (MAVLink guide, Mission Protocol). `kind` is the
 /// number of a kind as it was sent, of none too, and `PlanKind::ALL` means all kinds.
-#[derive(Clone, Copy, Debug, PartialEq, Eq)]
+#[derive(Clone, Copy)]
 pub enum PlanMsg {
     /// MISSION_COUNT
     Count {

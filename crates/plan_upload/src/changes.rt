@@ -2,7 +2,7 @@
 use plan_items::PlanKind;
 
 /// What a step would do to the plans.
-#[derive(Clone, Copy, Debug, PartialEq, Eq)]
+#[derive(Clone, Copy)]
 pub enum Change {
     Same,
     /// The gathered items would become the plan of this kind.

@@ -2,7 +2,7 @@
 use plan_items::Plan;
 
 /// The first cause that applies, in this order.
-#[derive(Clone, Copy, Debug, PartialEq, Eq)]
+#[derive(Clone, Copy)]
 pub enum OpFault {
     /// An operation has no outcome yet. Phases: 1 ping, 2 cancel, 3 sending, 4 clearing, 5 listing, 6 getting.
     Busy { phase: u8 },
