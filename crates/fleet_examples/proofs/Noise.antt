@@ -1,6 +1,6 @@
 -- The premise of authenticity at a noise line: the bytes of a frame that was sent meet it, and those of a frame that verifies
 -- and wasn't sent don't.
-use Rattle.std.proofs.Common.{◌≡◌, inl, ℕ, zero, suc, true, List, [], ◌∷◌, Some, codes, refl, sym, subst}
+use Rattle.std.proofs.Common.{false, ◌≡◌, inl, ℕ, zero, suc, true, List, [], ◌∷◌, Some, codes, refl, sym, subst}
 use Rattle.std.specs.Prelude.{slice_get}
 use Rattle.hex.specs.Hex.{decode_pairs}
 use Rattle.sha2.specs.Sha256.{first_words, schedule, rounds, compress, hash_after, digest_bytes, sha256}
@@ -38,7 +38,7 @@ abbrev noise : List ℕ
 noise = codes "noise 1.1 fd09010000ffbe0400000000000000000000011f9a000100000000006a65bcadacd3"
 
 -- the bytes are that frame alone, and it verifies
-one_frame : frames_of (final_parse (extras_of profile_definitions) ping_bytes) ≡ ping ∷ []
+one_frame : frames_of (final_parse (extras_of profile_definitions) false ping_bytes) ≡ ping ∷ []
 unfolding check.after_byte
 one_frame = refl
 

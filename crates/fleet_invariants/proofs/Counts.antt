@@ -31,13 +31,13 @@ few_by (Found packet size) b rest most h = let few = h (drop size b) in omega ar
 few_by (NotHere why) b rest most h = let few = h (drop 1 b) in omega arith
 few_by (More lacking) b rest most h = let few = h (drop 1 b) in omega arith
 
-few_events : (extras : List (ℕ × ℕ)) (most : ℕ) (b : List ℕ) → length (frames_of (first_events extras most b)) ≤ most
+few_events : (extras : List (ℕ × ℕ)) (most : ℕ) (b : List ℕ) → length (frames_of (first_events extras false most b)) ≤ most
 few_events extras zero b = omega arith
 few_events extras (suc most) [] = omega arith
 few_events extras (suc most) (byte ∷ bytes) =
-    few_by (look_of extras (byte ∷ bytes)) (byte ∷ bytes) (first_events extras most) most (few_events extras most)
+    few_by (look_of extras false (byte ∷ bytes)) (byte ∷ bytes) (first_events extras false most) most (few_events extras most)
 
-pub few_frames : (extras : List (ℕ × ℕ)) (b : List ℕ) → length (frames_of (final_parse extras b)) ≤ length b
+pub few_frames : (extras : List (ℕ × ℕ)) (b : List ℕ) → length (frames_of (final_parse extras false b)) ≤ length b
 few_frames extras b = few_events extras (length b) b
 
 -- ---- bytes of a word

@@ -1,5 +1,5 @@
 -- What a node does at a datagram, a tick, a heartbeat and an order.
-use Rattle.std.proofs.Common.{◌≡◌, ℕ, ◌<◌, List, [], slice_get, Option, Some, None, IfSome, refl, sym, subst}
+use Rattle.std.proofs.Common.{false, ◌≡◌, ℕ, ◌<◌, List, [], slice_get, Option, Some, None, IfSome, refl, sym, subst}
 use Rattle.std.specs.Prelude.{All}
 use Rattle.mav_names.specs.declared.names.Name.{Name}
 use Rattle.mav_names.specs.declared.names.Stream.{Stream}
@@ -42,8 +42,8 @@ behind_none : {Core : Type 0} (o : Outcome (Side Core)) → behind [] o ≡ o
 behind_none None = refl
 behind_none (Some d) = refl
 
-pub known_frames : (s : WorldState) (bytes : List ℕ) (extras : List (ℕ × ℕ)) → extras ≡ extras_of profile_definitions → Known s bytes → KnownFrames s (frames_of (final_parse extras bytes))
-known_frames s bytes extras same known = subst (λ (x : List (ℕ × ℕ)). KnownFrames s (frames_of (final_parse x bytes))) (sym same) known
+pub known_frames : (s : WorldState) (bytes : List ℕ) (extras : List (ℕ × ℕ)) → extras ≡ extras_of profile_definitions → Known s bytes → KnownFrames s (frames_of (final_parse extras false bytes))
+known_frames s bytes extras same known = subst (λ (x : List (ℕ × ℕ)). KnownFrames s (frames_of (final_parse x false bytes))) (sym same) known
 
 ticks_say : (o : Option (Stream × PlanMsg)) → IfSome o (λ (sent : Stream × PlanMsg). StreamInRange sent.0 × InRange sent.1) → IfSome (tick_answer o) InRange
 ticks_say None h = tt
@@ -57,7 +57,7 @@ module _ (s : WorldState) (k : ℕ) (g : Steady s) where
 
     drone_receiving : (bytes : List ℕ) → Known s bytes → NodeDoes s k (as_drone (drone_receives s.clock bytes n))
     drone_receiving bytes known =
-        a_drone (drone_receives s.clock bytes n) (drone_hears_all (frames_of (final_parse n.link.extras bytes)) s k n g found (known_frames s bytes n.link.extras (g.links k (Drone n) found).extras known))
+        a_drone (drone_receives s.clock bytes n) (drone_hears_all (frames_of (final_parse n.link.extras false bytes)) s k n g found (known_frames s bytes n.link.extras (g.links k (Drone n) found).extras known) false)
 
     drone_ticking : NodeDoes s k (as_drone (drone_ticks s.clock n))
     drone_ticking =
@@ -79,7 +79,7 @@ module _ (s : WorldState) (k : ℕ) (g : Steady s) where
 
     station_receiving : (bytes : List ℕ) → Known s bytes → NodeDoes s k (as_station (station_receives s.clock bytes n))
     station_receiving bytes known =
-        a_station (station_receives s.clock bytes n) (station_hears_all (frames_of (final_parse n.link.extras bytes)) s k n g found (known_frames s bytes n.link.extras (g.links k (Station n) found).extras known))
+        a_station (station_receives s.clock bytes n) (station_hears_all (frames_of (final_parse n.link.extras false bytes)) s k n g found (known_frames s bytes n.link.extras (g.links k (Station n) found).extras known) false)
 
     station_ticking : NodeDoes s k (as_station (station_ticks s.clock n))
     station_ticking =

@@ -1,5 +1,5 @@
 -- Sent frames are heard as they were sent, and authentic bytes bring nothing else.
-use Rattle.std.proofs.Common.{◌≡◌, ℕ, zero, suc, ◌<◌, inl, inr, List, [], ◌∷◌, slice_get, Some, refl, sym, ap, subst, arith, ◌∙◌}
+use Rattle.std.proofs.Common.{false, ◌≡◌, ℕ, zero, suc, ◌<◌, inl, inr, List, [], ◌∷◌, slice_get, Some, refl, sym, ap, subst, arith, ◌∙◌}
 use Rattle.std.specs.Prelude.{All}
 use Rattle.std.proofs.lemmas.List.Elements.{All-get_or}
 use Rattle.std.proofs.lemmas.Option.{get_or_from_slice_get}
@@ -26,7 +26,7 @@ use Rattle.fleet_invariants.proofs.Hearing.{from_in_range, carries}
 
 -- a table of CRC_EXTRA, without its entries
 abbrev frames_in : List (ℕ × ℕ) → List ℕ → List Packet
-frames_in extras bytes = frames_of (final_parse extras bytes)
+frames_in extras bytes = frames_of (final_parse extras false bytes)
 
 -- ---- each sent frame reads alone, and verifies
 

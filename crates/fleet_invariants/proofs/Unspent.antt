@@ -64,7 +64,7 @@ station_done (Some d) h = tt
 
 -- a datagram with no more frames than a line has bytes
 abbrev HasFew : List ℕ → Type 0
-HasFew bytes = length (frames_of (final_parse (extras_of profile_definitions) bytes)) ≤ 4096
+HasFew bytes = length (frames_of (final_parse (extras_of profile_definitions) false bytes)) ≤ 4096
 
 module _ (s : WorldState) (g : Sound s) where
   abbrev NearNow : Link → Type 0
@@ -93,9 +93,9 @@ module _ (s : WorldState) (g : Sound s) where
 
   datagram_done : {Core : Type 0} (step : Core → Stream → PlanMsg → CoreStep Core) (node : Side Core) (bytes : List ℕ) → node.link.extras ≡ extras_of profile_definitions → NearNow node.link → Known s bytes → HasFew bytes → IsDone (receives step s.clock bytes node)
   datagram_done step node bytes extras h known few =
-      let packets = frames_of (final_parse node.link.extras bytes) in
+      let packets = frames_of (final_parse node.link.extras false bytes) in
       all_done step s.clock s.key packets (length s.sent) (length s.sent) node (omega arith) h (near_known packets (known_frames s bytes node.link.extras extras known))
-      (room_for (length packets) (subst (λ (x : List (ℕ × ℕ)). length (frames_of (final_parse x bytes)) ≤ 4096) (sym extras) few))
+      (room_for (length packets) (subst (λ (x : List (ℕ × ℕ)). length (frames_of (final_parse x false bytes)) ≤ 4096) (sym extras) few))
 
   -- ---- calls
 

@@ -1,5 +1,5 @@
 -- What each step keeps of a sound state, and how sent frames are heard.
-use Rattle.std.specs.Prelude.{ℕ, ◌≡◌, ◌≤◌, List, [], ◌∷◌, ◌++◌, length, slice_get, All, Some, None, Ok, Err}
+use Rattle.std.specs.Prelude.{false, ℕ, ◌≡◌, ◌≤◌, List, [], ◌∷◌, ◌++◌, length, slice_get, All, Some, None, Ok, Err}
 use Rattle.std.specs.declared.result.Result.{Result}
 use Rattle.mav_profile.specs.Messages.{extras_of}
 use Rattle.mav_profile.specs.Profile.{profile_definitions}
@@ -30,12 +30,12 @@ pub record IsAmong (sent : List Packet) (p : Packet) : Type 0 where
 -- each frame of some bytes that verifies is one of those that were sent
 abbrev pub Known : WorldState → List ℕ → Type 0
 Known s bytes =
-    (index : ℕ) (p : Packet) → slice_get (frames_of (final_parse (extras_of profile_definitions) bytes)) index ≡ Some p
+    (index : ℕ) (p : Packet) → slice_get (frames_of (final_parse (extras_of profile_definitions) false bytes)) index ≡ Some p
     → Verifies s.key p p.block → IsAmong s.sent p
 
 -- a sent frame is heard as it was sent: alone in its bytes, on link 0, at its timestamp, signed, with its message
 pub record Heard (s : WorldState) (p : Packet) (sent : IsSent s p) : Type 0 where
-  pub frames : frames_of (final_parse (extras_of profile_definitions) (encoding p)) ≡ p ∷ []
+  pub frames : frames_of (final_parse (extras_of profile_definitions) false (encoding p)) ≡ p ∷ []
   pub block : p.block ≡ Some (record { link = 0; stamp = sent.stamp; sig = signature_of s.key p 0 sent.stamp })
   pub verifies : Verifies s.key p p.block
   pub plan : plan_in p.id p.payload ≡ plan_of sent.message

@@ -46,7 +46,7 @@ SentAuthentic = (s : WorldState) → Sound s → (i : ℕ) (p : Packet) → slic
 -- and a frame that verifies under the key and wasn't sent is not
 abbrev pub UnsentForeign : Type 0
 UnsentForeign =
-    (s : WorldState) → Sound s → (p : Packet) → FitsFrame p → IsSealed (extras_of profile_definitions) p → Verifies s.key p p.block
+    (s : WorldState) → Sound s → (p : Packet) → FitsFrame p → IsSealed (extras_of profile_definitions) false p → Verifies s.key p p.block
     → ((i : ℕ) → slice_get s.sent i ≡ Some p → ⊥) → AuthenticBytes s (encoding p) → ⊥
 
 -- ---- what one node does

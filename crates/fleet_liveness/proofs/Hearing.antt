@@ -27,7 +27,7 @@ use Rattle.fleet_invariants.proofs.Tests.{by_test, number_same}
 
 -- the bytes of a frame parse to it alone; it is signed under the key at this timestamp, and carries the message
 pub record Carries (key : List ℕ) (p : Packet) (stamp : ℕ) (m : PlanMsg) : Type 0 where
-  pub frames : frames_of (final_parse (extras_of profile_definitions) (encoding p)) ≡ p ∷ []
+  pub frames : frames_of (final_parse (extras_of profile_definitions) false (encoding p)) ≡ p ∷ []
   pub block : p.block ≡ Some (record { link = 0; stamp = stamp; sig = signature_of key p 0 stamp })
   pub plan : plan_in p.id p.payload ≡ Some m
 
@@ -85,7 +85,7 @@ module _ (key : List ℕ) (p : Packet) (stamp : ℕ) (m : PlanMsg) (c : Carries 
 
     received : Received ≡ and_then (hears step clock p y) (hears_all step clock [])
     received =
-        ap (λ x. hears_all step clock (frames_of (final_parse x (encoding p))) y) extras
+        ap (λ x. hears_all step clock (frames_of (final_parse x false (encoding p))) y) extras
         ∙ ap (λ ps. hears_all step clock ps y) c.frames
 
     heard : (a : Admit) → answer_to y.link.key y.link.history p ≡ a → hears step clock p y ≡ admits step clock (record y { link = after }) p a (Some block)

@@ -125,9 +125,9 @@ module _ {Core : Type 0} (step : Core → Stream → PlanMsg → CoreStep Core) 
   short_once : (p : Packet) (o : Outcome (Side Core)) → Short o → Short (and_then o (hears_all step clock []))
   short_once p o h = subst (λ z. Short (and_then z (hears_all step clock []))) (sym h.is) (short_at h.outcome.node (h.outcome.events ++ []) (let few = h.few in let z = ap (λ es. length (packets_in es)) (append-nil h.outcome.events) in omega arith))
 
-  short_receives : (y : Side Core) (p : Packet) → y.link.extras ≡ extras_of profile_definitions → frames_of (final_parse (extras_of profile_definitions) (encoding p)) ≡ p ∷ [] → next_in (tries p y.link).history clock ≤ greatest_stamp → Short (receives step clock (encoding p) y)
+  short_receives : (y : Side Core) (p : Packet) → y.link.extras ≡ extras_of profile_definitions → frames_of (final_parse (extras_of profile_definitions) false (encoding p)) ≡ p ∷ [] → next_in (tries p y.link).history clock ≤ greatest_stamp → Short (receives step clock (encoding p) y)
   short_receives y p extras alone left =
-      subst Short (sym (ap (λ x. hears_all step clock (frames_of (final_parse x (encoding p))) y) extras ∙ ap (λ ps. hears_all step clock ps y) alone))
+      subst Short (sym (ap (λ x. hears_all step clock (frames_of (final_parse x false (encoding p))) y) extras ∙ ap (λ ps. hears_all step clock ps y) alone))
       (short_once p (hears step clock p y) (short_admits (record y { link = tries p y.link }) p (answer_to y.link.key y.link.history p) p.block left))
 
 -- there is a step, of which this holds

@@ -1,5 +1,5 @@
 -- The calls of each line are the events that it causes, and no others.
-use Rattle.std.proofs.Common.{◌≡◌, ℕ, zero, suc, ◌+◌, ◌-◌, ◌⊎◌, inl, inr, Bool, true, not, cond, nat_lt, List, [], ◌∷◌, ◌++◌, length, position, slice_get, Option, Some, None, Ok, Err, refl, sym, ap, subst, arith, ◌∙◌}
+use Rattle.std.proofs.Common.{false, ◌≡◌, ℕ, zero, suc, ◌+◌, ◌-◌, ◌⊎◌, inl, inr, Bool, true, not, cond, nat_lt, List, [], ◌∷◌, ◌++◌, length, position, slice_get, Option, Some, None, Ok, Err, refl, sym, ap, subst, arith, ◌∙◌}
 use Rattle.std.specs.List.{position_or_len}
 use Rattle.std.specs.declared.result.Result.{Result}
 use Rattle.std.proofs.lemmas.List.{append-nil}
@@ -233,7 +233,7 @@ module _ (number : ℕ) where
       hears_then_gives k s a p me h (frames_heard number k ps) (λ t b same. frames_give k ps me t b same) (node_hears s.clock p a) (node_keeps s.clock p a me h)
 
   datagram_gives : (bytes : List ℕ) (s : WorldState) (k : ℕ) (a : Node) → EachEvent (Gives (link_of a).me) (main (datagram_heard number bytes s k a))
-  datagram_gives bytes s k a = frames_give k (frames_of (final_parse (link_of a).extras bytes)) (link_of a).me s a refl
+  datagram_gives bytes s k a = frames_give k (frames_of (final_parse (link_of a) false.extras bytes)) (link_of a).me s a refl
 
   datagram_of : (bytes : List ℕ) (s : WorldState) (name : Name) (k : ℕ) (a : Node) → node_of (link_of a).me ≡ name → EachEvent (Of name Gives) (main (datagram_heard number bytes s k a))
   datagram_of bytes s name k a is =
@@ -376,8 +376,8 @@ module _ (number : ℕ) where
     delivered_one which name i (Some p) e =
         at_placed_node (AtMostOne (Of name Gives)) s name (datagram_heard number (encoding p)) (inl refl)
         (λ k a there is.
-        let alone : frames_of (final_parse (link_of a).extras (encoding p)) ≡ p ∷ [] =
-        ap (λ extras. frames_of (final_parse extras (encoding p))) (sound.links k a there).extras ∙ (heard_is s sound p (sound.sent i p e)).frames in
+        let alone : frames_of (final_parse (link_of a) false.extras (encoding p)) ≡ p ∷ [] =
+        ap (λ extras. frames_of (final_parse extras false (encoding p))) (sound.links k a there).extras ∙ (heard_is s sound p (sound.sent i p e)).frames in
         subst (λ ps. AtMostOne (Of name Gives) (main (frames_heard number k ps s a))) (sym alone) (one_heard k s a p name is (node_hears s.clock p a)))
 
     pub every_delivery : (which : ℕ) (node : Name) → AtMostOne (Of node Gives) (main (calls_of number s (line.Deliver which node)))

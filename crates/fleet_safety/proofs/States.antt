@@ -1,5 +1,5 @@
 -- Steps of a whole state, in both worlds.
-use Rattle.std.proofs.Common.{◌≡◌, ℕ, zero, suc, ◌+◌, ◌≤◌, List, [], ◌∷◌, ◌++◌, length, position, slice_get, slice_set, Option, Some, None, Ok, Err, refl, sym, ap, subst, arith, ◌∙◌}
+use Rattle.std.proofs.Common.{false, ◌≡◌, ℕ, zero, suc, ◌+◌, ◌≤◌, List, [], ◌∷◌, ◌++◌, length, position, slice_get, slice_set, Option, Some, None, Ok, Err, refl, sym, ap, subst, arith, ◌∙◌}
 use Rattle.std.specs.Prelude.{nat_le}
 use Rattle.std.specs.declared.result.Result.{Result}
 use Rattle.std.proofs.lemmas.List.{append-nil}
@@ -127,13 +127,13 @@ module _ (number : ℕ) (n : Nodes) (distinct : Distinct n) (every_call : EveryC
       let keeps = (every_call s sound).receives bytes known k a (node_name a) there in
       hears_lead n s w k a (datagram_heard number bytes s k a) there (node_receives s.clock bytes a)
       (subst (HearsAll n s w k a (datagram_heard number bytes s k a)) (sym (receives_is s.clock bytes a))
-      (frames_hear number n distinct k (frames_of (final_parse (link_of a).extras bytes)) s w a fits there (each_of link.key link.extras)))
+      (frames_hear number n distinct k (frames_of (final_parse (link_of a) false.extras bytes)) s w a fits there (each_of link.key link.extras)))
       keeps.1 keeps.0
     where
-      each_of : (link_of a).key ≡ s.key → (link_of a).extras ≡ extras_of profile_definitions → EachKnown (link_of a).key s.sent (frames_of (final_parse (link_of a).extras bytes))
+      each_of : (link_of a).key ≡ s.key → (link_of a).extras ≡ extras_of profile_definitions → EachKnown (link_of a).key s.sent (frames_of (final_parse (link_of a) false.extras bytes))
       each_of key extras =
-          subst (λ x. EachKnown (link_of a).key s.sent (frames_of (final_parse x bytes))) (sym extras)
-          (each_known (link_of a).key s.sent (frames_of (final_parse (extras_of profile_definitions) bytes))
+          subst (λ x. EachKnown (link_of a).key s.sent (frames_of (final_parse x false bytes))) (sym extras)
+          (each_known (link_of a).key s.sent (frames_of (final_parse (extras_of profile_definitions) false bytes))
           (λ index p e v. first_sent s sound p (known index p e (subst (λ key. Verifies key p p.block) key v))))
 
   -- a call of the node of a name

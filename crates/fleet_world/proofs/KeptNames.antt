@@ -90,7 +90,7 @@ module _ {Core : Type 0} (step : Core → Stream → PlanMsg → CoreStep Core) 
       and_then-keep node.link.me (hears step clock packet node) (hears_all step clock packets) (hears-keep packet node) (hears_all-keep packets)
 
   receives-keep : (datagram : List ℕ) (node : Side Core) → SideKeeps node.link.me (receives step clock datagram node)
-  receives-keep datagram node = hears_all-keep (frames_of (final_parse node.link.extras datagram)) node
+  receives-keep datagram node = hears_all-keep (frames_of (final_parse node.link.extras false datagram)) node
 
 -- ---- nodes
 

@@ -24,7 +24,7 @@ WasSent (q ∷ qs) p = (encoding q ≡ encoding p) ⊎ WasSent qs p
 -- each frame of the bytes that verifies was sent before
 abbrev pub AuthenticBytes : WorldState → List ℕ → Type 0
 AuthenticBytes s bytes =
-    (index : ℕ) (p : Packet) → slice_get (frames_of (final_parse (extras_of profile_definitions) bytes)) index ≡ Some p
+    (index : ℕ) (p : Packet) → slice_get (frames_of (final_parse (extras_of profile_definitions) false bytes)) index ≡ Some p
     → Verifies s.key p p.block → WasSent s.sent p
 
 abbrev pub AuthenticLine : WorldState → Line → Type 0

@@ -1,5 +1,5 @@
 -- A datagram, frame by frame: what was done so far, and what the rest of the datagram leads to.
-use Rattle.std.proofs.Common.{◌≡◌, ℕ, suc, ◌+◌, ◌-◌, ◌<◌, List, [], ◌∷◌, ◌++◌, length, drop, get_or, slice_range, length-take, length-drop, Some, None, refl, sym, ap, ◌∙◌, subst, arith, append_assoc}
+use Rattle.std.proofs.Common.{false, ◌≡◌, ℕ, suc, ◌+◌, ◌-◌, ◌<◌, List, [], ◌∷◌, ◌++◌, length, drop, get_or, slice_range, length-take, length-drop, Some, None, refl, sym, ap, ◌∙◌, subst, arith, append_assoc}
 use Rattle.std.specs.Prelude.{All, map}
 use Rattle.std.proofs.lemmas.List.{append-nil, drop-drop, map-append, take_all}
 use Rattle.std.proofs.lemmas.List.Elements.{All-nil, All-cons, All-drop}
@@ -51,38 +51,38 @@ module _ {Core : Type 0} (step : Core → Stream → PlanMsg → CoreStep Core) 
   }
 
   -- a skipped byte
-  pub leads_past : (total : Outcome (Side Core)) (left rest : List ℕ) (Is : Side Core → Type 0) (news : List News) (byte : ℕ) (why : Why) → (l : Leads total left Is news) → All (λ x. x < 256) left → All (λ x. x < 256) rest → EventAt l.node.link.extras (Skipped byte why) left rest → Leads total rest Is news
+  pub leads_past : (total : Outcome (Side Core)) (left rest : List ℕ) (Is : Side Core → Type 0) (news : List News) (byte : ℕ) (why : Why) → (l : Leads total left Is news) → All (λ x. x < 256) left → All (λ x. x < 256) rest → EventAt l.node.link.extras false (Skipped byte why) left rest → Leads total rest Is news
   leads_past total left rest Is news byte why l bytes more at = record {
     node = l.node;
     is = l.is;
     events = l.events;
     said = l.said;
-    leads = l.leads ∙ ap (λ (events : List Event). behind l.events (hears_all step clock (frames_of events) l.node)) (parse_goes_on l.node.link.extras (Skipped byte why) left rest bytes more at);
+    leads = l.leads ∙ ap (λ (events : List Event). behind l.events (hears_all step clock (frames_of events) l.node)) (parse_goes_on l.node.link.extras false (Skipped byte why) left rest bytes more at);
   }
 
-  here : (total : Outcome (Side Core)) (left rest : List ℕ) (Is : Side Core → Type 0) (news : List News) (packet : Packet) → (l : Leads total left Is news) → All (λ x. x < 256) left → All (λ x. x < 256) rest → EventAt l.node.link.extras (Frame packet) left rest → total ≡ behind l.events (and_then (hears step clock packet l.node) (hears_all step clock (frames_of (final_parse l.node.link.extras rest))))
+  here : (total : Outcome (Side Core)) (left rest : List ℕ) (Is : Side Core → Type 0) (news : List News) (packet : Packet) → (l : Leads total left Is news) → All (λ x. x < 256) left → All (λ x. x < 256) rest → EventAt l.node.link.extras false (Frame packet) left rest → total ≡ behind l.events (and_then (hears step clock packet l.node) (hears_all step clock (frames_of (final_parse l.node.link.extras false rest))))
   here total left rest Is news packet l bytes more at =
-      l.leads ∙ ap (λ (events : List Event). behind l.events (hears_all step clock (frames_of events) l.node)) (parse_goes_on l.node.link.extras (Frame packet) left rest bytes more at)
+      l.leads ∙ ap (λ (events : List Event). behind l.events (hears_all step clock (frames_of events) l.node)) (parse_goes_on l.node.link.extras false (Frame packet) left rest bytes more at)
 
-  goes_on : (total first : Outcome (Side Core)) (extras : List (ℕ × ℕ)) (rest : List ℕ) (Is : Side Core → Type 0) (news after : List News) (events : List NodeEvent) → Keeps step clock first extras → events_of news ≡ map shown events → total ≡ behind events (and_then first (hears_all step clock (frames_of (final_parse extras rest)))) → Did first Is news after → Leads total rest Is after
+  goes_on : (total first : Outcome (Side Core)) (extras : List (ℕ × ℕ)) (rest : List ℕ) (Is : Side Core → Type 0) (news after : List News) (events : List NodeEvent) → Keeps step clock first extras → events_of news ≡ map shown events → total ≡ behind events (and_then first (hears_all step clock (frames_of (final_parse extras false rest)))) → Did first Is news after → Leads total rest Is after
   goes_on total None extras rest Is news after events kept said e did = absurd did
   goes_on total (Some d) extras rest Is news after events kept said e did = record {
     node = d.node;
     is = did.0;
     events = events ++ d.events;
     said = did.1 ∙ (ap (λ (l : List Shown). l ++ map shown d.events) said ∙ sym (map-append shown events d.events));
-    leads = e ∙ (behind_twice events d.events (hears_all step clock (frames_of (final_parse extras rest)) d.node) ∙ λ i. behind (events ++ d.events) (hears_all step clock (frames_of (final_parse (sym kept i) rest)) d.node));
+    leads = e ∙ (behind_twice events d.events (hears_all step clock (frames_of (final_parse extras false rest)) d.node) ∙ λ i. behind (events ++ d.events) (hears_all step clock (frames_of (final_parse (sym kept i) false rest)) d.node));
   }
 
   -- a frame
-  pub leads_on : (total : Outcome (Side Core)) (left rest : List ℕ) (Is Now : Side Core → Type 0) (news after : List News) (packet : Packet) → (l : Leads total left Is news) → All (λ x. x < 256) left → All (λ x. x < 256) rest → EventAt l.node.link.extras (Frame packet) left rest → Did (hears step clock packet l.node) Now news after → Leads total rest Now after
+  pub leads_on : (total : Outcome (Side Core)) (left rest : List ℕ) (Is Now : Side Core → Type 0) (news after : List News) (packet : Packet) → (l : Leads total left Is news) → All (λ x. x < 256) left → All (λ x. x < 256) rest → EventAt l.node.link.extras false (Frame packet) left rest → Did (hears step clock packet l.node) Now news after → Leads total rest Now after
   leads_on total left rest Is Now news after packet l bytes more at did =
       goes_on total (hears step clock packet l.node) l.node.link.extras rest Now news after l.events (hears_keep step clock packet l.node) l.said (here total left rest Is news packet l bytes more at) did
 
   -- a frame whose answer has no timestamp left
-  pub leads_to_none : (total : Outcome (Side Core)) (left rest : List ℕ) (Is : Side Core → Type 0) (news : List News) (packet : Packet) → (l : Leads total left Is news) → All (λ x. x < 256) left → All (λ x. x < 256) rest → EventAt l.node.link.extras (Frame packet) left rest → hears step clock packet l.node ≡ None → total ≡ None
+  pub leads_to_none : (total : Outcome (Side Core)) (left rest : List ℕ) (Is : Side Core → Type 0) (news : List News) (packet : Packet) → (l : Leads total left Is news) → All (λ x. x < 256) left → All (λ x. x < 256) rest → EventAt l.node.link.extras false (Frame packet) left rest → hears step clock packet l.node ≡ None → total ≡ None
   leads_to_none total left rest Is news packet l bytes more at none =
-      here total left rest Is news packet l bytes more at ∙ ap (λ (o : Outcome (Side Core)). behind l.events (and_then o (hears_all step clock (frames_of (final_parse l.node.link.extras rest))))) none
+      here total left rest Is news packet l bytes more at ∙ ap (λ (o : Outcome (Side Core)). behind l.events (and_then o (hears_all step clock (frames_of (final_parse l.node.link.extras false rest))))) none
 
   -- nothing is left
   pub leads_whole : (total : Outcome (Side Core)) (left : List ℕ) (Is : Side Core → Type 0) (news : List News) → length left ≡ 0 → Leads total left Is news → Did total Is [] news
@@ -99,14 +99,14 @@ part_bytes bytes place small = All-drop (λ x. x < 256) place bytes (all_small b
     all_small (x ∷ xs) h = All-cons (λ x. x < 256) x xs (h 0) (all_small xs (λ i. h (suc i)))
 
 -- the event at a place of the datagram, by the part of it that was looked at
-pub event_here : (known extras : List (ℕ × ℕ)) (bytes : List ℕ) (place size : ℕ) (seen event : Event) → known ≡ extras → seen ≡ event → EventAt known seen (slice_range bytes place (length bytes)) (drop size (slice_range bytes place (length bytes))) → EventAt extras event (drop place bytes) (drop (place + size) bytes)
+pub event_here : (known extras : List (ℕ × ℕ)) (bytes : List ℕ) (place size : ℕ) (seen event : Event) → known ≡ extras → seen ≡ event → EventAt known false seen (slice_range bytes place (length bytes)) (drop size (slice_range bytes place (length bytes))) → EventAt extras false event (drop place bytes) (drop (place + size) bytes)
 event_here known extras bytes place size seen event same is at =
     let all : slice_range bytes place (length bytes) ≡ drop place bytes = take_all (length bytes - place) (drop place bytes) (omega (arith, length-drop place bytes)) in
     let on : drop size (drop place bytes) ≡ drop (place + size) bytes = drop-drop size place bytes in
-    let one = subst (λ (z : List (ℕ × ℕ)). EventAt z seen (slice_range bytes place (length bytes)) (drop size (slice_range bytes place (length bytes)))) same at in
-    let two = subst (λ (z : Event). EventAt extras z (slice_range bytes place (length bytes)) (drop size (slice_range bytes place (length bytes)))) is one in
-    let three = subst (λ (z : List ℕ). EventAt extras event z (drop size z)) all two in
-    subst (λ (z : List ℕ). EventAt extras event (drop place bytes) z) on three
+    let one = subst (λ (z : List (ℕ × ℕ)). EventAt z false seen (slice_range bytes place (length bytes)) (drop size (slice_range bytes place (length bytes)))) same at in
+    let two = subst (λ (z : Event). EventAt extras false z (slice_range bytes place (length bytes)) (drop size (slice_range bytes place (length bytes)))) is one in
+    let three = subst (λ (z : List ℕ). EventAt extras false event z (drop size z)) all two in
+    subst (λ (z : List ℕ). EventAt extras false event (drop place bytes) z) on three
 
 -- how long the part is
 pub part_length : (bytes : List ℕ) (place : ℕ) → length (slice_range bytes place (length bytes)) ≡ length bytes - place

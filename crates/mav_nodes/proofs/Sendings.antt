@@ -1,11 +1,11 @@
 -- A frame's bytes, read again.
-use Rattle.std.proofs.Common.{◌≡◌, ℕ, zero, suc, ◌%◌, ◌/◌, ◌^◌, ◌<◌, List, [], ◌∷◌, ◌++◌, Option, Some, None, refl, sym, ap, ◌∙◌, arith}
+use Rattle.std.proofs.Common.{Bool, true, false, length, ◌≡◌, ℕ, zero, suc, ◌%◌, ◌/◌, ◌^◌, ◌<◌, List, [], ◌∷◌, ◌++◌, Option, Some, None, refl, sym, ap, ◌∙◌, arith}
 use Rattle.std.specs.Prelude.{All, IfSome}
 use Rattle.std.proofs.lemmas.List.{append-nil}
 use Rattle.std.proofs.lemmas.List.Elements.{All-nil, All-cons, All-append}
 use Rattle.mav_frame.specs.Numbers.{little_endian}
 use Rattle.mav_frame.specs.Packet.{Packet, SignatureBlock, FitsFrame, FitsBlock}
-use Rattle.mav_frame.specs.Encoding.{incompat_flags, block_bytes, header, checked_bytes, encoding, IsSealed}
+use Rattle.mav_frame.specs.Encoding.{stx_of, incompat_flags, block_bytes, header_of, checked_bytes, encoding, IsSealed}
 use Rattle.mav_frame.specs.declared.events.Event.TheVariants.{Frame}
 use Rattle.field_layout.specs.Payload.{serialised, truncated}
 use Rattle.field_layout.proofs.Unique.{truncated_represents}
@@ -51,22 +51,34 @@ flags : (block : Option SignatureBlock) → incompat_flags block < 256
 flags None = omega arith
 flags (Some b) = omega arith
 
+of_header : (old : Bool) (p : Packet) → FitsFrame p → All Small (stx_of old ∷ header_of old p)
+of_header true p f =
+    let id = little_endian 1 p.id in
+    let h1 = All-cons Small p.from.comp id f.comp (digits 1 p.id) in
+    let h2 = All-cons Small p.from.sys (p.from.comp ∷ id) f.sys h1 in
+    let h3 = All-cons Small p.seq (p.from.sys ∷ p.from.comp ∷ id) f.seq h2 in
+    let h4 = All-cons Small (length p.payload) (p.seq ∷ p.from.sys ∷ p.from.comp ∷ id) f.length h3 in
+    All-cons Small 0xFE (length p.payload ∷ p.seq ∷ p.from.sys ∷ p.from.comp ∷ id) (omega arith) h4
+of_header false p f =
+    let id = little_endian 3 p.id in
+    let h1 = All-cons Small p.from.comp id f.comp (digits 3 p.id) in
+    let h2 = All-cons Small p.from.sys (p.from.comp ∷ id) f.sys h1 in
+    let h3 = All-cons Small p.seq (p.from.sys ∷ p.from.comp ∷ id) f.seq h2 in
+    let h4 = All-cons Small p.compat (p.seq ∷ p.from.sys ∷ p.from.comp ∷ id) f.compat h3 in
+    let h5 = All-cons Small (incompat_flags p.block) (p.compat ∷ p.seq ∷ p.from.sys ∷ p.from.comp ∷ id) (flags p.block) h4 in
+    let h6 = All-cons Small (length p.payload) (incompat_flags p.block ∷ p.compat ∷ p.seq ∷ p.from.sys ∷ p.from.comp ∷ id) f.length h5 in
+    All-cons Small 0xFD (length p.payload ∷ incompat_flags p.block ∷ p.compat ∷ p.seq ∷ p.from.sys ∷ p.from.comp ∷ id) (omega arith) h6
+
 of_encoding : (p : Packet) → FitsFrame p → All Small (encoding p)
 of_encoding p f =
-    let c3 = little_endian 3 p.id in
-    let h1 = All-cons Small p.from.comp c3 f.comp (digits 3 p.id) in
-    let h2 = All-cons Small p.from.sys (p.from.comp ∷ c3) f.sys h1 in
-    let h3 = All-cons Small p.seq (p.from.sys ∷ p.from.comp ∷ c3) f.seq h2 in
-    let h4 = All-cons Small p.compat (p.seq ∷ p.from.sys ∷ p.from.comp ∷ c3) f.compat h3 in
-    let h5 = All-cons Small (incompat_flags p.block) (p.compat ∷ p.seq ∷ p.from.sys ∷ p.from.comp ∷ c3) (flags p.block) h4 in
-    let h6 : All Small (header p) = All-cons Small _ (incompat_flags p.block ∷ p.compat ∷ p.seq ∷ p.from.sys ∷ p.from.comp ∷ c3) f.length h5 in
-    let h7 = All-append Small (header p) p.payload h6 f.payload in
-    let h8 = All-append Small (checked_bytes p) (little_endian 2 p.check) h7 (digits 2 p.check) in
-    All-cons Small 0xFD ((checked_bytes p ++ little_endian 2 p.check) ++ block_bytes p.block) (omega arith) (All-append Small (checked_bytes p ++ little_endian 2 p.check) (block_bytes p.block) h8 (of_block p.block f.block))
+    let start : List ℕ = stx_of p.old ∷ header_of p.old p in
+    let h7 = All-append Small start p.payload (of_header p.old p f) f.payload in
+    let h8 = All-append Small (start ++ p.payload) (little_endian 2 p.check) h7 (digits 2 p.check) in
+    All-append Small ((start ++ p.payload) ++ little_endian 2 p.check) (block_bytes p.block) h8 (of_block p.block f.block)
 
 pub parses_alone : ParsesAlone
 parses_alone extras p f s =
-    parse_goes_on extras (Frame p) (encoding p) [] (of_encoding p f) (All-nil Small) (f, s, sym (append-nil (encoding p)))
+    parse_goes_on extras false (Frame p) (encoding p) [] (of_encoding p f) (All-nil Small) (f, s, sym (append-nil (encoding p)))
 
 pub signed_verifies : SignedVerifies
 signed_verifies key extras me seq stamp message = refl
@@ -75,10 +87,13 @@ pub plan_reads_back : PlanReadsBack
 plan_reads_back message fits item small =
     sym (plan_read message (truncated (serialised (definition_of message) (values_of message))) (bytes_at _ small) item (truncated_represents (definition_of message) (values_of message) fits))
 
-alone : (extras : List (ℕ × ℕ)) (packet : Packet) → FitsFrame packet → IsSealed extras packet → ReadsAlone extras packet
+alone : (extras : List (ℕ × ℕ)) (packet : Packet) → FitsFrame packet → IsSealed extras false packet → ReadsAlone extras packet
 alone extras packet fits sealed = record { fits = fits; sealed = sealed; parses = parses_alone extras packet fits sealed }
 
 -- ---- what a node sends
+
+not_old : false ≡ true → ⊥
+not_old e = cc
 
 module _ (key : List ℕ) (extras : List (ℕ × ℕ)) (me : Stream) (seq stamp : ℕ) (message : Message) where
   sent_fits : IsStream me → seq < 256 → stamp < 2 ^ 48 → FitsLayout (definition_of message) (values_of message) → FitsFrame (signed_packet key extras me seq stamp message)
@@ -97,13 +112,15 @@ module _ (key : List ℕ) (extras : List (ℕ × ℕ)) (me : Stream) (seq stamp 
       length = signature_length key (sealed_packet extras (unsealed_packet me seq stamp message)) me.link stamp;
       bytes = signature_small key (sealed_packet extras (unsealed_packet me seq stamp message)) me.link stamp;
     };
+    old = λ bad. absurd (not_old bad);
   }
 
-  sent_sealed : (extra : ℕ) → extra_of (definition_of message).id extras ≡ Some extra → IsSealed extras (signed_packet key extras me seq stamp message)
+  sent_sealed : (extra : ℕ) → extra_of (definition_of message).id extras ≡ Some extra → IsSealed extras false (signed_packet key extras me seq stamp message)
   sent_sealed extra known = record {
     extra = extra;
     known = known;
     right = ap (λ found. checksum (unsealed_packet me seq stamp message) (known_extra found)) known;
+    version = λ bad. absurd (not_old bad);
   }
 
   sent_alone : (extra : ℕ) → extra_of (definition_of message).id extras ≡ Some extra → IsStream me → seq < 256 → stamp < 2 ^ 48 → FitsLayout (definition_of message) (values_of message) → ReadsAlone extras (signed_packet key extras me seq stamp message)
@@ -119,7 +136,7 @@ every_sending_reads_back key me seq stamp message is seq_small stamp_small fits 
 
 -- ---- what a parse finds
 
-found_alone : (extras : List (ℕ × ℕ)) (events : List Event) (bytes : List ℕ) → Final extras events bytes → AllByRecursion (ReadsAlone extras) (frames_of events)
+found_alone : (extras : List (ℕ × ℕ)) (events : List Event) (bytes : List ℕ) → Final extras false events bytes → AllByRecursion (ReadsAlone extras) (frames_of events)
 found_alone extras [] bytes final = tt
 found_alone extras (Frame packet ∷ events) bytes final =
     (alone extras packet final.1.0 final.1.1, found_alone extras events final.0 final.2)
@@ -127,14 +144,14 @@ found_alone extras (Skipped byte why ∷ events) bytes final = found_alone extra
 
 pub every_frame_reads_alone : EveryFrameReadsAlone
 every_frame_reads_alone extras bytes small =
-    All-from_recursion (ReadsAlone extras) (frames_of (final_parse extras bytes)) (found_alone extras (final_parse extras bytes) bytes (final_is_function extras bytes small))
+    All-from_recursion (ReadsAlone extras) (frames_of (final_parse extras false bytes)) (found_alone extras (final_parse extras false bytes) bytes (final_is_function extras false bytes small))
 
 one_event : (one other : Packet) → ◌≡◌ {A = List Event} (Frame one ∷ []) (Frame other ∷ []) → one ≡ other
 one_event one other same = cc
 
 pub same_bytes_same_frame : SameBytesSameFrame
 same_bytes_same_frame extras one other reads also same =
-    one_event one other (sym reads.parses ∙ (ap (final_parse extras) same ∙ also.parses))
+    one_event one other (sym reads.parses ∙ (ap (final_parse extras false) same ∙ also.parses))
 
 -- ---- the HEARTBEATs
 

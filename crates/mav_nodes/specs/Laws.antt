@@ -1,5 +1,5 @@
 -- What a node sends, read again.
-use Rattle.std.specs.Prelude.{ℕ, ◌≡◌, ◌<◌, ◌^◌, List, [], ◌∷◌, All, None}
+use Rattle.std.specs.Prelude.{false, ℕ, ◌≡◌, ◌<◌, ◌^◌, List, [], ◌∷◌, All, None}
 use Rattle.mav_names.specs.declared.names.Stream.{Stream}
 use Rattle.mav_frame.specs.Packet.{Packet, FitsFrame}
 use Rattle.mav_frame.specs.Encoding.{encoding, IsSealed}
@@ -21,7 +21,7 @@ use Rattle.mav_nodes.specs.Signed.{signed_packet}
 -- the bytes of a frame parse to exactly that frame
 abbrev pub ParsesAlone : Type 0
 ParsesAlone =
-    (extras : List (ℕ × ℕ)) (packet : Packet) → FitsFrame packet → IsSealed extras packet → final_parse extras (encoding packet) ≡ Frame packet ∷ []
+    (extras : List (ℕ × ℕ)) (packet : Packet) → FitsFrame packet → IsSealed extras false packet → final_parse extras false (encoding packet) ≡ Frame packet ∷ []
 
 -- a frame that carries a message verifies under its key
 abbrev pub SignedVerifies : Type 0
@@ -38,8 +38,8 @@ PlanReadsBack =
 -- a frame fits, its checksum is right, and its bytes parse to exactly it
 pub record ReadsAlone (extras : List (ℕ × ℕ)) (packet : Packet) : Type 0 where
   pub fits : FitsFrame packet
-  pub sealed : IsSealed extras packet
-  pub parses : final_parse extras (encoding packet) ≡ Frame packet ∷ []
+  pub sealed : IsSealed extras false packet
+  pub parses : final_parse extras false (encoding packet) ≡ Frame packet ∷ []
 
 -- the frame in which a node sends a message
 abbrev pub sent_packet : List ℕ → Stream → ℕ → ℕ → Message → Packet
@@ -65,7 +65,7 @@ EverySendingReadsBack =
 -- each frame that a parse of bytes finds
 abbrev pub EveryFrameReadsAlone : Type 0
 EveryFrameReadsAlone =
-    (extras : List (ℕ × ℕ)) (bytes : List ℕ) → All (λ byte. byte < 256) bytes → All (ReadsAlone extras) (frames_of (final_parse extras bytes))
+    (extras : List (ℕ × ℕ)) (bytes : List ℕ) → All (λ byte. byte < 256) bytes → All (ReadsAlone extras) (frames_of (final_parse extras false bytes))
 
 -- frames with the same bytes are the same
 abbrev pub SameBytesSameFrame : Type 0

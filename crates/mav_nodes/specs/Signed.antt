@@ -1,5 +1,5 @@
 -- The frame that carries a message (MAVLink guide, Packet Serialization; Message Signing).
-use Rattle.std.specs.Prelude.{ℕ, List, [], Option, Some, None}
+use Rattle.std.specs.Prelude.{ℕ, false, List, [], Option, Some, None}
 use Rattle.x25_check.specs.Extras.{extra_of}
 use Rattle.field_layout.specs.Payload.{serialised, truncated}
 use Rattle.mav_names.specs.declared.names.Stream.{Stream}
@@ -12,6 +12,7 @@ use Rattle.mav_sign.specs.Signing.{signature_of}
 -- the frame of a message, with the truncated payload: its checksum and signature are still open
 abbrev pub unsealed_packet : Stream → ℕ → ℕ → Message → Packet
 unsealed_packet me seq stamp message = record {
+  old = false;
   compat = 0;
   seq = seq;
   from = record { sys = me.sys; comp = me.comp };

@@ -1,6 +1,6 @@
 -- What a node does at frames, whatever its core is: each is tried, the core takes the plan message of an admitted one, and
 -- its answer is sent before the next frame is tried.
-use Rattle.std.specs.Prelude.{ℕ, List, [], ◌∷◌, ◌++◌, Option, Some, None}
+use Rattle.std.specs.Prelude.{false, ℕ, List, [], ◌∷◌, ◌++◌, Option, Some, None}
 use Rattle.mav_names.specs.declared.names.Stream.{Stream}
 use Rattle.plan_items.specs.declared.messages.PlanMsg.{PlanMsg}
 use Rattle.mav_frame.specs.Packet.{Packet, SignatureBlock}
@@ -63,4 +63,4 @@ hears_all step clock (packet ∷ packets) node = and_then (hears step clock pack
 
 -- a datagram: the frames of its final parse
 abbrev pub receives : {Core : Type 0} → (Core → Stream → PlanMsg → CoreStep Core) → ℕ → List ℕ → Side Core → Outcome (Side Core)
-receives step clock datagram node = hears_all step clock (frames_of (final_parse node.link.extras datagram)) node
+receives step clock datagram node = hears_all step clock (frames_of (final_parse node.link.extras false datagram)) node

@@ -105,7 +105,7 @@ impl StationNode {
         let mut news = Vec::new(self.alloc);
         let mut place = 0;
         while place < datagram.len() {
-            let (event, size) = event_at(self.link.extras(), &datagram[place..]);
+            let (event, size) = event_at(self.link.extras(), false, &datagram[place..]);
             match event {
                 Event::Frame(frame) => self.hear(&frame, clock, &mut news)?,
                 Event::Skipped(_, _) => {}
