@@ -1,7 +1,7 @@
 -- Steps of a node, whatever its core is.
-use Rattle.std.proofs.Common.{◌≡◌, ℕ, Bool, true, false, if◌then◌else◌, List, [], ◌++◌, Option, Some, None, Result, Ok, Err, refl, sym, ap, ◌∙◌, subst}
+use Rattle.std.proofs.Common.{◌≡◌, ℕ, Bool, true, false, if◌then◌else◌, List, [], ◌∷◌, ◌++◌, Option, Some, None, Result, Ok, Err, refl, sym, ap, ◌∙◌, subst, append_assoc}
 use Rattle.std.specs.Prelude.{map, nat_lt, IfOk, IfErr}
-use Rattle.std.proofs.lemmas.List.{append-nil}
+use Rattle.std.proofs.lemmas.List.{append-nil, map-append}
 use Rattle.mav_names.specs.declared.names.Stream.{Stream}
 use Rattle.plan_items.specs.declared.messages.PlanMsg.{PlanMsg}
 use Rattle.mav_frame.specs.Packet.{Packet, SignatureBlock}
@@ -17,10 +17,14 @@ use Rattle.mav_messages.specs.Messages.{profile_definition, definition_of, value
 use Rattle.mav_nodes.proofs.PlanPayloads.{none_carried}
 use Rattle.mav_nodes.specs.declared.news.News.{News}
 use Rattle.mav_nodes.specs.declared.link.Tried.TheVariants.{Plan, Other, Dropped}
-use Rattle.mav_nodes.specs.News.{NodeEvent, shown, events_of}
+use Rattle.mav_nodes.specs.declared.faults.NodeFault.{NodeFault}
+use Rattle.mav_nodes.specs.declared.faults.NodeFault.TheVariants.{StampsSpent, NoMemory}
+use Rattle.mav_nodes.specs.News.{NodeEvent, Drops, Shown, shown, events_of}
 use Rattle.mav_nodes.specs.Payloads.{plan_in}
-use Rattle.mav_nodes.specs.Links.{Link, IsLink, Done, Outcome, behind, tries, sends}
-use Rattle.mav_nodes.specs.Steps.{Side, CoreStep, answers, with_core, takes, admits, hears}
+use Rattle.mav_nodes.specs.Links.{Link, IsLink, Done, Outcome, done, behind, tries, sends}
+use Rattle.mav_nodes.specs.Steps.{Side, CoreStep, answers, with_core, steps, takes, admits, hears}
+use Rattle.mav_nodes.specs.declared.steps.Step.{Step}
+use Rattle.mav_nodes.specs.Cores.{IsStep, IsNode, NodeDid, ends, says}
 use Rattle.mav_nodes.specs.Promises.{Did, LinkDid, IsAnswer, IsTried}
 
 pub if_ok : {A E : Type 0} {P Q : A → Type 0} (r : Result A E) → ((a : A) → P a → Q a) → IfOk r P → IfOk r Q
@@ -31,11 +35,52 @@ pub if_err : {A E : Type 0} {P Q : E → Type 0} (r : Result A E) → ((e : E) �
 if_err (Ok a) f h = tt
 if_err (Err e) f h = f e h
 
+-- want of memory is no want of timestamps
+pub not_spent : (fault : NodeFault) → fault ≡ NoMemory → fault ≡ StampsSpent → ⊥
+not_spent fault is other = cc
+
 -- a link's part was done, and nothing follows it
 pub core_did : {Core : Type 0} (core : Core) (outcome : Outcome Link) (endpoint : EndpointState) (Is : Side Core → Type 0) (before after : List News) → LinkDid outcome endpoint before after → ((link : Link) → IsLink link endpoint → Is (record { link = link; core = core })) → Did (with_core core [] outcome) Is before after
 core_did core None endpoint Is before after h f = h
 core_did core (Some d) endpoint Is before after h f =
     (f d.node h.0, h.1 ∙ ap (λ (l : List NodeEvent). events_of before ++ map shown l) (sym (append-nil d.events)))
+
+-- news, an answer and news again
+pub said_in_turn : (clock : ℕ) (link : Link) (first last : List NodeEvent) (answer : Option PlanMsg) (endpoint : EndpointState) (one two three four : List News) → events_of two ≡ events_of one ++ map shown first → LinkDid (answers clock answer link) endpoint two three → events_of four ≡ events_of three ++ map shown last → LinkDid (says clock first answer last link) endpoint one four
+said_in_turn clock link first last answer endpoint one two three four e h f =
+    joined (answers clock answer link) h
+  where
+    joined : (outcome : Outcome Link) → LinkDid outcome endpoint two three → LinkDid (behind first (ends last outcome)) endpoint one four
+    joined None h = h
+    joined (Some d) h =
+        let A = events_of one in
+        let F = map shown first in
+        let D = map shown d.events in
+        let L = map shown last in
+        (h.0, f ∙ (ap (λ (l : List Shown). l ++ L) (h.1 ∙ ap (λ (l : List Shown). l ++ D) e) ∙ (append_assoc (A ++ F) D L ∙ (append_assoc A F (D ++ L) ∙ ap (λ (l : List Shown). A ++ l) (ap (λ (l : List Shown). F ++ l) (sym (map-append shown d.events last)) ∙ sym (map-append shown first (d.events ++ last)))))))
+
+-- a core did a step, and the link did what it asks for
+pub stepped : {Core : Type 0} (clock : ℕ) (link : Link) (did : CoreStep Core) (view : Core) (given : Step) (endpoint : EndpointState) (before after : List News) → IsStep did view given → LinkDid (says clock did.first given.answer did.last link) endpoint before after → NodeDid (steps clock link did) endpoint view before after
+stepped {Core} clock link did view given endpoint before after is h =
+    with_view did.core did.first did.last (answers clock did.answer link) is.core (subst (λ (a : Option PlanMsg). LinkDid (says clock did.first a did.last link) endpoint before after) is.answer h)
+  where
+    with_view : (core : Core) (first last : List NodeEvent) (outcome : Outcome Link) → view ≡ core → LinkDid (behind first (ends last outcome)) endpoint before after → Did (behind first (with_core core last outcome)) (λ (node : Side Core). IsNode node endpoint view) before after
+    with_view core first last None e h = h
+    with_view core first last (Some d) e h = (record { link = h.0; core = e }, h.1)
+
+-- what nothing more is done of
+pub steps_none : {Core : Type 0} (clock : ℕ) (link : Link) (did : CoreStep Core) (view : Core) (given : Step) → IsStep did view given → says clock did.first given.answer did.last link ≡ None → steps clock link did ≡ None
+steps_none {Core} clock link did view given is h =
+    with_none did.core did.first did.last (answers clock did.answer link) (ap (λ (a : Option PlanMsg). says clock did.first a did.last link) (sym is.answer) ∙ h)
+  where
+    with_none : (core : Core) (first last : List NodeEvent) (outcome : Outcome Link) → behind first (ends last outcome) ≡ None → behind first (with_core core last outcome) ≡ None
+    with_none core first last None h = refl
+    with_none core first last (Some d) h = absurd cc
+
+-- the same of a node, seen in another way
+pub did_so : {A : Type 0} {P Q : A → Type 0} (outcome : Outcome A) (before after : List News) → ((a : A) → P a → Q a) → Did outcome P before after → Did outcome Q before after
+did_so None before after f h = h
+did_so (Some d) before after f h = (f d.node h.0, h.1)
 
 module _ {Core : Type 0} (step : Core → Stream → PlanMsg → CoreStep Core) (clock : ℕ) where
   answered : (node : Side Core) (packet : Packet) (from : Stream) (message : PlanMsg) (answer : Admit) (block : Option SignatureBlock) → IsAnswer answer packet block (Plan from message) → admits step clock node packet answer block ≡ takes step clock node from (Some message)
@@ -52,6 +97,37 @@ module _ {Core : Type 0} (step : Core → Stream → PlanMsg → CoreStep Core) 
   pub hears_plan : (node : Side Core) (packet : Packet) (from : Stream) (message : PlanMsg) → IsTried node.link packet (Plan from message) → hears step clock packet node ≡ takes step clock (record node { link = tries packet node.link }) from (Some message)
   hears_plan node packet from message h =
       answered (record node { link = tries packet node.link }) packet from message (answer_to node.link.key node.link.history packet) packet.block h
+
+  nothing_taken : (node : Side Core) (packet : Packet) (answer : Admit) (block : Option SignatureBlock) → IsAnswer answer packet block Other → admits step clock node packet answer block ≡ done node []
+  nothing_taken node packet Admitted (Some block) h = ap (takes step clock node (stream_of packet block)) h
+  nothing_taken node packet Admitted None h = absurd h
+  nothing_taken node packet Unsigned block h = absurd (let t : Other ≡ Dropped Unsigned = h in cc)
+  nothing_taken node packet BadSignature block h = absurd (let t : Other ≡ Dropped BadSignature = h in cc)
+  nothing_taken node packet (NotLater last) block h = absurd (let t : Other ≡ Dropped (NotLater last) = h in cc)
+  nothing_taken node packet (TooOld local) block h = absurd (let t : Other ≡ Dropped (TooOld local) = h in cc)
+  nothing_taken node packet TooManyStreams block h = absurd (let t : Other ≡ Dropped TooManyStreams = h in cc)
+
+  -- a frame without a plan message
+  pub hears_other : (node : Side Core) (packet : Packet) → IsTried node.link packet Other → hears step clock packet node ≡ done (record node { link = tries packet node.link }) []
+  hears_other node packet h =
+      nothing_taken (record node { link = tries packet node.link }) packet (answer_to node.link.key node.link.history packet) packet.block h
+
+  dropped : (why answer : Admit) → Dropped why ≡ Dropped answer → answer ≡ why
+  dropped why answer h = cc
+
+  refused : (node : Side Core) (packet : Packet) (why answer : Admit) (block : Option SignatureBlock) → IsAnswer answer packet block (Dropped why) → admits step clock node packet answer block ≡ done node (Drops why ∷ [])
+  refused node packet why Admitted (Some block) h = absurd h
+  refused node packet why Admitted None h = absurd h
+  refused node packet why Unsigned block h = ap (λ (a : Admit). done node (Drops a ∷ [])) (dropped why Unsigned h)
+  refused node packet why BadSignature block h = ap (λ (a : Admit). done node (Drops a ∷ [])) (dropped why BadSignature h)
+  refused node packet why (NotLater last) block h = ap (λ (a : Admit). done node (Drops a ∷ [])) (dropped why (NotLater last) h)
+  refused node packet why (TooOld local) block h = ap (λ (a : Admit). done node (Drops a ∷ [])) (dropped why (TooOld local) h)
+  refused node packet why TooManyStreams block h = ap (λ (a : Admit). done node (Drops a ∷ [])) (dropped why TooManyStreams h)
+
+  -- a frame that isn't admitted
+  pub hears_dropped : (node : Side Core) (packet : Packet) (why : Admit) → IsTried node.link packet (Dropped why) → hears step clock packet node ≡ done (record node { link = tries packet node.link }) (Drops why ∷ [])
+  hears_dropped node packet why h =
+      refused (record node { link = tries packet node.link }) packet why (answer_to node.link.key node.link.history packet) packet.block h
 
   -- the messages that a node knows stay
   abbrev LinkKeeps : Outcome Link → List (ℕ × ℕ) → Type 0

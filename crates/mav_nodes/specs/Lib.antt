@@ -5,4 +5,5 @@ pub mod Links
 pub mod Steps
 pub mod Nodes
 pub mod Promises
+pub mod Cores
 pub mod Laws

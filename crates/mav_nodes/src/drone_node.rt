@@ -1,23 +1,21 @@
 // A drone as a node.
-ghost use Rattle.std.specs.Prelude.{◌≡◌, ◌++◌, ◌∷◌, map, None, Some, [], IfOk, IfErr, OnOk};
-ghost use Rattle.plan_items.specs.declared.kinds.PlanKind.TheVariants.{Mission, Fence, Rally};
-ghost use Rattle.plan_items.specs.Kinds.{number_of};
+ghost use Rattle.std.specs.Prelude.{◌≡◌, map, None, [], IfOk, IfErr};
+ghost use Rattle.plan_upload.specs.Changes.{install_of};
 ghost use Rattle.plan_upload.specs.Drone.{DroneState};
-ghost use Rattle.plan_upload.specs.Plans.{plan_at};
-ghost use Rattle.mav_nodes.specs.News.{Installs, Empties, shown, said_by, events_of};
-ghost use Rattle.mav_nodes.specs.Steps.{Side, takes, hears};
-ghost use Rattle.mav_nodes.specs.Nodes.{IsDrone, new_drone, drone_core, drone_receives, drone_ticks, drone_beats, change_events};
+ghost use Rattle.mav_nodes.specs.News.{shown};
+ghost use Rattle.mav_nodes.specs.Steps.{Side};
+ghost use Rattle.mav_nodes.specs.Cores.{said_of_plans, accepts, change_told};
+ghost use Rattle.mav_nodes.specs.Nodes.{IsDrone, new_drone, drone_receives, drone_ticks, drone_beats, change_events};
 ghost use Rattle.mav_nodes.specs.Promises.{DroneDid};
 
 use crate::heartbeats::drone_heartbeat;
-use crate::link::{Link, Tried};
-use crate::news::tell;
-use crate::{News, NoMemory, NodeFault};
-use mav_frame::{Event, Frame, event_at};
+use crate::link::Link;
+use crate::steps::{Core, PlanNews, Step};
+use crate::{News, NoMemory, NodeFault, node};
 use mav_names::Stream;
 use mav_sign::Key;
-use plan_items::{PlanKind, PlanMsg};
-use plan_upload::{Change, Drone};
+use plan_items::{MissionResult, PlanKind, PlanMsg};
+use plan_upload::Drone;
 use std::alloc::Global;
 use std::marker::Model;
 
@@ -42,58 +40,67 @@ impl Model for DroneNode {
     ghost view = { λ n. record { link = n.link; drone = n.drone } };
 }
 
-// Tells a change of the drone's plans.
-fn tell_change(
-    change: Change,
-    drone: &Drone,
-    by: Stream,
-    news: &mut Vec<News>,
-) -> Result<(), NodeFault>
-    ensures told { IfOk result (λ done. events_of news.new.items
-        ≡ events_of news.old.items ++ map shown (change_events by drone.now.plans change)) }
-    ensures fault { IfErr result (λ fault. fault ≡ NodeFault.NoMemory) }
-{
-    match change {
-        Change::Same => Ok(()),
-        Change::Install(kind) => tell(news, installed(drone, kind, by)),
-        Change::Empty(Some(kind)) => tell(news, News::Emptied { kind }),
-        Change::Empty(None) => tell_emptied(news),
+impl Core for Drone {
+    ghost use Rattle.mav_nodes.specs.Nodes.{drone_core, drone_waits};
+    ghost use Rattle.plan_upload.specs.Drone.{drone_tick};
+
+    ghost taken = { drone_core };
+
+    ghost waited = { λ d. drone_waits (drone_tick d) };
+
+    fn take(&mut self, from: Stream, message: &PlanMsg) -> Step {
+        let answer = self.step(from, message);
+        Step {
+            plans: plan_news(self, from, message, is_accepted(&answer)),
+            answer,
+            outcome: None,
+        }
+    }
+
+    fn wait(&mut self) -> Step {
+        let answer = match self.tick() {
+            Some((_, message)) => Some(message),
+            None => None,
+        };
+        Step {
+            plans: PlanNews::Same,
+            answer,
+            outcome: None,
+        }
     }
 }
 
-// Tells that all three plans became empty.
-fn tell_emptied(news: &mut Vec<News>) -> Result<(), NodeFault>
-    ensures told { OnOk result (events_of news.new.items ≡ events_of news.old.items ++ map shown (Empties Mission ∷ Empties Fence ∷ Empties Rally ∷ [])) }
-    ensures fault { IfErr result (λ fault. fault ≡ NodeFault.NoMemory) }
+// Whether an answer acknowledges what was done.
+fn is_accepted(answer: &Option<PlanMsg>) -> bool
+    ensures { result ≡ accepts answer.now }
 {
-    tell(
-        news,
-        News::Emptied {
-            kind: PlanKind::Mission,
-        },
-    )?;
-    tell(
-        news,
-        News::Emptied {
-            kind: PlanKind::Fence,
-        },
-    )?;
-    tell(
-        news,
-        News::Emptied {
-            kind: PlanKind::Rally,
-        },
-    )
+    match *answer {
+        Some(PlanMsg::Ack { code, .. }) => code == MissionResult::ACCEPTED,
+        _ => false,
+    }
 }
 
-// The news that the drone's plan of a kind was installed.
-fn installed(drone: &Drone, kind: PlanKind, by: Stream) -> News
-    ensures { said_by result ≡ shown (Installs kind (plan_at drone.now.plans (number_of kind)) by) }
+// What became of the drone's plans at a message: an item or a clear is accepted exactly where it changed them.
+fn plan_news(drone: &Drone, by: Stream, message: &PlanMsg, accepted: bool) -> PlanNews
+    ensures { said_of_plans result ≡ map shown (change_events by drone.now.plans (change_told message.now accepted)) }
 {
-    News::Installed {
-        kind,
-        count: drone.plan(kind).len() as u16,
-        by,
+    if !accepted {
+        return PlanNews::Same;
+    }
+    match *message {
+        PlanMsg::Item { kind, .. } => installed(drone, by, PlanKind::of(kind)),
+        PlanMsg::Clear { kind, .. } => PlanNews::Emptied(PlanKind::of(kind)),
+        _ => PlanNews::Same,
+    }
+}
+
+// The drone's plan of a kind was installed.
+fn installed(drone: &Drone, by: Stream, kind: Option<PlanKind>) -> PlanNews
+    ensures { said_of_plans result ≡ map shown (change_events by drone.now.plans (install_of kind)) }
+{
+    match kind {
+        Some(kind) => PlanNews::Installed(kind, drone.plan(kind).len() as u16, by),
+        None => PlanNews::Same,
     }
 }
 
@@ -109,8 +116,10 @@ impl DroneNode {
             link: LINK,
         };
         let link = Link::new(alloc, key, me)?;
-        let drone = Drone::new(alloc, sys)?;
-        Ok(DroneNode { alloc, link, drone })
+        match Drone::new(alloc, sys) {
+            Ok(drone) => Ok(DroneNode { alloc, link, drone }),
+            Err(refused) => Err(refused),
+        }
     }
 
     /// The drone's plans.
@@ -118,39 +127,6 @@ impl DroneNode {
         ensures { result.now ≡ self.now.drone }
     {
         &self.drone
-    }
-
-    // An admitted plan message of a stream.
-    fn take(
-        &mut self,
-        from: Stream,
-        message: &PlanMsg,
-        clock: u64,
-        news: &mut Vec<News>,
-    ) -> Result<(), NodeFault>
-        ensures done { IfOk result (λ done. (node : Side DroneState) → IsDrone node self.old
-            → DroneDid (takes drone_core clock node from (Some message.now)) self.new news.old.items news.new.items) }
-        ensures spent { IfErr result (λ fault. (node : Side DroneState) → IsDrone node self.old
-            → fault ≡ NodeFault.StampsSpent → takes drone_core clock node from (Some message.now) ≡ None) }
-    {
-        let change = self.drone.change(from, message);
-        let answer = self.drone.step(from, message);
-        tell_change(change, &self.drone, from, news)?;
-        self.link.answer(answer, clock, news)
-    }
-
-    // One frame.
-    fn hear(&mut self, frame: &Frame, clock: u64, news: &mut Vec<News>) -> Result<(), NodeFault>
-        ensures done { IfOk result (λ done. (node : Side DroneState) → IsDrone node self.old
-            → DroneDid (hears drone_core clock frame.now node) self.new news.old.items news.new.items) }
-        ensures spent { IfErr result (λ fault. (node : Side DroneState) → IsDrone node self.old
-            → fault ≡ NodeFault.StampsSpent → hears drone_core clock frame.now node ≡ None) }
-    {
-        match self.link.hear(frame) {
-            Tried::Plan(from, message) => self.take(from, &message, clock, news),
-            Tried::Other => Ok(()),
-            Tried::Dropped(answer) => tell(news, News::Dropped(answer)),
-        }
     }
 
     /// Takes a datagram as a whole input by itself: each of its frames in order, and each answer is sent before the next
@@ -161,17 +137,7 @@ impl DroneNode {
         ensures spent { IfErr result (λ fault. (node : Side DroneState) → IsDrone node self.old
             → fault ≡ NodeFault.StampsSpent → drone_receives clock datagram.now node ≡ None) }
     {
-        let mut news = Vec::new(self.alloc);
-        let mut place = 0;
-        while place < datagram.len() {
-            let (event, size) = event_at(self.link.extras(), false, &datagram[place..]);
-            match event {
-                Event::Frame(frame) => self.hear(&frame, clock, &mut news)?,
-                Event::Skipped(_, _) => {}
-            }
-            place += size;
-        }
-        Ok(news)
+        node::receive(self.alloc, &mut self.link, &mut self.drone, datagram, clock)
     }
 
     /// Time passes: an open upload asks again or is closed, and an idle download is closed.
@@ -181,13 +147,7 @@ impl DroneNode {
         ensures spent { IfErr result (λ fault. (node : Side DroneState) → IsDrone node self.old
             → fault ≡ NodeFault.StampsSpent → drone_ticks clock node ≡ None) }
     {
-        let answer = match self.drone.tick() {
-            Some((_, message)) => Some(message),
-            None => None,
-        };
-        let mut news = Vec::new(self.alloc);
-        self.link.answer(answer, clock, &mut news)?;
-        Ok(news)
+        node::tick(self.alloc, &mut self.link, &mut self.drone, clock)
     }
 
     /// Sends HEARTBEAT.
@@ -197,8 +157,6 @@ impl DroneNode {
         ensures spent { IfErr result (λ fault. (node : Side DroneState) → IsDrone node self.old
             → fault ≡ NodeFault.StampsSpent → drone_beats clock node ≡ None) }
     {
-        let mut news = Vec::new(self.alloc);
-        self.link.send(&drone_heartbeat(), clock, &mut news)?;
-        Ok(news)
+        node::send(self.alloc, &mut self.link, &drone_heartbeat(), clock)
     }
 }

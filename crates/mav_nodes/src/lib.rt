@@ -11,8 +11,10 @@ mod heartbeats;
 pub mod laws;
 mod link;
 mod news;
+mod node;
 mod orders;
 mod station_node;
+mod steps;
 
 pub use drone_node::DroneNode;
 pub use faults::{NodeFault, OrderFault};

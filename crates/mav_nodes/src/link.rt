@@ -1,5 +1,5 @@
 // A node's end of its links.
-ghost use Rattle.std.specs.Prelude.{◌≡◌, Some, None, IfOk, IfErr};
+ghost use Rattle.std.specs.Prelude.{◌≡◌, List, map, Some, None, IfOk, IfErr};
 ghost use Rattle.mav_profile.specs.Messages.{extras_of};
 ghost use Rattle.mav_profile.specs.Profile.{profile_definitions};
 ghost use Rattle.field_layout.specs.Payload.{Represents};
@@ -8,10 +8,13 @@ ghost use Rattle.mav_messages.specs.Messages.{definition_of, values_of, profile_
 ghost use Rattle.mav_nodes.specs.Payloads.{plan_in, ItemFits};
 ghost use Rattle.mav_sign.specs.Endpoints.{HasProfile, HeardIs};
 ghost use Rattle.mav_nodes.specs.Links.{Link as LinkState, IsLink, new_link, tries, sends};
+ghost use Rattle.mav_nodes.specs.News.{NodeEvent, shown};
 ghost use Rattle.mav_nodes.specs.Steps.{answers};
+ghost use Rattle.mav_nodes.specs.Cores.{said_of_plans, said_of_outcome, says};
 ghost use Rattle.mav_nodes.specs.Promises.{LinkDid, IsTried};
 
 use crate::news::tell;
+use crate::steps::{Step, tell_outcome, tell_plans};
 use crate::{News, NoMemory, NodeFault};
 use mav_frame::Frame;
 use mav_messages::Message;
@@ -153,5 +156,23 @@ impl Link {
             Some(message) => self.send(&Message::of_plan(&message), clock, news),
             None => Ok(()),
         }
+    }
+
+    /// Does what a core's step asks for: tells its first news, sends its answer, and tells its outcome.
+    pub(crate) fn say(
+        &mut self,
+        step: Step,
+        clock: u64,
+        news: &mut Vec<News>,
+    ) -> Result<(), NodeFault>
+        ensures said { IfOk result (λ done. (link : LinkState) (first last : List NodeEvent) → IsLink link self.old
+            → said_of_plans step.plans ≡ map shown first → said_of_outcome step.outcome ≡ map shown last
+            → LinkDid (says clock first step.answer last link) self.new news.old.items news.new.items) }
+        ensures spent { IfErr result (λ fault. (link : LinkState) (first last : List NodeEvent) → IsLink link self.old
+            → fault ≡ NodeFault.StampsSpent → says clock first step.answer last link ≡ None) }
+    {
+        tell_plans(news, step.plans)?;
+        self.answer(step.answer, clock, news)?;
+        tell_outcome(news, step.outcome)
     }
 }

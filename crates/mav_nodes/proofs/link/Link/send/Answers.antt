@@ -14,16 +14,11 @@ use Rattle.mav_nodes.specs.Promises.{LinkDid}
 use Rattle.mav_nodes.specs.declared.news.News.{News}
 use Rattle.mav_nodes.specs.declared.news.News.TheVariants.{Sent}
 use Rattle.mav_nodes.specs.Links.{Link, IsLink, sends}
-use Rattle.mav_nodes.specs.declared.faults.NodeFault.{NodeFault}
-use Rattle.mav_nodes.specs.declared.faults.NodeFault.TheVariants.{StampsSpent, NoMemory}
-use Rattle.mav_nodes.proofs.Cores.{if_ok, if_err}
+use Rattle.mav_nodes.proofs.Cores.{if_ok, if_err, not_spent}
 use Rattle.mav_nodes.proofs.link.Link.send.Goals as goal
 
 none_left : (clock kept : ℕ) (message : Message) (link : Link) → greatest_stamp < kept → kept ≡ next_in link.history clock → sends clock message link ≡ None
 none_left clock kept message link spent is = rw (lt-ltb greatest_stamp (next_in link.history clock) (omega (arith, is))) refl
-
-not_spent : (fault : NodeFault) → fault ≡ NoMemory → fault ≡ StampsSpent → ⊥
-not_spent fault is other = cc
 
 packet_is : (key : List ℕ) (me : Stream) (extras : List (ℕ × ℕ)) (seq stamp : ℕ) (message : Message) (packet : Packet) → SentFrame key me extras seq stamp message packet → packet ≡ signed_packet key extras me seq stamp message
 packet_is key me extras seq stamp message packet frame = search rules

@@ -1,44 +1,13 @@
-use Rattle.std.proofs.Common.{ℕ, ◌+◌, drop, sym, ap, ◌∙◌, arith}
-use Rattle.std.proofs.lemmas.Result.{err_from_is_err_and}
-use Rattle.mav_frame.specs.declared.events.Event.TheVariants.{Frame, Skipped}
-use Rattle.mav_nodes.specs.Nodes.{IsStation, StationView, station_core, station_receives}
-use Rattle.mav_nodes.proofs.Leads.{leads_past, leads_on, leads_to_none, event_here, part_bytes, part_length}
-use Rattle.mav_nodes.proofs.station_node.StationNode.receive.Goals.{in-Frame+in_ok-hear-in-Frame, in-Skipped}
+use Rattle.std.proofs.Common.{[], sym, subst}
+use Rattle.mav_nodes.specs.Nodes.{IsStation, station_receives}
+use Rattle.mav_nodes.proofs.Cores.{if_ok, if_err}
+use Rattle.mav_nodes.proofs.Ends.{station_node, station_did}
 use Rattle.mav_nodes.proofs.station_node.StationNode.receive.Goals as goal
 
-pub returns-in_err-hear-in-Frame-clause-spent : goal.returns-in_err-hear-in-Frame-clause-spent
-returns-in_err-hear-in-Frame-clause-spent c =
-    let p = err_from_is_err_and c.from_residual.result c.from_residual.ensures.1 in
-    rw p.1 (λ node is stamps.
-    let l = c.loop-place.invariant.leads node is in
-    let bytes = c.args.datagram.now in
-    let place = c.loop-place.place in
-    let size = c.event_at-event.result.1 in
-    let small : (i : ℕ) → _ = λ i. (c.type_inv.datagram i).fits in
-    let same = c.extras.ensures ∙ (ap (λ (v : StationView). v.link.extras) c.self-in-loop-place.view_is ∙ l.is.link.extras) in
-    let at = event_here c.extras.result.now l.node.link.extras bytes place size c.event_at-event.result.0 (Frame c.in-Frame.frame) same c.in-Frame.is c.event_at-event.ensures.event in
-    leads_to_none station_core c.args.clock (station_receives c.args.clock bytes node) (drop place bytes) (drop (place + size) bytes) (λ n. IsStation n c.loop-place.self) c.loop-place.news.items c.in-Frame.frame l (part_bytes bytes place small) (part_bytes bytes (place + size) small) at (c.in_err-hear-in-Frame.ensures.spent l.node l.is (sym p.2 ∙ stamps)))
+pub returns-clause-done : goal.returns-clause-done
+returns-clause-done c =
+    if_ok c.receive.result (λ news did node is. station_did (station_receives c.args.clock c.args.datagram.now node) _ [] news.items (did node (station_node node (subst (IsStation node) (sym c.self.view_is) is)))) c.receive.ensures.done
 
-pub loop-place-preserved : goal.loop-place-preserved
-loop-place-preserved c =
-    let bytes = c.args.datagram.now in
-    let place = c.loop-place.place in
-    let size = c.event_at-event.result.1 in
-    let small : (i : ℕ) → _ = λ i. (c.type_inv.datagram i).fits in
-    record {
-      within = omega (arith, c.event_at-event.ensures.size.1, part_length bytes place, c.loop-place.invariant.within);
-      leads = λ node is.
-          let total = station_receives c.args.clock bytes node in
-          let l = c.loop-place.invariant.leads node is in
-          let same = c.extras.ensures ∙ (ap (λ (v : StationView). v.link.extras) c.self-in-loop-place.view_is ∙ l.is.link.extras) in
-          elim c.match-event.branch [
-            | in-Frame+in_ok-hear-in-Frame w ↦
-                let at = event_here c.extras.result.now l.node.link.extras bytes place size c.event_at-event.result.0 (Frame w.in-Frame.frame) same w.in-Frame.is c.event_at-event.ensures.event in
-                let on = leads_on station_core c.args.clock total (drop place bytes) (drop (place + size) bytes) (λ n. IsStation n c.loop-place.self) (λ n. IsStation n w.hear.new.self) c.loop-place.news.items w.hear.new.news.items w.in-Frame.frame l (part_bytes bytes place small) (part_bytes bytes (place + size) small) at (w.in_ok-hear-in-Frame.ensures.done l.node l.is) in
-                rw (w.self-is, w.news-is) on
-            | in-Skipped w ↦
-                let at = event_here c.extras.result.now l.node.link.extras bytes place size c.event_at-event.result.0 (Skipped w.in-Skipped.field-0 w.in-Skipped.field-1) same w.in-Skipped.is c.event_at-event.ensures.event in
-                let on = leads_past station_core c.args.clock total (drop place bytes) (drop (place + size) bytes) (λ n. IsStation n c.loop-place.self) c.loop-place.news.items w.in-Skipped.field-0 w.in-Skipped.field-1 l (part_bytes bytes place small) (part_bytes bytes (place + size) small) at in
-                rw (w.self-is, w.news-is) on
-          ];
-    }
+pub returns-clause-spent : goal.returns-clause-spent
+returns-clause-spent c =
+    if_err c.receive.result (λ fault spent node is. spent node (station_node node (subst (IsStation node) (sym c.self.view_is) is))) c.receive.ensures.spent
