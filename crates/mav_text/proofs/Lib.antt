@@ -10,5 +10,5 @@ mod ValueSteps
 mod PaddedWords
 mod FieldSteps
 mod ShownValues
-mod RecipeSteps
-mod RecipePlaces
+mod TemplateSteps
+mod TemplateIndices

@@ -11,22 +11,22 @@ use Rattle.mav_text.proofs.ChunkSteps.{digits_put}
 use Rattle.mav_text.specs.FrameText.{pair_text, byte_hex, why_text, skip_line, skip_lines}
 
 -- one more line is put
-pub skips_next : (now next : List ℕ) (place i : ℕ) (bytes : List ℕ) (why : Why) → i < length bytes → next ≡ now ++ skip_line place (get_or bytes i 0) why → next ++ skip_lines (place + 1) (drop (i + 1) bytes) why ≡ now ++ skip_lines place (drop i bytes) why
-skips_next now next place i bytes why inside put =
-    let rest = skip_lines (place + 1) (drop (i + 1) bytes) why in
+pub skips_next : (now next : List ℕ) (start i : ℕ) (bytes : List ℕ) (why : Why) → i < length bytes → next ≡ now ++ skip_line start (get_or bytes i 0) why → next ++ skip_lines (start + 1) (drop (i + 1) bytes) why ≡ now ++ skip_lines start (drop i bytes) why
+skips_next now next start i bytes why inside put =
+    let rest = skip_lines (start + 1) (drop (i + 1) bytes) why in
     let behind : suc i ≡ i + 1 = omega arith in
     let split : drop i bytes ≡ get_or bytes i 0 ∷ drop (i + 1) bytes = drop-cons bytes i 0 inside ∙ ap (λ (n : ℕ). get_or bytes i 0 ∷ drop n bytes) behind in
     ap (λ (t : List ℕ). t ++ rest) put
-    ∙ (append_assoc now (skip_line place (get_or bytes i 0) why) rest
-    ∙ ap (λ (xs : List ℕ). now ++ skip_lines place xs why) (sym split))
+    ∙ (append_assoc now (skip_line start (get_or bytes i 0) why) rest
+    ∙ ap (λ (xs : List ℕ). now ++ skip_lines start xs why) (sym split))
 
 -- the lines of two runs
-pub skips_append : (place : ℕ) (xs ys : List ℕ) (why : Why) → skip_lines place (xs ++ ys) why ≡ skip_lines place xs why ++ skip_lines (place + length xs) ys why
-skips_append place [] ys why = ap (λ (n : ℕ). skip_lines n ys why) (omega arith)
-skips_append place (x ∷ xs) ys why =
-    let further : place + 1 + length xs ≡ place + suc (length xs) = omega arith in
-    ap (λ (t : List ℕ). skip_line place x why ++ t) (skips_append (place + 1) xs ys why ∙ ap (λ (n : ℕ). skip_lines (place + 1) xs why ++ skip_lines n ys why) further)
-    ∙ sym (append_assoc (skip_line place x why) (skip_lines (place + 1) xs why) (skip_lines (place + suc (length xs)) ys why))
+pub skips_append : (start : ℕ) (xs ys : List ℕ) (why : Why) → skip_lines start (xs ++ ys) why ≡ skip_lines start xs why ++ skip_lines (start + length xs) ys why
+skips_append start [] ys why = ap (λ (n : ℕ). skip_lines n ys why) (omega arith)
+skips_append start (x ∷ xs) ys why =
+    let further : start + 1 + length xs ≡ start + suc (length xs) = omega arith in
+    ap (λ (t : List ℕ). skip_line start x why ++ t) (skips_append (start + 1) xs ys why ∙ ap (λ (n : ℕ). skip_lines (start + 1) xs why ++ skip_lines n ys why) further)
+    ∙ sym (append_assoc (skip_line start x why) (skip_lines (start + 1) xs why) (skip_lines (start + suc (length xs)) ys why))
 
 -- a line, by the hundreds of its offset and the last two digits
 line_by_pair : (hundreds pair byte : ℕ) (why : Why) → 0 < hundreds → hundreds < 100000000 → pair < 100 → decimal hundreds ++ (pair_text pair ++ (codes " skip " ++ (byte_hex byte ++ (32 ∷ why_text why ++ 10 ∷ [])))) ≡ skip_line (100 * hundreds + pair) byte why
@@ -49,12 +49,12 @@ line_put at end old new hundreds pair byte high low tens ones why some near two 
     let number : List ℕ = decimal hundreds in
     let p : ℕ = length number in
     let tail : List ℕ = 32 ∷ why_text why ++ 10 ∷ [] in
-    let blank : List ℕ = codes "00 skip 00" ++ tail in
+    let skip_template : List ℕ = codes "00 skip 00" ++ tail in
     let rest : List ℕ = tens ∷ ones ∷ codes " skip 00" ++ tail in
-    let long = length-append number blank in
+    let long = length-append number skip_template in
     let once : take end (set (set new (at + p) tens) (at + p + 1) ones) ≡ take at old ++ (number ++ rest) =
-    digits_put p at end old new (number ++ blank) tens ones before (omega (arith, long)) is put
-    ∙ (λ i. take at old ++ (take-append_seam number blank i ++ (tens ∷ ones ∷ drop-append-add number blank 2 i))) in
+    digits_put p at end old new (number ++ skip_template) tens ones before (omega (arith, long)) is put
+    ∙ (λ i. take at old ++ (take-append_seam number skip_template i ++ (tens ∷ ones ∷ drop-append-add number skip_template 2 i))) in
     let long2 = length-append number rest in
     let eight : at + (p + 8) ≡ at + p + 8 = omega arith in
     let ten : p + 8 + 2 ≡ p + 10 = omega arith in
@@ -66,9 +66,9 @@ line_put at end old new hundreds pair byte high low tens ones why some near two 
     ∙ (append_assoc number (tens ∷ ones ∷ codes " skip ") (high ∷ low ∷ tail)
     ∙ ((λ i. number ++ (first i ++ (codes " skip " ++ (second i ++ tail)))) ∙ line_by_pair hundreds pair byte why some near two)))))
 
--- a line, whose offset is put together with what stands behind it
-pub line_joined : (offset byte : ℕ) (why : Why) (template : List ℕ) → template ≡ codes " skip 00 " ++ why_text why ++ 10 ∷ [] → decimal offset ++ (take 6 template ++ byte_hex byte ++ drop 8 template) ≡ skip_line offset byte why
-line_joined offset byte why template back =
+-- a line, whose offset is put together with what stands after it
+pub line_joined : (offset byte : ℕ) (why : Why) (skip_ending : List ℕ) → skip_ending ≡ codes " skip 00 " ++ why_text why ++ 10 ∷ [] → decimal offset ++ (take 6 skip_ending ++ byte_hex byte ++ drop 8 skip_ending) ≡ skip_line offset byte why
+line_joined offset byte why skip_ending back =
     let last : List ℕ = 32 ∷ why_text why ++ 10 ∷ [] in
     ap (λ (t : List ℕ). decimal offset ++ (take 6 t ++ byte_hex byte ++ drop 8 t)) back
     ∙ (sym (append_assoc (decimal offset) (codes " skip " ++ byte_hex byte) last)
@@ -79,10 +79,10 @@ line_joined offset byte why template back =
 pub kept_same : (start after : List ℕ) (n : ℕ) → n ≡ length start → after ≡ start → take n after ≡ start
 kept_same start after n long is = ap (take n) is ∙ take_all n start (omega arith)
 
-pub kept_front : (start piece after : List ℕ) (n : ℕ) → n ≡ length start → after ≡ start ++ piece → take n after ≡ start
-kept_front start piece after n long is = ap (take n) is ∙ (take-append-le n start piece (omega arith) ∙ take_all n start (omega arith))
+pub kept_prefix : (start piece after : List ℕ) (n : ℕ) → n ≡ length start → after ≡ start ++ piece → take n after ≡ start
+kept_prefix start piece after n long is = ap (take n) is ∙ (take-append-le n start piece (omega arith) ∙ take_all n start (omega arith))
 
--- what is kept of a front is kept
+-- what is kept of a prefix is kept
 pub kept_more : (start out after : List ℕ) (n m : ℕ) → n ≡ length start → m ≡ length out → take n out ≡ start → take m after ≡ out → take n after ≡ start
 kept_more start out after n m first second kept grown =
     let long = ap length kept in
@@ -94,20 +94,20 @@ skips_part now put first done next bytes why after within is =
     let part : List ℕ = slice_range bytes done next in
     let rest : List ℕ = drop next bytes in
     let long : length part ≡ next - done = omega (arith, length-take (next - done) (drop done bytes), length-drop done bytes) in
-    let place : first + next ≡ first + done + length part = omega arith in
-    (λ i. is i ++ skip_lines (place i) rest why)
+    let start : first + next ≡ first + done + length part = omega arith in
+    (λ i. is i ++ skip_lines (start i) rest why)
     ∙ (append_assoc now (skip_lines (first + done) part why) (skip_lines (first + done + length part) rest why)
     ∙ (ap (λ (t : List ℕ). now ++ t) (sym (skips_append (first + done) part rest why))
     ∙ ap (λ (xs : List ℕ). now ++ skip_lines (first + done) xs why) (sym (drop_split bytes done next after))))
 
--- the lines of a front, and those of the rest
-pub skips_split : (out : List ℕ) (place small : ℕ) (bytes : List ℕ) (why : Why) → small ≤ length bytes → (out ++ skip_lines place (take small bytes) why) ++ skip_lines (place + small) (take (length bytes - small) (drop small bytes)) why ≡ out ++ skip_lines place bytes why
-skips_split out place small bytes why within =
+-- the lines of a prefix, and those of the rest
+pub skips_split : (out : List ℕ) (start small : ℕ) (bytes : List ℕ) (why : Why) → small ≤ length bytes → (out ++ skip_lines start (take small bytes) why) ++ skip_lines (start + small) (take (length bytes - small) (drop small bytes)) why ≡ out ++ skip_lines start bytes why
+skips_split out start small bytes why within =
     let all : take (length bytes - small) (drop small bytes) ≡ drop small bytes = take_all (length bytes - small) (drop small bytes) (omega (arith, length-drop small bytes)) in
     let long : small ≡ length (take small bytes) = omega (arith, length-take small bytes) in
-    ap (λ (xs : List ℕ). (out ++ skip_lines place (take small bytes) why) ++ skip_lines (place + small) xs why) all
-    ∙ (append_assoc out (skip_lines place (take small bytes) why) (skip_lines (place + small) (drop small bytes) why)
+    ap (λ (xs : List ℕ). (out ++ skip_lines start (take small bytes) why) ++ skip_lines (start + small) xs why) all
+    ∙ (append_assoc out (skip_lines start (take small bytes) why) (skip_lines (start + small) (drop small bytes) why)
     ∙ ap (λ (t : List ℕ). out ++ t) (
-    ap (λ (n : ℕ). skip_lines place (take small bytes) why ++ skip_lines (place + n) (drop small bytes) why) long
-    ∙ (sym (skips_append place (take small bytes) (drop small bytes) why)
-    ∙ ap (λ (xs : List ℕ). skip_lines place xs why) (take-append-drop small bytes))))
+    ap (λ (n : ℕ). skip_lines start (take small bytes) why ++ skip_lines (start + n) (drop small bytes) why) long
+    ∙ (sym (skips_append start (take small bytes) (drop small bytes) why)
+    ∙ ap (λ (xs : List ℕ). skip_lines start xs why) (take-append-drop small bytes))))

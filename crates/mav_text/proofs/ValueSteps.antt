@@ -13,7 +13,7 @@ length_put now next text at end inside fits put =
     omega (arith, ap length put, length-take end next, length-take at now, length-append (take at now) text)
 
 -- a number takes at most four bytes for each of its own
-pub number_place : (ty : Ty) (payload now next : List ℕ) (place at end : ℕ) → IsBytes payload → at ≤ length now → end ≤ length next → take end next ≡ take at now ++ number_text ty (word_from payload place (element_size ty)) → end ≤ at + 4 * element_size ty
-number_place ty payload now next place at end bytes inside fits put =
-    let word : ℕ = word_from payload place (element_size ty) in
-    omega (arith, length_put now next (number_text ty word) at end inside fits put, number_length ty word (word_from_bound payload bytes place (element_size ty)))
+pub number_end : (ty : Ty) (payload now next : List ℕ) (offset at end : ℕ) → IsBytes payload → at ≤ length now → end ≤ length next → take end next ≡ take at now ++ number_text ty (word_from payload offset (element_size ty)) → end ≤ at + 4 * element_size ty
+number_end ty payload now next offset at end bytes inside fits put =
+    let word : ℕ = word_from payload offset (element_size ty) in
+    omega (arith, length_put now next (number_text ty word) at end inside fits put, number_length ty word (word_from_bound payload bytes offset (element_size ty)))

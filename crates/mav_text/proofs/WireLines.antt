@@ -1,4 +1,4 @@
--- The lines of fields in wire order, by the fields' places.
+-- The lines of fields in wire order, by the fields' indices.
 use Rattle.std.proofs.Common.{◌≡◌, ℕ, ◌+◌, ◌<◌, List, ◌++◌, length, get_or, take, map, Some, sym, ap, ◌∙◌, append_assoc, arith}
 use Rattle.std.specs.Prelude.{slice_get}
 use Rattle.std.specs.List.{flat_map}
@@ -14,7 +14,7 @@ module _ (def : Definition) (order : List ℕ) (i : ℕ) (in_order : order ≡ m
   within : i < length (wire_order def)
   within = omega (arith, ap length in_order, length-map (wire_order def) place_of)
 
-  -- a place of the wire order is that of a field
+  -- an index in the wire order is that of a field
   pub place_of_field : get_or order i 0 < length (all_fields def)
   place_of_field = rw in_order (place_in_range def (wire_order def) i (wire_entries def) within)
 
@@ -24,9 +24,9 @@ module _ (def : Definition) (order : List ℕ) (i : ℕ) (in_order : order ≡ m
       → text ++ field_line def (get_or order i 0, field) ≡ before ++ (message_line def ++ flat_map (field_line def) (take (i + 1) (wire_order def)))
   lines-more text before field there done =
       let at : get_or order i 0 ≡ (get_or (wire_order def) i nowhere).0 =
-      ap (λ (places : List ℕ). get_or places i 0) in_order ∙ get_or-map place_of (wire_order def) i nowhere 0 within in
+      ap (λ (indices : List ℕ). get_or indices i 0) in_order ∙ get_or-map place_of (wire_order def) i nowhere 0 within in
       let is : (get_or (wire_order def) i nowhere).1 ≡ field =
-      field_here def (wire_order def) i field (wire_entries def) within (ap (λ (places : List ℕ). slice_get (all_fields def) (get_or places i 0)) (sym in_order) ∙ there) in
+      field_here def (wire_order def) i field (wire_entries def) within (ap (λ (indices : List ℕ). slice_get (all_fields def) (get_or indices i 0)) (sym in_order) ∙ there) in
       let lines = flat_map (field_line def) (take i (wire_order def)) in
       let entry : get_or (wire_order def) i nowhere ≡ (get_or order i 0, field) = λ j. (sym at j, is j) in
       let more : flat_map (field_line def) (take (i + 1) (wire_order def)) ≡ lines ++ field_line def (get_or order i 0, field) =

@@ -6,14 +6,14 @@ use Rattle.field_layout.specs.declared.ty.Ty.{Ty}
 use Rattle.field_layout.specs.Reading.{word_from, words_from}
 use Rattle.mav_text.specs.FrameText.{number_text, char_text, chars_text, further_text, values_text}
 
--- words a place further are those a word further
+-- words an index further are those a word further
 shifted : (payload : List ℕ) (at size first count : ℕ) → map (λ k. word_from payload (at + size * k) size) (range_with_len (first + 1) count) ≡ map (λ k. word_from payload ((at + size) + size * k) size) (range_with_len first count)
 shifted payload at size first zero = refl
 shifted payload at size first (suc count) =
     let e : at + size * (first + 1) ≡ (at + size) + size * first = omega arith in
     λ i. word_from payload (e i) size ∷ shifted payload at size (first + 1) count i
 
--- the first word, and those behind it
+-- the first word, and those after it
 pub words_next : (payload : List ℕ) (at size count : ℕ) → 0 < count → words_from payload at size count ≡ word_from payload at size ∷ words_from payload (at + size) size (count - 1)
 words_next payload at size zero some = absurd (omega arith)
 words_next payload at size (suc count) some =

@@ -1,11 +1,11 @@
 -- The texts of frames and of skipped bytes.
-use Rattle.std.specs.Prelude.{ℕ, zero, suc, ◌+◌, ◌-◌, ◌/◌, ◌%◌, ◌^◌, ◌==◌, ◌&&◌, Bool, true, false, not, nat_lt, nat_le, if◌then◌else◌, List, [], ◌∷◌, ◌++◌, codes, Option, Some, None}
+use Rattle.std.specs.Prelude.{ℕ, zero, suc, ◌+◌, ◌-◌, ◌/◌, ◌%◌, ◌^◌, ◌==◌, ◌&&◌, Bool, true, false, not, nat_lt, nat_le, if◌then◌else◌, List, [], ◌∷◌, ◌++◌, take, codes, Option, Some, None}
 use Rattle.std.specs.Fmt.{decimal}
 use Rattle.field_layout.specs.declared.ty.Ty.{Ty}
 use Rattle.field_layout.specs.declared.ty.Ty.TheVariants.{I8, U8, Char, I16, U16, I32, U32, I64, U64, F32, F64, Version}
 use Rattle.field_layout.specs.declared.fields.Field.{Field}
 use Rattle.field_layout.specs.Types.{element_size}
-use Rattle.field_layout.specs.Definition.{Definition, all_fields, element_count}
+use Rattle.field_layout.specs.Definition.{Definition, all_fields, base_len_of, element_count}
 use Rattle.field_layout.specs.WireOrder.{offset_of}
 use Rattle.field_layout.specs.Payload.{words_at}
 use Rattle.field_layout.specs.Reading.{words_from}
@@ -66,7 +66,7 @@ abbrev pub chars_text : List ℕ → List ℕ
 chars_text [] = []
 chars_text (byte ∷ bytes) = if byte == 0 then [] else char_text byte ++ chars_text bytes
 
--- values with a comma in front of each
+-- values with a comma before each
 abbrev pub further_text : Ty → List ℕ → List ℕ
 further_text ty [] = []
 further_text ty (word ∷ words) = 44 ∷ number_text ty word ++ further_text ty words
@@ -94,10 +94,10 @@ value_text field words = shown_text field.ty field.len words
 abbrev pub field_text : Field → List ℕ → List ℕ
 field_text field words = 32 ∷ field.name ++ 61 ∷ value_text field words
 
--- the fields from a place on, each with its words
+-- the fields from an index on, each with its words
 abbrev pub fields_text : (ℕ → Field → List ℕ) → ℕ → List Field → List ℕ
-fields_text words place [] = []
-fields_text words place (field ∷ fields) = field_text field (words place field) ++ fields_text words (place + 1) fields
+fields_text words number [] = []
+fields_text words number (field ∷ fields) = field_text field (words number field) ++ fields_text words (number + 1) fields
 
 -- ---- frames
 
@@ -106,7 +106,12 @@ abbrev pub sender_text : Packet → List ℕ
 sender_text packet =
     32 ∷ decimal packet.from.sys ++ 46 ∷ decimal packet.from.comp ++ 32 ∷ 35 ∷ decimal packet.seq
 
--- ` signed LINK STAMP` behind a signed frame
+-- ` v1` after the sequence number of a frame of MAVLink 1
+abbrev pub version_text : Bool → List ℕ
+version_text true = codes " v1"
+version_text false = []
+
+-- ` signed LINK STAMP` after a signed frame
 abbrev pub block_text : Option SignatureBlock → List ℕ
 block_text None = []
 block_text (Some block) = codes " signed " ++ decimal block.link ++ 32 ∷ decimal block.stamp
@@ -114,18 +119,23 @@ block_text (Some block) = codes " signed " ++ decimal block.link ++ 32 ∷ decim
 -- a frame from its name on, where the fields have these words
 abbrev pub frame_text_of : (ℕ → Field → List ℕ) → Definition → Packet → List ℕ
 frame_text_of words def packet =
-    def.name ++ sender_text packet ++ fields_text words 0 (all_fields def) ++ block_text packet.block
+    def.name ++ sender_text packet ++ version_text packet.old ++ fields_text words 0 (all_fields def) ++ block_text packet.block
 
 -- the words of a field as a payload has them, whose bytes past its end are 0
 abbrev pub words_in : Definition → List ℕ → ℕ → Field → List ℕ
-words_in def payload place field = words_from payload (offset_of def place) (element_size field.ty) (element_count field)
+words_in def payload number field = words_from payload (offset_of def number) (element_size field.ty) (element_count field)
+
+-- the bytes of a payload that values are read from: of a frame of MAVLink 1 none past the base fields, so that its extension
+-- fields are 0
+abbrev pub value_bytes : ℕ → Packet → List ℕ
+value_bytes base_len packet = if packet.old then take base_len packet.payload else packet.payload
 
 abbrev pub frame_text : Definition → Packet → List ℕ
-frame_text def packet = frame_text_of (words_in def packet.payload) def packet
+frame_text def packet = frame_text_of (words_in def (value_bytes (base_len_of def) packet)) def packet
 
 -- a frame of given values, each field's words in definition order
 abbrev pub frame_text_with : List (List ℕ) → Definition → Packet → List ℕ
-frame_text_with values def packet = frame_text_of (λ place field. words_at values place) def packet
+frame_text_with values def packet = frame_text_of (λ number field. words_at values number) def packet
 
 -- ---- skipped bytes
 

@@ -7,11 +7,11 @@ use Rattle.field_layout.specs.WireOrder.{Placed, wire_order, offset_of}
 use Rattle.field_layout.specs.CrcExtra.{crc_extra_of}
 use Rattle.dialect.specs.Types.{type_word}
 
--- a text and the line end behind it
+-- a text and the line end after it
 abbrev pub line : List ℕ → List ℕ
 line text = text ++ 10 ∷ []
 
--- a field's type, with `[N]` behind an array's
+-- a field's type, with `[N]` after an array's
 abbrev pub type_text : Field → List ℕ
 type_text field =
     type_word field.ty ++ (if field.len == 0 then [] else codes "[" ++ decimal field.len ++ codes "]")

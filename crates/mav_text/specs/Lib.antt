@@ -1,4 +1,4 @@
 pub mod LayoutText
 pub mod FrameText
-pub mod RecipeText
+pub mod TemplateText
 pub mod TextLaws

@@ -1,4 +1,4 @@
-// Texts that are put together in a fixed chunk of bytes, of which those up to a place count.
+// Texts that are put together in a fixed chunk of bytes, of which those up to an index count.
 ghost use Rattle.std.specs.Prelude.{◌≡◌, ◌+◌, ◌≤◌, ◌∷◌, [], ◌++◌, length, replicate, take, vec_len, slice_index, slice_range, slice_set, IfOk};
 
 use crate::NoMemory;
@@ -33,7 +33,7 @@ pub(crate) fn append_enough(
     requires { end ≤ 2048 }
     ensures room { IfOk result (λ left. left ≤ most) }
     ensures text { IfOk result (λ left. out.new.items ++ take left chunk.now ≡ out.old.items ++ take end chunk.now) }
-    ensures front { take (vec_len out.old) out.new.items ≡ out.old.items }
+    ensures prefix { take (vec_len out.old) out.new.items ≡ out.old.items }
 {
     if end <= most {
         return Ok(end);
@@ -42,7 +42,7 @@ pub(crate) fn append_enough(
     Ok(0)
 }
 
-/// Puts the first `len` bytes of a part at a place, and answers the place behind them. All of the part is copied, since
+/// Puts the first `len` bytes of a part at an index, and returns the index after them. All of the part is copied, since
 /// a copy of fixed size is the fastest.
 #[inline(always)]
 pub(crate) fn put_part<const N: usize>(
@@ -53,7 +53,7 @@ pub(crate) fn put_part<const N: usize>(
 ) -> usize
     requires room { at + length part.now ≤ N }
     requires len { len ≤ length part.now }
-    ensures place { result ≡ at + len }
+    ensures index { result ≡ at + len }
     ensures text { take result chunk.new ≡ take at chunk.old ++ take len part.now }
 {
     let bytes = &mut chunk[..];
@@ -61,7 +61,7 @@ pub(crate) fn put_part<const N: usize>(
     at + len
 }
 
-// Puts eight bytes of a part at a place, and answers the place behind them. All are read before one is written, and
+// Puts eight bytes of a part at an index, and returns the index after them. All are read before one is written, and
 // written side by side, which makes one load and one store of them.
 #[inline(always)]
 fn put_eight<const N: usize, const M: usize>(
@@ -72,7 +72,7 @@ fn put_eight<const N: usize, const M: usize>(
 ) -> usize
     requires room { at + 8 ≤ N }
     requires part { from + 8 ≤ M }
-    ensures place { result ≡ at + 8 }
+    ensures index { result ≡ at + 8 }
     ensures text { take result chunk.new ≡ take at chunk.old ++ slice_range part.now from (from + 8) }
 {
     let first = part[from];
@@ -94,7 +94,7 @@ fn put_eight<const N: usize, const M: usize>(
     at + 8
 }
 
-/// Puts the first `len` bytes of a part, at most 24, at a place, and answers the place behind them. Always 24 are copied.
+/// Puts the first `len` bytes of a part, at most 24, at an index, and returns the index after them. Always 24 are copied.
 #[inline(always)]
 pub(crate) fn put_short<const N: usize, const M: usize>(
     chunk: &mut [u8; N],
@@ -105,7 +105,7 @@ pub(crate) fn put_short<const N: usize, const M: usize>(
     requires room { at + 24 ≤ N }
     requires part { 24 ≤ M }
     requires len { len ≤ 24 }
-    ensures place { result ≡ at + len }
+    ensures index { result ≡ at + len }
     ensures text { take result chunk.new ≡ take at chunk.old ++ take len part.now }
 {
     let second = put_eight(chunk, at, part, 0);
@@ -114,11 +114,11 @@ pub(crate) fn put_short<const N: usize, const M: usize>(
     at + len
 }
 
-/// Puts two bytes at a place, and answers the place behind them.
+/// Puts two bytes at an index, and returns the index after them.
 #[inline(always)]
 pub(crate) fn put_two<const N: usize>(chunk: &mut [u8; N], at: usize, two: [u8; 2]) -> usize
     requires { at + 2 ≤ N }
-    ensures place { result ≡ at + 2 }
+    ensures index { result ≡ at + 2 }
     ensures text { take result chunk.new ≡ take at chunk.old ++ two }
 {
     let [first, second] = two;
@@ -127,7 +127,7 @@ pub(crate) fn put_two<const N: usize>(chunk: &mut [u8; N], at: usize, two: [u8; 
     at + 2
 }
 
-/// Writes two bytes over those at a place.
+/// Writes two bytes over those at an index.
 #[inline(always)]
 pub(crate) fn set_two<const N: usize>(chunk: &mut [u8; N], at: usize, two: [u8; 2])
     requires { at + 2 ≤ N }
@@ -138,18 +138,18 @@ pub(crate) fn set_two<const N: usize>(chunk: &mut [u8; N], at: usize, two: [u8; 
     chunk[at + 1] = second;
 }
 
-// Puts four bytes at a place.
+// Puts four bytes at an index.
 #[inline(always)]
 fn put_four<const N: usize>(chunk: &mut [u8; N], at: usize, four: [u8; 4])
     requires { at + 4 ≤ N }
     ensures { take (at + 4) chunk.new ≡ take at chunk.old ++ four }
 {
     let [first, second, third, fourth] = four;
-    let place = put_two(chunk, at, [first, second]);
-    let _end = put_two(chunk, place, [third, fourth]);
+    let index = put_two(chunk, at, [first, second]);
+    let _end = put_two(chunk, index, [third, fourth]);
 }
 
-/// Puts four bytes at a place, of which the first `len` count, and answers the place behind these.
+/// Puts four bytes at an index, of which the first `len` count, and returns the index after these.
 #[inline(always)]
 pub(crate) fn put_of_four<const N: usize>(
     chunk: &mut [u8; N],
@@ -159,7 +159,7 @@ pub(crate) fn put_of_four<const N: usize>(
 ) -> usize
     requires room { at + 4 ≤ N }
     requires len { len ≤ 4 }
-    ensures place { result ≡ at + len }
+    ensures index { result ≡ at + len }
     ensures text { take result chunk.new ≡ take at chunk.old ++ take len four }
 {
     put_four(chunk, at, four);

@@ -7,11 +7,11 @@ use crate::chunk::{put_of_four, put_part, put_two};
 use crate::digits::{pair_digits, word_digits};
 use crate::small::small_digits;
 
-/// Puts the digits of a number below 256 at a place, and answers the place behind them. Four bytes are written.
+/// Puts the digits of a number below 256 at an index, and returns the index after them. Four bytes are written.
 #[inline(always)]
 pub(crate) fn put_small<const N: usize>(chunk: &mut [u8; N], at: usize, number: u8) -> usize
     requires { at + 4 ≤ N }
-    ensures place { (at ≤ result) × (result ≤ at + 3) }
+    ensures index { (at ≤ result) × (result ≤ at + 3) }
     ensures text { take result chunk.new ≡ take at chunk.old ++ decimal number }
 {
     put_digits(chunk, at, number)
@@ -21,7 +21,7 @@ pub(crate) fn put_small<const N: usize>(chunk: &mut [u8; N], at: usize, number: 
 #[inline(always)]
 fn put_digits<const N: usize>(chunk: &mut [u8; N], at: usize, number: u8) -> usize
     requires { at + 4 ≤ N }
-    ensures place { result ≡ at + length (decimal number) }
+    ensures index { result ≡ at + length (decimal number) }
     ensures few { result ≤ at + 3 }
     ensures text { take result chunk.new ≡ take at chunk.old ++ decimal number }
 {
@@ -34,11 +34,11 @@ fn put_digits<const N: usize>(chunk: &mut [u8; N], at: usize, number: u8) -> usi
 fn put_four<const N: usize>(chunk: &mut [u8; N], at: usize, number: u32) -> usize
     requires room { at + 4 ≤ N }
     requires number { number < 10000 }
-    ensures place { result ≡ at + 4 }
+    ensures index { result ≡ at + 4 }
     ensures text { take result chunk.new ≡ take at chunk.old ++ (pair_text (number / 100) ++ pair_text (number % 100)) }
 {
-    let place = put_two(chunk, at, pair_digits((number / 100) as usize));
-    put_two(chunk, place, pair_digits((number % 100) as usize))
+    let index = put_two(chunk, at, pair_digits((number / 100) as usize));
+    put_two(chunk, index, pair_digits((number % 100) as usize))
 }
 
 // Eight digits of a number below 100,000,000.
@@ -46,11 +46,11 @@ fn put_four<const N: usize>(chunk: &mut [u8; N], at: usize, number: u32) -> usiz
 fn put_eight<const N: usize>(chunk: &mut [u8; N], at: usize, number: u32) -> usize
     requires room { at + 8 ≤ N }
     requires number { number < 100000000 }
-    ensures place { result ≡ at + 8 }
+    ensures index { result ≡ at + 8 }
     ensures text { take result chunk.new ≡ take at chunk.old ++ ((pair_text (number / 10000 / 100) ++ pair_text (number / 10000 % 100)) ++ (pair_text (number % 10000 / 100) ++ pair_text (number % 10000 % 100))) }
 {
-    let place = put_four(chunk, at, number / 10_000);
-    put_four(chunk, place, number % 10_000)
+    let index = put_four(chunk, at, number / 10_000);
+    put_four(chunk, index, number % 10_000)
 }
 
 // The digits of a number below 10,000.
@@ -58,36 +58,36 @@ fn put_eight<const N: usize>(chunk: &mut [u8; N], at: usize, number: u32) -> usi
 fn put_low<const N: usize>(chunk: &mut [u8; N], at: usize, number: u32) -> usize
     requires room { at + 5 ≤ N }
     requires number { number < 10000 }
-    ensures place { (at ≤ result) × (result ≤ at + 4) }
+    ensures index { (at ≤ result) × (result ≤ at + 4) }
     ensures text { take result chunk.new ≡ take at chunk.old ++ decimal number }
 {
     if number < 100 {
         return put_small(chunk, at, number as u8);
     }
-    let place = put_digits(chunk, at, (number / 100) as u8);
-    put_two(chunk, place, pair_digits((number % 100) as usize))
+    let index = put_digits(chunk, at, (number / 100) as u8);
+    put_two(chunk, index, pair_digits((number % 100) as usize))
 }
 
-/// Puts the digits of a number below 100,000,000, and answers the place behind them.
+/// Puts the digits of a number below 100,000,000, and returns the index after them.
 #[inline(always)]
 pub(crate) fn put_middle<const N: usize>(chunk: &mut [u8; N], at: usize, number: u32) -> usize
     requires room { at + 9 ≤ N }
     requires number { number < 100000000 }
-    ensures place { (at ≤ result) × (result ≤ at + 8) }
+    ensures index { (at ≤ result) × (result ≤ at + 8) }
     ensures text { take result chunk.new ≡ take at chunk.old ++ decimal number }
 {
     if number < 10_000 {
         return put_low(chunk, at, number);
     }
-    let place = put_low(chunk, at, number / 10_000);
-    put_four(chunk, place, number % 10_000)
+    let index = put_low(chunk, at, number / 10_000);
+    put_four(chunk, index, number % 10_000)
 }
 
-/// Puts the digits of a number at a place, and answers the place behind them.
+/// Puts the digits of a number at an index, and returns the index after them.
 #[inline(always)]
 pub(crate) fn put_number<const N: usize>(chunk: &mut [u8; N], at: usize, number: u64) -> usize
     requires { at + 24 ≤ N }
-    ensures place { (at ≤ result) × (result ≤ at + 20) }
+    ensures index { (at ≤ result) × (result ≤ at + 20) }
     ensures text { take result chunk.new ≡ take at chunk.old ++ decimal number }
 {
     if number < 100_000_000 {
@@ -101,14 +101,14 @@ pub(crate) fn put_number<const N: usize>(chunk: &mut [u8; N], at: usize, number:
 fn put_high<const N: usize>(chunk: &mut [u8; N], at: usize, number: u64) -> usize
     requires room { at + 13 ≤ N }
     requires number { number < 1000000000000 }
-    ensures place { (at ≤ result) × (result ≤ at + 12) }
+    ensures index { (at ≤ result) × (result ≤ at + 12) }
     ensures text { take result chunk.new ≡ take at chunk.old ++ decimal number }
 {
     if number < 100_000_000 {
         return put_middle(chunk, at, number as u32);
     }
-    let place = put_low(chunk, at, (number / 100_000_000) as u32);
-    put_eight(chunk, place, (number % 100_000_000) as u32)
+    let index = put_low(chunk, at, (number / 100_000_000) as u32);
+    put_eight(chunk, index, (number % 100_000_000) as u32)
 }
 
 // The digits of a number from 100,000,000 on.
@@ -116,11 +116,11 @@ fn put_high<const N: usize>(chunk: &mut [u8; N], at: usize, number: u64) -> usiz
 fn put_large<const N: usize>(chunk: &mut [u8; N], at: usize, number: u64) -> usize
     requires room { at + 24 ≤ N }
     requires number { 100000000 ≤ number }
-    ensures place { (at ≤ result) × (result ≤ at + 20) }
+    ensures index { (at ≤ result) × (result ≤ at + 20) }
     ensures text { take result chunk.new ≡ take at chunk.old ++ decimal number }
 {
-    let place = put_high(chunk, at, number / 100_000_000);
-    put_eight(chunk, place, (number % 100_000_000) as u32)
+    let index = put_high(chunk, at, number / 100_000_000);
+    put_eight(chunk, index, (number % 100_000_000) as u32)
 }
 
 /// Puts a number of two's complement, whose negative values are the words from `half` on.
@@ -133,7 +133,7 @@ pub(crate) fn put_signed<const N: usize>(
 ) -> usize
     requires word { word < 2 * half }
     requires room { at + 25 ≤ N }
-    ensures place { (at ≤ result) × (result ≤ at + 21) }
+    ensures index { (at ≤ result) × (result ≤ at + 21) }
     ensures text { take result chunk.new ≡ take at chunk.old ++ (if nat_lt word half then decimal word else 45 ∷ decimal (2 * half - word)) }
 {
     if word < half {
@@ -148,7 +148,7 @@ pub(crate) fn put_signed<const N: usize>(
 pub(crate) fn put_word<const N: usize>(chunk: &mut [u8; N], at: usize, word: u64) -> usize
     requires room { at + 8 ≤ N }
     requires word { word < 2 ^ 32 }
-    ensures place { result ≡ at + 8 }
+    ensures index { result ≡ at + 8 }
     ensures text { take result chunk.new ≡ take at chunk.old ++ word_hex 4 word }
 {
     put_part(chunk, at, &word_digits(word), 8)
@@ -158,9 +158,9 @@ pub(crate) fn put_word<const N: usize>(chunk: &mut [u8; N], at: usize, word: u64
 #[inline(always)]
 pub(crate) fn put_long_word<const N: usize>(chunk: &mut [u8; N], at: usize, word: u64) -> usize
     requires { at + 16 ≤ N }
-    ensures place { result ≡ at + 16 }
+    ensures index { result ≡ at + 16 }
     ensures text { take result chunk.new ≡ take at chunk.old ++ word_hex 8 word }
 {
-    let place = put_word(chunk, at, word >> 32);
-    put_word(chunk, place, word % (1 << 32))
+    let index = put_word(chunk, at, word >> 32);
+    put_word(chunk, index, word % (1 << 32))
 }

@@ -1,13 +1,14 @@
 // The text of a frame.
 ghost use Rattle.std.specs.Prelude.{◌≡◌, ◌+◌, ◌≤◌, ◌++◌, length, take, IfOk, OnOk, OnErr, vec_len};
 ghost use Rattle.field_layout.specs.Types.{element_size};
-ghost use Rattle.field_layout.specs.Definition.{all_fields, element_count, size_of};
+ghost use Rattle.field_layout.specs.Definition.{all_fields, base_len_of, element_count, size_of};
 ghost use Rattle.field_layout.specs.Reading.{words_from};
-ghost use Rattle.mav_text.specs.FrameText.{block_text, field_text, fields_text, frame_text, words_in};
+ghost use Rattle.mav_text.specs.FrameText.{block_text, field_text, fields_text, frame_text, value_bytes, words_in};
 
 use crate::NoMemory;
 use crate::chunk::{CHUNK_BYTES, append_enough, put_part};
-use crate::values::{put_block, put_byte, put_sender, put_value};
+use crate::values::{put_block, put_byte, put_sender, put_value, put_version};
+use crate::words::{base_bytes, with_zeros};
 use field_layout::{Field, Layout};
 use mav_frame::{Block, Frame};
 
@@ -17,7 +18,7 @@ const ENOUGH_BYTES: usize = 512;
 // The longest name that is put into a chunk.
 const NAME_BYTES: usize = 128;
 
-// Puts a name at a place, or where it is long appends the chunk's text and the name. Answers where the chunk's text now
+// Puts a name at an index, or if it is long appends the chunk's text and the name. Returns where the chunk's text now
 // ends.
 fn put_name(
     chunk: &mut [u8; 2048],
@@ -28,7 +29,7 @@ fn put_name(
     requires { at ≤ 1000 }
     ensures text { IfOk result (λ end. out.new.items ++ take end chunk.new ≡ (out.old.items ++ take at chunk.old) ++ name.now) }
     ensures room { IfOk result (λ end. end ≤ at + 128) }
-    ensures front { take (vec_len out.old) out.new.items ≡ out.old.items }
+    ensures prefix { take (vec_len out.old) out.new.items ≡ out.old.items }
 {
     if name.len() <= NAME_BYTES {
         return Ok(put_part(chunk, at, name, name.len()));
@@ -38,30 +39,30 @@ fn put_name(
     Ok(0)
 }
 
-// Puts a field, whose value begins at a place of the payload, and answers where the chunk's text now ends.
+// Puts a field, whose value begins at an offset of the payload, and returns where the chunk's text now ends.
 fn put_field(
     chunk: &mut [u8; 2048],
     at: usize,
     field: &Field,
     payload: &[u8],
-    place: usize,
+    offset: usize,
     out: &mut Vec<u8>,
 ) -> Result<usize, NoMemory>
-    requires within { place + size_of field.now ≤ length payload.now }
+    requires within { offset + size_of field.now ≤ length payload.now }
     requires payload { length payload.now ≤ 255 }
     requires room { at ≤ 512 }
-    ensures text { IfOk result (λ end. out.new.items ++ take end chunk.new ≡ (out.old.items ++ take at chunk.old) ++ field_text field.now (words_from payload.now place (element_size field.now.ty) (element_count field.now))) }
+    ensures text { IfOk result (λ end. out.new.items ++ take end chunk.new ≡ (out.old.items ++ take at chunk.old) ++ field_text field.now (words_from payload.now offset (element_size field.now.ty) (element_count field.now))) }
     ensures room { IfOk result (λ end. end ≤ 512) }
-    ensures front { take (vec_len out.old) out.new.items ≡ out.old.items }
+    ensures prefix { take (vec_len out.old) out.new.items ≡ out.old.items }
 {
     let end = put_byte(chunk, at, b' ');
     let end = put_name(chunk, end, field.name.bytes(), out)?;
     let end = put_byte(chunk, end, b'=');
-    let end = put_value(chunk, end, field.ty, field.len, payload, place);
+    let end = put_value(chunk, end, field.ty, field.len, payload, offset);
     append_enough(chunk, end, ENOUGH_BYTES, out)
 }
 
-// Puts the fields, and answers where the chunk's text now ends.
+// Puts the fields, and returns where the chunk's text now ends.
 fn put_all(
     chunk: &mut [u8; 2048],
     at: usize,
@@ -73,22 +74,22 @@ fn put_all(
     requires room { at ≤ 512 }
     ensures text { IfOk result (λ end. out.new.items ++ take end chunk.new ≡ (out.old.items ++ take at chunk.old) ++ fields_text (words_in layout.now payload.now) 0 (all_fields layout.now)) }
     ensures room { IfOk result (λ end. end ≤ 512) }
-    ensures front { take (vec_len out.old) out.new.items ≡ out.old.items }
+    ensures prefix { take (vec_len out.old) out.new.items ≡ out.old.items }
 {
     let def = layout.def();
     let mut end = at;
     for number in 0..def.field_count() {
-        let place = usize::from(layout.offset(number));
-        end = put_field(chunk, end, def.field(number), payload, place, out)?;
+        let offset = usize::from(layout.offset(number));
+        end = put_field(chunk, end, def.field(number), payload, offset, out)?;
     }
     Ok(end)
 }
 
-// Puts the end of a signed frame's text, or nothing where there is no signature block.
+// Puts the end of a signed frame's text, or nothing if there is no signature block.
 #[inline]
 fn put_block_of(chunk: &mut [u8; 2048], at: usize, block: &Option<Block>) -> usize
     requires { at ≤ 1000 }
-    ensures place { result ≤ at + 40 }
+    ensures index { result ≤ at + 40 }
     ensures text { take result chunk.new ≡ take at chunk.old ++ block_text block.now }
 {
     match block {
@@ -97,7 +98,7 @@ fn put_block_of(chunk: &mut [u8; 2048], at: usize, block: &Option<Block>) -> usi
     }
 }
 
-// Puts the fields of a frame, and answers where the chunk's text now ends.
+// Puts the fields of a frame, and returns where the chunk's text now ends.
 fn put_fields_of(
     chunk: &mut [u8; 2048],
     at: usize,
@@ -106,10 +107,14 @@ fn put_fields_of(
     out: &mut Vec<u8>,
 ) -> Result<usize, NoMemory>
     requires { at ≤ 512 }
-    ensures text { IfOk result (λ end. out.new.items ++ take end chunk.new ≡ (out.old.items ++ take at chunk.old) ++ fields_text (words_in layout.now frame.now.payload) 0 (all_fields layout.now)) }
+    ensures text { IfOk result (λ end. out.new.items ++ take end chunk.new ≡ (out.old.items ++ take at chunk.old) ++ fields_text (words_in layout.now (value_bytes (base_len_of layout.now) frame.now)) 0 (all_fields layout.now)) }
     ensures room { IfOk result (λ end. end ≤ 512) }
-    ensures front { take (vec_len out.old) out.new.items ≡ out.old.items }
+    ensures prefix { take (vec_len out.old) out.new.items ≡ out.old.items }
 {
+    if frame.old {
+        let base = base_bytes(frame.payload_bytes(), usize::from(layout.base_len()));
+        return put_all(chunk, at, layout, &with_zeros(base), out);
+    }
     put_all(chunk, at, layout, &frame.payload, out)
 }
 
@@ -121,6 +126,7 @@ fn append(layout: &Layout, frame: &Frame, out: &mut Vec<u8>) -> Result<(), NoMem
     let mut chunk = [0; CHUNK_BYTES];
     let end = put_name(&mut chunk, 0, layout.def().name.bytes(), out)?;
     let end = put_sender(&mut chunk, end, frame.from.sys, frame.from.comp, frame.seq);
+    let end = put_version(&mut chunk, end, frame.old);
     let end = put_fields_of(&mut chunk, end, layout, frame, out)?;
     let end = put_block_of(&mut chunk, end, &frame.block);
     out.extend_from_slice(&chunk[..end])?;
@@ -128,7 +134,7 @@ fn append(layout: &Layout, frame: &Frame, out: &mut Vec<u8>) -> Result<(), NoMem
 }
 
 /// Appends `decode`'s text of a frame of that layout from the message's name to its last field, and ` signed LINK STAMP`
-/// where the frame is signed, without a line end. The frame's id is the layout's.
+/// if the frame is signed, without a line end. The frame's id is the layout's.
 pub fn put_fields(layout: &Layout, frame: &Frame, out: &mut Vec<u8>) -> Result<(), NoMemory>
     ensures ok { OnOk result (out.new.items ≡ out.old.items ++ frame_text layout.now frame.now) }
     ensures err { OnErr result (out.new.items ≡ out.old.items) }

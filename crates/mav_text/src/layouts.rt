@@ -8,7 +8,7 @@ use crate::pieces::{put_decimal, put_text};
 use dialect::type_word;
 use field_layout::{Field, Layout};
 
-// Appends a field's type, with `[N]` behind an array's.
+// Appends a field's type, with `[N]` after an array's.
 fn put_type(out: &mut Vec<u8>, field: &Field) -> Result<(), NoMemory>
     ensures { OnOk result (out.new.items ≡ out.old.items ++ spec.type_text field.now) }
 {
@@ -21,18 +21,18 @@ fn put_type(out: &mut Vec<u8>, field: &Field) -> Result<(), NoMemory>
     put_text(out, "]")
 }
 
-// Appends the line of the field at a place in definition order.
+// Appends the line of the field at an index in definition order.
 fn put_field(
     out: &mut Vec<u8>,
     layout: &Layout,
-    place: usize,
+    number: usize,
     field: &Field,
 ) -> Result<(), NoMemory>
-    requires { slice_get (all_fields layout.now) place ≡ Some field.now }
-    ensures { OnOk result (out.new.items ≡ out.old.items ++ spec.field_line layout.now (place, field.now)) }
+    requires { slice_get (all_fields layout.now) number ≡ Some field.now }
+    ensures { OnOk result (out.new.items ≡ out.old.items ++ spec.field_line layout.now (number, field.now)) }
 {
     put_text(out, " ")?;
-    put_decimal(u64::from(layout.offset(place)), out)?;
+    put_decimal(u64::from(layout.offset(number)), out)?;
     put_text(out, " ")?;
     put_type(out, field)?;
     put_text(out, " ")?;
@@ -62,8 +62,8 @@ fn put_lines(out: &mut Vec<u8>, layout: &Layout) -> Result<(), NoMemory>
     ensures { OnOk result (out.new.items ≡ out.old.items ++ spec.layout_text layout.now) }
 {
     put_message(out, layout)?;
-    for place in layout.order() {
-        put_field(out, layout, *place, layout.def().field(*place))?;
+    for number in layout.order() {
+        put_field(out, layout, *number, layout.def().field(*number))?;
     }
     Ok(())
 }

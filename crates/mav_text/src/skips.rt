@@ -14,23 +14,23 @@ use std::marker::Model;
 const LINE_BYTES: usize = 48;
 
 // More than a line has whose offset is below `FAR_OFFSET`, and the most that it has.
-const BLANK_BYTES: usize = 40;
+const TEMPLATE_BYTES: usize = 40;
 
 const MOST_BYTES: usize = 32;
 
 const FAR_OFFSET: u64 = 10_000_000_000;
 
-// From how many bytes on a chunk is appended: one more line fits behind fewer.
+// From how many bytes on a chunk is appended: one more line fits after fewer.
 const ENOUGH_BYTES: usize = 1984;
 
-// What stands behind the offset of a line, with `00` in place of the byte's digits.
+// What stands after the offset of a line, with `00` in place of the byte's digits.
 #[derive(Drop)]
-struct Template {
+struct SkipEnding {
     bytes: [u8; 24],
     len: usize,
 }
 
-impl Model for Template {
+impl Model for SkipEnding {
     ghost use Rattle.std.specs.Prelude.{List, ℕ, ◌≤◌, take};
 
     ghost Value = { List ℕ };
@@ -42,7 +42,7 @@ impl Model for Template {
 
 // A line whose offset has some hundreds, with `00` in place of the offset's last two digits and of the byte's.
 #[derive(Drop)]
-struct Blank {
+struct SkipTemplate {
     hundreds: u64,
     why: Why,
     bytes: [u8; 40],
@@ -50,7 +50,7 @@ struct Blank {
     len: usize,
 }
 
-impl Model for Blank {
+impl Model for SkipTemplate {
     ghost use Rattle.std.specs.Prelude.{◌≡◌, ◌<◌, ◌≤◌, ◌++◌, ◌∷◌, [], ℕ, length, take, codes};
     ghost use Rattle.std.specs.Fmt.{decimal};
     ghost use Rattle.mav_frame.specs.declared.looks.Why.{Why};
@@ -65,29 +65,29 @@ impl Model for Blank {
         × (take b.len b.bytes ≡ decimal b.hundreds ++ (codes "00 skip 00 " ++ why_text b.why ++ 10 ∷ [])) };
 }
 
-impl Template {
-    fn of(why: Why) -> Template
+impl SkipEnding {
+    fn of(why: Why) -> SkipEnding
         ensures text { result ≡ codes " skip 00 " ++ why_text why ++ 10 ∷ [] }
         ensures digits { 8 ≤ length result }
     {
         match why {
-            Why::NotStx => Template {
+            Why::NotStx => SkipEnding {
                 bytes: *b" skip 00 not-stx\n       ",
                 len: 17,
             },
-            Why::UnknownFlag => Template {
+            Why::UnknownFlag => SkipEnding {
                 bytes: *b" skip 00 unknown-flag\n  ",
                 len: 22,
             },
-            Why::UnknownId => Template {
+            Why::UnknownId => SkipEnding {
                 bytes: *b" skip 00 unknown-id\n    ",
                 len: 20,
             },
-            Why::BadCheck => Template {
+            Why::BadCheck => SkipEnding {
                 bytes: *b" skip 00 bad-check\n     ",
                 len: 19,
             },
-            Why::Short => Template {
+            Why::Short => SkipEnding {
                 bytes: *b" skip 00 short\n         ",
                 len: 15,
             },
@@ -95,18 +95,18 @@ impl Template {
     }
 }
 
-impl Blank {
-    fn of(hundreds: u64, why: Why) -> Blank
+impl SkipTemplate {
+    fn of(hundreds: u64, why: Why) -> SkipTemplate
         requires some { 0 < hundreds }
         requires near { hundreds < 100000000 }
         ensures { result ≡ (hundreds, why) }
     {
-        let template = Template::of(why);
-        let mut bytes = [0; BLANK_BYTES];
+        let skip_ending = SkipEnding::of(why);
+        let mut bytes = [0; TEMPLATE_BYTES];
         let pair = put_middle(&mut bytes, 0, hundreds as u32);
         let behind = put_two(&mut bytes, pair, [b'0', b'0']);
-        let len = put_part(&mut bytes, behind, &template.bytes, template.len);
-        Blank {
+        let len = put_part(&mut bytes, behind, &skip_ending.bytes, skip_ending.len);
+        SkipTemplate {
             hundreds,
             why,
             bytes,
@@ -136,31 +136,31 @@ pub fn put_skip(offset: u64, byte: u8, why: Why, out: &mut Vec<u8>) -> Result<()
     ensures err { OnErr result (out.new.items ≡ out.old.items) }
 {
     let mut line = [0; LINE_BYTES];
-    let place = put_number(&mut line, 0, offset);
-    let end = put_behind(&mut line, place, byte, &Template::of(why));
+    let index = put_number(&mut line, 0, offset);
+    let end = put_behind(&mut line, index, byte, &SkipEnding::of(why));
     out.extend_from_slice(&line[..end])?;
     Ok(())
 }
 
-// Puts what stands behind the offset of a line: all of the template, and then the byte's digits in it.
+// Puts what stands after the offset of a line: all of the template, and then the byte's digits in it.
 #[inline(always)]
 fn put_behind<const N: usize>(
     chunk: &mut [u8; N],
     at: usize,
     byte: u8,
-    template: &Template,
+    skip_ending: &SkipEnding,
 ) -> usize
     requires room { at + 24 ≤ N }
-    requires digits { 8 ≤ length template.now }
+    requires digits { 8 ≤ length skip_ending.now }
     ensures room { (at ≤ result) × (result ≤ at + 24) }
-    ensures text { take result chunk.new ≡ take at chunk.old ++ (take 6 template.now ++ byte_hex byte ++ drop 8 template.now) }
+    ensures text { take result chunk.new ≡ take at chunk.old ++ (take 6 skip_ending.now ++ byte_hex byte ++ drop 8 skip_ending.now) }
 {
-    let end = put_part(chunk, at, &template.bytes, template.len);
+    let end = put_part(chunk, at, &skip_ending.bytes, skip_ending.len);
     set_two(chunk, at + 6, byte_digits(byte));
     end
 }
 
-// Puts the lines of bytes whose offsets have the same hundreds, and answers where the chunk's text now ends.
+// Puts the lines of bytes whose offsets have the same hundreds, and returns where the chunk's text now ends.
 fn append_run(
     offset: u64,
     bytes: &[u8],
@@ -175,13 +175,13 @@ fn append_run(
     requires room { end ≤ 1984 }
     ensures room { IfOk result (λ left. left ≤ 1984) }
     ensures text { IfOk result (λ left. out.new.items ++ take left chunk.new ≡ (out.old.items ++ take end chunk.old) ++ skip_lines offset bytes.now why) }
-    ensures front { take (vec_len out.old) out.new.items ≡ out.old.items }
+    ensures prefix { take (vec_len out.old) out.new.items ≡ out.old.items }
 {
-    let blank = Blank::of(offset / 100, why);
+    let skip_template = SkipTemplate::of(offset / 100, why);
     let mut left = end;
     let mut pair = (offset % 100) as usize;
     for byte in bytes {
-        let behind = blank.put(chunk, left, pair, *byte);
+        let behind = skip_template.put(chunk, left, pair, *byte);
         left = append_enough(chunk, behind, ENOUGH_BYTES, out)?;
         pair += 1;
     }
@@ -214,9 +214,9 @@ fn append_runs(
     let mut end = 0;
     let mut done = 0;
     while done < bytes.len() {
-        let place = offset + done as u64;
-        let next = done + run_length(place, bytes.len() - done);
-        end = append_run(place, &bytes[done..next], why, chunk, end, out)?;
+        let line_offset = offset + done as u64;
+        let next = done + run_length(line_offset, bytes.len() - done);
+        end = append_run(line_offset, &bytes[done..next], why, chunk, end, out)?;
         done = next;
     }
     out.extend_from_slice(&chunk[..end])
@@ -228,15 +228,15 @@ fn append_each(offset: u64, bytes: &[u8], why: Why, out: &mut Vec<u8>) -> Result
     ensures ok { OnOk result (out.new.items ≡ out.old.items ++ skip_lines offset bytes.now why) }
     ensures err { OnErr result (take (vec_len out.old) out.new.items ≡ out.old.items) }
 {
-    let mut place = offset;
+    let mut line_offset = offset;
     for byte in bytes {
-        put_skip(place, *byte, why, out)?;
-        place += 1;
+        put_skip(line_offset, *byte, why, out)?;
+        line_offset += 1;
     }
     Ok(())
 }
 
-// How many of some bytes stand in front of offset 100.
+// How many of some bytes stand before offset 100.
 fn small_length(offset: u64, count: usize) -> usize
     ensures within { result ≤ count }
     ensures behind { result < count → 100 ≤ offset + result }

@@ -2,7 +2,7 @@
 ghost use Rattle.std.specs.Prelude.{◌≡◌, ◌≤◌, take};
 ghost use Rattle.std.specs.Fmt.{decimal};
 
-// Three digits of each number, zeros behind those that it has, and how many it has.
+// Three digits of each number, zeros after those that it has, and how many it has.
 static SMALL: [[u8; 4]; 256] = [
     [48, 0, 0, 1],
     [49, 0, 0, 1],

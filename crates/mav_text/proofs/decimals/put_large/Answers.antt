@@ -7,4 +7,4 @@ pub returns-clause-text : goal.returns-clause-text
 returns-clause-text g c =
     let number : ℕ = c.args.number in
     two_put _ _ _ (decimal (number / 100000000)) _ (decimal number)
-    c.put_high-place.ensures.text c.put_eight.ensures.text (decimal_eight number (omega arith) (omega arith))
+    c.put_high-index.ensures.text c.put_eight.ensures.text (decimal_eight number (omega arith) (omega arith))

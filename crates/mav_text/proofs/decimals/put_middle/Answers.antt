@@ -9,4 +9,4 @@ pub returns-clause-text : goal.returns-clause-text
 returns-clause-text g c =
     let number : ℕ = c.args.number in
     two_put _ _ _ (decimal (number / 10000)) (pair_text (number % 10000 / 100) ++ pair_text (number % 10000 % 100)) (decimal number)
-    c.put_low-place.ensures.text c.put_four.ensures.text (decimal_four number (omega arith) (omega arith))
+    c.put_low-index.ensures.text c.put_four.ensures.text (decimal_four number (omega arith) (omega arith))

@@ -16,7 +16,7 @@ pub put_field-requires-clause-within : goal.put_field-requires-clause-within
 put_field-requires-clause-within c =
     let def = c.args.layout.now in let number = c.loop-number.number in
     let got : slice_get (all_fields def) number ≡ Some c.field.result.now = ap (λ (d : Definition). slice_get (all_fields d) number) (sym c.def-def.ensures.same) ∙ c.field.ensures in
-    omega (arith, c.requires.payload, c.offset.ensures, c.from-place.ensures, place_room def number c.field.result.now got, short_payload def c.def-def.ensures.faultless)
+    omega (arith, c.requires.payload, c.offset.ensures, c.from-offset.ensures, place_room def number c.field.result.now got, short_payload def c.def-def.ensures.faultless)
 
 pub loop-number-preserved : goal.loop-number-preserved
 loop-number-preserved c =
@@ -24,20 +24,20 @@ loop-number-preserved c =
     let def = c.args.layout.now in let number = l.number in let field = c.field.result.now in let payload = c.args.payload.now in
     let got : slice_get (all_fields def) number ≡ Some field = ap (λ (d : Definition). slice_get (all_fields d) number) (sym c.def-def.ensures.same) ∙ c.field.ensures in
     let words = words_in def payload in
-    let at : c.from-place.result ≡ offset_of def number = c.from-place.ensures ∙ c.offset.ensures in
+    let at : c.from-offset.result ≡ offset_of def number = c.from-offset.ensures ∙ c.offset.ensures in
     let now = l.out.items ++ take l.end l.chunk in
     let put : c.put_field.new.out.items ++ take c.in_ok-end.end c.put_field.new.chunk ≡ now ++ field_text field (words number field) =
     c.in_ok-end.ensures.text ∙ ap (λ (n : ℕ). now ++ field_text field (words_from payload n (element_size field.ty) (element_count field))) at in
     record {
       room = c.in_ok-end.ensures.room;
-      kept = kept_more c.args.out.now.items l.out.items c.put_field.new.out.items (vec_len c.args.out.now) (vec_len l.out) c.args.out.now.ok.0 l.out.ok.0 l.invariant.kept c.in_ok-end.ensures.front;
+      kept = kept_more c.args.out.now.items l.out.items c.put_field.new.out.items (vec_len c.args.out.now) (vec_len l.out) c.args.out.now.ok.0 l.out.ok.0 l.invariant.kept c.in_ok-end.ensures.prefix;
       text = field_put words number (all_fields def) field now _ field.name (61 ∷ value_text field (words number field)) got put refl refl ∙ l.invariant.text;
     }
 
-pub returns-in_err-end-clause-front : goal.returns-in_err-end-clause-front
-returns-in_err-end-clause-front c =
+pub returns-in_err-end-clause-prefix : goal.returns-in_err-end-clause-prefix
+returns-in_err-end-clause-prefix c =
     let l = c.loop-number in
-    kept_more c.args.out.now.items l.out.items c.put_field.new.out.items (vec_len c.args.out.now) (vec_len l.out) c.args.out.now.ok.0 l.out.ok.0 l.invariant.kept c.in_err-end.ensures.front
+    kept_more c.args.out.now.items l.out.items c.put_field.new.out.items (vec_len c.args.out.now) (vec_len l.out) c.args.out.now.ok.0 l.out.ok.0 l.invariant.kept c.in_err-end.ensures.prefix
 
 pub returns-clause-text : goal.returns-clause-text
 returns-clause-text c =

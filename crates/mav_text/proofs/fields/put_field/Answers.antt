@@ -9,7 +9,7 @@ use Rattle.mav_text.proofs.fields.put_field.Goals as goal
 pub returns-clause-text : goal.returns-clause-text
 returns-clause-text c =
     let field = c.args.field.now in let out = c.args.out.now.items in
-    let words = words_from c.args.payload.now c.args.place (element_size field.ty) (element_count field) in
+    let words = words_from c.args.payload.now c.args.offset (element_size field.ty) (element_count field) in
     let text : List ℕ = take c.args.at c.args.chunk.now in
     let after = c.put_name.new.out.items in let behind : List ℕ = take c.in_ok-end.end c.put_name.new.chunk in
     let name : after ++ behind ≡ (out ++ (text ++ 32 ∷ [])) ++ field.name =

@@ -10,6 +10,6 @@ loop-done-preserved c =
     record {
       within = omega arith;
       room = c.in_ok-end.ensures.room;
-      kept = kept_more c.args.out.now.items l.out.items c.append_run.new.out.items (vec_len c.args.out.now) (vec_len l.out) c.args.out.now.ok.0 l.out.ok.0 l.invariant.kept c.in_ok-end.ensures.front;
+      kept = kept_more c.args.out.now.items l.out.items c.append_run.new.out.items (vec_len c.args.out.now) (vec_len l.out) c.args.out.now.ok.0 l.out.ok.0 l.invariant.kept c.in_ok-end.ensures.prefix;
       text = skips_part (l.out.items ++ take l.end l.chunk) _ first done (done + count) bytes why (omega arith) (omega arith) c.in_ok-end.ensures.text ∙ l.invariant.text;
     }

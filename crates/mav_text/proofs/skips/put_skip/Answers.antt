@@ -5,9 +5,9 @@ use Rattle.mav_text.proofs.skips.put_skip.Goals as goal
 
 pub returns-clause-ok : goal.returns-clause-ok
 returns-clause-ok c =
-    let template : List ℕ = c.of.result in
+    let skip_ending : List ℕ = c.of.result in
     let out : List ℕ = c.args.out.now.items in
     c.in_ok-extend_from_slice.ensures.items
     ∙ ap (λ (t : List ℕ). out ++ t) (c.put_behind-end.ensures.text
-    ∙ (ap (λ (t : List ℕ). t ++ (take 6 template ++ byte_hex c.args.byte ++ drop 8 template)) c.put_number-place.ensures.text
-    ∙ line_joined c.args.offset c.args.byte c.args.why template c.of.ensures.text))
+    ∙ (ap (λ (t : List ℕ). t ++ (take 6 skip_ending ++ byte_hex c.args.byte ++ drop 8 skip_ending)) c.put_number-index.ensures.text
+    ∙ line_joined c.args.offset c.args.byte c.args.why skip_ending c.of.ensures.text))

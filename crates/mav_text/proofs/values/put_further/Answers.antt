@@ -12,12 +12,12 @@ loop-left-preserved c =
     let size : ℕ = c.size-size.result in let some = c.loop-left-test.true in
     let product = one_less size l.left some in let four = ap (λ (n : ℕ). 4 * n) (sym c.size-size.ensures) in
     let now : List ℕ = take l.end l.chunk in
-    let rest = further_text ty (words_from payload (l.place + size) size (l.left - 1)) in
+    let rest = further_text ty (words_from payload (l.offset + size) size (l.left - 1)) in
     record {
       within = omega (arith, h.within, product);
-      behind = omega (arith, h.behind, c.put_byte-start.ensures.place, c.put_one-end.ensures.place);
-      short = omega (arith, h.short, product, four, c.size-size.ensures, c.put_byte-start.ensures.place, c.put_one-end.ensures.place, some_size ty);
+      behind = omega (arith, h.behind, c.put_byte-start.ensures.index, c.put_one-end.ensures.index);
+      short = omega (arith, h.short, product, four, c.size-size.ensures, c.put_byte-start.ensures.index, c.put_one-end.ensures.index, some_size ty);
       text =
-          ap (λ (t : List ℕ). t ++ rest) (c.put_one-end.ensures.text ∙ (ap (λ (t : List ℕ). t ++ number_text ty (word_from payload l.place (element_size ty))) c.put_byte-start.ensures.text ∙ ap (λ (n : ℕ). (now ++ 44 ∷ []) ++ number_text ty (word_from payload l.place n)) (sym c.size-size.ensures)))
-          ∙ (sym (further_next ty payload l.place size l.left now some) ∙ h.text);
+          ap (λ (t : List ℕ). t ++ rest) (c.put_one-end.ensures.text ∙ (ap (λ (t : List ℕ). t ++ number_text ty (word_from payload l.offset (element_size ty))) c.put_byte-start.ensures.text ∙ ap (λ (n : ℕ). (now ++ 44 ∷ []) ++ number_text ty (word_from payload l.offset n)) (sym c.size-size.ensures)))
+          ∙ (sym (further_next ty payload l.offset size l.left now some) ∙ h.text);
     }

@@ -11,12 +11,12 @@ loop-left-preserved c =
     let l = c.loop-left in let payload = c.args.payload.now in let h = l.invariant in
     let some = c.loop-left-test.true in
     let now : List ℕ = take l.end l.chunk in
-    let rest = further_text U8 (words_from payload (l.place + 1) 1 (l.left - 1)) in
+    let rest = further_text U8 (words_from payload (l.offset + 1) 1 (l.left - 1)) in
     record {
       within = omega (arith, h.within);
-      behind = omega (arith, h.behind, c.put_byte-start.ensures.place, c.put_small-end.ensures.place);
-      short = omega (arith, h.short, c.put_byte-start.ensures.place, c.put_small-end.ensures.place);
+      behind = omega (arith, h.behind, c.put_byte-start.ensures.index, c.put_small-end.ensures.index);
+      short = omega (arith, h.short, c.put_byte-start.ensures.index, c.put_small-end.ensures.index);
       text =
           ap (λ (t : List ℕ). t ++ rest) (c.put_small-end.ensures.text ∙ (ap (λ (t : List ℕ). t ++ decimal c.read_byte.result) c.put_byte-start.ensures.text ∙ ap (λ (w : ℕ). (now ++ 44 ∷ []) ++ decimal w) c.read_byte.ensures))
-          ∙ (sym (further_next U8 payload l.place 1 l.left now some) ∙ h.text);
+          ∙ (sym (further_next U8 payload l.offset 1 l.left now some) ∙ h.text);
     }

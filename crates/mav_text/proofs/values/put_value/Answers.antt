@@ -33,11 +33,11 @@ shown_many ty len words plain some =
     let none = not_zero len some in
     λ i. if plain i then 34 ∷ chars_text words ++ 34 ∷ [] else if none i then values_text ty words else 91 ∷ values_text ty words ++ 93 ∷ []
 
-single : (ty : Ty) (payload : List ℕ) (place : ℕ) → is_char ty ≡ false → number_text ty (word_from payload place (element_size ty)) ≡ shown_text ty 0 (words_from payload place (element_size ty) 1)
-single ty payload place plain =
-    let words = words_from payload place (element_size ty) 1 in
-    let at : place ≡ place + element_size ty * 0 = omega arith in
-    sym (append-nil (number_text ty (word_from payload place (element_size ty))))
+single : (ty : Ty) (payload : List ℕ) (offset : ℕ) → is_char ty ≡ false → number_text ty (word_from payload offset (element_size ty)) ≡ shown_text ty 0 (words_from payload offset (element_size ty) 1)
+single ty payload offset plain =
+    let words = words_from payload offset (element_size ty) 1 in
+    let at : offset ≡ offset + element_size ty * 0 = omega arith in
+    sym (append-nil (number_text ty (word_from payload offset (element_size ty))))
     ∙ (ap (λ (n : ℕ). number_text ty (word_from payload n (element_size ty)) ++ []) at
     ∙ ap (λ (b : Bool). if b then 34 ∷ chars_text words ++ 34 ∷ [] else values_text ty words) (sym plain))
 
@@ -53,21 +53,21 @@ put_quoted-requires-clause-room c =
     let within = rw is at c.requires.within in
     omega (arith, within, c.count_of.ensures)
 
-pub returns-then-matches-clause-place : goal.returns-then-matches-clause-place
-returns-then-matches-clause-place c =
+pub returns-then-matches-clause-index : goal.returns-then-matches-clause-index
+returns-then-matches-clause-index c =
     let is : c.args.ty ≡ Char = elim c.match-matches.branch [ in-Char w ↦ w.in-Char.is | in_default w ↦ cc (c.if-matches.true, w.matches-is) ] in
     let within = rw is at c.requires.within in
-    (c.put_quoted.ensures.place.0, omega (arith, within, c.count_of.ensures, c.put_quoted.ensures.place.1))
+    (c.put_quoted.ensures.index.0, omega (arith, within, c.count_of.ensures, c.put_quoted.ensures.index.1))
 
 pub put_one-requires-clause-within : goal.put_one-requires-clause-within
 put_one-requires-clause-within c =
     let within = rw c.if-len-eq0.true at c.requires.within in
     omega (arith, within)
 
-pub returns-then-len-eq0-clause-place : goal.returns-then-len-eq0-clause-place
-returns-then-len-eq0-clause-place c =
+pub returns-then-len-eq0-clause-index : goal.returns-then-len-eq0-clause-index
+returns-then-len-eq0-clause-index c =
     let within = rw c.if-len-eq0.true at c.requires.within in
-    (c.put_one.ensures.place.0, omega (arith, within, c.put_one.ensures.place.1))
+    (c.put_one.ensures.index.0, omega (arith, within, c.put_one.ensures.index.1))
 
 pub put_array-requires-clause-within : goal.put_array-requires-clause-within
 put_array-requires-clause-within c =
@@ -83,8 +83,8 @@ returns-then-matches-clause-text c =
     let is : c.args.ty ≡ Char = elim c.match-matches.branch [ in-Char w ↦ w.in-Char.is | in_default w ↦ cc (c.if-matches.true, w.matches-is) ] in
     let before = take c.args.at c.args.chunk.now in let count = if c.args.len == 0 then 1 else c.args.len in
     c.put_quoted.ensures.text
-    ∙ (ap (λ (n : ℕ). before ++ (34 ∷ chars_text (words_from c.args.payload.now c.args.place 1 n) ++ 34 ∷ [])) c.count_of.ensures
-    ∙ ap (λ (ty : Ty). before ++ shown_text ty c.args.len (words_from c.args.payload.now c.args.place (element_size ty) count)) (sym is))
+    ∙ (ap (λ (n : ℕ). before ++ (34 ∷ chars_text (words_from c.args.payload.now c.args.offset 1 n) ++ 34 ∷ [])) c.count_of.ensures
+    ∙ ap (λ (ty : Ty). before ++ shown_text ty c.args.len (words_from c.args.payload.now c.args.offset (element_size ty) count)) (sym is))
 
 pub returns-clause-text : goal.returns-clause-text
 returns-clause-text c =
@@ -92,11 +92,11 @@ returns-clause-text c =
     let plain : is_char ty ≡ false = elim c.match-matches.branch [ in-Char w ↦ cc (c.if-matches.false, w.matches-is) | in_default w ↦ not_char ty w.in_default.not-Char ] in
     let count : c.from.result ≡ (if c.args.len == 0 then 1 else c.args.len) = c.from.ensures ∙ sym (count_some c.args.len (omega arith)) in
     c.put_array.ensures.text
-    ∙ ap (λ (t : List ℕ). before ++ t) (ap (λ (n : ℕ). 91 ∷ values_text ty (words_from c.args.payload.now c.args.place (element_size ty) n) ++ 93 ∷ []) count ∙ sym (shown_many ty c.args.len _ plain (omega arith)))
+    ∙ ap (λ (t : List ℕ). before ++ t) (ap (λ (n : ℕ). 91 ∷ values_text ty (words_from c.args.payload.now c.args.offset (element_size ty) n) ++ 93 ∷ []) count ∙ sym (shown_many ty c.args.len _ plain (omega arith)))
 
 pub returns-then-len-eq0-clause-text : goal.returns-then-len-eq0-clause-text
 returns-then-len-eq0-clause-text c =
-    let ty = c.args.ty in let before = take c.args.at c.args.chunk.now in let payload = c.args.payload.now in let place = c.args.place in
+    let ty = c.args.ty in let before = take c.args.at c.args.chunk.now in let payload = c.args.payload.now in let offset = c.args.offset in
     let plain : is_char ty ≡ false = elim c.match-matches.branch [ in-Char w ↦ cc (c.if-matches.false, w.matches-is) | in_default w ↦ not_char ty w.in_default.not-Char ] in
     c.put_one.ensures.text
-    ∙ ap (λ (t : List ℕ). before ++ t) (single ty payload place plain ∙ ap (λ (n : ℕ). shown_text ty n (words_from payload place (element_size ty) (if n == 0 then 1 else n))) (sym c.if-len-eq0.true))
+    ∙ ap (λ (t : List ℕ). before ++ t) (single ty payload offset plain ∙ ap (λ (n : ℕ). shown_text ty n (words_from payload offset (element_size ty) (if n == 0 then 1 else n))) (sym c.if-len-eq0.true))

@@ -1,6 +1,0 @@
-use Rattle.std.proofs.Common.{List, ℕ, ◌++◌, take, ap, ◌∙◌}
-use Rattle.mav_text.proofs.recipe.Front.put.Goals as goal
-
-pub returns-then-self-le-SHORT_FRONT_BYTES-clause-text : goal.returns-then-self-le-SHORT_FRONT_BYTES-clause-text
-returns-then-self-le-SHORT_FRONT_BYTES-clause-text c =
-    c.put_short.ensures.text ∙ ap (λ (t : List ℕ). take c.args.at c.args.chunk.now ++ t) c.self.view_is
