@@ -1,5 +1,5 @@
--- Fronts of a text, where a decoder halts.
-use Rattle.std.proofs.Common.{◌≡◌, ℕ, ◌+◌, false, List, ◌++◌, ap, ◌∙◌, append_assoc, Option}
+-- Prefixes of a text, at which a decoder halts.
+use Rattle.std.proofs.Common.{◌≡◌, ℕ, ◌+◌, true, false, List, ◌++◌, ap, ◌∙◌, append_assoc, Option}
 use Rattle.decode_command.specs.declared.known.Known.{Known}
 use Rattle.mav_profile.specs.Messages.{extras_of}
 use Rattle.mav_frame.specs.declared.events.Event.{Event}
@@ -16,7 +16,7 @@ use Rattle.decode_command.proofs.Steps.{longer_front}
 pub halted_front : (known : Known) (taken more : List ℕ) (decoder : Decoder) (before now : Option (List ℕ)) → decoder.reader.ended ≡ false → Halted known taken decoder before now → Front known (taken ++ more) before now
 halted_front known taken more decoder before now still h =
     let extras = extras_of known.dialect in let left = decoder.reader.bytes in
-    let longer = more_bytes_keep extras h.given left taken more (h.progress.incremental still) in
+    let longer = more_bytes_keep extras true h.given left taken more (h.progress.incremental still) in
     let events : incremental_events extras (taken ++ more) ≡ h.given ++ incremental_events extras (left ++ more) = incremental_begins extras h.given (left ++ more) (taken ++ more) longer in
     longer_front before now (event_lines known h.given) (lines_from known (0 + bytes_in h.given) (incremental_events extras (left ++ more))) (event_lines known (incremental_events extras (taken ++ more)))
     (ap (event_lines known) events ∙ lines_append known 0 h.given (incremental_events extras (left ++ more))) h.front

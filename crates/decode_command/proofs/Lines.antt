@@ -1,13 +1,21 @@
 -- The lines of more events.
-use Rattle.std.proofs.Common.{◌≡◌, ℕ, ◌+◌, List, [], ◌∷◌, ◌++◌, length, map, refl, sym, ap, ◌∙◌, arith, append_assoc}
+use Rattle.std.proofs.Common.{◌≡◌, ℕ, ◌+◌, Bool, true, false, List, [], ◌∷◌, ◌++◌, length, map, refl, sym, ap, ◌∙◌, arith, append_assoc}
 use Rattle.decode_command.specs.declared.known.Known.{Known}
+use Rattle.mav_profile.specs.Messages.{definition_with}
+use Rattle.mav_frame.specs.Looks.{id_at, packet_at}
 use Rattle.mav_frame.specs.declared.looks.Why.{Why}
 use Rattle.mav_frame.specs.declared.events.Event.{Event}
-use Rattle.mav_scan.specs.Ahead.{skipped_for}
+use Rattle.mav_frame.specs.declared.events.Event.TheVariants.{Frame}
+use Rattle.mav_scan.specs.Spans.{skipped_for}
 use Rattle.mav_text.specs.FrameText.{skip_line, skip_lines}
-use Rattle.decode_command.specs.DecodeText.{event_size, event_line, lines_from, bytes_in, frames_in, skips_in}
+use Rattle.decode_command.specs.DecodeText.{event_size, frame_line, event_line, lines_from, bytes_in, frames_in, skips_in}
 
--- the lines of the first events, and of those behind them
+-- the line of the frame of that version that stands at the start of some bytes
+pub line_at : (known : Known) (offset : ℕ) (is_old : Bool) (b : List ℕ) → frame_line (definition_with (id_at is_old b) known.dialect) known.key offset (packet_at is_old b) ≡ event_line known offset (Frame (packet_at is_old b))
+line_at known offset true b = refl
+line_at known offset false b = refl
+
+-- the lines of the first events, and of those after them
 pub lines_append : (known : Known) (offset : ℕ) (xs ys : List Event) → lines_from known offset (xs ++ ys) ≡ lines_from known offset xs ++ lines_from known (offset + bytes_in xs) ys
 lines_append known offset [] ys = ap (λ (n : ℕ). lines_from known n ys) (omega arith)
 lines_append known offset (x ∷ xs) ys =
@@ -15,7 +23,7 @@ lines_append known offset (x ∷ xs) ys =
     ap (λ (more : List ℕ). event_line known offset x ++ more) (lines_append known (offset + event_size x) xs ys ∙ ap (λ (n : ℕ). lines_from known (offset + event_size x) xs ++ lines_from known n ys) there)
     ∙ sym (append_assoc (event_line known offset x) (lines_from known (offset + event_size x) xs) (lines_from known (offset + (event_size x + bytes_in xs)) ys))
 
--- more lines behind the first
+-- more lines after the first
 pub lines_more : (known : Known) (given more : List Event) → lines_from known 0 (given ++ more) ≡ lines_from known 0 given ++ lines_from known (bytes_in given) more
 lines_more known given more =
     let there : 0 + bytes_in given ≡ bytes_in given = omega arith in

@@ -18,7 +18,7 @@ use Rattle.decode_command.proofs.Steps.{longer_front, sent_held}
 use Rattle.decode_command.proofs.Fronts.{halted_front}
 
 -- the reader took bytes, or learned that the input ended
-pub decoding_fed : (known : Known) (taken more : List ℕ) (decoder : Decoder) (held : Held) (before now : Option (List ℕ)) → Decoding known taken decoder before now → ((given : List Event) → Progress (extras_of known.dialect) taken given decoder.reader → Progress (extras_of known.dialect) more given held) → Decoding known more (record decoder { reader = held }) before now
+pub decoding_fed : (known : Known) (taken more : List ℕ) (decoder : Decoder) (held : Held) (before now : Option (List ℕ)) → Decoding known taken decoder before now → ((given : List Event) → Progress (extras_of known.dialect) true taken given decoder.reader → Progress (extras_of known.dialect) true more given held) → Decoding known more (record decoder { reader = held }) before now
 decoding_fed known taken more decoder held before now d on = record {
   given = d.given;
   same = d.same;
@@ -40,10 +40,10 @@ part_more taken piece place count h =
     ∙ ap (λ (bytes : List ℕ). taken ++ bytes) (one_more place count (length piece - place) piece h)
 
 -- a part of a piece was fed
-pub part_fed : (known : Known) (taken piece : List ℕ) (place count : ℕ) (decoder : Decoder) (held : Held) (before now : Option (List ℕ)) → count ≤ length piece - place → Drained known (taken ++ take place piece) decoder before now → ((given : List Event) → Progress (extras_of known.dialect) (taken ++ take place piece) given decoder.reader → Progress (extras_of known.dialect) ((taken ++ take place piece) ++ take count (take (length piece - place) (drop place piece))) given held) → Decoding known (taken ++ take (place + count) piece) (record decoder { reader = held }) before now
+pub part_fed : (known : Known) (taken piece : List ℕ) (place count : ℕ) (decoder : Decoder) (held : Held) (before now : Option (List ℕ)) → count ≤ length piece - place → Drained known (taken ++ take place piece) decoder before now → ((given : List Event) → Progress (extras_of known.dialect) true (taken ++ take place piece) given decoder.reader → Progress (extras_of known.dialect) true ((taken ++ take place piece) ++ take count (take (length piece - place) (drop place piece))) given held) → Decoding known (taken ++ take (place + count) piece) (record decoder { reader = held }) before now
 part_fed known taken piece place count decoder held before now fits d on =
     decoding_fed known (taken ++ take place piece) (taken ++ take (place + count) piece) decoder held before now d.decoding
-    (λ given p. subst (λ (bytes : List ℕ). Progress (extras_of known.dialect) bytes given held) (part_more taken piece place count fits) (on given p))
+    (λ given p. subst (λ (bytes : List ℕ). Progress (extras_of known.dialect) true bytes given held) (part_more taken piece place count fits) (on given p))
 
 -- a halt inside a piece
 pub piece_halted : (known : Known) (taken piece : List ℕ) (place : ℕ) (decoder : Decoder) (before now : Option (List ℕ)) → decoder.reader.ended ≡ false → Halted known (taken ++ take place piece) decoder before now → Front known (taken ++ piece) before now
@@ -83,7 +83,7 @@ drained_front known taken decoder before middle after still d front =
 -- ---- the end of the input
 
 module _ (known : Known) (taken : List ℕ) (decoder : Decoder) (before now : Option (List ℕ)) (ended : decoder.reader.ended ≡ true) (d : Drained known taken decoder before now) where
-  final : Final (extras_of known.dialect) d.decoding.given taken
+  final : Final (extras_of known.dialect) true d.decoding.given taken
   final = d.whole.final ended
 
   events : final_events (extras_of known.dialect) taken ≡ d.decoding.given

@@ -1,5 +1,5 @@
 -- A decoder before the first byte.
-use Rattle.std.proofs.Common.{◌≡◌, ℕ, List, [], ◌+◌, length, refl, sym, ap, subst, arith, Option}
+use Rattle.std.proofs.Common.{◌≡◌, ℕ, true, List, [], ◌+◌, length, refl, sym, ap, subst, arith, Option}
 use Rattle.mav_ports.specs.Puts.{Sent}
 use Rattle.mav_ports.proofs.Known.{sent_start}
 use Rattle.mav_profile.specs.Messages.{extras_of}
@@ -11,15 +11,15 @@ use Rattle.decode_command.specs.Decodes.{Drained, IsNew, IsWithin}
 use Rattle.decode_command.specs.declared.decoder.Decoder.{Decoder}
 
 -- nothing is an incomplete frame
-nothing : (extras : List (ℕ × ℕ)) → IsIncomplete extras []
+nothing : (extras : List (ℕ × ℕ)) → IsIncomplete extras true []
 nothing extras = record {
   stx = λ some. absurd (omega arith);
-  flag = λ long. absurd (omega arith);
+  flag = λ new long. absurd (omega arith);
   known = λ long. absurd (omega arith);
   short = λ long. absurd (omega arith);
 }
 
-nothing_whole : (extras : List (ℕ × ℕ)) → IsWhole extras [] [] (nothing_held extras)
+nothing_whole : (extras : List (ℕ × ℕ)) → IsWhole extras true [] [] (nothing_held extras true)
 nothing_whole extras = record { incremental = λ still. (refl, nothing extras); final = λ ended. refl }
 
 pub new_drained : (decoder : Decoder) (sent : Option (List ℕ)) → IsNew decoder → Drained decoder.known [] decoder sent sent
@@ -29,13 +29,13 @@ new_drained decoder sent new =
       decoding = record {
         given = [];
         same = refl;
-        progress = subst (λ (h : Held). Progress extras [] [] h) (sym new.reader) (begun extras);
+        progress = subst (λ (h : Held). Progress extras true [] [] h) (sym new.reader) (begun extras true);
         offset = new.offset;
         frames = new.frames;
         skipped = new.skipped;
         sent = subst (λ (held : List ℕ). Sent sent sent [] held) (sym new.text) (sent_start sent []);
       };
-      whole = subst (λ (h : Held). IsWhole extras [] [] h) (sym new.reader) (nothing_whole extras);
+      whole = subst (λ (h : Held). IsWhole extras true [] [] h) (sym new.reader) (nothing_whole extras);
     }
 
 none_held : (decoder : Decoder) → IsNew decoder → length decoder.reader.bytes ≡ 0
@@ -43,6 +43,7 @@ none_held decoder new = ap (λ (h : Held). length h.bytes) new.reader
 
 pub new_within : (decoder : Decoder) → IsNew decoder → IsWithin decoder 0
 new_within decoder new = record {
+  version = ap (λ (h : Held). h.reads_old) new.reader;
   bytes = omega (arith, new.offset, none_held decoder new);
   counts = omega (arith, new.offset, new.frames, new.skipped);
 }

@@ -1,5 +1,5 @@
 -- What a step of a decoder makes of the bytes taken.
-use Rattle.std.proofs.Common.{◌≡◌, ℕ, ◌+◌, ◌≤◌, List, [], ◌∷◌, ◌++◌, length, sym, ap, ◌∙◌, subst, arith, append_assoc, append-nil, length-append, Option}
+use Rattle.std.proofs.Common.{◌≡◌, ℕ, ◌+◌, ◌≤◌, true, List, [], ◌∷◌, ◌++◌, length, sym, ap, ◌∙◌, subst, arith, append_assoc, append-nil, length-append, Option}
 use Rattle.mav_ports.specs.Puts.{Sent, SentFront}
 use Rattle.decode_command.specs.declared.known.Known.{Known}
 use Rattle.mav_profile.specs.Messages.{extras_of}
@@ -13,7 +13,7 @@ use Rattle.decode_command.specs.Decodes.{Decoding, Drained, Halted, Gave, PutsLi
 use Rattle.decode_command.specs.declared.decoder.Decoder.{Decoder}
 use Rattle.decode_command.proofs.Lines.{lines_more, bytes_more, frames_more, skips_more}
 
--- a front of a text is one of a longer text
+-- a prefix of a text is one of a longer text
 pub longer_front : (before now : Option (List ℕ)) (text more whole : List ℕ) → whole ≡ text ++ more → SentFront before now text → SentFront before now whole
 longer_front before now text more whole e (rest, s) = (
   rest ++ more,
@@ -50,7 +50,7 @@ events_put known taken old new held events before now d on puts =
     record {
       given = d.given ++ events;
       same = puts.known ∙ d.same;
-      progress = subst (λ (h : Held). Progress (extras_of known.dialect) taken (d.given ++ events) h) (sym puts.reader) (on d.given d.progress);
+      progress = subst (λ (h : Held). Progress (extras_of known.dialect) true taken (d.given ++ events) h) (sym puts.reader) (on d.given d.progress);
       offset = puts.offset ∙ (ap (λ (n : ℕ). n + bytes_in events) d.offset ∙ sym (bytes_more d.given events));
       frames = puts.frames ∙ (ap (λ (n : ℕ). n + frames_in events) d.frames ∙ sym (frames_more d.given events));
       skipped = puts.skipped ∙ (ap (λ (n : ℕ). n + skips_in events) d.skipped ∙ sym (skips_more d.given events));
@@ -73,6 +73,7 @@ pub within_put : (old new : Decoder) (events : List Event) → IsWithin old (byt
 within_put old new events w puts =
     let same : length new.reader.bytes ≡ length old.reader.bytes = ap (λ (h : Held). length h.bytes) puts.reader in
     record {
+      version = ap (λ (h : Held). h.reads_old) puts.reader ∙ w.version;
       bytes = omega (arith, w.bytes, puts.offset, same);
       counts = omega (arith, w.counts, puts.offset, puts.frames, puts.skipped, counted_within events);
     }
@@ -84,7 +85,7 @@ pub stepped : (events : List Event) (old new : Decoder) (middle after : Option (
 stepped events old new middle after sent w puts moved is =
     subst (λ (d : Decoder). Stepped events old d middle after) (sym is)
     (record {
-      within = let put = within_put old new events w puts in record { bytes = put.bytes; counts = put.counts };
+      within = let put = within_put old new events w puts in record { version = put.version; bytes = put.bytes; counts = put.counts };
       reader = puts.reader;
       offset = puts.offset;
       decoding = λ known taken before held d gave.
@@ -96,17 +97,17 @@ stepped events old new middle after sent w puts moved is =
 pub unput_halted : (known : Known) (taken : List ℕ) (old new : Decoder) (before now : Option (List ℕ)) → new.reader ≡ old.reader → Decoding known taken old before now → Halted known taken new before now
 unput_halted known taken old new before now same d = record {
   given = d.given;
-  progress = subst (λ (h : Held). Progress (extras_of known.dialect) taken d.given h) (sym same) d.progress;
+  progress = subst (λ (h : Held). Progress (extras_of known.dialect) true taken d.given h) (sym same) d.progress;
   front = (old.text.items, d.sent);
 }
 
--- where the reader needs more bytes the events are the whole parse
-pub drained_at_need : (known : Known) (taken : List ℕ) (decoder : Decoder) (held : Held) (before now : Option (List ℕ)) → Decoding known taken decoder before now → held ≡ decoder.reader → ((given : List Event) → Progress (extras_of known.dialect) taken given decoder.reader → IsWhole (extras_of known.dialect) taken given held) → Drained known taken (record decoder { reader = held }) before now
+-- if the reader needs more bytes, the events are the whole parse
+pub drained_at_need : (known : Known) (taken : List ℕ) (decoder : Decoder) (held : Held) (before now : Option (List ℕ)) → Decoding known taken decoder before now → held ≡ decoder.reader → ((given : List Event) → Progress (extras_of known.dialect) true taken given decoder.reader → IsWhole (extras_of known.dialect) true taken given held) → Drained known taken (record decoder { reader = held }) before now
 drained_at_need known taken decoder held before now d same whole = record {
   decoding = record {
     given = d.given;
     same = d.same;
-    progress = subst (λ (h : Held). Progress (extras_of known.dialect) taken d.given h) (sym same) d.progress;
+    progress = subst (λ (h : Held). Progress (extras_of known.dialect) true taken d.given h) (sym same) d.progress;
     offset = d.offset;
     frames = d.frames;
     skipped = d.skipped;

@@ -1,11 +1,10 @@
 // A stream that is decoded as its bytes come.
-ghost use Rattle.std.specs.Prelude.{◌≡◌, ◌<◌, ◌≤◌, ◌+◌, ◌++◌, ◌⊎◌, ℕ, List, [], length, take, map, false, IfOk, IfErr, OnOk, OnErr, IsErrOf};
+ghost use Rattle.std.specs.Prelude.{◌≡◌, ◌<◌, ◌≤◌, ◌+◌, ◌++◌, ◌⊎◌, ℕ, List, [], length, take, map, true, false, IfOk, IfErr, OnOk, OnErr, IsErrOf};
 ghost use Rattle.std.specs.declared.option.Option.{Option};
 ghost use Rattle.mav_ports.specs.Counts.{Rose};
 ghost use Rattle.decode_command.specs.declared.known.Known.{Known};
-ghost use Rattle.mav_frame.specs.Looks.{packet_at};
 ghost use Rattle.mav_frame.specs.declared.events.Event.TheVariants.{Frame as FrameEvent};
-ghost use Rattle.mav_scan.specs.Ahead.{events_ahead, held_behind, size_ahead, skipped_for, IfFrame};
+ghost use Rattle.mav_scan.specs.Spans.{first_packet, held_after, span_events, span_size, skipped_for, IfFrame};
 ghost use Rattle.mav_stream.specs.Held.{nothing_held};
 ghost use Rattle.mav_profile.specs.Messages.{extras_of};
 ghost use Rattle.decode_command.specs.DecodeText.{counts_line};
@@ -17,12 +16,12 @@ use crate::writing::{ENOUGH_BYTES, write, write_enough};
 use dialect::Dialect;
 use mav_frame::Why;
 use mav_ports::{NoMemory, Sink};
-use mav_scan::{Ahead, Scanner};
+use mav_scan::{NextSpan, Scanner};
 use mav_text::{Chunk, put_decimal, put_skips};
 use run_status::RunEnd;
 use std::alloc::Global;
 
-// More than the lines of what stands in front have.
+// More than the lines of one span have.
 const MOST_BYTES: usize = 49_152;
 
 /// A stream of which some bytes were taken: what is held of it, and the lines that aren't written yet.
@@ -38,11 +37,11 @@ pub struct Decoder {
     skipped: u64,
 }
 
-// A reader of nothing yet.
+// A reader of nothing yet, which reads frames of MAVLink 1 too.
 fn scanner_of(alloc: Global, dialect: &Dialect) -> Result<Scanner, NoMemory>
-    ensures { IfOk result (λ reader. reader ≡ nothing_held (extras_of dialect.now)) }
+    ensures { IfOk result (λ reader. reader ≡ nothing_held (extras_of dialect.now) true) }
 {
-    Scanner::new(alloc, dialect.extras().copy()?)
+    Scanner::new(alloc, dialect.extras().copy()?, true)
 }
 
 impl Decoder {
@@ -51,12 +50,12 @@ impl Decoder {
         ensures new { IfOk result IsNew }
     {
         let reader = scanner_of(alloc, &known.dialect)?;
-        Decoder::behind(alloc, known, reader)
+        Decoder::over(alloc, known, reader)
     }
 
-    // A decoder behind a reader of nothing yet.
-    fn behind(alloc: Global, known: Known, reader: Scanner) -> Result<Decoder, NoMemory>
-        requires { reader ≡ nothing_held (extras_of known.dialect) }
+    // A decoder over a reader of nothing yet.
+    fn over(alloc: Global, known: Known, reader: Scanner) -> Result<Decoder, NoMemory>
+        requires { reader ≡ nothing_held (extras_of known.dialect) true }
         ensures known { IfOk result (λ d. d.known ≡ known) }
         ensures new { IfOk result IsNew }
     {
@@ -155,27 +154,27 @@ impl Decoder {
             → K.faults out.new ≡ K.faults out.old }
     {
         loop {
-            match self.reader.ahead() {
-                Ahead::Need => return Ok(()),
-                ahead => self.pass(ahead, out)?,
+            match self.reader.next_span() {
+                NextSpan::Need => return Ok(()),
+                span => self.pass(span, out)?,
             }
         }
     }
 
-    // Puts the lines of what stands in front, and takes its bytes off.
+    // Puts the lines of the next span, and takes its bytes off.
     #[inline]
-    fn pass<K: Sink>(&mut self, ahead: Ahead, out: &mut K) -> Result<(), RunEnd>
+    fn pass<K: Sink>(&mut self, span: NextSpan, out: &mut K) -> Result<(), RunEnd>
         requires within { IsWithin self.old 0 }
-        requires size { size_ahead ahead ≤ length self.old.reader.bytes }
-        requires frame { IfFrame ahead (IsFrameOf self.old.reader.bytes) }
-        ensures done { OnOk result (Stepped (events_ahead self.old.reader.bytes ahead)
-            (record self.old { reader = held_behind self.old.reader ahead }) self.new
+        requires size { span_size span ≤ length self.old.reader.bytes }
+        requires frame { IfFrame span (IsFrameOf self.old.reader) }
+        ensures done { OnOk result (Stepped (span_events self.old.reader span)
+            (record self.old { reader = held_after self.old.reader span }) self.new
             (K.sent out.old) (K.sent out.new)) }
         ensures ended { self.new.reader.ended ≡ self.old.reader.ended }
         ensures halted { (known : Known) (taken : List ℕ) (before : Option (List ℕ))
             → Decoding known taken self.old before (K.sent out.old)
-            → Gave known taken (events_ahead self.old.reader.bytes ahead) self.old.reader
-            (held_behind self.old.reader ahead)
+            → Gave known taken (span_events self.old.reader span) self.old.reader
+            (held_after self.old.reader span)
             → IfErr result (λ _. Halted known taken self.new before (K.sent out.new)) }
         ensures error { IfErr result (λ e. (e ≡ RunEnd.WriteFault) ⊎ (e ≡ RunEnd.NoMemory)) }
         ensures rose { IsErrOf result RunEnd.WriteFault
@@ -183,35 +182,35 @@ impl Decoder {
         ensures sound { ¬ IsErrOf result RunEnd.WriteFault
             → K.faults out.new ≡ K.faults out.old }
     {
-        self.append(ahead)?;
-        self.reader.remove(ahead.size());
+        self.append(span)?;
+        self.reader.consume(span.size());
         write_enough(&mut self.text, out)
     }
 
     // Puts the lines.
     #[inline]
-    fn append(&mut self, ahead: Ahead) -> Result<(), NoMemory>
+    fn append(&mut self, span: NextSpan) -> Result<(), NoMemory>
         requires within { IsWithin self.old 0 }
-        requires size { size_ahead ahead ≤ length self.old.reader.bytes }
-        requires frame { IfFrame ahead (IsFrameOf self.old.reader.bytes) }
+        requires size { span_size span ≤ length self.old.reader.bytes }
+        requires frame { IfFrame span (IsFrameOf self.old.reader) }
         ensures lines { OnOk result
-            (Puts (events_ahead self.old.reader.bytes ahead) self.old self.new) }
+            (Puts (span_events self.old.reader span) self.old self.new) }
         ensures reader { self.new.reader ≡ self.old.reader }
         ensures text { OnErr result (self.new.text.items ≡ self.old.text.items) }
     {
-        match ahead {
-            Ahead::Frame(size) => self.append_frame(size),
-            Ahead::Run(why, count) => self.append_skips(why, count),
-            Ahead::Need => Ok(()),
+        match span {
+            NextSpan::Frame(size) => self.append_frame(size),
+            NextSpan::Skipped(why, count) => self.append_skips(why, count),
+            NextSpan::Need => Ok(()),
         }
     }
 
     fn append_frame(&mut self, size: usize) -> Result<(), NoMemory>
         requires within { IsWithin self.old 0 }
         requires size { size ≤ length self.old.reader.bytes }
-        requires frame { IsFrameOf self.old.reader.bytes size }
+        requires frame { IsFrameOf self.old.reader size }
         ensures line { OnOk result
-            (PutsLine (FrameEvent (packet_at self.old.reader.bytes)) self.old self.new) }
+            (PutsLine (FrameEvent (first_packet self.old.reader)) self.old self.new) }
         ensures reader { self.new.reader ≡ self.old.reader }
         ensures text { OnErr result (self.new.text.items ≡ self.old.text.items) }
     {

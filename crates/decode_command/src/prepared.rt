@@ -1,21 +1,21 @@
 // What is known, made ready for the lines of frames.
-ghost use Rattle.std.specs.Prelude.{◌≡◌, ◌∷◌, ◌++◌, ◌≤◌, [], length, OnOk, OnErr, IfOk};
+ghost use Rattle.std.specs.Prelude.{◌≡◌, ◌∷◌, ◌++◌, ◌≤◌, [], length, true, OnOk, OnErr, IfOk};
 ghost use Rattle.mav_profile.specs.Messages.{definition_with};
-ghost use Rattle.mav_frame.specs.Looks.{id_at, frame_size_at, packet_at};
+ghost use Rattle.mav_frame.specs.Looks.{id_at, is_old_at, frame_size_at, packet_at};
 ghost use Rattle.decode_command.specs.DecodeText.{frame_line, verdict_text};
 
 use crate::known::Known;
-use mav_frame::frame_at;
+use mav_frame::{OLD_STX, frame_at};
 use mav_ports::NoMemory;
 use mav_sign::{Key, verifies};
-use mav_text::{Chunk, Recipes};
+use mav_text::{Chunk, LineTemplates};
 use std::alloc::Global;
 use std::marker::Model;
 
 /// What contracts see as what it was made of.
 #[derive(Drop)]
 pub(crate) struct Prepared {
-    recipes: Recipes,
+    templates: LineTemplates,
     key: Option<Key>,
 }
 
@@ -24,23 +24,23 @@ impl Model for Prepared {
 
     ghost Value = { Known };
 
-    ghost view = { λ p. record { dialect = p.recipes; key = p.key } };
+    ghost view = { λ p. record { dialect = p.templates; key = p.key } };
 }
 
-// What stands behind a frame's text: whether the signature of a signed frame is that of the key, and the line end.
+// What stands after a frame's text: whether the signature of a signed frame is that of the key, and the line end.
 #[inline]
 fn ending(key: &Option<Key>, frame: &[u8]) -> &'static [u8]
-    requires { frame_size_at frame.now ≤ length frame.now }
-    ensures text { result.now ≡ verdict_text key.now (packet_at frame.now) (packet_at frame.now).block ++ 10 ∷ [] }
+    requires { frame_size_at (is_old_at true frame.now) frame.now ≤ length frame.now }
+    ensures text { result.now ≡ verdict_text key.now (packet_at (is_old_at true frame.now) frame.now) (packet_at (is_old_at true frame.now) frame.now).block ++ 10 ∷ [] }
     ensures short { length result.now ≤ 16 }
 {
     let Some(key) = key else {
         return b"\n";
     };
-    if frame[2] == 0 {
+    if frame[0] == OLD_STX || frame[2] == 0 {
         return b"\n";
     }
-    if verifies(key, &frame_at(frame)) {
+    if verifies(key, &frame_at(true, frame)) {
         b" good\n"
     } else {
         b" bad\n"
@@ -52,12 +52,12 @@ impl Prepared {
         ensures { IfOk result (λ prepared. prepared ≡ known) }
     {
         Ok(Prepared {
-            recipes: Recipes::new(alloc, known.dialect)?,
+            templates: LineTemplates::new(alloc, known.dialect)?,
             key: known.key,
         })
     }
 
-    /// Appends the line of the frame that stands in front of some bytes.
+    /// Appends the line of the frame that stands at the start of some bytes, of either version.
     #[inline]
     pub(crate) fn put_frame(
         &self,
@@ -66,12 +66,13 @@ impl Prepared {
         chunk: &mut Chunk,
         text: &mut Vec<u8>,
     ) -> Result<(), NoMemory>
-        requires { frame_size_at frame.now ≤ length frame.now }
+        requires { frame_size_at (is_old_at true frame.now) frame.now ≤ length frame.now }
         ensures ok { OnOk result (text.new.items ≡ text.old.items
-            ++ frame_line (definition_with (id_at frame.now) self.now.dialect) self.now.key offset (packet_at frame.now)) }
+            ++ frame_line (definition_with (id_at (is_old_at true frame.now) frame.now) self.now.dialect) self.now.key offset (packet_at (is_old_at true frame.now) frame.now)) }
         ensures err { OnErr result (text.new.items ≡ text.old.items) }
     {
         let ending = ending(&self.key, frame);
-        self.recipes.put_line(offset, frame, ending, chunk, text)
+        self.templates
+            .put_line(true, offset, frame, ending, chunk, text)
     }
 }

@@ -2,28 +2,28 @@ use Rattle.std.proofs.Common.{◌≡◌, length, drop, refl, ap, ◌∙◌, arit
 use Rattle.mav_ports.specs.Counts.{Rose}
 use Rattle.std.proofs.lemmas.Result.{err_from_is_err_and}
 use Rattle.mav_stream.specs.Held.{Held}
-use Rattle.mav_scan.specs.Ahead.{events_ahead, size_ahead}
+use Rattle.mav_scan.specs.Spans.{span_events, span_size}
 use Rattle.decode_command.specs.DecodeText.{bytes_in}
 use Rattle.decode_command.proofs.Steps.{drained_at_need}
-use Rattle.decode_command.proofs.Passes.{ahead_bytes}
+use Rattle.decode_command.proofs.Passes.{span_bytes}
 use Rattle.decode_command.proofs.decoder.Decoder.drain.Goals as goal
 
 pub returns-in-Need-clause-drained : goal.returns-in-Need-clause-drained
 returns-in-Need-clause-drained g c = λ known taken before d.
-    let now = c.loop-ahead.self in
-    drained_at_need known taken now now.reader before (g.K.Sink.sent c.loop-ahead.out) (c.loop-ahead.invariant.decoding known taken before d) refl (λ given p. c.in-Need.ensures.whole _ taken given p)
+    let now = c.loop-span.self in
+    drained_at_need known taken now now.reader before (g.K.Sink.sent c.loop-span.out) (c.loop-span.invariant.decoding known taken before d) refl (λ given p. c.in-Need.ensures.whole _ _ taken given p)
 
-pub loop-ahead-preserved : goal.loop-ahead-preserved
-loop-ahead-preserved g c =
-    let inv = c.loop-ahead.invariant in let old = c.loop-ahead.self in let seen = c.ahead.ensures in
+pub loop-span-preserved : goal.loop-span-preserved
+loop-span-preserved g c =
+    let inv = c.loop-span.invariant in let old = c.loop-span.self in let seen = c.next_span.ensures in
     let passed = c.in_ok-pass-in_default.ensures in let done = passed.done in
-    let size : bytes_in (events_ahead old.reader.bytes c.ahead.result) ≡ size_ahead c.ahead.result = ahead_bytes old.reader.bytes c.ahead.result seen.within seen.frame in
-    let left : length c.pass.new.self.reader.bytes ≡ length (drop (size_ahead c.ahead.result) old.reader.bytes) = ap (λ (h : Held). length h.bytes) done.reader in
+    let size : bytes_in (span_events old.reader c.next_span.result) ≡ span_size c.next_span.result = span_bytes old.reader c.next_span.result seen.within seen.frame in
+    let left : length c.pass.new.self.reader.bytes ≡ length (drop (span_size c.next_span.result) old.reader.bytes) = ap (λ (h : Held). length h.bytes) done.reader in
     record {
       within = done.within;
-      sum = omega (arith, done.offset, left, size, seen.within, length-drop (size_ahead c.ahead.result) old.reader.bytes, inv.sum);
+      sum = omega (arith, done.offset, left, size, seen.within, length-drop (span_size c.next_span.result) old.reader.bytes, inv.sum);
       ended = passed.ended ∙ inv.ended;
-      decoding = λ known taken before d. done.decoding known taken before old.reader (inv.decoding known taken before d) (λ given p. seen.progress _ taken given p);
+      decoding = λ known taken before d. done.decoding known taken before old.reader (inv.decoding known taken before d) (λ given p. seen.progress _ _ taken given p);
       refusals = passed.sound (λ e. cc) ∙ inv.refusals;
     }
 
@@ -32,8 +32,8 @@ returns-in_err-pass-in_default-clause-halted g c =
     let e = err_from_is_err_and c.from_residual.result c.from_residual.ensures.1 in
     let passed = c.in_err-pass-in_default.ensures in
     rw e.1 (λ known taken before d. (
-      passed.halted known taken before (c.loop-ahead.invariant.decoding known taken before d) (λ given p. c.ahead.ensures.progress _ taken given p),
-      passed.ended ∙ c.loop-ahead.invariant.ended,
+      passed.halted known taken before (c.loop-span.invariant.decoding known taken before d) (λ given p. c.next_span.ensures.progress _ _ taken given p),
+      passed.ended ∙ c.loop-span.invariant.ended,
     ))
 
 pub returns-in_err-pass-in_default-clause-error : goal.returns-in_err-pass-in_default-clause-error
@@ -44,9 +44,9 @@ returns-in_err-pass-in_default-clause-error g c =
 pub returns-in_err-pass-in_default-clause-rose : goal.returns-in_err-pass-in_default-clause-rose
 returns-in_err-pass-in_default-clause-rose g c =
     let e = err_from_is_err_and c.from_residual.result c.from_residual.ensures.1 in
-    rw (e.1, e.2) (λ refused. subst (λ n. Rose n (g.K.Sink.faults c.pass.new.out)) c.loop-ahead.invariant.refusals (c.in_err-pass-in_default.ensures.rose refused))
+    rw (e.1, e.2) (λ refused. subst (λ n. Rose n (g.K.Sink.faults c.pass.new.out)) c.loop-span.invariant.refusals (c.in_err-pass-in_default.ensures.rose refused))
 
 pub returns-in_err-pass-in_default-clause-sound : goal.returns-in_err-pass-in_default-clause-sound
 returns-in_err-pass-in_default-clause-sound g c =
     let e = err_from_is_err_and c.from_residual.result c.from_residual.ensures.1 in
-    rw (e.1, e.2) (λ other. c.in_err-pass-in_default.ensures.sound other ∙ c.loop-ahead.invariant.refusals)
+    rw (e.1, e.2) (λ other. c.in_err-pass-in_default.ensures.sound other ∙ c.loop-span.invariant.refusals)

@@ -4,8 +4,8 @@ use Rattle.decode_command.specs.declared.known.Known.{Known}
 use Rattle.decode_command.specs.Decodes.{Decoding, IsWithin}
 use Rattle.decode_command.proofs.decoder.Decoder.drain.Given as goal
 
-abbrev pub invariant-loop-ahead : goal.invariant-loop-ahead
-invariant-loop-ahead g l = record {
+abbrev pub invariant-loop-span : goal.invariant-loop-span
+invariant-loop-span g l = record {
   within : IsWithin l.self 0;
   sum : l.self.offset + length l.self.reader.bytes ≡ l.initial.self.offset + length l.initial.self.reader.bytes;
   ended : l.self.reader.ended ≡ l.initial.self.reader.ended;
@@ -13,5 +13,5 @@ invariant-loop-ahead g l = record {
   refusals : g.K.Sink.faults l.out ≡ g.K.Sink.faults l.initial.out;
 }
 
-abbrev pub decreases-loop-ahead : goal.decreases-loop-ahead
-decreases-loop-ahead g l = length l.self.reader.bytes
+abbrev pub decreases-loop-span : goal.decreases-loop-span
+decreases-loop-span g l = length l.self.reader.bytes

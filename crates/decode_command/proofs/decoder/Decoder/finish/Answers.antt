@@ -11,7 +11,7 @@ returns-in_err-drain-clause-halted g c =
     let e = err_from_is_err_and c.from_residual.result c.from_residual.ensures.1 in
     rw e.1 (λ known taken before d.
     halted_unfinished known taken c.drain.new.self before (g.K.Sink.sent c.drain.new.out)
-    (c.in_err-drain.ensures.halted known taken before (decoding_fed known taken taken c.args.self.now c.end.new.self before (g.K.Sink.sent c.args.out.now) d.decoding (λ given p. c.end.ensures.progress _ taken given p))).0)
+    (c.in_err-drain.ensures.halted known taken before (decoding_fed known taken taken c.args.self.now c.end.new.self before (g.K.Sink.sent c.args.out.now) d.decoding (λ given p. c.end.ensures.progress _ _ taken given p))).0)
 
 pub returns-in_err-put_counts-clause-halted : goal.returns-in_err-put_counts-clause-halted
 returns-in_err-put_counts-clause-halted g c =
@@ -19,7 +19,7 @@ returns-in_err-put_counts-clause-halted g c =
     let ended = c.in_ok-drain.ensures.ended ∙ ap (λ (h : Held). h.ended) c.end.ensures.held in
     rw e.1 (λ known taken before d.
     uncounted known taken c.drain.new.self before (g.K.Sink.sent c.drain.new.out) ended
-    (c.in_ok-drain.ensures.drained known taken before (decoding_fed known taken taken c.args.self.now c.end.new.self before (g.K.Sink.sent c.args.out.now) d.decoding (λ given p. c.end.ensures.progress _ taken given p))))
+    (c.in_ok-drain.ensures.drained known taken before (decoding_fed known taken taken c.args.self.now c.end.new.self before (g.K.Sink.sent c.args.out.now) d.decoding (λ given p. c.end.ensures.progress _ _ taken given p))))
 
 pub returns-clause-done : goal.returns-clause-done
 returns-clause-done g c =
@@ -27,7 +27,7 @@ returns-clause-done g c =
     λ known taken before d.
     on_ok_both c.write.result c.write.ensures.moved c.write.ensures.empty (λ moved empty.
     finished known taken c.drain.new.self before (g.K.Sink.sent c.drain.new.out) ended
-    (c.in_ok-drain.ensures.drained known taken before (decoding_fed known taken taken c.args.self.now c.end.new.self before (g.K.Sink.sent c.args.out.now) d.decoding (λ given p. c.end.ensures.progress _ taken given p)))
+    (c.in_ok-drain.ensures.drained known taken before (decoding_fed known taken taken c.args.self.now c.end.new.self before (g.K.Sink.sent c.args.out.now) d.decoding (λ given p. c.end.ensures.progress _ _ taken given p)))
     (g.K.Sink.sent c.write.new.out) c.put_counts.new.text.items c.write.new.text.items c.in_ok-put_counts.ensures moved empty)
 
 pub returns-clause-halted : goal.returns-clause-halted
@@ -36,5 +36,5 @@ returns-clause-halted g c =
     λ known taken before d.
     if_err c.write.result
     (unfinished known taken c.drain.new.self before (g.K.Sink.sent c.drain.new.out) ended
-    (c.in_ok-drain.ensures.drained known taken before (decoding_fed known taken taken c.args.self.now c.end.new.self before (g.K.Sink.sent c.args.out.now) d.decoding (λ given p. c.end.ensures.progress _ taken given p)))
+    (c.in_ok-drain.ensures.drained known taken before (decoding_fed known taken taken c.args.self.now c.end.new.self before (g.K.Sink.sent c.args.out.now) d.decoding (λ given p. c.end.ensures.progress _ _ taken given p)))
     (g.K.Sink.sent c.write.new.out) c.put_counts.new.text.items c.in_ok-put_counts.ensures c.write.ensures.front)

@@ -1,9 +1,9 @@
 use Rattle.std.proofs.Common.{ℕ, drop, ap, ◌∙◌}
 use Rattle.std.proofs.lemmas.Result.{err_from_is_err_and}
-use Rattle.mav_scan.specs.Ahead.{events_ahead, size_ahead}
+use Rattle.mav_scan.specs.Spans.{span_events, span_size}
 use Rattle.decode_command.proofs.Results.{on_ok, if_err}
 use Rattle.decode_command.proofs.Steps.{unput_halted}
-use Rattle.decode_command.proofs.Passes.{ahead_bytes, passed, passed_halted}
+use Rattle.decode_command.proofs.Passes.{span_bytes, passed, passed_halted}
 use Rattle.decode_command.proofs.decoder.Decoder.pass.Goals as goal
 
 pub returns-in_err-append-clause-halted : goal.returns-in_err-append-clause-halted
@@ -15,10 +15,10 @@ pub returns-clause-done : goal.returns-clause-done
 returns-clause-done g c =
     let old = c.args.self.now in
     on_ok c.write_enough.result c.write_enough.ensures.moved (λ moved.
-    passed (events_ahead old.reader.bytes c.args.ahead) (size_ahead c.args.ahead) old c.append.new.self c.remove.new.self (ahead_bytes old.reader.bytes c.args.ahead c.requires.size c.requires.frame) c.requires.size c.in_ok-append.ensures.lines (c.remove.ensures ∙ ap (λ (n : ℕ). record c.append.new.self.reader { bytes = drop n c.append.new.self.reader.bytes }) c.size.ensures) (g.K.Sink.sent c.args.out.now) (g.K.Sink.sent c.write_enough.new.out) c.write_enough.new.text c.requires.within moved)
+    passed (span_events old.reader c.args.span) (span_size c.args.span) old c.append.new.self c.consume.new.self (span_bytes old.reader c.args.span c.requires.size c.requires.frame) c.requires.size c.in_ok-append.ensures.lines (c.consume.ensures ∙ ap (λ (n : ℕ). record c.append.new.self.reader { bytes = drop n c.append.new.self.reader.bytes }) c.size.ensures) (g.K.Sink.sent c.args.out.now) (g.K.Sink.sent c.write_enough.new.out) c.write_enough.new.text c.requires.within moved)
 
 pub returns-clause-halted : goal.returns-clause-halted
 returns-clause-halted g c = λ known taken before d gave.
     let old = c.args.self.now in
     if_err c.write_enough.result
-    (passed_halted (events_ahead old.reader.bytes c.args.ahead) (size_ahead c.args.ahead) old c.append.new.self c.remove.new.self (ahead_bytes old.reader.bytes c.args.ahead c.requires.size c.requires.frame) c.requires.size c.in_ok-append.ensures.lines (c.remove.ensures ∙ ap (λ (n : ℕ). record c.append.new.self.reader { bytes = drop n c.append.new.self.reader.bytes }) c.size.ensures) (g.K.Sink.sent c.args.out.now) (g.K.Sink.sent c.write_enough.new.out) c.write_enough.new.text c.write_enough.ensures.front known taken before d gave)
+    (passed_halted (span_events old.reader c.args.span) (span_size c.args.span) old c.append.new.self c.consume.new.self (span_bytes old.reader c.args.span c.requires.size c.requires.frame) c.requires.size c.in_ok-append.ensures.lines (c.consume.ensures ∙ ap (λ (n : ℕ). record c.append.new.self.reader { bytes = drop n c.append.new.self.reader.bytes }) c.size.ensures) (g.K.Sink.sent c.args.out.now) (g.K.Sink.sent c.write_enough.new.out) c.write_enough.new.text c.write_enough.ensures.front known taken before d gave)

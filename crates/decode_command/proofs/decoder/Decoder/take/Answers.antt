@@ -18,13 +18,13 @@ loop-place-preserved g c =
     let after = c.in_ok-drain.ensures in
     record {
       place = omega (arith, short, test);
-      within = record { bytes = omega (arith, after.sum, fed, inv.within.bytes, short, test); counts = after.within.counts };
+      within = record { version = after.within.version; bytes = omega (arith, after.sum, fed, inv.within.bytes, short, test); counts = after.within.counts };
       sum = omega (arith, after.sum, fed, inv.sum);
       room = after.room;
       still = after.ended ∙ (ap (λ (h : Held). h.ended) c.feed-place.ensures.held ∙ inv.still);
       drained = λ known taken before d.
           after.drained known _ before
-          (part_fed known taken piece place n l.self c.feed-place.new.self before (g.K.Sink.sent l.out) short (inv.drained known taken before d) (λ given p. c.feed-place.ensures.progress _ _ given inv.still p));
+          (part_fed known taken piece place n l.self c.feed-place.new.self before (g.K.Sink.sent l.out) short (inv.drained known taken before d) (λ given p. c.feed-place.ensures.progress _ _ _ given inv.still p));
       refusals = after.sound (λ e. cc) ∙ inv.refusals;
     }
 
@@ -39,7 +39,7 @@ returns-in_err-drain-clause-halted g c =
     let e = err_from_is_err_and c.from_residual.result c.from_residual.ensures.1 in
     rw e.1 (λ known taken before d.
     let h = c.in_err-drain.ensures.halted known _ before
-    (part_fed known taken piece place n l.self c.feed-place.new.self before (g.K.Sink.sent l.out) short (inv.drained known taken before d) (λ given p. c.feed-place.ensures.progress _ _ given inv.still p)) in
+    (part_fed known taken piece place n l.self c.feed-place.new.self before (g.K.Sink.sent l.out) short (inv.drained known taken before d) (λ given p. c.feed-place.ensures.progress _ _ _ given inv.still p)) in
     piece_halted known taken piece (place + n) c.drain.new.self before (g.K.Sink.sent c.drain.new.out) (h.1 ∙ still) h.0)
 
 pub returns-clause-drained : goal.returns-clause-drained
