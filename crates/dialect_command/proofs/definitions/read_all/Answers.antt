@@ -19,5 +19,5 @@ returns-in_err-extend_from_slice-in-Bytes-clause-halts g c =
     let bytes = c.loop-count.bytes.items in
     let piece = take c.in-Bytes.count c.read_on.new.buf in
     let e = err_from_is_err_and c.from_residual.result c.from_residual.ensures.1 in
-    rw (e.1, e.2) (halts_memory _ (g.S.Source.left c.args.input.now) (g.S.Source.left c.read_on.new.source) (bytes ++ piece)
+    rw (e.1, e.2) (halts_memory (of_input (g.S.Source.has_ended c.read_on.new.source × IsSpent (g.S.Source.left c.read_on.new.source)) (g.S.Source.faults c.args.input.now) (g.S.Source.faults c.read_on.new.source) (g.S.Source.idles c.args.input.now) (g.S.Source.idles c.read_on.new.source)) (g.S.Source.left c.args.input.now) (g.S.Source.left c.read_on.new.source) (bytes ++ piece)
     (took_more bytes piece (g.S.Source.left c.args.input.now) (g.S.Source.left c.loop-count.input) (g.S.Source.left c.read_on.new.source) c.loop-count.invariant.took c.in-Bytes.ensures.bytes))
