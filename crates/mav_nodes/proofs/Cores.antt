@@ -94,9 +94,14 @@ module _ {Core : Type 0} (step : Core → Stream → PlanMsg → CoreStep Core) 
   answered node packet from message TooManyStreams block h = absurd (let t : Plan from message ≡ Dropped TooManyStreams = h in cc)
 
   -- a frame whose plan message was told
-  pub hears_plan : (node : Side Core) (packet : Packet) (from : Stream) (message : PlanMsg) → IsTried node.link packet (Plan from message) → hears step clock packet node ≡ takes step clock (record node { link = tries packet node.link }) from (Some message)
+  hears_plan : (node : Side Core) (packet : Packet) (from : Stream) (message : PlanMsg) → IsTried node.link packet (Plan from message) → hears step clock packet node ≡ takes step clock (record node { link = tries packet node.link }) from (Some message)
   hears_plan node packet from message h =
       answered (record node { link = tries packet node.link }) packet from message (answer_to node.link.key node.link.history packet) packet.block h
+
+  -- the same, and the core took the message
+  pub took : (node : Side Core) (packet : Packet) (from : Stream) (message : PlanMsg) (core view : Core) (given : Step) → IsTried node.link packet (Plan from message) → core ≡ node.core → IsStep (step core from message) view given → (hears step clock packet node ≡ steps clock (tries packet node.link) (step node.core from message)) × IsStep (step node.core from message) view given
+  took node packet from message core view given tried same is =
+      (hears_plan node packet from message tried, subst (λ (it : Core). IsStep (step it from message) view given) same is)
 
   nothing_taken : (node : Side Core) (packet : Packet) (answer : Admit) (block : Option SignatureBlock) → IsAnswer answer packet block Other → admits step clock node packet answer block ≡ done node []
   nothing_taken node packet Admitted (Some block) h = ap (takes step clock node (stream_of packet block)) h

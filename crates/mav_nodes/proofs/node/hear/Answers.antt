@@ -4,33 +4,27 @@ use Rattle.mav_nodes.specs.declared.news.News.TheVariants.{Dropped as NewsDroppe
 use Rattle.mav_nodes.specs.News.{said_by, events_of}
 use Rattle.mav_nodes.specs.Links.{Outcome, tries}
 use Rattle.mav_nodes.specs.Steps.{Side}
-use Rattle.mav_nodes.specs.Cores.{IsStep, NodeDid}
-use Rattle.mav_nodes.proofs.Cores.{if_ok, if_err, not_spent, hears_plan, hears_other, hears_dropped, stepped, steps_none}
+use Rattle.mav_nodes.specs.Cores.{NodeDid}
+use Rattle.mav_nodes.proofs.Cores.{if_ok, if_err, not_spent, took, hears_other, hears_dropped, stepped, steps_none}
 use Rattle.mav_nodes.proofs.node.hear.Goals as goal
 
 pub returns-in-Plan-clause-done : goal.returns-in-Plan-clause-done
 returns-in-Plan-clause-done g c =
     if_ok c.say.result (λ a said node is.
-    let taken = g.C.Core.taken in
-    let from = c.in-Plan.from in
-    let message = c.in-Plan.message in
     let link = tries c.args.frame.now node.link in
-    let did = taken node.core from message in
-    let step = subst (λ (core : g.row.C.Denot). IsStep (taken core from message) c.take.new.self c.take.result) is.core c.take.ensures in
-    let same = hears_plan taken c.args.clock node c.args.frame.now from message (c.in-Plan.ensures.tried node.link is.link) in
-    subst (λ (o : Outcome (Side g.row.C.Denot)). NodeDid o c.say.new.self c.take.new.self c.args.news.now.items c.say.new.news.items) (sym same) (stepped c.args.clock link did c.take.new.self c.take.result c.say.new.self c.args.news.now.items c.say.new.news.items step (said link did.first did.last (c.in-Plan.ensures.link node.link is.link) step.first step.last))) c.say.ensures.said
+    let did = g.C.Core.taken node.core c.in-Plan.from c.in-Plan.message in
+    let before = c.args.news.now.items in
+    let after = c.say.new.news.items in
+    let t = took g.C.Core.taken c.args.clock node c.args.frame.now c.in-Plan.from c.in-Plan.message c.args.core.now c.take.new.self c.take.result (c.in-Plan.ensures.tried node.link is.link) is.core c.take.ensures in
+    subst (λ (o : Outcome (Side g.row.C.Denot)). NodeDid o c.say.new.self c.take.new.self before after) (sym t.0) (stepped c.args.clock link did c.take.new.self c.take.result c.say.new.self before after t.1 (said link did.first did.last (c.in-Plan.ensures.link node.link is.link) t.1.first t.1.last))) c.say.ensures.said
 
 pub returns-in-Plan-clause-spent : goal.returns-in-Plan-clause-spent
 returns-in-Plan-clause-spent g c =
     if_err c.say.result (λ fault spent node is stamps.
-    let taken = g.C.Core.taken in
-    let from = c.in-Plan.from in
-    let message = c.in-Plan.message in
     let link = tries c.args.frame.now node.link in
-    let did = taken node.core from message in
-    let step = subst (λ (core : g.row.C.Denot). IsStep (taken core from message) c.take.new.self c.take.result) is.core c.take.ensures in
-    let same = hears_plan taken c.args.clock node c.args.frame.now from message (c.in-Plan.ensures.tried node.link is.link) in
-    same ∙ steps_none c.args.clock link did c.take.new.self c.take.result step (spent link did.first did.last (c.in-Plan.ensures.link node.link is.link) stamps)) c.say.ensures.spent
+    let did = g.C.Core.taken node.core c.in-Plan.from c.in-Plan.message in
+    let t = took g.C.Core.taken c.args.clock node c.args.frame.now c.in-Plan.from c.in-Plan.message c.args.core.now c.take.new.self c.take.result (c.in-Plan.ensures.tried node.link is.link) is.core c.take.ensures in
+    t.0 ∙ steps_none c.args.clock link did c.take.new.self c.take.result t.1 (spent link did.first did.last (c.in-Plan.ensures.link node.link is.link) stamps)) c.say.ensures.spent
 
 pub returns-in-Other-clause-done : goal.returns-in-Other-clause-done
 returns-in-Other-clause-done g c =
