@@ -1,5 +1,5 @@
 -- Frames of outside programs, computed from the definitions alone.
-use Rattle.std.proofs.Common.{◌≡◌, ℕ, List, [], ◌∷◌, ◌++◌, length, map, take, drop, refl}
+use Rattle.std.proofs.Common.{◌≡◌, ℕ, List, [], ◌∷◌, ◌++◌, length, map, take, drop, false, true, refl}
 use Rattle.std.specs.Prelude.{Some, None, Option}
 use Rattle.std.specs.List.{range_with_len}
 use Rattle.x25_check.specs.Check.{after_byte}
@@ -50,6 +50,7 @@ sealed packet extra = record packet { check = checksum packet extra }
 
 abbrev heartbeat_with : Option SignatureBlock → Packet
 heartbeat_with block = record {
+  old = false;
   compat = 0;
   seq = 0;
   from = node 1 1;
@@ -68,7 +69,7 @@ signed_heartbeat =
 
 abbrev current_with : List ℕ → Packet
 current_with payload =
-    sealed (record { compat = 0; seq = 1; from = node 1 1; id = 42; payload = payload; check = 0; block = None }) 28
+    sealed (record { old = false; compat = 0; seq = 1; from = node 1 1; id = 42; payload = payload; check = 0; block = None }) 28
 
 -- ---- their bytes
 
@@ -82,6 +83,7 @@ encodings = refl
 abbrev longest : Packet
 longest = sealed
     (record {
+      old = false;
       compat = 0xA5;
       seq = 255;
       from = node 255 190;
@@ -102,29 +104,55 @@ pub longest_length : length (encoding longest) ≡ 280
 unfolding after_byte
 longest_length = refl
 
--- ---- what stands in front of bytes
+-- ---- what stands at the start of bytes
 
 abbrev corrupt_bytes : List ℕ
 corrupt_bytes = take 12 heartbeat_bytes ++ 1 ∷ drop 13 heartbeat_bytes
 
 pub frames_seen :
-    map (look_of extras) (heartbeat_bytes ∷ signed_heartbeat_bytes ∷ empty_current_bytes ∷ []) ≡
+    map (look_of extras false) (heartbeat_bytes ∷ signed_heartbeat_bytes ∷ empty_current_bytes ∷ []) ≡
     Frame heartbeat 21 ∷ Frame signed_heartbeat 34 ∷ Frame (current_with []) 12 ∷ []
 unfolding after_byte
 frames_seen = refl
 
 pub others_seen :
-    map (look_of extras)
+    map (look_of extras false)
     ([] ∷ (0xFE ∷ []) ∷ (0xFD ∷ 255 ∷ []) ∷ (0xFD ∷ 255 ∷ 3 ∷ []) ∷ take 3 heartbeat_bytes ∷
     (0xFD ∷ 0 ∷ 0 ∷ 0 ∷ 0 ∷ 1 ∷ 1 ∷ 255 ∷ 255 ∷ 255 ∷ []) ∷ take 10 heartbeat_bytes ∷ take 10 signed_heartbeat_bytes ∷ corrupt_bytes ∷ []) ≡
     More 3 ∷ NotHere NotStx ∷ More 1 ∷ NotHere UnknownFlag ∷ More 7 ∷ NotHere UnknownId ∷ More 11 ∷ More 24 ∷ NotHere BadCheck ∷ []
 unfolding after_byte
 others_seen = refl
 
+-- ---- the same HEARTBEAT as a frame of MAVLink 1, as it stands in captures, where such frames are read and where they aren't
+
+abbrev pub old_heartbeat_bytes : List ℕ
+old_heartbeat_bytes =
+    0xFE ∷ 0x09 ∷ 0x00 ∷ 0x01 ∷ 0x01 ∷ 0x00 ∷ 0x00 ∷ 0x00 ∷ 0x00 ∷ 0x00 ∷ 0x02 ∷ 0x03 ∷ 0x51 ∷ 0x04 ∷ 0x03 ∷ 0x7D ∷ 0xDD ∷ []
+
+abbrev pub old_heartbeat : Packet
+old_heartbeat = sealed (record (heartbeat_with None) { old = true }) 50
+
+pub old_encoding : encoding old_heartbeat ≡ old_heartbeat_bytes
+unfolding after_byte
+old_encoding = refl
+
+abbrev corrupt_old_bytes : List ℕ
+corrupt_old_bytes = take 16 old_heartbeat_bytes ++ 0 ∷ []
+
+pub old_frames_seen :
+    map (look_of extras true)
+    (old_heartbeat_bytes ∷ corrupt_old_bytes ∷ (0xFE ∷ []) ∷ take 6 old_heartbeat_bytes ∷ (0xFE ∷ 0 ∷ 0 ∷ 1 ∷ 1 ∷ 1 ∷ []) ∷ heartbeat_bytes ∷ []) ≡
+    Frame old_heartbeat 17 ∷ NotHere BadCheck ∷ More 5 ∷ More 11 ∷ NotHere UnknownId ∷ Frame heartbeat 21 ∷ []
+unfolding after_byte
+old_frames_seen = refl
+
+pub old_frames_unread : look_of extras false old_heartbeat_bytes ≡ NotHere NotStx
+old_frames_unread = refl
+
 -- ---- a stream of two frames and garbage
 
 pub stream_parsed :
-    final_parse extras (0 ∷ heartbeat_bytes ++ current_bytes ++ 0xFD ∷ 0 ∷ 2 ∷ 0xFD ∷ []) ≡
+    final_parse extras false (0 ∷ heartbeat_bytes ++ current_bytes ++ 0xFD ∷ 0 ∷ 2 ∷ 0xFD ∷ []) ≡
     Skipped 0 NotStx ∷ FrameEvent heartbeat ∷ FrameEvent (current_with (0 ∷ [])) ∷ Skipped 0xFD UnknownFlag ∷ Skipped 0 NotStx ∷
     Skipped 2 NotStx ∷ Skipped 0xFD Short ∷ []
 unfolding after_byte

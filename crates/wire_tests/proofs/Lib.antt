@@ -3,7 +3,7 @@ mod Layouts
 mod Definitions
 mod Messages
 mod Frames
-mod Ahead
+mod Spans
 mod Lines
 mod Signatures
 mod Profiles

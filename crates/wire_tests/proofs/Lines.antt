@@ -8,15 +8,15 @@ use Rattle.field_layout.specs.declared.fields.Field.{Field}
 use Rattle.field_layout.specs.Definition.{Definition}
 use Rattle.mav_profile.specs.Profile.{single, array, heartbeat_definition}
 use Rattle.mav_frame.specs.Packet.{Packet}
-use Rattle.mav_frame.specs.Looks.{packet_at}
+use Rattle.mav_frame.specs.Looks.{is_old_at, packet_at}
 use Rattle.mav_frame.specs.declared.looks.Why.TheVariants.{NotStx, UnknownFlag, UnknownId, BadCheck, Short}
 use Rattle.mav_text.specs.FrameText.{frame_text, skip_line, skip_lines}
-use Rattle.mav_text.specs.RecipeText.{line_of, has_short_names}
-use Rattle.wire_tests.proofs.Frames.{node}
+use Rattle.mav_text.specs.TemplateText.{line_of, has_short_names}
+use Rattle.wire_tests.proofs.Frames.{node, old_heartbeat_bytes}
 
--- the line of the frame that stands in front of some bytes, at a large offset and with an ending
+-- the line of the frame that stands at the start of some bytes, at a large offset and with an ending
 abbrev line_at : Definition → List ℕ → List ℕ
-line_at def bytes = line_of (Some def) 12345678901 (packet_at bytes) (codes " end\n")
+line_at def bytes = line_of (Some def) 12345678901 (packet_at (is_old_at true bytes) bytes) (codes " end\n")
 
 abbrev definition : ℕ → List ℕ → List Field → List Field → Definition
 definition id name fields extensions = record { id = id; name = name; fields = fields; extensions = extensions }
@@ -43,6 +43,27 @@ pub heartbeat_lines : flat_map (line_at heartbeat_definition) (signed_bytes ∷ 
     ++ codes "12345678901 HEARTBEAT 254.1 #255 type=2 autopilot=0 base_mode=0 custom_mode=1 system_status=0 mavlink_version=0 end\n"
 unfolding digits
 heartbeat_lines = refl
+
+-- ---- frames of MAVLink 1: a HEARTBEAT as it stands in captures; a frame whose length covers an extension field, which shows 0
+-- all the same; one with a payload of one byte. The payload of the second in a frame of MAVLink 2 shows the extension field.
+
+pub old_heartbeat_line : line_at heartbeat_definition old_heartbeat_bytes ≡ codes
+    "12345678901 HEARTBEAT 1.1 #0 v1 type=2 autopilot=3 base_mode=81 custom_mode=0 system_status=4 mavlink_version=3 end\n"
+unfolding digits
+old_heartbeat_line = refl
+
+abbrev extended : Definition
+extended = definition 9 (codes "EXTENDED") (single U16 (codes "base") ∷ []) (single U8 (codes "more") ∷ [])
+
+pub extended_lines : flat_map (line_at extended)
+    ((0xFE ∷ 0x03 ∷ 0x07 ∷ 0x01 ∷ 0x02 ∷ 0x09 ∷ 0x01 ∷ 0x02 ∷ 0x05 ∷ 0xAA ∷ 0xBB ∷ []) ∷
+    (0xFE ∷ 0x01 ∷ 0x08 ∷ 0x01 ∷ 0x02 ∷ 0x09 ∷ 0x01 ∷ 0xAA ∷ 0xBB ∷ []) ∷
+    (0xFD ∷ 0x03 ∷ 0x00 ∷ 0x00 ∷ 0x07 ∷ 0x01 ∷ 0x02 ∷ 0x09 ∷ 0x00 ∷ 0x00 ∷ 0x01 ∷ 0x02 ∷ 0x05 ∷ 0xAA ∷ 0xBB ∷ []) ∷ []) ≡ codes
+    "12345678901 EXTENDED 1.2 #7 v1 base=513 more=0 end\n"
+    ++ codes "12345678901 EXTENDED 1.2 #8 v1 base=1 more=0 end\n"
+    ++ codes "12345678901 EXTENDED 1.2 #7 base=513 more=5 end\n"
+unfolding digits
+extended_lines = refl
 
 -- ---- names of 22, 23 and 64 bytes, and a large id
 
@@ -74,7 +95,7 @@ names_kept = refl
 
 abbrev packet : ℕ → List ℕ → Packet
 packet seq payload =
-    record { compat = 0; seq = seq; from = node 255 1; id = 7; payload = payload; check = 0; block = None }
+    record { old = false; compat = 0; seq = seq; from = node 255 1; id = 7; payload = payload; check = 0; block = None }
 
 abbrev every_field : List Field
 every_field =

@@ -1,5 +1,5 @@
 -- Frames signed by an outside program, and answers to timestamps, computed from the definitions alone.
-use Rattle.std.proofs.Common.{◌≡◌, ℕ, List, [], ◌∷◌, ◌++◌, map, take, refl}
+use Rattle.std.proofs.Common.{◌≡◌, ℕ, List, [], ◌∷◌, ◌++◌, map, take, false, refl}
 use Rattle.std.specs.Prelude.{Some, None, Ok, Err}
 use Rattle.std.specs.List.{range_with_len}
 use Rattle.sha2.specs.Sha256.{first_words, schedule, rounds, compress, hash_after, digest_bytes, sha256}
@@ -33,7 +33,7 @@ unsigned_bytes = 0xFD ∷ 0x01 ∷ 0x00 ∷ 0x00 ∷ 0x03 ∷ 0x01 ∷ 0x01 ∷ 
 
 -- the answer to a frame, where a right signature is admitted
 abbrev answer_by_signature : List ℕ → Admit
-answer_by_signature bytes = block_answer key (λ stream stamp. Admitted) (packet_at bytes) (packet_at bytes).block
+answer_by_signature bytes = block_answer key (λ stream stamp. Admitted) (packet_at false bytes) (packet_at false bytes).block
 
 pub signatures :
     map answer_by_signature (signed_heartbeat_bytes ∷ signed_current_bytes ∷ wrong_bytes ∷ unsigned_bytes ∷ []) ≡
@@ -49,7 +49,7 @@ stream sys = record { sys = sys; comp = 1; link = 0 }
 -- a frame of a stream that was admitted
 abbrev admitted : ℕ → ℕ → Entry
 admitted sys stamp =
-    tried (record { compat = 0; seq = 0; from = node sys 1; id = 42; payload = 7 ∷ []; check = 0; block = Some record { link = 0; stamp = stamp; sig = [] } }) Admitted
+    tried (record { old = false; compat = 0; seq = 0; from = node sys 1; id = 42; payload = 7 ∷ []; check = 0; block = Some record { link = 0; stamp = stamp; sig = [] } }) Admitted
 
 -- timestamps rise in each stream
 abbrev one_admitted : List Entry

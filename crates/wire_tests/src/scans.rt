@@ -1,9 +1,7 @@
-// What stands in front of a stream that a scanner holds.
-ghost use Rattle.std.specs.Prelude.{◌≡◌, ◌∷◌, [], IfOk};
-ghost use Rattle.mav_scan.specs.Ahead.{size_ahead};
+// What stands at the start of a stream that a scanner holds.
 
-use mav_frame::{NoMemory, Why};
-use mav_scan::{Ahead, Scanner};
+use mav_frame::NoMemory;
+use mav_scan::{NextSpan, Scanner};
 use std::alloc::Global;
 use std::test::Fail;
 use x25_check::Extras;
@@ -15,15 +13,8 @@ const MIXED: [u8; 37] = [
     0xFD, 0, 0, 0, 0, 1, 1, 1, 0, 0,
 ];
 
-const WANTED: [Ahead; 7] = [
-    Ahead::Run(Why::NotStx, 2),
-    Ahead::Run(Why::UnknownFlag, 1),
-    Ahead::Run(Why::NotStx, 3),
-    Ahead::Frame(21),
-    Ahead::Run(Why::UnknownId, 1),
-    Ahead::Run(Why::NotStx, 9),
-    Ahead::Need,
-];
+// The reason, 0 for a frame and 9 at Need, and the length of each span.
+const WANTED: [(u16, usize); 7] = [(1, 2), (2, 1), (1, 3), (0, 21), (3, 1), (1, 9), (9, 0)];
 
 fn extras(alloc: Global) -> Result<Extras, NoMemory> {
     let mut pairs = Vec::new(alloc);
@@ -31,30 +22,28 @@ fn extras(alloc: Global) -> Result<Extras, NoMemory> {
     Ok(Extras::new(pairs))
 }
 
-fn size(ahead: Ahead) -> usize
-    ensures { result ≡ size_ahead ahead }
-{
-    match ahead {
-        Ahead::Frame(size) => size,
-        Ahead::Run(_, count) => count,
-        Ahead::Need => 0,
+fn code(span: NextSpan) -> (u16, usize) {
+    match span {
+        NextSpan::Frame(size) => (0, size),
+        NextSpan::Skipped(why, count) => (why as u16, count),
+        NextSpan::Need => (9, 0),
     }
 }
 
-// How many answers are as wanted, each of which is taken off.
-fn as_wanted(scanner: &mut Scanner, wanted: &[Ahead]) -> usize {
-    for (place, want) in wanted.iter().enumerate() {
-        let ahead = scanner.ahead();
-        if ahead != *want {
-            return place;
+// How many spans are as wanted, each of which is taken off.
+fn as_wanted(scanner: &mut Scanner, wanted: &[(u16, usize)]) -> usize {
+    for (index, want) in wanted.iter().enumerate() {
+        let span = scanner.next_span();
+        if code(span) != *want {
+            return index;
         }
-        scanner.remove(size(ahead));
+        scanner.consume(span.size());
     }
     wanted.len()
 }
 
 fn told(alloc: Global) -> Result<(usize, usize), NoMemory> {
-    let mut scanner = Scanner::new(alloc, extras(alloc)?)?;
+    let mut scanner = Scanner::new(alloc, extras(alloc)?, true)?;
     let taken = scanner.feed(&MIXED);
     Ok((taken, as_wanted(&mut scanner, &WANTED)))
 }

@@ -1,5 +1,5 @@
 // A stream in pieces against the parse of its whole.
-ghost use Rattle.std.specs.Prelude.{◌≡◌, ◌<◌, ◌∷◌, ℕ, List, [], length, IfOk, OnOk};
+ghost use Rattle.std.specs.Prelude.{◌≡◌, ◌<◌, ◌∷◌, ℕ, Bool, true, List, [], length, IfOk, OnOk};
 ghost use Rattle.mav_frame.specs.Parse.{Final};
 ghost use Rattle.mav_stream.specs.Progress.{Progress, IsWhole};
 
@@ -9,10 +9,10 @@ use std::alloc::Global;
 use std::test::Fail;
 use x25_check::Extras;
 
-// Garbage, a HEARTBEAT and a MISSION_CURRENT of node 1.1, as they stand in captures.
-const CAPTURE: [u8; 35] = [
-    0, 0xFD, 9, 0, 0, 0, 1, 1, 0, 0, 0, 0, 0, 0, 0, 2, 3, 81, 4, 3, 0xE7, 0x1E, 0xFD, 1, 0, 0, 1,
-    1, 1, 42, 0, 0, 0, 0x2F, 0x49,
+// Garbage, a HEARTBEAT of node 1.1 as frames of MAVLink 2 and of MAVLink 1, and a MISSION_CURRENT, as they stand in captures.
+const CAPTURE: [u8; 52] = [
+    0, 0xFD, 9, 0, 0, 0, 1, 1, 0, 0, 0, 0, 0, 0, 0, 2, 3, 81, 4, 3, 0xE7, 0x1E, 0xFE, 9, 0, 1, 1,
+    0, 0, 0, 0, 0, 2, 3, 81, 4, 3, 0x7D, 0xDD, 0xFD, 1, 0, 0, 1, 1, 1, 42, 0, 0, 0, 0x2F, 0x49,
 ];
 
 fn extras(alloc: Global) -> Result<Extras, NoMemory>
@@ -26,7 +26,7 @@ fn extras(alloc: Global) -> Result<Extras, NoMemory>
 
 // Appends the events until the reader needs more bytes.
 fn drain(reader: &mut Reader, events: &mut Vec<Event>) -> Result<(), NoMemory>
-    ensures progress { OnOk result ((extras : List (ℕ × ℕ)) (taken : List ℕ) → Progress extras taken events.old.items reader.old → Progress extras taken events.new.items reader.new × IsWhole extras taken events.new.items reader.new) }
+    ensures progress { OnOk result ((extras : List (ℕ × ℕ)) (reads_old : Bool) (taken : List ℕ) → Progress extras reads_old taken events.old.items reader.old → Progress extras reads_old taken events.new.items reader.new × IsWhole extras reads_old taken events.new.items reader.new) }
     ensures room { OnOk result (length reader.new.bytes < 280) }
     ensures ended { reader.new.ended ≡ reader.old.ended }
 {
@@ -47,9 +47,9 @@ fn read_in_pieces(
     size: usize,
 ) -> Result<Vec<Event>, NoMemory>
     requires { 0 < size }
-    ensures { IfOk result (λ events. Final extras events.items bytes.now) }
+    ensures { IfOk result (λ events. Final extras true events.items bytes.now) }
 {
-    let mut reader = Reader::new(extras);
+    let mut reader = Reader::new(extras, true);
     let mut events = Vec::new(alloc);
     let mut place = 0;
     while place < bytes.len() {
@@ -83,14 +83,14 @@ fn as_wanted(events: &[Event], wanted: &[(u32, u16)]) -> usize {
 // The same of the capture as a whole, and in pieces of seven bytes.
 fn told(alloc: Global, wanted: &[(u32, u16)]) -> Result<(usize, usize), NoMemory> {
     let table = extras(alloc)?;
-    let whole = parse(alloc, &table, &CAPTURE)?;
+    let whole = parse(alloc, &table, true, &CAPTURE)?;
     let pieces = read_in_pieces(alloc, table, &CAPTURE, 7)?;
     Ok((as_wanted(&whole, wanted), as_wanted(&pieces, wanted)))
 }
 
 #[test]
 fn a_capture_whole_and_in_pieces(rt: HostRuntime) -> Result<(), Fail> {
-    let wanted = [(0, 1), (0, 0x1EE7), (42, 0x492F)];
-    assert_eq!(rt; told(rt.alloc(), &wanted)?, (3, 3));
+    let wanted = [(0, 1), (0, 0x1EE7), (0, 0xDD7D), (42, 0x492F)];
+    assert_eq!(rt; told(rt.alloc(), &wanted)?, (4, 4));
     Ok(())
 }

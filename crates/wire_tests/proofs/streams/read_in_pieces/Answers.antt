@@ -1,4 +1,4 @@
-use Rattle.std.proofs.Common.{◌≡◌, ◌≤◌, ℕ, ◌+◌, ◌-◌, List, ◌++◌, length, take, drop, sym, ap, ◌∙◌, subst, arith, length-take, take-add}
+use Rattle.std.proofs.Common.{◌≡◌, ◌≤◌, ℕ, ◌+◌, ◌-◌, true, List, ◌++◌, length, take, drop, sym, ap, ◌∙◌, subst, arith, length-take, take-add}
 use Rattle.std.proofs.lemmas.List.{take-take}
 use Rattle.mav_stream.specs.Held.{Held}
 use Rattle.mav_stream.specs.Progress.{Progress}
@@ -22,7 +22,7 @@ loop-place-preserved c =
       room = c.in_ok-drain.ensures.room;
       still = c.in_ok-drain.ensures.ended ∙ (ap (λ (h : Held). h.ended) c.feed-place.ensures.held ∙ inv.still);
       progress =
-          let fed = c.feed-place.ensures.progress c.args.extras (take place b) l.events.items inv.still inv.progress in
+          let fed = c.feed-place.ensures.progress c.args.extras true (take place b) l.events.items inv.still inv.progress in
           let same = one_more place n (place + size - place) b (omega arith) in
-          (c.in_ok-drain.ensures.progress c.args.extras (take (place + n) b) (subst (λ (z : List ℕ). Progress c.args.extras z l.events.items c.feed-place.new.self) same fed)).0;
+          (c.in_ok-drain.ensures.progress c.args.extras true (take (place + n) b) (subst (λ (z : List ℕ). Progress c.args.extras true z l.events.items c.feed-place.new.self) same fed)).0;
     }

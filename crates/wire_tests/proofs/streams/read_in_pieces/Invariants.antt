@@ -1,4 +1,4 @@
-use Rattle.std.proofs.Common.{◌≡◌, ◌<◌, ◌≤◌, ◌-◌, length, take, false}
+use Rattle.std.proofs.Common.{◌≡◌, ◌<◌, ◌≤◌, ◌-◌, length, take, true, false}
 use Rattle.mav_stream.specs.Progress.{Progress}
 use Rattle.wire_tests.proofs.streams.read_in_pieces.Given as goal
 
@@ -7,7 +7,7 @@ invariant-loop-place l = record {
   within : l.place ≤ length l.bytes;
   room : length l.reader.bytes < 280;
   still : l.reader.ended ≡ false;
-  progress : Progress l.fn.extras (take l.place l.bytes) l.events.items l.reader;
+  progress : Progress l.fn.extras true (take l.place l.bytes) l.events.items l.reader;
 }
 
 abbrev pub decreases-loop-place : goal.decreases-loop-place
