@@ -42,7 +42,7 @@ pub decodes_as : (one other first second : Bool) (runs : CommandSpec → Input �
 decodes_as one other first second runs halted key defs main same too d =
     subst (λ b. Decodes other b runs halted key defs main) too (subst (λ b. Decodes b first runs halted key defs main) same d)
 
--- each run is told how it ended
+-- each run's status is written
 module _ (first second : CommandSpec → Input → Type 0) (halted stopped : Type 0) (on : (s : CommandSpec) → Steady s → (i : Input) → (i.spent → IsSpent i.left_after) → first s i → second s i) (ends : halted → stopped) where
   with_reported : (key : Option (List ℕ)) (named : Bool) (defs main : Input) → (defs.spent → IsSpent defs.left_after) → (main.spent → IsSpent main.left_after) → DecodesWith key named first halted defs main → DecodesWith key named second stopped defs main
   with_reported key false defs main ds ms d =

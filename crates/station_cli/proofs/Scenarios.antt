@@ -25,7 +25,7 @@ pub fleets_as : (one other first second : Bool) (runs : CommandSpec → Input �
 fleets_as one other first second runs halted key main same too d =
     subst (λ b. Fleets other b runs halted key main) too (subst (λ b. Fleets b first runs halted key main) same d)
 
--- each run is told how it ended
+-- each run's status is written
 module _ (first second : CommandSpec → Input → Type 0) (halted stopped : Type 0) (on : (s : CommandSpec) → Steady s → (i : Input) → (i.spent → IsSpent i.left_after) → first s i → second s i) (ends : halted → stopped) where
   pub fleets_reported : (named_key frames : Bool) (key main : Input) → (key.spent → IsSpent key.left_after) → (main.spent → IsSpent main.left_after) → Fleets named_key frames first halted key main → Fleets named_key frames second stopped key main
   fleets_reported false frames key main ks ms d = on (fleet_spec default_key frames) (fleet_steady default_key frames) main ms d

@@ -1,4 +1,4 @@
--- How a run over words of no command is told.
+-- How a run over words of no command is reported.
 use Rattle.std.proofs.Common.{◌≡◌, ◌≢◌, ◌∙◌, ◌⊎◌, inl, inr, ℕ, List, [], ◌∷◌, ◌++◌, refl, sym, subst, ap, arith, Option, Some, Result, Ok, Err, IsErr, IsErrOf, codes}
 use Rattle.std.specs.Result.{result_err}
 use Rattle.std.specs.Io.KnownBytes.{append_known}
@@ -31,7 +31,7 @@ pub usage_ended : (rm ra : ℕ) (sm sa : Option (List ℕ)) (ended reported : Re
 usage_ended rm ra sm sa (Ok x) reported (is, same, unsent) two = absurd (let done : Result (Unit {0}) RunEnd = Ok x in let none : code_of (result_err done) ≡ 2 = ap (λ t. code_of (result_err t)) (sym is) ∙ two in omega (arith, none))
 usage_ended rm ra sm sa (Err run_end) reported writes two = ap Err (usage_halted rm ra sm sa run_end reported writes two)
 
--- the output refused a write only where the run ends so
+-- the output refused a write only if the run ends so
 pub five_only : (reported : Result (Unit {0}) RunEnd) → code_of (result_err reported) ≢ 5 → (IsErrOf reported WriteFault → ⊥)
 five_only reported other is = other (ap (λ t. code_of (result_err t)) is)
 

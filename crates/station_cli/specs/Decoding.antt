@@ -18,7 +18,7 @@ WithKey true runs halted others key next =
     (runs key_spec key × halted × TookAtMost 67 key.left_before key.left_after × others)
     ⊎ ((bytes : List ℕ) × HoldsKey key.spent key.left_before key.left_after bytes × next (Some bytes))
 
--- then definitions that are named: the run halts at them, nothing is told of them, and the main input isn't read; or it
+-- then definitions that are named: the run halts at them, nothing is written of them, and the main input isn't read; or it
 -- goes on with them; without them the profile is used
 abbrev pub WithDefinitions : Bool → (CommandSpec → Input → Type 0) → (halted others : Type 0) → Input → (List Definition → Type 0) → Type 0
 WithDefinitions false runs halted others defs next = next profile_definitions

@@ -1,4 +1,4 @@
--- What stands of an input and of the output, before and after a run.
+-- What contracts see of an input and of the output, before and after a run.
 use Rattle.std.specs.Prelude.{◌≡◌, ℕ, List}
 use Rattle.std.specs.declared.option.Option.{Option}
 use Rattle.mav_ports.specs.Gets.{IsSpent}
@@ -6,9 +6,9 @@ use Rattle.run_status.specs.declared.run_ends.RunEnd.{RunEnd}
 use Rattle.run_status.specs.Runs.{CommandSpec, PortOutcome, port_outcome, RunBeforeStatus, Promises}
 
 pub record Input : Type 1 where
-  -- it answered End, and nothing is left of it
+  -- it returned End, and nothing is left of it
   pub spent : Type 0
-  -- it is as it was
+  -- it is unchanged
   pub unread : Type 0
   pub faults_before : ℕ
   pub faults_after : ℕ
@@ -23,7 +23,7 @@ pub record Output : Type 0 where
   pub sent_before : Option (List ℕ)
   pub sent_after : Option (List ℕ)
 
--- by what a source tells of itself
+-- by what contracts see of a source
 abbrev pub input_of : {A : Type 0} → (A → Type 0) → (A → ℕ) → (A → ℕ) → (A → Option (List ℕ)) → A → A → Input
 input_of has_ended faults idles left old new = record {
   spent = has_ended new × IsSpent (left new);
@@ -36,7 +36,7 @@ input_of has_ended faults idles left old new = record {
   left_after = left new;
 }
 
--- by what a sink tells of itself
+-- by what contracts see of a sink
 abbrev pub output_of : {A : Type 0} → (A → ℕ) → (A → Option (List ℕ)) → A → A → Output
 output_of faults sent old new = record {
   refusals_before = faults old;
@@ -48,7 +48,7 @@ output_of faults sent old new = record {
 abbrev pub around : Input → Output → PortOutcome
 around input out = port_outcome input.spent input.faults_before input.faults_after input.idles_before input.idles_after out.refusals_before out.refusals_after
 
--- a command's run over an input, before the text of its halt
+-- a command's run over an input, before the text of its status
 abbrev pub before_status_over : Output → Option RunEnd → CommandSpec → Input → Type 0
 before_status_over out end s input = RunBeforeStatus s (around input out) input.left_before input.left_after out.sent_before out.sent_after end
 

@@ -4,7 +4,7 @@ use Rattle.std.specs.Io.KnownBytes.{append_known}
 use Rattle.mav_ports.specs.Counts.{Rose}
 use Rattle.mav_ports.specs.Puts.{SentFront}
 
--- it is told so with status 2, or the output refused that text, or there was no memory
+-- `usage` is written with status 2, or the output refused that text, or there was no memory
 abbrev pub UsageReported : ℕ → ℕ → ℕ → Option (List ℕ) → Option (List ℕ) → Type 0
 UsageReported code refusals_before refusals_after sent_before sent_after =
     ((code ≡ 2) × (sent_after ≡ append_known sent_before (codes "usage\n")))

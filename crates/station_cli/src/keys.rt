@@ -13,7 +13,7 @@ use mav_ports::Source;
 use mav_sign::Key;
 use run_status::RunEnd;
 
-/// Reads the key, where the line names one.
+/// Reads the key, if the line names one.
 pub(crate) fn named_key<S: Source>(line: &Line, key: &mut S) -> Result<Option<Key>, RunEnd>
     ensures is { IfOk result
         (KeyIs (has_given OptionName.Key (map given_of line.now.settings.items))

@@ -23,7 +23,7 @@ use mav_ports::{Clock, Sink, Source};
 use run_status::{RunEnd, code_of, write_status};
 use std::alloc::Global;
 
-// Runs `dialect`: over the definitions where the line names them, else over the profile.
+// Runs `dialect`: over the definitions if the line names them, else over the profile.
 fn run_dialect<S: Source, K: Sink>(
     alloc: Global,
     named: bool,
@@ -153,7 +153,7 @@ fn run_words<S: Source, K: Sink>(
     run_line(alloc, &line, inputs, out)
 }
 
-/// Runs the command that the words name, and answers its exit status. The words are those behind
+/// Runs the command that the words name, and returns its exit status. The words are those after
 /// the program's name.
 ///
 /// 0 done, 2 `usage`, 3 `bad PLACE: REASON`, 4 `read fault`, 5 a write failed, 6 `limit WHAT N`,
@@ -161,7 +161,7 @@ fn run_words<S: Source, K: Sink>(
 /// line of the output.
 ///
 /// The clause of a command has all that it promises of the run: `Promises` has a field for each
-/// status, and fields that say why no other comes; the command's script says which bytes of its
+/// status, and fields that say why no other comes; the command's specification says which bytes of its
 /// input stop it and what is written of them.
 pub fn run<S: Source, K: Sink, C: Clock>(
     alloc: Global,
@@ -171,7 +171,7 @@ pub fn run<S: Source, K: Sink, C: Clock>(
     clock: &mut C,
 ) -> u8
     // `fleet [--frames] [--key F] FILE`: the run halts at the key, and the main input isn't read; or
-    // the key is read, where the words name one, and the main input is played under it
+    // the key is read, if the words name one, and the main input is played under it
     ensures fleet { (asked : Asked) → Asks built (map string_bytes words.now) asked
         → asked.command ≡ Command.Fleet → Fleets
         (has_given OptionName.Key asked.settings) (has_given OptionName.Frames asked.settings)
@@ -179,9 +179,9 @@ pub fn run<S: Source, K: Sink, C: Clock>(
         (input_of S.has_ended S.faults S.idles S.left inputs.old.key inputs.new.key)
         (input_of S.has_ended S.faults S.idles S.left inputs.old.main inputs.new.main) }
     // The main theorem, of that same run: the bytes that it took, why it ended and what it wrote of
-    // them; and, where the foreign bytes among them bring no frame that verifies and wasn't sent,
+    // them; and, if the foreign bytes among them bring no frame that verifies and wasn't sent,
     // that this is the report of an execution of the abstract mission store, with the same plans
-    // after each event and at the end; that what it tells is true; and that each uncontended upload
+    // after each event and at the end; that what it says is true; and that each uncontended upload
     // was installed and acknowledged.
     ensures main_theorem { (asked : Asked) → Asks built (map string_bytes words.now) asked
         → asked.command ≡ Command.Fleet → FleetsCarry
@@ -189,7 +189,7 @@ pub fn run<S: Source, K: Sink, C: Clock>(
         (output_of K.faults K.sent out.old out.new) result
         (input_of S.has_ended S.faults S.idles S.left inputs.old.key inputs.new.key)
         (input_of S.has_ended S.faults S.idles S.left inputs.old.main inputs.new.main) }
-    // Completeness: where no port fails, an authentic scenario of the grammar that keeps to the limits
+    // Completeness: if no port fails, an authentic scenario of the grammar that keeps to the limits
     // is played to its end under the key that the inputs give. The status is 0 and its whole report
     // was written, or memory ran out.
     ensures completeness { (asked : Asked) → Asks built (map string_bytes words.now) asked
@@ -213,8 +213,8 @@ pub fn run<S: Source, K: Sink, C: Clock>(
         → Promises profile_script (port_outcome ⊤ 0 0 0 0 (K.faults out.old) (K.faults out.new))
         (Some []) (Some []) (K.sent out.old) (K.sent out.new) result }
     // `decode [--defs F] [--key F] FILE`: the run halts at the key, and no other input is read; or at
-    // the definitions, where `dialect` would, with nothing told of them and the main input unread; or
-    // they are read, where the words name them, and the main input is decoded by them
+    // the definitions, as `dialect` would, with nothing written of them and the main input unread; or
+    // they are read, if the words name them, and the main input is decoded by them
     ensures decode { (asked : Asked) → Asks built (map string_bytes words.now) asked
         → asked.command ≡ Command.Decode → Decodes
         (has_given OptionName.Key asked.settings) (has_given OptionName.Defs asked.settings)
@@ -222,7 +222,7 @@ pub fn run<S: Source, K: Sink, C: Clock>(
         (input_of S.has_ended S.faults S.idles S.left inputs.old.key inputs.new.key)
         (input_of S.has_ended S.faults S.idles S.left inputs.old.defs inputs.new.defs)
         (input_of S.has_ended S.faults S.idles S.left inputs.old.main inputs.new.main) }
-    // The words are of no command exactly where the status is 2, unless the output refused that
+    // The words are of no command exactly if the status is 2, unless the output refused that
     // text or there was no memory.
     ensures usage { result ≡ 2 → AskNothing built (map string_bytes words.now) }
     ensures usage_only { AskNothing built (map string_bytes words.now)

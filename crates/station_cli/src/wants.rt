@@ -1,11 +1,14 @@
-// What a run needs of outside.
+// What a run needs from its caller.
 /// What the words ask `main` to make, in this order. What they don't name is None or empty.
 #[derive(Debug, Drop)]
 pub struct Wanted {
     /// The main input; `-` is standard input.
     pub main: Option<String>,
+    /// The definitions, which `--defs` names.
     pub defs: Option<String>,
+    /// The key, which `--key` names.
     pub key: Option<String>,
+    /// No command that is built has any.
     pub ports: Vec<String>,
     pub keepers: u8,
 }

@@ -8,7 +8,7 @@ use crate::wants::Wanted;
 use command_line::{OptionName, WantedFault, read};
 use std::alloc::Global;
 
-/// What the words behind the program's name ask for.
+/// What the words after the program's name ask for.
 pub fn wanted(alloc: Global, words: &[String]) -> Result<Wanted, WantedFault>
     ensures wants { IfOk result (Wants (map string_bytes words.now)) }
     ensures usage { IsErrOf result WantedFault.Usage
