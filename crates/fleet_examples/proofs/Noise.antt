@@ -25,6 +25,7 @@ ping_bytes =
 
 abbrev ping : Packet
 ping = record {
+  old = false;
   compat = 0;
   seq = 0;
   from = record { sys = 255; comp = 190 };
