@@ -81,7 +81,7 @@ pub happenings_are_read :
 unfolding decode_pairs
 happenings_are_read = refl
 
--- where lines of items alone are read
+-- if lines of items alone are read
 pub other_lines_are_refused : item_reason_against 0 (codes "empty") ≡ Some Word
 other_lines_are_refused = refl
 

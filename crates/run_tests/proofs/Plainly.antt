@@ -1,4 +1,4 @@
--- What the clauses of `run` say of a command without options, where the ports are in memory and don't fail.
+-- What the clauses of `run` say of a command without options, if the ports are in memory and don't fail.
 use Rattle.std.proofs.Common.{◌≡◌, ◌≢◌, ◌+◌, ◌-◌, ◌^◌, ◌<◌, ◌≤◌, ◌⊎◌, inl, inr, ◌∙◌, ℕ, true, false, List, [], ◌∷◌, codes, refl, ap, arith, lit≤, Option, Some, None, IsTrue}
 use Rattle.std.specs.Io.KnownBytes.{append_known}
 use Rattle.std.specs.Prelude.{⊤}
@@ -88,7 +88,7 @@ sure h = omega (arith, h)
 pub awake : (0 < 2 ^ 64 - 1 → 0 + 1000000 ≤ 0) → ⊥
 awake busy = omega (arith, busy (omega arith))
 
--- a script's input, and what is written of it, by computation
+-- the input of a command's specification, and what is written of it, by computation
 module _ (s : CommandSpec) (bytes text : List ℕ) (done : code_of (end_of (s.stop true bytes)) ≡ 0) (whole : output_by s (end_of (s.stop true bytes)) true bytes ≡ text) (main : Input) (before after : SureWrites) (code : ℕ) (input : main.left_before ≡ Some bytes) (no_fault : Fails main → ⊥) (no_idle : Idles main → ⊥) (promises : promised_over (sure_output before after) code s main) where
   pub status_reported : (code ≡ 0) ⊎ ((code ≡ 5) ⊎ (code ≡ 7))
   status_reported = elim (promises.determined bytes input no_fault no_idle) [

@@ -19,7 +19,7 @@ const KEY: &[u8] = b"abcdabcdabcdabcdabcdabcdabcdabcdabcdabcdabcdabcdabcdabcdabc
 
 const NO_LIMIT: u64 = u64::MAX;
 
-// Words over inputs of which each read gives one byte, and fails behind so many; an output with room for so many bytes;
+// Words over inputs of which each read gives one byte, and fails after so many; an output with room for so many bytes;
 // the status, and what was written.
 #[derive(Clone, Copy)]
 struct Run {
@@ -133,7 +133,7 @@ static RUNS: [Run; 12] = [
     },
 ];
 
-// Gives these bytes one by one and then zeros, and fails at the call behind so many.
+// Gives these bytes one by one and then zeros, and fails at the call after so many.
 #[derive(Drop)]
 struct Feed {
     bytes: &'static [u8],
@@ -183,7 +183,7 @@ fn words_of(alloc: Global, text: &str) -> Result<Vec<String>, AllocError> {
     Ok(words)
 }
 
-// The status of a run; that of want of memory, where there is none for the words.
+// The status of a run; that of want of memory, if there is none for the words.
 fn status_of<S: Source, K: Sink>(
     alloc: Global,
     text: &str,
@@ -203,7 +203,7 @@ fn is_met(alloc: Global, wanted: &Run) -> Result<bool, AllocError> {
     Ok(status == wanted.status && out.sent() == wanted.output)
 }
 
-// Whether each run ends as it is wanted.
+// Whether each run ends as expected.
 fn are_met(alloc: Global, runs: &[Run]) -> Result<bool, AllocError> {
     for wanted in runs {
         if !is_met(alloc, wanted)? {
@@ -242,7 +242,7 @@ impl Source for Idler {
     }
 }
 
-// Whether such an input is given up, and told so, after a million reads.
+// Whether such an input is given up, and the status says so, after a million reads.
 fn is_given_up(alloc: Global) -> Result<bool, AllocError> {
     let mut out = SureSink::with_room(alloc, 100)?;
     let mut inputs = Inputs {

@@ -14,7 +14,7 @@ use std::test::Fail;
 use std::time::Duration;
 use std::{io, time};
 
-// The contracts alone give each answer: the second call fails, and none gives more than two bytes.
+// The contracts alone give each result: the second call fails, and none gives more than two bytes.
 fn reads_three_bytes(source: &mut MemSource, buf: &mut [u8]) -> [Got; 4]
     requires start { source.old ≡ reads_from_start (97 ∷ 98 ∷ 99 ∷ []) 2 (1 ∷ []) [] }
     requires room { length buf.old ≡ 8 }
@@ -26,7 +26,7 @@ fn reads_three_bytes(source: &mut MemSource, buf: &mut [u8]) -> [Got; 4]
     [first, second, third, source.read(buf)]
 }
 
-// The contracts alone give each answer: there is room for three bytes, and the second call fails.
+// The contracts alone give each result: there is room for three bytes, and the second call fails.
 fn writes_to_the_end_of_room(sink: &mut MemSink) -> [Put; 4]
     requires { sink.old ≡ writes_from_start 3 2 (1 ∷ []) }
     ensures answers { result ≡ Put.Took 2 ∷ Put.Failed ∷ Put.Took 1 ∷ Put.Failed ∷ [] }
@@ -62,7 +62,7 @@ fn a_source_over_memory_answers_as_its_contract_computes(rt: HostRuntime) -> Res
     Ok(())
 }
 
-// Whether a sink over memory answers as its contract computes.
+// Whether a sink over memory returns what its contract computes.
 fn answers_to_the_end_of_room(alloc: Global) -> Result<bool, AllocError> {
     let mut sink = sink_of_three(alloc)?;
     let put = writes_to_the_end_of_room(&mut sink);
@@ -70,7 +70,7 @@ fn answers_to_the_end_of_room(alloc: Global) -> Result<bool, AllocError> {
     Ok(answered && sink.sent() == b"abc".as_slice())
 }
 
-// What seven reads answer.
+// What seven reads return.
 fn seven_reads<S: Source>(source: &mut S, buf: &mut [u8; 8]) -> [Got; 7] {
     [
         source.read(buf),
@@ -160,7 +160,7 @@ fn read_by(reader: Option<Unsteady>) -> [Got; 7] {
     seven_reads(&mut StdSource::new(reader), &mut [0; 8])
 }
 
-// What four writes answer.
+// What four writes return.
 fn four_writes<K: Sink>(sink: &mut K) -> [Put; 4] {
     [
         sink.write(b"ab"),
@@ -174,7 +174,7 @@ fn written_by(writer: Unsteady) -> [Put; 4] {
     four_writes(&mut StdSink::new(writer))
 }
 
-// A source over a reader ends once, and one over none fails; a sink also fails where none is taken.
+// A source over a reader ends once, and one over none fails; a sink also fails if none is taken.
 #[test]
 fn the_adapters_fail_at_errors(rt: HostRuntime) {
     assert_eq!(rt;

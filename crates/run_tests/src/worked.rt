@@ -20,9 +20,9 @@ const STREAM: &[u8] = &[
 
 // The three runs, from what their contracts say alone: what is written is a text that the
 // definitions compute, checksums, CRC_EXTRA bytes and signatures under the bytes 0 to 31 and all.
-// By completeness the first is done where the output refuses nothing, unless memory runs out.
+// By completeness the first is done if the output refuses nothing, unless memory runs out.
 // And in the history of the abstract mission store of the first the plan was installed, once, and
-// what its outcome tells is true.
+// what its outcome says is true.
 fn run_one(
     alloc: Global,
     words: &[String],
@@ -55,7 +55,7 @@ fn run_one(
     run(alloc, words, inputs, out, &mut MemClock::new(0))
 }
 
-// A command, and the name of a file where it takes one.
+// A command, and the name of a file if it takes one.
 fn words_for(alloc: Global, command: &str, has_file: bool) -> Result<Vec<String>, AllocError>
     ensures file { has_file ≡ true
         → IfOk result (λ words. map string_bytes words.items ≡ command.now ∷ codes "file" ∷ []) }

@@ -7,7 +7,7 @@ use Rattle.dialect_command.specs.Script.{profile_script}
 use Rattle.dialect_command.specs.Examples.{profile_layouts}
 use Rattle.dialect_command.proofs.Worked.{profile_output}
 use Rattle.fleet_command.specs.Examples.{one_item, one_item_installed}
-use Rattle.fleet_command.proofs.Worked.{script as playing, one_item_code, one_item_output}
+use Rattle.fleet_command.proofs.Worked.{spec as playing, one_item_code, one_item_output}
 use Rattle.run_tests.proofs.Plainly.{asked, asked_dialect, asks_fleet, asks_decode, asks_dialect, sure_input, no_input, sure, awake, status_reported, text_reported, installed_reported, completed_reported}
 use Rattle.run_tests.proofs.worked.run_one.Goals as goal
 
