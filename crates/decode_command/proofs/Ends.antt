@@ -4,7 +4,7 @@ use Rattle.std.proofs.Math.Seq.{take-append-add}
 use Rattle.std.proofs.lemmas.Bool.{lt-ltb, le-ltb}
 use Rattle.std.specs.Result.{result_err}
 use Rattle.std.specs.Io.KnownBytes.{append_known, prepend_known}
-use Rattle.mav_ports.specs.Puts.{Sent, SentFront}
+use Rattle.mav_ports.specs.Puts.{Sent, SentPrefix}
 use Rattle.mav_ports.proofs.Known.{sent_all}
 use Rattle.decode_command.specs.declared.known.Known.{Known}
 use Rattle.mav_profile.specs.Messages.{extras_of}
@@ -81,7 +81,7 @@ module _ (known : Known) where
     }
 
     -- the writing halted
-    untold_halted : (taken : List ℕ) (halt : RunEnd) → lb ≡ prepend_known taken la → (halt ≡ WriteFault) ⊎ (halt ≡ NoMemory) → (halt ≡ WriteFault → o.refused) → SentFront sb sa ((decode_script known).report false taken) → RunBeforeStatus (decode_script known) o lb la sb sa (Some halt)
+    untold_halted : (taken : List ℕ) (halt : RunEnd) → lb ≡ prepend_known taken la → (halt ≡ WriteFault) ⊎ (halt ≡ NoMemory) → (halt ≡ WriteFault → o.refused) → SentPrefix sb sa ((decode_script known).report false taken) → RunBeforeStatus (decode_script known) o lb la sb sa (Some halt)
     untold_halted taken halt took (inl is) refused front =
         subst (λ (h : RunEnd). RunBeforeStatus (decode_script known) o lb la sb sa (Some h)) (sym is)
         (record { taken = taken; ended = false; took = took; at_end = not_ended; cause = refused is; wrote = front })
@@ -91,11 +91,11 @@ module _ (known : Known) where
 
     pub untold_within : (taken : List ℕ) (halt : RunEnd) → lb ≡ prepend_known taken la → length taken ≤ most_input_bytes → (halt ≡ WriteFault) ⊎ (halt ≡ NoMemory) → (halt ≡ WriteFault → o.refused) → Front known taken sb sa → RunBeforeStatus (decode_script known) o lb la sb sa (Some halt)
     untold_within taken halt took fits error refused front =
-        untold_halted taken halt took error refused (subst (SentFront sb sa) (sym (report_within false taken fits)) front)
+        untold_halted taken halt took error refused (subst (SentPrefix sb sa) (sym (report_within false taken fits)) front)
 
     pub untold_past : (taken : List ℕ) (halt : RunEnd) → lb ≡ prepend_known taken la → most_input_bytes < length taken → (halt ≡ WriteFault) ⊎ (halt ≡ NoMemory) → (halt ≡ WriteFault → o.refused) → Front known (take most_input_bytes taken) sb sa → RunBeforeStatus (decode_script known) o lb la sb sa (Some halt)
     untold_past taken halt took long error refused front =
-        untold_halted taken halt took error refused (subst (SentFront sb sa) (sym (report_past false taken long)) front)
+        untold_halted taken halt took error refused (subst (SentPrefix sb sa) (sym (report_past false taken long)) front)
 
     -- the input ended
     whole_text : (taken : List ℕ) → length taken ≤ most_input_bytes → text_so_far (decode_script known) true taken ≡ decode_text known (final_events (extras_of known.dialect) taken)
@@ -104,10 +104,10 @@ module _ (known : Known) where
     untold_unfinished : (taken : List ℕ) (halt : RunEnd) → lb ≡ prepend_known taken la → o.spent → length taken ≤ most_input_bytes → (halt ≡ WriteFault) ⊎ (halt ≡ NoMemory) → (halt ≡ WriteFault → o.refused) → Unfinished known taken sb sa → RunBeforeStatus (decode_script known) o lb la sb sa (Some halt)
     untold_unfinished taken halt took spent fits (inl is) refused front =
         subst (λ (h : RunEnd). RunBeforeStatus (decode_script known) o lb la sb sa (Some h)) (sym is)
-        (record { taken = taken; ended = true; took = took; at_end = λ e. spent; cause = refused is; wrote = subst (SentFront sb sa) (sym (whole_text taken fits)) front })
+        (record { taken = taken; ended = true; took = took; at_end = λ e. spent; cause = refused is; wrote = subst (SentPrefix sb sa) (sym (whole_text taken fits)) front })
     untold_unfinished taken halt took spent fits (inr is) refused front =
         subst (λ (h : RunEnd). RunBeforeStatus (decode_script known) o lb la sb sa (Some h)) (sym is)
-        (record { taken = taken; ended = true; took = took; at_end = λ e. spent; cause = tt; wrote = subst (SentFront sb sa) (sym (whole_text taken fits)) front })
+        (record { taken = taken; ended = true; took = took; at_end = λ e. spent; cause = tt; wrote = subst (SentPrefix sb sa) (sym (whole_text taken fits)) front })
 
     pub untold_end : (taken : List ℕ) (r : Result (Unit {0}) RunEnd) → lb ≡ prepend_known taken la → o.spent → length taken ≤ most_input_bytes → OnOk r (Finished known taken sb sa) → IfErr r (λ halt. Unfinished known taken sb sa) → IfErr r (λ halt. (halt ≡ WriteFault) ⊎ (halt ≡ NoMemory)) → (IsErrOf r WriteFault → o.refused) → RunBeforeStatus (decode_script known) o lb la sb sa (result_err r)
     untold_end taken (Ok x) took spent fits done unfinished error refused = record {

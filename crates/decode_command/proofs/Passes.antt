@@ -1,7 +1,7 @@
 -- What stands at the start of the bytes is put, and then taken off.
 use Rattle.std.proofs.Common.{◌≡◌, ℕ, ◌+◌, ◌≤◌, List, ◌++◌, length, take, drop, map, refl, ap, ◌∙◌, arith, length-take, length-drop, Option}
 use Rattle.std.specs.Global.{Vec}
-use Rattle.mav_ports.specs.Puts.{Sent, SentFront}
+use Rattle.mav_ports.specs.Puts.{Sent, SentPrefix}
 use Rattle.mav_frame.specs.declared.looks.Why.{Why}
 use Rattle.mav_frame.specs.declared.events.Event.{Event}
 use Rattle.mav_stream.specs.Held.{Held}
@@ -52,7 +52,7 @@ module _ (events : List Event) (n : ℕ) (old put : Decoder) (held : Held) (size
       stepped events (record old { reader = left }) (record put { reader = held }) middle after (record put { reader = held; text = text }) (within_passed w) puts_passed moved refl
 
   -- or a write failed
-  pub passed_halted : (middle after : Option (List ℕ)) (text : Vec ℕ) → ((before : Option (List ℕ)) (whole : List ℕ) → Sent before middle whole put.text.items → SentFront before after whole) → (known : Known) (taken : List ℕ) (before : Option (List ℕ)) → Decoding known taken old before middle → Gave known taken events old.reader left → Halted known taken (record put { reader = held; text = text }) before after
+  pub passed_halted : (middle after : Option (List ℕ)) (text : Vec ℕ) → ((before : Option (List ℕ)) (whole : List ℕ) → Sent before middle whole put.text.items → SentPrefix before after whole) → (known : Known) (taken : List ℕ) (before : Option (List ℕ)) → Decoding known taken old before middle → Gave known taken events old.reader left → Halted known taken (record put { reader = held; text = text }) before after
   passed_halted middle after text front known taken before d gave =
       let p = events_put known taken (record old { reader = left }) (record put { reader = held }) old.reader events before middle d gave puts_passed in
       record { given = p.given; progress = p.progress; front = front before (event_lines known p.given) p.sent }

@@ -1,7 +1,7 @@
 -- A decoder over the pieces of its input, and at its end.
 use Rattle.std.proofs.Common.{◌≡◌, ℕ, ◌+◌, ◌-◌, ◌≤◌, true, false, List, [], ◌++◌, length, take, drop, sym, ap, ◌∙◌, subst, append_assoc, take-append-drop, take-add, Option}
 use Rattle.std.proofs.lemmas.List.{take-take, take_all}
-use Rattle.mav_ports.specs.Puts.{Sent, SentFront}
+use Rattle.mav_ports.specs.Puts.{Sent, SentPrefix}
 use Rattle.mav_ports.proofs.Known.{sent_all}
 use Rattle.decode_command.specs.declared.known.Known.{Known}
 use Rattle.mav_profile.specs.Messages.{extras_of}
@@ -74,11 +74,11 @@ drained_written known taken decoder sent before middle after d moved is =
     })
 
 -- or a front of them was
-pub drained_front : (known : Known) (taken : List ℕ) (decoder : Decoder) (before middle after : Option (List ℕ)) → decoder.reader.ended ≡ false → Drained known taken decoder before middle → ((before : Option (List ℕ)) (whole : List ℕ) → Sent before middle whole decoder.text.items → SentFront before after whole) → Front known taken before after
+pub drained_front : (known : Known) (taken : List ℕ) (decoder : Decoder) (before middle after : Option (List ℕ)) → decoder.reader.ended ≡ false → Drained known taken decoder before middle → ((before : Option (List ℕ)) (whole : List ℕ) → Sent before middle whole decoder.text.items → SentPrefix before after whole) → Front known taken before after
 drained_front known taken decoder before middle after still d front =
     let given = d.decoding.given in
     let events : incremental_events (extras_of known.dialect) taken ≡ given = incremental_is (extras_of known.dialect) given decoder.reader.bytes taken (d.whole.incremental still) in
-    subst (λ (es : List Event). SentFront before after (event_lines known es)) (sym events) (front before (event_lines known given) d.decoding.sent)
+    subst (λ (es : List Event). SentPrefix before after (event_lines known es)) (sym events) (front before (event_lines known given) d.decoding.sent)
 
 -- ---- the end of the input
 
@@ -109,6 +109,6 @@ module _ (known : Known) (taken : List ℕ) (decoder : Decoder) (before now : Op
     sent = sent_all before after (decode_text known d.decoding.given) (subst (λ (h : List ℕ). Sent before after (decode_text known d.decoding.given) h) empty (moved before (decode_text known d.decoding.given) (counted text is)));
   }
 
-  pub unfinished : (after : Option (List ℕ)) (text : List ℕ) → text ≡ decoder.text.items ++ counts_line decoder.frames decoder.skipped → ((before : Option (List ℕ)) (whole : List ℕ) → Sent before now whole text → SentFront before after whole) → Unfinished known taken before after
+  pub unfinished : (after : Option (List ℕ)) (text : List ℕ) → text ≡ decoder.text.items ++ counts_line decoder.frames decoder.skipped → ((before : Option (List ℕ)) (whole : List ℕ) → Sent before now whole text → SentPrefix before after whole) → Unfinished known taken before after
   unfinished after text is front =
-      subst (λ (es : List Event). SentFront before after (decode_text known es)) (sym events) (front before (decode_text known d.decoding.given) (counted text is))
+      subst (λ (es : List Event). SentPrefix before after (decode_text known es)) (sym events) (front before (decode_text known d.decoding.given) (counted text is))

@@ -1,6 +1,6 @@
 -- What a step of a decoder makes of the bytes taken.
 use Rattle.std.proofs.Common.{◌≡◌, ℕ, ◌+◌, ◌≤◌, true, List, [], ◌∷◌, ◌++◌, length, sym, ap, ◌∙◌, subst, arith, append_assoc, append-nil, length-append, Option}
-use Rattle.mav_ports.specs.Puts.{Sent, SentFront}
+use Rattle.mav_ports.specs.Puts.{Sent, SentPrefix}
 use Rattle.decode_command.specs.declared.known.Known.{Known}
 use Rattle.mav_profile.specs.Messages.{extras_of}
 use Rattle.mav_frame.specs.Encoding.{encoding}
@@ -14,7 +14,7 @@ use Rattle.decode_command.specs.declared.decoder.Decoder.{Decoder}
 use Rattle.decode_command.proofs.Lines.{lines_more, bytes_more, frames_more, skips_more}
 
 -- a prefix of a text is one of a longer text
-pub longer_front : (before now : Option (List ℕ)) (text more whole : List ℕ) → whole ≡ text ++ more → SentFront before now text → SentFront before now whole
+pub longer_front : (before now : Option (List ℕ)) (text more whole : List ℕ) → whole ≡ text ++ more → SentPrefix before now text → SentPrefix before now whole
 longer_front before now text more whole e (rest, s) = (
   rest ++ more,
   record {

@@ -1,7 +1,7 @@
 -- A stream that is decoded piece by piece.
 use Rattle.std.specs.Prelude.{ℕ, ◌≡◌, ◌≤◌, ◌+◌, true, List, [], ◌++◌, length, Option}
 use Rattle.std.specs.Io.KnownBytes.{append_known}
-use Rattle.mav_ports.specs.Puts.{Sent, SentFront}
+use Rattle.mav_ports.specs.Puts.{Sent, SentPrefix}
 use Rattle.decode_command.specs.declared.known.Known.{Known}
 use Rattle.mav_profile.specs.Messages.{extras_of}
 use Rattle.mav_frame.specs.Encoding.{encoding}
@@ -43,11 +43,11 @@ pub record Drained (known : Known) (taken : List ℕ) (decoder : Decoder) (befor
 pub record Halted (known : Known) (taken : List ℕ) (decoder : Decoder) (before now : Option (List ℕ)) : Type 0 where
   pub given : List Event
   pub progress : Progress (extras_of known.dialect) true taken given decoder.reader
-  pub front : SentFront before now (event_lines known given)
+  pub front : SentPrefix before now (event_lines known given)
 
 -- a prefix of the lines of the incremental parse was sent
 abbrev pub Front : Known → List ℕ → Option (List ℕ) → Option (List ℕ) → Type 0
-Front known taken before now = SentFront before now (event_lines known (incremental_events (extras_of known.dialect) taken))
+Front known taken before now = SentPrefix before now (event_lines known (incremental_events (extras_of known.dialect) taken))
 
 -- the input ended, and all was sent
 pub record Finished (known : Known) (taken : List ℕ) (before now : Option (List ℕ)) : Type 0 where
@@ -57,7 +57,7 @@ pub record Finished (known : Known) (taken : List ℕ) (before now : Option (Lis
 
 -- the input ended, and a prefix of all was sent
 abbrev pub Unfinished : Known → List ℕ → Option (List ℕ) → Option (List ℕ) → Type 0
-Unfinished known taken before now = SentFront before now (decode_text known (final_events (extras_of known.dialect) taken))
+Unfinished known taken before now = SentPrefix before now (decode_text known (final_events (extras_of known.dialect) taken))
 
 -- a reader gave events
 abbrev pub Gave : Known → List ℕ → List Event → Held → Held → Type 0

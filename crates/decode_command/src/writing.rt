@@ -2,7 +2,7 @@
 ghost use Rattle.std.specs.Prelude.{◌≡◌, List, ℕ, [], ◌++◌, OnOk, IfErr, IsErrOf};
 ghost use Rattle.std.specs.declared.option.Option.{Option};
 ghost use Rattle.mav_ports.specs.Counts.{Rose};
-ghost use Rattle.mav_ports.specs.Puts.{Sent, SentFront};
+ghost use Rattle.mav_ports.specs.Puts.{Sent, SentPrefix};
 
 use mav_ports::{Sink, write_all};
 use run_status::RunEnd;
@@ -17,7 +17,7 @@ pub(crate) fn write<K: Sink>(text: &mut Vec<u8>, out: &mut K) -> Result<(), RunE
         → Sent before (K.sent out.new) whole text.new.items) }
     ensures front { (before : Option (List ℕ)) (whole : List ℕ)
         → Sent before (K.sent out.old) whole text.old.items
-        → SentFront before (K.sent out.new) whole }
+        → SentPrefix before (K.sent out.new) whole }
     ensures empty { OnOk result (text.new.items ≡ []) }
     ensures error { IfErr result (λ halt. halt ≡ RunEnd.WriteFault) }
     ensures rose { IsErrOf result RunEnd.WriteFault → Rose (K.faults out.old) (K.faults out.new) }
@@ -35,7 +35,7 @@ pub(crate) fn write_enough<K: Sink>(text: &mut Vec<u8>, out: &mut K) -> Result<(
         → Sent before (K.sent out.new) whole text.new.items) }
     ensures front { (before : Option (List ℕ)) (whole : List ℕ)
         → Sent before (K.sent out.old) whole text.old.items
-        → SentFront before (K.sent out.new) whole }
+        → SentPrefix before (K.sent out.new) whole }
     ensures error { IfErr result (λ halt. halt ≡ RunEnd.WriteFault) }
     ensures rose { IsErrOf result RunEnd.WriteFault → Rose (K.faults out.old) (K.faults out.new) }
     ensures sound { OnOk result (K.faults out.new ≡ K.faults out.old) }

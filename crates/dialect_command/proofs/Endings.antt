@@ -2,7 +2,7 @@
 use Rattle.std.proofs.Common.{◌≡◌, ◌∙◌, ℕ, true, false, List, [], refl, sym, ap, subst, Option, Some, None, Result, Ok, Err, IsErrOf, OnOk}
 use Rattle.std.specs.Result.{result_err}
 use Rattle.std.specs.Io.KnownBytes.{append_known}
-use Rattle.mav_ports.specs.Puts.{SentFront}
+use Rattle.mav_ports.specs.Puts.{SentPrefix}
 use Rattle.mav_ports.proofs.Known.{append_known_nil, sent_start}
 use Rattle.field_layout.specs.Definition.{Definition}
 use Rattle.mav_text.specs.LayoutText.{dialect_text}
@@ -20,8 +20,8 @@ use Rattle.dialect_command.proofs.Stays.{goes_on}
 nothing_sent : (sb sa : Option (List ℕ)) → sa ≡ sb → sa ≡ append_known sb []
 nothing_sent sb sa same = same ∙ append_known_nil sb
 
-nothing_front : (sb sa : Option (List ℕ)) (text : List ℕ) → sa ≡ sb → SentFront sb sa text
-nothing_front sb sa text same = subst (λ known. SentFront sb known text) (sym same) (text, sent_start sb text)
+nothing_front : (sb sa : Option (List ℕ)) (text : List ℕ) → sa ≡ sb → SentPrefix sb sa text
+nothing_front sb sa text same = subst (λ known. SentPrefix sb known text) (sym same) (text, sent_start sb text)
 
 -- the reading halted, so nothing was written
 pub untold_unread : (closing : List ℕ → List ℕ) (spent : Type 0) (fb fa ib ia rb ra : ℕ) (lb la sb sa : Option (List ℕ)) (halt : RunEnd) → sa ≡ sb → Halts (of_input spent fb fa ib ia) lb la halt → RunBeforeStatus (reading closing) (port_outcome spent fb fa ib ia rb ra) lb la sb sa (Some halt)
@@ -42,8 +42,8 @@ module _ (spent : Type 0) (fb fa ib ia rb ra : ℕ) (lb la sb sa : Option (List 
   untold_written (Some Usage) wrote = absurd wrote
   untold_written (Some (Stopped stop)) wrote = absurd wrote
   untold_written (Some ReadFault) wrote = absurd wrote
-  untold_written (Some WriteFault) wrote = record { taken = h.taken; ended = true; took = h.took; at_end = λ ended. h.at_end; cause = wrote.1; wrote = subst (SentFront sb sa) is_text wrote.0 }
-  untold_written (Some NoMemory) wrote = record { taken = h.taken; ended = true; took = h.took; at_end = λ ended. h.at_end; cause = tt; wrote = subst (SentFront sb sa) is_text wrote.0 }
+  untold_written (Some WriteFault) wrote = record { taken = h.taken; ended = true; took = h.took; at_end = λ ended. h.at_end; cause = wrote.1; wrote = subst (SentPrefix sb sa) is_text wrote.0 }
+  untold_written (Some NoMemory) wrote = record { taken = h.taken; ended = true; took = h.took; at_end = λ ended. h.at_end; cause = tt; wrote = subst (SentPrefix sb sa) is_text wrote.0 }
   untold_written (Some TurnsSpent) wrote = absurd wrote
 
 -- the same for definitions that are known

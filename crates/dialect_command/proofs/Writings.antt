@@ -5,7 +5,7 @@ use Rattle.std.proofs.Math.ListN.{drop_of_length-le}
 use Rattle.std.proofs.Math.Seq.{drop-cons}
 use Rattle.std.proofs.lemmas.Option.{slice_get_within, get_or_from_slice_get}
 use Rattle.mav_ports.specs.Counts.{Rose}
-use Rattle.mav_ports.specs.Puts.{Sent, SentFront}
+use Rattle.mav_ports.specs.Puts.{Sent, SentPrefix}
 use Rattle.mav_ports.proofs.Known.{sent_in, sent_start, sent_step, sent_all}
 use Rattle.field_layout.specs.Definition.{Definition}
 use Rattle.mav_text.specs.LayoutText.{layout_text}
@@ -33,7 +33,7 @@ wrote_nothing text refusals sb = ((text, sent_start sb text), refl)
 
 module _ (sb sm sa : Option (List ℕ)) (rb rm ra : ℕ) (same : rm ≡ rb) where
   -- a front of a text, and then a front of the next piece
-  front_more : (text next rest : List ℕ) → Sent sb sm text (next ++ rest) → SentFront sm sa next → SentFront sb sa text
+  front_more : (text next rest : List ℕ) → Sent sb sm text (next ++ rest) → SentPrefix sm sa next → SentPrefix sb sa text
   front_more text next rest sent (more, part) = (more ++ rest, sent_in sb sm sa text next rest more sent part)
 
   -- the next piece was not written whole

@@ -3,7 +3,7 @@ use Rattle.std.specs.Prelude.{◌≡◌, ℕ, List, ◌++◌, codes, Option, Som
 use Rattle.std.specs.Fmt.{decimal}
 use Rattle.std.specs.Io.KnownBytes.{append_known}
 use Rattle.mav_ports.specs.Counts.{Rose}
-use Rattle.mav_ports.specs.Puts.{SentFront}
+use Rattle.mav_ports.specs.Puts.{SentPrefix}
 use Rattle.mav_text.specs.LayoutText.{line}
 use Rattle.run_status.specs.declared.run_ends.RunEnd.{RunEnd}
 use Rattle.run_status.specs.declared.run_ends.RunEnd.TheVariants.{Usage, Stopped, ReadFault, WriteFault, NoMemory, TurnsSpent}
@@ -18,6 +18,6 @@ WroteText text None refusals_before refusals_after before after = (after ≡ app
 WroteText text (Some Usage) refusals_before refusals_after before after = ⊥
 WroteText text (Some (Stopped stop)) refusals_before refusals_after before after = ⊥
 WroteText text (Some ReadFault) refusals_before refusals_after before after = ⊥
-WroteText text (Some WriteFault) refusals_before refusals_after before after = SentFront before after text × Rose refusals_before refusals_after
-WroteText text (Some NoMemory) refusals_before refusals_after before after = SentFront before after text × (refusals_after ≡ refusals_before)
+WroteText text (Some WriteFault) refusals_before refusals_after before after = SentPrefix before after text × Rose refusals_before refusals_after
+WroteText text (Some NoMemory) refusals_before refusals_after before after = SentPrefix before after text × (refusals_after ≡ refusals_before)
 WroteText text (Some TurnsSpent) refusals_before refusals_after before after = ⊥

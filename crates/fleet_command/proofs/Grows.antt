@@ -2,7 +2,7 @@
 use Rattle.std.proofs.Common.{◌≡◌, ◌∙◌, inl, inr, ℕ, ◌+◌, ◌≤◌, Bool, true, false, List, [], ◌∷◌, ◌++◌, refl, sym, ap, arith, length, length-append, append_assoc, append-nil, Some, None, Option, Result, Ok, Err, cond, ltb, eqb}
 use Rattle.std.proofs.lemmas.Bool.{cases_Bool, cond-true, cond-false, cond_both, ltb-false}
 use Rattle.std.specs.Io.KnownBytes.{append_known}
-use Rattle.mav_ports.specs.Puts.{SentFront}
+use Rattle.mav_ports.specs.Puts.{SentPrefix}
 use Rattle.scenario_lines.specs.declared.faults.Reason.{Reason}
 use Rattle.scenario_lines.specs.declared.faults.Reason.TheVariants.{Long}
 use Rattle.scenario_lines.specs.Grammar.{line_of, most_line_bytes}
@@ -81,7 +81,7 @@ module _ (frames : Bool) where
       (λ f. grows_part p number held) (λ f. grows_plays ended p number held bs))
 
   -- the prefix of a report that grows
-  pub front_grown : (p q : Played) (before now : Option (List ℕ)) → Grows p q → SentFront before now (report_of frames p) → SentFront before now (report_of frames q)
+  pub front_grown : (p q : Played) (before now : Option (List ℕ)) → Grows p q → SentPrefix before now (report_of frames p) → SentPrefix before now (report_of frames q)
   front_grown p q before now (more, e) (rest, s) = (
     rest ++ more,
     record {
@@ -92,7 +92,7 @@ module _ (frames : Bool) where
   )
 
   -- a whole report is a prefix of one that grew from it
-  pub front_whole : (p : Played) (before now : Option (List ℕ)) → now ≡ append_known before (report_of frames p) → SentFront before now (report_of frames p)
+  pub front_whole : (p : Played) (before now : Option (List ℕ)) → now ≡ append_known before (report_of frames p) → SentPrefix before now (report_of frames p)
   front_whole p before now e = ([], record { part = report_of frames p; whole = append-nil (report_of frames p); appended = e })
 
 -- once a scenario stopped, more bytes change nothing

@@ -2,7 +2,7 @@
 use Rattle.std.proofs.Common.{◌≡◌, ◌∙◌, inl, inr, ℕ, ◌+◌, ◌<◌, ◌≤◌, Bool, true, false, List, [], ◌∷◌, ◌++◌, refl, sym, subst, ap, arith, length, length-append, append_assoc, append-nil, Some, None, Option, option_map, Result, Ok, Err, ltb, IfErr, suc, take, drop, get_or, drop-cons, take-append-drop}
 use Rattle.std.proofs.lemmas.Bool.{cases_Bool, lt-ltb, le-ltb, ne_eqb}
 use Rattle.std.specs.Io.KnownBytes.{append_known}
-use Rattle.mav_ports.specs.Puts.{SentFront}
+use Rattle.mav_ports.specs.Puts.{SentPrefix}
 use Rattle.mav_ports.proofs.Known.{append_known_twice, append_known_nil, sent_in}
 use Rattle.scenario_lines.specs.declared.faults.Reason.{Reason}
 use Rattle.scenario_lines.specs.declared.lines.Line.{Line}
@@ -66,7 +66,7 @@ module _ (key : List ℕ) (frames : Bool) where
   goes_holds p (Err run_end) world report before old now sent never wrote = absurd never
 
   -- a prefix of it was
-  goes_front : (p : Played) (step : Result Step StepError) (world : WorldView) (report : ReportState) (before old now : Option (List ℕ)) → old ≡ append_known before (report_of frames p) → IsStep step frames world report → SentFront old now report.text → SentFront before now (report_of frames (goes_on p step))
+  goes_front : (p : Played) (step : Result Step StepError) (world : WorldView) (report : ReportState) (before old now : Option (List ℕ)) → old ≡ append_known before (report_of frames p) → IsStep step frames world report → SentPrefix old now report.text → SentPrefix before now (report_of frames (goes_on p step))
   goes_front p (Ok t) world report before old now sent (there, reported) (rest, part) =
       let whole : report_of frames p ++ (report.text ++ []) ≡ report_of frames (goes_on p (Ok t)) = ap (λ more. report_of frames p ++ more) (append-nil report.text ∙ reported) ∙ sym (events_text-append frames p.events t.events) in
       (rest ++ [], sent_in before old now (report_of frames (goes_on p (Ok t))) report.text [] rest (record { part = report_of frames p; whole = whole; appended = sent }) part)
@@ -86,9 +86,9 @@ module _ (key : List ℕ) (frames : Bool) where
       subst (λ q. Holds frames q world before now) (sym (this_good p old_world number text line holds.here good said))
       (goes_holds p (after_line p.state line) world report before old now holds.sent (did p old_world world line report before old holds step) wrote)
 
-  pub line_unwritten : (p : Played) (old_world world : WorldView) (number : ℕ) (text : List ℕ) (report : ReportState) (line : Line) (before old now : Option (List ℕ)) → Holds frames p old_world before old → reason_against (context_in old_world) text ≡ None → line ≡ line_of text → LineDone old_world world line report → SentFront old now report.text → SentFront before now (report_of frames (this p number text))
+  pub line_unwritten : (p : Played) (old_world world : WorldView) (number : ℕ) (text : List ℕ) (report : ReportState) (line : Line) (before old now : Option (List ℕ)) → Holds frames p old_world before old → reason_against (context_in old_world) text ≡ None → line ≡ line_of text → LineDone old_world world line report → SentPrefix old now report.text → SentPrefix before now (report_of frames (this p number text))
   line_unwritten p old_world world number text report line before old now holds good said step front =
-      subst (λ q. SentFront before now (report_of frames q)) (sym (this_good p old_world number text line holds.here good said))
+      subst (λ q. SentPrefix before now (report_of frames q)) (sym (this_good p old_world number text line holds.here good said))
       (goes_front p (after_line p.state line) world report before old now holds.sent (did p old_world world line report before old holds step) front)
 
   pub line_bad : (p : Played) (world : WorldView) (number : ℕ) (text : List ℕ) (reason : Reason) (before now : Option (List ℕ)) → Holds frames p world before now → reason_against (context_in world) text ≡ Some reason → StoppedBy frames (reported_error (Bad number reason)) (this p number text) before now
@@ -100,7 +100,7 @@ module _ (key : List ℕ) (frames : Bool) where
       subst (λ q. StoppedBy frames (reported_error (Not_done run_end)) q before now) (sym (this_good p world number text line holds.here good said ∙ ap (goes_on p) at)) (refl, holds.sent)
 
   -- if there was no memory, the report so far stays
-  pub line_no_memory : (p : Played) (world : WorldView) (number : ℕ) (text : List ℕ) (before now : Option (List ℕ)) → Holds frames p world before now → SentFront before now (report_of frames (this p number text))
+  pub line_no_memory : (p : Played) (world : WorldView) (number : ℕ) (text : List ℕ) (before now : Option (List ℕ)) → Holds frames p world before now → SentPrefix before now (report_of frames (this p number text))
   line_no_memory p world number text before now holds = front_grown frames p (this p number text) before now (grows_judged frames p number text (reason_against (context_of p.state) text)) (front_whole frames p before now holds.sent)
 
   -- a line that the world doesn't do
@@ -217,9 +217,9 @@ module _ (key : List ℕ) (frames : Bool) where
       (halted_long r.soFar number before now r.holds.going r.holds.sent)
 
   -- the report so far is a prefix of that of the bytes, whatever follows
-  pub reading_front : (taken : List ℕ) (world : WorldView) (number : ℕ) (part : List ℕ) (before now : Option (List ℕ)) → Reading key frames taken world number part before now → (ended : Bool) (rest : List ℕ) → SentFront before now (report_of frames (played key ended (taken ++ rest)))
+  pub reading_front : (taken : List ℕ) (world : WorldView) (number : ℕ) (part : List ℕ) (before now : Option (List ℕ)) → Reading key frames taken world number part before now → (ended : Bool) (rest : List ℕ) → SentPrefix before now (report_of frames (played key ended (taken ++ rest)))
   reading_front taken world number part before now r ended rest =
-      subst (λ p. SentFront before now (report_of frames p)) (sym (r.onwards ended rest))
+      subst (λ p. SentPrefix before now (report_of frames p)) (sym (r.onwards ended rest))
       (front_grown frames r.soFar (plays ended r.soFar number part rest) before now (grows_plays frames ended r.soFar number part rest) (front_whole frames r.soFar before now r.holds.sent))
 
   -- at the start nothing was taken
@@ -244,12 +244,12 @@ module _ (key : List ℕ) (frames : Bool) where
   )
 
   -- a prefix of them was
-  pub unfinished_by : (q : Played) (world : WorldView) (plans : List ℕ) (before old now : Option (List ℕ)) → Holds frames q world before old → Closes world plans → SentFront old now plans → SentFront before now (whole_report frames q)
+  pub unfinished_by : (q : Played) (world : WorldView) (plans : List ℕ) (before old now : Option (List ℕ)) → Holds frames q world before old → Closes world plans → SentPrefix old now plans → SentPrefix before now (whole_report frames q)
   unfinished_by q world plans before old now holds closing (rest, part) =
       let whole : report_of frames q ++ (plans ++ []) ≡ whole_report frames q = ap (λ text. report_of frames q ++ text) (append-nil plans ∙ closing q.state (own q.state frames world holds.here)) in
       (rest ++ [], sent_in before old now (whole_report frames q) plans [] rest (record { part = report_of frames q; whole = whole; appended = holds.sent }) part)
 
-  pub front_closed : (q : Played) (before now : Option (List ℕ)) → SentFront before now (report_of frames q) → SentFront before now (whole_report frames q)
+  pub front_closed : (q : Played) (before now : Option (List ℕ)) → SentPrefix before now (report_of frames q) → SentPrefix before now (whole_report frames q)
   front_closed q before now (rest, s) = (
     rest ++ closing_text q.state.nodes,
     record {
@@ -275,15 +275,15 @@ module _ (key : List ℕ) (frames : Bool) where
       (halted_before run_end (last_played r.soFar number part) before now halted)
 
   -- there was no memory after the last line
-  pub finish_memory : (taken : List ℕ) (world end : WorldView) (number : ℕ) (part : List ℕ) (before old now : Option (List ℕ)) (r : Reading key frames taken world number part before old) → Holds frames (last_played r.soFar number part) end before now → SentFront before now (whole_report frames (played key true taken))
+  pub finish_memory : (taken : List ℕ) (world end : WorldView) (number : ℕ) (part : List ℕ) (before old now : Option (List ℕ)) (r : Reading key frames taken world number part before old) → Holds frames (last_played r.soFar number part) end before now → SentPrefix before now (whole_report frames (played key true taken))
   finish_memory taken world end number part before old now r holds =
-      subst (λ q. SentFront before now (whole_report frames q)) (sym (reading_end taken world number part before old r))
+      subst (λ q. SentPrefix before now (whole_report frames q)) (sym (reading_end taken world number part before old r))
       (front_closed (last_played r.soFar number part) before now (front_whole frames (last_played r.soFar number part) before now holds.sent))
 
   -- a write of the closing plans failed
-  pub finish_front : (taken : List ℕ) (world end : WorldView) (number : ℕ) (part plans : List ℕ) (before old middle now : Option (List ℕ)) (r : Reading key frames taken world number part before old) → Holds frames (last_played r.soFar number part) end before middle → Closes end plans → SentFront middle now plans → SentFront before now (whole_report frames (played key true taken))
+  pub finish_front : (taken : List ℕ) (world end : WorldView) (number : ℕ) (part plans : List ℕ) (before old middle now : Option (List ℕ)) (r : Reading key frames taken world number part before old) → Holds frames (last_played r.soFar number part) end before middle → Closes end plans → SentPrefix middle now plans → SentPrefix before now (whole_report frames (played key true taken))
   finish_front taken world end number part plans before old middle now r holds closing front =
-      subst (λ q. SentFront before now (whole_report frames q)) (sym (reading_end taken world number part before old r))
+      subst (λ q. SentPrefix before now (whole_report frames q)) (sym (reading_end taken world number part before old r))
       (unfinished_by (last_played r.soFar number part) end plans before middle now holds closing front)
 
   pub finish_done : (taken : List ℕ) (world end : WorldView) (number : ℕ) (part plans : List ℕ) (before old middle now : Option (List ℕ)) (r : Reading key frames taken world number part before old) → Holds frames (last_played r.soFar number part) end before middle → Closes end plans → now ≡ append_known middle plans → Finished frames (played key true taken) before now

@@ -2,7 +2,7 @@
 use Rattle.std.specs.Prelude.{◌≡◌, ℕ, ◌+◌, ◌-◌, ◌*◌, ◌==◌, nat_lt, Bool, if◌then◌else◌, List, [], ◌∷◌, ◌++◌, length, Option, Some, None, Ok, Err, option_map}
 use Rattle.std.specs.declared.result.Result.{Result}
 use Rattle.std.specs.Io.KnownBytes.{append_known}
-use Rattle.mav_ports.specs.Puts.{SentFront}
+use Rattle.mav_ports.specs.Puts.{SentPrefix}
 use Rattle.fleet_world.specs.WorldView.{WorldView, IsState}
 use Rattle.scenario_lines.specs.Grammar.{most_line_bytes}
 use Rattle.scenario_lines.specs.declared.faults.Reason.TheVariants.{Long}
@@ -46,8 +46,8 @@ abbrev pub HaltedAt : Bool → RunEnd → Played → List ℕ → Option (List �
 HaltedAt frames Usage q text before now = ⊥
 HaltedAt frames (Stopped stop) q text before now = StoppedBy frames stop q before now
 HaltedAt frames ReadFault q text before now = ⊥
-HaltedAt frames WriteFault q text before now = SentFront before now text
-HaltedAt frames NoMemory q text before now = SentFront before now text
+HaltedAt frames WriteFault q text before now = SentPrefix before now text
+HaltedAt frames NoMemory q text before now = SentPrefix before now text
 HaltedAt frames TurnsSpent q text before now = ⊥
 
 -- a step led to `q`, or halted on the way there

@@ -3,7 +3,7 @@ use Rattle.std.proofs.Common.{◌≡◌, ◌∙◌, ◌⊎◌, inl, inr, ℕ, Bo
 use Rattle.std.proofs.lemmas.List.{append_cancel_right}
 use Rattle.std.specs.Io.KnownBytes.{append_known, prepend_known}
 use Rattle.mav_ports.specs.Gets.{IsSpent}
-use Rattle.mav_ports.specs.Puts.{SentFront}
+use Rattle.mav_ports.specs.Puts.{SentPrefix}
 use Rattle.run_status.specs.declared.input_errors.Place.{Place}
 use Rattle.run_status.specs.declared.input_errors.Reason.{Reason}
 use Rattle.run_status.specs.declared.input_errors.Bound.{Bound}
@@ -111,7 +111,7 @@ turns_spent_at s o lb la sb sa (Some NoMemory) e run = absurd (omega arith)
 turns_spent_at s o lb la sb sa (Some TurnsSpent) e run = (run.cause.0, cut_at s (codes "turns spent 1000000\n") run.taken lb la sb sa run.ended run.cause.1 run.took run.cause.2 run.wrote)
 
 -- a write failed
-write_fault_at : (s : CommandSpec) (o : PortOutcome) (lb la sb sa : Option (List ℕ)) (end : Option RunEnd) → code_of end ≡ 5 → Run s o lb la sb sa end → o.refused × (ended : Bool) × (taken : List ℕ) × Took o.spent lb la ended taken × (SentFront sb sa (text_so_far s ended taken) ⊎ ((would : Option RunEnd) × Cause s would o ended taken × SentFront sb sa (output_of s would ended taken)))
+write_fault_at : (s : CommandSpec) (o : PortOutcome) (lb la sb sa : Option (List ℕ)) (end : Option RunEnd) → code_of end ≡ 5 → Run s o lb la sb sa end → o.refused × (ended : Bool) × (taken : List ℕ) × Took o.spent lb la ended taken × (SentPrefix sb sa (text_so_far s ended taken) ⊎ ((would : Option RunEnd) × Cause s would o ended taken × SentPrefix sb sa (output_of s would ended taken)))
 write_fault_at s o lb la sb sa None e run = absurd (omega arith)
 write_fault_at s o lb la sb sa (Some Usage) e run = absurd (omega arith)
 write_fault_at s o lb la sb sa (Some (Stopped (Bad place reason))) e run = absurd (omega arith)
@@ -123,7 +123,7 @@ write_fault_at s o lb la sb sa (Some NoMemory) e run = absurd (omega arith)
 write_fault_at s o lb la sb sa (Some TurnsSpent) e run = absurd (omega arith)
 
 -- there was no memory
-no_memory_at : (s : CommandSpec) (o : PortOutcome) (lb la sb sa : Option (List ℕ)) (end : Option RunEnd) → code_of end ≡ 7 → Run s o lb la sb sa end → (ended : Bool) × (taken : List ℕ) × Took o.spent lb la ended taken × SentFront sb sa (text_so_far s ended taken)
+no_memory_at : (s : CommandSpec) (o : PortOutcome) (lb la sb sa : Option (List ℕ)) (end : Option RunEnd) → code_of end ≡ 7 → Run s o lb la sb sa end → (ended : Bool) × (taken : List ℕ) × Took o.spent lb la ended taken × SentPrefix sb sa (text_so_far s ended taken)
 no_memory_at s o lb la sb sa None e run = absurd (omega arith)
 no_memory_at s o lb la sb sa (Some Usage) e run = absurd (omega arith)
 no_memory_at s o lb la sb sa (Some (Stopped (Bad place reason))) e run = absurd (omega arith)

@@ -3,7 +3,7 @@ use Rattle.std.proofs.Common.{◌≡◌, ◌≢◌, ◌∙◌, inl, inr, ℕ, Bo
 use Rattle.std.specs.Result.{result_err}
 use Rattle.std.specs.Io.KnownBytes.{append_known, prepend_known}
 use Rattle.mav_ports.specs.Counts.{Rose}
-use Rattle.mav_ports.specs.Puts.{SentFront}
+use Rattle.mav_ports.specs.Puts.{SentPrefix}
 use Rattle.mav_ports.proofs.Known.{append_known_twice, append_known_nil, sent_in, sent_start, prepend_known_nil, prepend_known_twice}
 use Rattle.run_status.specs.declared.run_ends.RunEnd.{RunEnd}
 use Rattle.run_status.specs.declared.run_ends.RunEnd.TheVariants.{Usage, Stopped, ReadFault, WriteFault, NoMemory, TurnsSpent}
@@ -12,7 +12,7 @@ use Rattle.run_status.specs.Runs.{CommandSpec, PortOutcome, port_outcome, text_s
 use Rattle.run_status.specs.StatusText.{StatusWritten, WritesStatus}
 
 -- a report that was written is a prefix of the text so far
-pub report_front : (s : CommandSpec) (ended : Bool) (taken : List ℕ) (sb sa : Option (List ℕ)) → sa ≡ append_known sb (s.report ended taken) → SentFront sb sa (text_so_far s ended taken)
+pub report_front : (s : CommandSpec) (ended : Bool) (taken : List ℕ) (sb sa : Option (List ℕ)) → sa ≡ append_known sb (s.report ended taken) → SentPrefix sb sa (text_so_far s ended taken)
 report_front s true taken sb sa sent = (s.closing taken, record { part = s.report true taken; whole = refl; appended = sent })
 report_front s false taken sb sa sent = ([], record { part = s.report false taken; whole = append-nil (s.report false taken); appended = sent })
 
@@ -24,11 +24,11 @@ before_status_nothing s o lb sb = record { taken = []; ended = false; took = sym
 pub behind : (sb sm sa : Option (List ℕ)) (first second : List ℕ) → sm ≡ append_known sb first → sa ≡ append_known sm second → sa ≡ append_known sb (first ++ second)
 behind sb sm sa first second e f = f ∙ ap (λ known. append_known known second) e ∙ append_known_twice sb first second
 
-pub front_same : (sb sm sa : Option (List ℕ)) (text : List ℕ) → SentFront sb sm text → sa ≡ append_known sm [] → SentFront sb sa text
-front_same sb sm sa text front e = subst (λ known. SentFront sb known text) (append_known_nil sm ∙ sym e) front
+pub front_same : (sb sm sa : Option (List ℕ)) (text : List ℕ) → SentPrefix sb sm text → sa ≡ append_known sm [] → SentPrefix sb sa text
+front_same sb sm sa text front e = subst (λ known. SentPrefix sb known text) (append_known_nil sm ∙ sym e) front
 
 -- a prefix of one text after another
-pub behind_front : (sb sm sa : Option (List ℕ)) (first second : List ℕ) → sm ≡ append_known sb first → SentFront sm sa second → SentFront sb sa (first ++ second)
+pub behind_front : (sb sm sa : Option (List ℕ)) (first second : List ℕ) → sm ≡ append_known sb first → SentPrefix sm sa second → SentPrefix sb sa (first ++ second)
 behind_front sb sm sa first second e (rest, part) =
     (rest ++ [], sent_in sb sm sa (first ++ second) second [] rest (record { part = first; whole = ap (λ text. first ++ text) (append-nil second); appended = e }) part)
 
@@ -36,7 +36,7 @@ first_nil : (xs ys : List ℕ) → xs ++ ys ≡ [] → xs ≡ []
 first_nil [] ys e = refl
 first_nil (x ∷ xs) ys e = cc
 
-nothing_more : (sb sm sa : Option (List ℕ)) (text : List ℕ) → SentFront sb sm text → SentFront sm sa [] → SentFront sb sa text
+nothing_more : (sb sm sa : Option (List ℕ)) (text : List ℕ) → SentPrefix sb sm text → SentPrefix sm sa [] → SentPrefix sb sa text
 nothing_more sb sm sa text front (rest, s) = front_same sb sm sa text front (s.appended ∙ ap (append_known sm) (first_nil s.part rest s.whole))
 
 -- the status's text was written
@@ -48,7 +48,7 @@ wrote_said s o ended taken sb sm sa WriteFault front said = inl (front_same sb s
 wrote_said s o ended taken sb sm sa NoMemory front said = front_same sb sm sa (text_so_far s ended taken) front said
 wrote_said s o ended taken sb sm sa TurnsSpent sent said = behind sb sm sa (s.report ended taken) (text_of TurnsSpent) sent said
 
-unsaid_front : (s : CommandSpec) (run_end : RunEnd) (ended : Bool) (taken : List ℕ) (sb sa : Option (List ℕ)) → WroteReport s (Some run_end) ended taken sb sa → SentFront sb sa (text_so_far s ended taken)
+unsaid_front : (s : CommandSpec) (run_end : RunEnd) (ended : Bool) (taken : List ℕ) (sb sa : Option (List ℕ)) → WroteReport s (Some run_end) ended taken sb sa → SentPrefix sb sa (text_so_far s ended taken)
 unsaid_front s Usage ended taken sb sa never = absurd never
 unsaid_front s (Stopped stop) ended taken sb sa sent = report_front s ended taken sb sa sent
 unsaid_front s ReadFault ended taken sb sa sent = report_front s ended taken sb sa sent
@@ -69,7 +69,7 @@ refused_now s spent fb fa ib ia rb rm ra ended taken NoMemory cause sound rose =
 refused_now s spent fb fa ib ia rb rm ra ended taken TurnsSpent cause sound rose = subst (λ n. Rose n ra) (sound (λ e. cc)) rose
 
 -- the output refused the status's text
-refused_wrote : (s : CommandSpec) (spent : Type 0) (fb fa ib ia rb rm ra : ℕ) (ended : Bool) (taken : List ℕ) (sb sm sa : Option (List ℕ)) (run_end : RunEnd) → Cause s (Some run_end) (port_outcome spent fb fa ib ia rb rm) ended taken → WroteReport s (Some run_end) ended taken sb sm → SentFront sm sa (text_of run_end) → Wrote s (Some WriteFault) (port_outcome spent fb fa ib ia rb ra) ended taken sb sa
+refused_wrote : (s : CommandSpec) (spent : Type 0) (fb fa ib ia rb rm ra : ℕ) (ended : Bool) (taken : List ℕ) (sb sm sa : Option (List ℕ)) (run_end : RunEnd) → Cause s (Some run_end) (port_outcome spent fb fa ib ia rb rm) ended taken → WroteReport s (Some run_end) ended taken sb sm → SentPrefix sm sa (text_of run_end) → Wrote s (Some WriteFault) (port_outcome spent fb fa ib ia rb ra) ended taken sb sa
 refused_wrote s spent fb fa ib ia rb rm ra ended taken sb sm sa Usage never same front = absurd never
 refused_wrote s spent fb fa ib ia rb rm ra ended taken sb sm sa (Stopped stop) cause sent front = inr (Some (Stopped stop), cause, behind_front sb sm sa (s.report ended taken) (text_of (Stopped stop)) sent front)
 refused_wrote s spent fb fa ib ia rb rm ra ended taken sb sm sa ReadFault cause sent front = inr (Some ReadFault, cause, behind_front sb sm sa (s.report ended taken) (text_of ReadFault) sent front)

@@ -2,7 +2,7 @@
 use Rattle.std.specs.Prelude.{◌≡◌, ◌≢◌, ◌<◌, ◌≤◌, ◌+◌, ◌-◌, ◌^◌, ◌⊎◌, ℕ, Bool, true, false, List, ◌++◌, ⊤, Option, Some, None, IsTrue, codes}
 use Rattle.std.specs.Io.KnownBytes.{append_known, prepend_known}
 use Rattle.mav_ports.specs.Counts.{Rose}
-use Rattle.mav_ports.specs.Puts.{SentFront}
+use Rattle.mav_ports.specs.Puts.{SentPrefix}
 use Rattle.run_status.specs.declared.input_errors.Place.{Place}
 use Rattle.run_status.specs.declared.input_errors.Reason.{Reason}
 use Rattle.run_status.specs.declared.input_errors.Bound.{Bound}
@@ -78,8 +78,8 @@ Wrote s (Some Usage) o ended taken before after = ⊥
 Wrote s (Some (Stopped stop)) o ended taken before after = after ≡ append_known before (output_of s (Some (Stopped stop)) ended taken)
 Wrote s (Some ReadFault) o ended taken before after = after ≡ append_known before (output_of s (Some ReadFault) ended taken)
 Wrote s (Some WriteFault) o ended taken before after =
-    SentFront before after (text_so_far s ended taken) ⊎ ((would : Option RunEnd) × Cause s would o ended taken × SentFront before after (output_of s would ended taken))
-Wrote s (Some NoMemory) o ended taken before after = SentFront before after (text_so_far s ended taken)
+    SentPrefix before after (text_so_far s ended taken) ⊎ ((would : Option RunEnd) × Cause s would o ended taken × SentPrefix before after (output_of s would ended taken))
+Wrote s (Some NoMemory) o ended taken before after = SentPrefix before after (text_so_far s ended taken)
 Wrote s (Some TurnsSpent) o ended taken before after = after ≡ append_known before (output_of s (Some TurnsSpent) ended taken)
 
 -- one run: the bytes taken from the input, why it ended, and what it wrote; nothing is taken if nothing was read
@@ -97,8 +97,8 @@ WroteReport s None ended taken before after = after ≡ append_known before (s.r
 WroteReport s (Some Usage) ended taken before after = ⊥
 WroteReport s (Some (Stopped stop)) ended taken before after = after ≡ append_known before (s.report ended taken)
 WroteReport s (Some ReadFault) ended taken before after = after ≡ append_known before (s.report ended taken)
-WroteReport s (Some WriteFault) ended taken before after = SentFront before after (text_so_far s ended taken)
-WroteReport s (Some NoMemory) ended taken before after = SentFront before after (text_so_far s ended taken)
+WroteReport s (Some WriteFault) ended taken before after = SentPrefix before after (text_so_far s ended taken)
+WroteReport s (Some NoMemory) ended taken before after = SentPrefix before after (text_so_far s ended taken)
 WroteReport s (Some TurnsSpent) ended taken before after = after ≡ append_known before (s.report ended taken)
 
 pub record RunBeforeStatus (s : CommandSpec) (o : PortOutcome) (left_before left_after sent_before sent_after : Option (List ℕ)) (end : Option RunEnd) : Type 0 where
@@ -156,9 +156,9 @@ pub record Promises (s : CommandSpec) (o : PortOutcome) (left_before left_after 
   pub turns_spent : code ≡ 11 → o.idled × ReportedCutoff s (codes "turns spent 1000000\n") left_before left_after sent_before sent_after
   -- 5: a prefix of the report was written, or of what a run writes that ends for a cause that holds
   pub write_fault : code ≡ 5 → o.refused × (ended : Bool) × (taken : List ℕ) × Took o.spent left_before left_after ended taken
-      × (SentFront sent_before sent_after (text_so_far s ended taken) ⊎ ((would : Option RunEnd) × Cause s would o ended taken × SentFront sent_before sent_after (output_of s would ended taken)))
+      × (SentPrefix sent_before sent_after (text_so_far s ended taken) ⊎ ((would : Option RunEnd) × Cause s would o ended taken × SentPrefix sent_before sent_after (output_of s would ended taken)))
   -- 7: a prefix of the report was written
-  pub no_memory : code ≡ 7 → (ended : Bool) × (taken : List ℕ) × Took o.spent left_before left_after ended taken × SentFront sent_before sent_after (text_so_far s ended taken)
+  pub no_memory : code ≡ 7 → (ended : Bool) × (taken : List ℕ) × Took o.spent left_before left_after ended taken × SentPrefix sent_before sent_after (text_so_far s ended taken)
   -- over an input that has observable contents and neither fails nor idles too long, the status and the output are those of its
   -- bytes, unless a write failed or memory ran out
   pub determined : (bytes : List ℕ) → left_before ≡ Some bytes → ¬ o.failed → ¬ o.idled

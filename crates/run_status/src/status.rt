@@ -3,7 +3,7 @@ ghost use Rattle.std.specs.Prelude.{◌≡◌, ◌⊎◌, OnOk, IfErr, IsErrOf};
 ghost use Rattle.std.specs.Result.{result_err};
 ghost use Rattle.std.specs.Io.KnownBytes.{append_known};
 ghost use Rattle.mav_ports.specs.Counts.{Rose};
-ghost use Rattle.mav_ports.specs.Puts.{SentFront};
+ghost use Rattle.mav_ports.specs.Puts.{SentPrefix};
 ghost use Rattle.run_status.specs.Endings.{code_of, text_of};
 ghost use Rattle.run_status.specs.StatusText.{WritesStatus};
 
@@ -15,7 +15,7 @@ use std::alloc::Global;
 fn write_text<K: Sink>(alloc: Global, run_end: RunEnd, out: &mut K) -> Result<(), RunEnd>
     ensures reported { OnOk result (K.sent out.new ≡ append_known (K.sent out.old) (text_of run_end)) }
     ensures refused { IsErrOf result RunEnd.WriteFault → Rose (K.faults out.old) (K.faults out.new)
-        × SentFront (K.sent out.old) (K.sent out.new) (text_of run_end) }
+        × SentPrefix (K.sent out.old) (K.sent out.new) (text_of run_end) }
     ensures no_memory { IsErrOf result RunEnd.NoMemory → K.sent out.new ≡ K.sent out.old }
     ensures silent { run_end ≡ RunEnd.WriteFault → ¬ IsErrOf result RunEnd.NoMemory }
     ensures errors { IfErr result (λ e. (e ≡ RunEnd.WriteFault) ⊎ (e ≡ RunEnd.NoMemory)) }

@@ -2,7 +2,7 @@
 use Rattle.std.proofs.Common.{◌≡◌, ◌≢◌, ◌∙◌, ◌⊎◌, inl, inr, ℕ, List, [], ◌∷◌, ◌++◌, refl, sym, subst, ap, arith, Option, Some, Result, Ok, Err, IsErr, IsErrOf, codes}
 use Rattle.std.specs.Result.{result_err}
 use Rattle.std.specs.Io.KnownBytes.{append_known}
-use Rattle.mav_ports.specs.Puts.{SentFront}
+use Rattle.mav_ports.specs.Puts.{SentPrefix}
 use Rattle.mav_ports.proofs.Known.{append_known_nil}
 use Rattle.run_status.specs.declared.input_errors.InputError.TheVariants.{Bad, AtLimit, StampsSpent}
 use Rattle.run_status.specs.declared.run_ends.RunEnd.{RunEnd}
@@ -35,7 +35,7 @@ usage_ended rm ra sm sa (Err run_end) reported writes two = ap Err (usage_halted
 pub five_only : (reported : Result (Unit {0}) RunEnd) → code_of (result_err reported) ≢ 5 → (IsErrOf reported WriteFault → ⊥)
 five_only reported other is = other (ap (λ t. code_of (result_err t)) is)
 
-front_of_nothing : (before after : Option (List ℕ)) (part rest text : List ℕ) → part ++ rest ≡ [] → after ≡ append_known before part → SentFront before after text
+front_of_nothing : (before after : Option (List ℕ)) (part rest text : List ℕ) → part ++ rest ≡ [] → after ≡ append_known before part → SentPrefix before after text
 front_of_nothing before after [] rest text e sent = (text, record { part = []; whole = refl; appended = sent })
 front_of_nothing before after (b ∷ part) rest text never sent = absurd (cc never)
 

@@ -1,7 +1,7 @@
 use Rattle.std.proofs.Common.{[], subst, ◌∙◌, ap}
 use Rattle.std.proofs.lemmas.Result.{err_from_is_err_and}
 use Rattle.std.specs.Io.KnownBytes.{append_known}
-use Rattle.mav_ports.specs.Puts.{SentFront}
+use Rattle.mav_ports.specs.Puts.{SentPrefix}
 use Rattle.fleet_command.proofs.Steps.{line_done, line_unwritten, line_fails, line_no_memory}
 use Rattle.fleet_command.proofs.player.play_line.Goals as goal
 
@@ -14,7 +14,7 @@ returns-in_err-write_all-in-Ok-line-clause-played g c =
     let read = c.in-Ok.ensures.ok in
     rw (e.1, e.2) (λ frames p before holds.
     line_unwritten [] frames p c.args.world.now c.line.new.self c.args.number c.args.text.now c.in-Ok-line.report c.in-Ok.line before (g.K.Sink.sent c.args.out.now) (g.K.Sink.sent c.write_all.new.sink) holds read.0 read.1 c.in-Ok-line.ensures.done
-    (subst (SentFront (g.K.Sink.sent c.args.out.now) (g.K.Sink.sent c.write_all.new.sink)) c.bytes.ensures c.write_all.ensures.front))
+    (subst (SentPrefix (g.K.Sink.sent c.args.out.now) (g.K.Sink.sent c.write_all.new.sink)) c.bytes.ensures c.write_all.ensures.front))
 
 pub returns-in_ok-write_all-in-Ok-line-clause-played : goal.returns-in_ok-write_all-in-Ok-line-clause-played
 returns-in_ok-write_all-in-Ok-line-clause-played g c =

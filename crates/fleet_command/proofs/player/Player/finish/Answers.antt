@@ -1,7 +1,7 @@
 use Rattle.std.proofs.Common.{subst, ◌∙◌, ap}
 use Rattle.std.proofs.lemmas.Result.{err_from_is_err_and}
 use Rattle.std.specs.Io.KnownBytes.{append_known}
-use Rattle.mav_ports.specs.Puts.{SentFront}
+use Rattle.mav_ports.specs.Puts.{SentPrefix}
 use Rattle.fleet_command.proofs.Steps.{finish_halted, finish_memory, finish_front, finish_done}
 use Rattle.fleet_command.proofs.player.Player.finish.Goals as goal
 
@@ -25,7 +25,7 @@ returns-in_err-write_all-clause-halted g c =
     rw (e.1, e.2) (λ key frames taken before r.
     finish_front key frames taken c.args.self.now.world c.last_line.new.self.world c.args.self.now.number c.args.self.now.line.items c.in_ok-plans.plans.text before (g.K.Sink.sent c.args.out.now) (g.K.Sink.sent c.last_line.new.out) (g.K.Sink.sent c.write_all.new.sink) r
     (c.in_ok-last_line.ensures.played frames r.soFar before r.holds) c.in_ok-plans.ensures
-    (subst (SentFront (g.K.Sink.sent c.last_line.new.out) (g.K.Sink.sent c.write_all.new.sink)) c.bytes.ensures c.write_all.ensures.front))
+    (subst (SentPrefix (g.K.Sink.sent c.last_line.new.out) (g.K.Sink.sent c.write_all.new.sink)) c.bytes.ensures c.write_all.ensures.front))
 
 pub returns-clause-done : goal.returns-clause-done
 returns-clause-done g c = λ key frames taken before r.
