@@ -16,24 +16,24 @@ use Rattle.run_status.specs.declared.input_errors.InputError.TheVariants.{AtLimi
 use Rattle.run_status.specs.Runs.{PortOutcome, RunBeforeStatus, text_so_far}
 use Rattle.decode_command.specs.Parsing.{final_events, incremental_events}
 use Rattle.decode_command.specs.DecodeText.{event_lines, decode_text, last_line}
-use Rattle.decode_command.specs.Script.{most_input_bytes, lines_at, decode_script}
+use Rattle.decode_command.specs.Spec.{most_input_bytes, lines_at, decode_spec}
 use Rattle.decode_command.specs.Decodes.{Drained, Front, Finished, Unfinished}
 use Rattle.decode_command.specs.declared.decoder.Decoder.{Decoder}
 use Rattle.decode_command.proofs.Parses.{final_is, incremental_is}
 
 module _ (known : Known) where
   -- within the limit nothing stops a run, and all lines are written
-  pub goes_on : (ended : Bool) (taken : List ℕ) → length taken ≤ most_input_bytes → (decode_script known).stop ended taken ≡ None
+  pub goes_on : (ended : Bool) (taken : List ℕ) → length taken ≤ most_input_bytes → (decode_spec known).stop ended taken ≡ None
   goes_on ended taken fits = ap (λ (b : Bool). if b then Some (AtLimit InputBytes) else None) (le-ltb most_input_bytes (length taken) fits)
 
-  pub report_within : (ended : Bool) (taken : List ℕ) → length taken ≤ most_input_bytes → (decode_script known).report ended taken ≡ lines_at known ended taken
+  pub report_within : (ended : Bool) (taken : List ℕ) → length taken ≤ most_input_bytes → (decode_spec known).report ended taken ≡ lines_at known ended taken
   report_within ended taken fits = ap (λ (b : Bool). if b then lines_at known false (take most_input_bytes taken) else lines_at known ended taken) (le-ltb most_input_bytes (length taken) fits)
 
   -- past it a run stops, and the lines up to it are written
-  pub stops : (ended : Bool) (taken : List ℕ) → most_input_bytes < length taken → (decode_script known).stop ended taken ≡ Some (AtLimit InputBytes)
+  pub stops : (ended : Bool) (taken : List ℕ) → most_input_bytes < length taken → (decode_spec known).stop ended taken ≡ Some (AtLimit InputBytes)
   stops ended taken long = ap (λ (b : Bool). if b then Some (AtLimit InputBytes) else None) (lt-ltb most_input_bytes (length taken) long)
 
-  pub report_past : (ended : Bool) (taken : List ℕ) → most_input_bytes < length taken → (decode_script known).report ended taken ≡ lines_at known false (take most_input_bytes taken)
+  pub report_past : (ended : Bool) (taken : List ℕ) → most_input_bytes < length taken → (decode_spec known).report ended taken ≡ lines_at known false (take most_input_bytes taken)
   report_past ended taken long = ap (λ (b : Bool). if b then lines_at known false (take most_input_bytes taken) else lines_at known ended taken) (lt-ltb most_input_bytes (length taken) long)
 
   -- all lines of the bytes taken were sent
@@ -49,7 +49,7 @@ module _ (known : Known) where
     not_ended never = absurd (cc never)
 
     -- a read failed, or the input gave nothing for too long
-    pub untold_fault : (taken : List ℕ) (decoder : Decoder) → lb ≡ prepend_known taken la → length taken ≤ most_input_bytes → decoder.reader.ended ≡ false → decoder.text.items ≡ [] → Drained known taken decoder sb sa → o.failed → RunBeforeStatus (decode_script known) o lb la sb sa (Some ReadFault)
+    pub untold_fault : (taken : List ℕ) (decoder : Decoder) → lb ≡ prepend_known taken la → length taken ≤ most_input_bytes → decoder.reader.ended ≡ false → decoder.text.items ≡ [] → Drained known taken decoder sb sa → o.failed → RunBeforeStatus (decode_spec known) o lb la sb sa (Some ReadFault)
     untold_fault taken decoder took fits still empty d failed = record {
       taken = taken;
       ended = false;
@@ -59,7 +59,7 @@ module _ (known : Known) where
       wrote = all_lines taken decoder sb sa still empty d ∙ ap (append_known sb) (sym (report_within false taken fits));
     }
 
-    pub untold_idle : (taken : List ℕ) (decoder : Decoder) → lb ≡ prepend_known taken la → length taken ≤ most_input_bytes → decoder.reader.ended ≡ false → decoder.text.items ≡ [] → Drained known taken decoder sb sa → o.idled → RunBeforeStatus (decode_script known) o lb la sb sa (Some TurnsSpent)
+    pub untold_idle : (taken : List ℕ) (decoder : Decoder) → lb ≡ prepend_known taken la → length taken ≤ most_input_bytes → decoder.reader.ended ≡ false → decoder.text.items ≡ [] → Drained known taken decoder sb sa → o.idled → RunBeforeStatus (decode_spec known) o lb la sb sa (Some TurnsSpent)
     untold_idle taken decoder took fits still empty d idled = record {
       taken = taken;
       ended = false;
@@ -70,7 +70,7 @@ module _ (known : Known) where
     }
 
     -- more bytes were read than the limit allows
-    pub untold_limit : (taken : List ℕ) (decoder : Decoder) → lb ≡ prepend_known taken la → most_input_bytes < length taken → decoder.reader.ended ≡ false → decoder.text.items ≡ [] → Drained known (take most_input_bytes taken) decoder sb sa → RunBeforeStatus (decode_script known) o lb la sb sa (Some (Stopped (AtLimit InputBytes)))
+    pub untold_limit : (taken : List ℕ) (decoder : Decoder) → lb ≡ prepend_known taken la → most_input_bytes < length taken → decoder.reader.ended ≡ false → decoder.text.items ≡ [] → Drained known (take most_input_bytes taken) decoder sb sa → RunBeforeStatus (decode_spec known) o lb la sb sa (Some (Stopped (AtLimit InputBytes)))
     untold_limit taken decoder took long still empty d = record {
       taken = taken;
       ended = false;
@@ -81,35 +81,35 @@ module _ (known : Known) where
     }
 
     -- the writing halted
-    untold_halted : (taken : List ℕ) (halt : RunEnd) → lb ≡ prepend_known taken la → (halt ≡ WriteFault) ⊎ (halt ≡ NoMemory) → (halt ≡ WriteFault → o.refused) → SentPrefix sb sa ((decode_script known).report false taken) → RunBeforeStatus (decode_script known) o lb la sb sa (Some halt)
+    untold_halted : (taken : List ℕ) (halt : RunEnd) → lb ≡ prepend_known taken la → (halt ≡ WriteFault) ⊎ (halt ≡ NoMemory) → (halt ≡ WriteFault → o.refused) → SentPrefix sb sa ((decode_spec known).report false taken) → RunBeforeStatus (decode_spec known) o lb la sb sa (Some halt)
     untold_halted taken halt took (inl is) refused front =
-        subst (λ (h : RunEnd). RunBeforeStatus (decode_script known) o lb la sb sa (Some h)) (sym is)
+        subst (λ (h : RunEnd). RunBeforeStatus (decode_spec known) o lb la sb sa (Some h)) (sym is)
         (record { taken = taken; ended = false; took = took; at_end = not_ended; cause = refused is; wrote = front })
     untold_halted taken halt took (inr is) refused front =
-        subst (λ (h : RunEnd). RunBeforeStatus (decode_script known) o lb la sb sa (Some h)) (sym is)
+        subst (λ (h : RunEnd). RunBeforeStatus (decode_spec known) o lb la sb sa (Some h)) (sym is)
         (record { taken = taken; ended = false; took = took; at_end = not_ended; cause = tt; wrote = front })
 
-    pub untold_within : (taken : List ℕ) (halt : RunEnd) → lb ≡ prepend_known taken la → length taken ≤ most_input_bytes → (halt ≡ WriteFault) ⊎ (halt ≡ NoMemory) → (halt ≡ WriteFault → o.refused) → Front known taken sb sa → RunBeforeStatus (decode_script known) o lb la sb sa (Some halt)
+    pub untold_within : (taken : List ℕ) (halt : RunEnd) → lb ≡ prepend_known taken la → length taken ≤ most_input_bytes → (halt ≡ WriteFault) ⊎ (halt ≡ NoMemory) → (halt ≡ WriteFault → o.refused) → Front known taken sb sa → RunBeforeStatus (decode_spec known) o lb la sb sa (Some halt)
     untold_within taken halt took fits error refused front =
         untold_halted taken halt took error refused (subst (SentPrefix sb sa) (sym (report_within false taken fits)) front)
 
-    pub untold_past : (taken : List ℕ) (halt : RunEnd) → lb ≡ prepend_known taken la → most_input_bytes < length taken → (halt ≡ WriteFault) ⊎ (halt ≡ NoMemory) → (halt ≡ WriteFault → o.refused) → Front known (take most_input_bytes taken) sb sa → RunBeforeStatus (decode_script known) o lb la sb sa (Some halt)
+    pub untold_past : (taken : List ℕ) (halt : RunEnd) → lb ≡ prepend_known taken la → most_input_bytes < length taken → (halt ≡ WriteFault) ⊎ (halt ≡ NoMemory) → (halt ≡ WriteFault → o.refused) → Front known (take most_input_bytes taken) sb sa → RunBeforeStatus (decode_spec known) o lb la sb sa (Some halt)
     untold_past taken halt took long error refused front =
         untold_halted taken halt took error refused (subst (SentPrefix sb sa) (sym (report_past false taken long)) front)
 
     -- the input ended
-    whole_text : (taken : List ℕ) → length taken ≤ most_input_bytes → text_so_far (decode_script known) true taken ≡ decode_text known (final_events (extras_of known.dialect) taken)
+    whole_text : (taken : List ℕ) → length taken ≤ most_input_bytes → text_so_far (decode_spec known) true taken ≡ decode_text known (final_events (extras_of known.dialect) taken)
     whole_text taken fits = ap (λ (text : List ℕ). text ++ last_line (final_events (extras_of known.dialect) taken)) (report_within true taken fits)
 
-    untold_unfinished : (taken : List ℕ) (halt : RunEnd) → lb ≡ prepend_known taken la → o.spent → length taken ≤ most_input_bytes → (halt ≡ WriteFault) ⊎ (halt ≡ NoMemory) → (halt ≡ WriteFault → o.refused) → Unfinished known taken sb sa → RunBeforeStatus (decode_script known) o lb la sb sa (Some halt)
+    untold_unfinished : (taken : List ℕ) (halt : RunEnd) → lb ≡ prepend_known taken la → o.spent → length taken ≤ most_input_bytes → (halt ≡ WriteFault) ⊎ (halt ≡ NoMemory) → (halt ≡ WriteFault → o.refused) → Unfinished known taken sb sa → RunBeforeStatus (decode_spec known) o lb la sb sa (Some halt)
     untold_unfinished taken halt took spent fits (inl is) refused front =
-        subst (λ (h : RunEnd). RunBeforeStatus (decode_script known) o lb la sb sa (Some h)) (sym is)
+        subst (λ (h : RunEnd). RunBeforeStatus (decode_spec known) o lb la sb sa (Some h)) (sym is)
         (record { taken = taken; ended = true; took = took; at_end = λ e. spent; cause = refused is; wrote = subst (SentPrefix sb sa) (sym (whole_text taken fits)) front })
     untold_unfinished taken halt took spent fits (inr is) refused front =
-        subst (λ (h : RunEnd). RunBeforeStatus (decode_script known) o lb la sb sa (Some h)) (sym is)
+        subst (λ (h : RunEnd). RunBeforeStatus (decode_spec known) o lb la sb sa (Some h)) (sym is)
         (record { taken = taken; ended = true; took = took; at_end = λ e. spent; cause = tt; wrote = subst (SentPrefix sb sa) (sym (whole_text taken fits)) front })
 
-    pub untold_end : (taken : List ℕ) (r : Result (Unit {0}) RunEnd) → lb ≡ prepend_known taken la → o.spent → length taken ≤ most_input_bytes → OnOk r (Finished known taken sb sa) → IfErr r (λ halt. Unfinished known taken sb sa) → IfErr r (λ halt. (halt ≡ WriteFault) ⊎ (halt ≡ NoMemory)) → (IsErrOf r WriteFault → o.refused) → RunBeforeStatus (decode_script known) o lb la sb sa (result_err r)
+    pub untold_end : (taken : List ℕ) (r : Result (Unit {0}) RunEnd) → lb ≡ prepend_known taken la → o.spent → length taken ≤ most_input_bytes → OnOk r (Finished known taken sb sa) → IfErr r (λ halt. Unfinished known taken sb sa) → IfErr r (λ halt. (halt ≡ WriteFault) ⊎ (halt ≡ NoMemory)) → (IsErrOf r WriteFault → o.refused) → RunBeforeStatus (decode_spec known) o lb la sb sa (result_err r)
     untold_end taken (Ok x) took spent fits done unfinished error refused = record {
       taken = taken;
       ended = true;
@@ -129,5 +129,5 @@ up_to_limit taken piece left e =
     ap (λ (n : ℕ). take n (taken ++ piece)) (sym e) ∙ take-append-add taken piece left
 
 -- a run under the same definitions
-pub same_script : (known others : Known) (o : PortOutcome) (lb la sb sa : Option (List ℕ)) (end : Option RunEnd) → known ≡ others → RunBeforeStatus (decode_script known) o lb la sb sa end → RunBeforeStatus (decode_script others) o lb la sb sa end
-same_script known others o lb la sb sa end same u = subst (λ (d : Known). RunBeforeStatus (decode_script d) o lb la sb sa end) same u
+pub same_script : (known others : Known) (o : PortOutcome) (lb la sb sa : Option (List ℕ)) (end : Option RunEnd) → known ≡ others → RunBeforeStatus (decode_spec known) o lb la sb sa end → RunBeforeStatus (decode_spec others) o lb la sb sa end
+same_script known others o lb la sb sa end same u = subst (λ (d : Known). RunBeforeStatus (decode_spec d) o lb la sb sa end) same u

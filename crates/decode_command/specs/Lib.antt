@@ -1,6 +1,6 @@
 pub mod Parsing
 pub mod ParseLaws
 pub mod DecodeText
-pub mod Script
+pub mod Spec
 pub mod Decodes
 pub mod Examples

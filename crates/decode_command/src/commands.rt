@@ -5,7 +5,7 @@ ghost use Rattle.mav_ports.specs.Gets.{IsSpent};
 ghost use Rattle.run_status.specs.Runs.{RunBeforeStatus, port_outcome};
 ghost use Rattle.mav_profile.specs.Profile.{profile_definitions};
 ghost use Rattle.decode_command.specs.Decodes.{Drained, IsNew, IsWithin};
-ghost use Rattle.decode_command.specs.Script.{decode_script, most_input_bytes};
+ghost use Rattle.decode_command.specs.Spec.{decode_spec, most_input_bytes};
 
 use crate::decoder::Decoder;
 use crate::known::Known;
@@ -28,7 +28,7 @@ pub fn decode_by<S: Source, K: Sink>(
     main: &mut S,
     out: &mut K,
 ) -> Result<(), RunEnd>
-    ensures untold { RunBeforeStatus (decode_script known) (port_outcome
+    ensures untold { RunBeforeStatus (decode_spec known) (port_outcome
         (S.has_ended main.new × IsSpent (S.left main.new)) (S.faults main.old) (S.faults main.new)
         (S.idles main.old) (S.idles main.new) (K.faults out.old) (K.faults out.new))
         (S.left main.old) (S.left main.new) (K.sent out.old) (K.sent out.new)
@@ -47,7 +47,7 @@ fn decode_pieces<S: Source, K: Sink>(
     out: &mut K,
 ) -> Result<(), RunEnd>
     requires { IsNew decoder.old }
-    ensures untold { RunBeforeStatus (decode_script decoder.old.known) (port_outcome
+    ensures untold { RunBeforeStatus (decode_spec decoder.old.known) (port_outcome
         (S.has_ended main.new × IsSpent (S.left main.new)) (S.faults main.old) (S.faults main.new)
         (S.idles main.old) (S.idles main.new) (K.faults out.old) (K.faults out.new))
         (S.left main.old) (S.left main.new) (K.sent out.old) (K.sent out.new)
@@ -72,7 +72,7 @@ fn decode_all<S: Source, K: Sink>(
     requires still { decoder.old.reader.ended ≡ false }
     requires empty { decoder.old.text.items ≡ [] }
     ensures untold { Drained decoder.old.known [] decoder.old (K.sent out.old) (K.sent out.old)
-        → RunBeforeStatus (decode_script decoder.old.known) (port_outcome
+        → RunBeforeStatus (decode_spec decoder.old.known) (port_outcome
         (S.has_ended main.new × IsSpent (S.left main.new)) (S.faults main.old) (S.faults main.new)
         (S.idles main.old) (S.idles main.new) (K.faults out.old) (K.faults out.new))
         (S.left main.old) (S.left main.new) (K.sent out.old) (K.sent out.new)
@@ -105,7 +105,7 @@ pub fn decode<S: Source, K: Sink>(
     out: &mut K,
 ) -> Result<(), RunEnd>
     ensures untold { RunBeforeStatus
-        (decode_script (record { dialect = profile_definitions; key = key })) (port_outcome
+        (decode_spec (record { dialect = profile_definitions; key = key })) (port_outcome
         (S.has_ended main.new × IsSpent (S.left main.new)) (S.faults main.old) (S.faults main.new)
         (S.idles main.old) (S.idles main.new) (K.faults out.old) (K.faults out.new))
         (S.left main.old) (S.left main.new) (K.sent out.old) (K.sent out.new)

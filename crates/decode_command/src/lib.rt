@@ -3,7 +3,7 @@
 //!
 //! [`decode`] knows the messages of the built-in profile, [`decode_by`] those of a dialect. With a key a signed frame is told
 //! to be good or bad. The input is read in pieces, and the lines of a piece are written before more is read, in constant
-//! memory. `specs/Script.antt` says what stops a run and what it writes. The text of a halt isn't written here.
+//! memory. `specs/Spec.antt` says what stops a run and what it writes. The text of a halt isn't written here.
 #![tactic(auto)]
 
 mod commands;

@@ -10,7 +10,7 @@ use Rattle.run_status.specs.declared.run_ends.RunEnd.{RunEnd}
 use Rattle.run_status.specs.declared.run_ends.RunEnd.TheVariants.{Usage, Stopped, ReadFault, WriteFault, NoMemory, TurnsSpent}
 use Rattle.run_status.specs.declared.input_errors.InputError.{InputError}
 use Rattle.run_status.specs.Runs.{port_outcome, text_so_far, RunBeforeStatus}
-use Rattle.dialect_command.specs.Script.{refusal_of, text_of, reading, dialect_script, telling}
+use Rattle.dialect_command.specs.Spec.{refusal_of, text_of, reading, dialect_spec, telling}
 use Rattle.dialect_command.specs.Reads.{of_input, Holds, Halts}
 use Rattle.dialect_command.specs.Ends.{Told}
 use Rattle.dialect_command.specs.Writes.{WroteText}
@@ -34,10 +34,10 @@ untold_unread closing spent fb fa ib ia rb ra lb la sb sa TurnsSpent same h = re
 
 -- the definitions were read, and their text was written, or a front of it
 module _ (spent : Type 0) (fb fa ib ia rb ra : ℕ) (lb la sb sa : Option (List ℕ)) (defs : List Definition) (h : Holds spent lb la defs) where
-  is_text : text_of (Ok defs) ≡ dialect_script.closing h.taken
+  is_text : text_of (Ok defs) ≡ dialect_spec.closing h.taken
   is_text = ap text_of (sym h.read)
 
-  pub untold_written : (end : Option RunEnd) → WroteText (dialect_text defs) end rb ra sb sa → RunBeforeStatus dialect_script (port_outcome spent fb fa ib ia rb ra) lb la sb sa end
+  pub untold_written : (end : Option RunEnd) → WroteText (dialect_text defs) end rb ra sb sa → RunBeforeStatus dialect_spec (port_outcome spent fb fa ib ia rb ra) lb la sb sa end
   untold_written None wrote = record { taken = h.taken; ended = true; took = h.took; at_end = λ ended. h.at_end; cause = (refl, goes_on true h.taken h.fits ∙ ap refusal_of h.read); wrote = wrote.0 ∙ ap (append_known sb) is_text }
   untold_written (Some Usage) wrote = absurd wrote
   untold_written (Some (Stopped stop)) wrote = absurd wrote

@@ -14,7 +14,7 @@ use Rattle.run_status.specs.declared.input_errors.Reason.TheVariants.{Json, Shap
 use Rattle.run_status.specs.declared.input_errors.Bound.TheVariants.{DefinitionBytes}
 use Rattle.run_status.specs.declared.input_errors.InputError.TheVariants.{Bad, AtLimit}
 use Rattle.run_status.specs.Runs.{PortOutcome}
-use Rattle.dialect_command.specs.Script.{most_definition_bytes, told_reason, refusal_of}
+use Rattle.dialect_command.specs.Spec.{most_definition_bytes, told_reason, refusal_of}
 use Rattle.dialect_command.specs.Reads.{Holds, Halts, halt_of}
 use Rattle.dialect_command.proofs.Stays.{stops_long, goes_on}
 

@@ -11,7 +11,7 @@ use Rattle.run_status.specs.declared.input_errors.Reason.{Reason}
 use Rattle.run_status.specs.declared.input_errors.Bound.{Bound}
 use Rattle.run_status.specs.declared.input_errors.Bound.TheVariants.{DefinitionBytes}
 use Rattle.run_status.specs.declared.input_errors.InputError.TheVariants.{Bad, AtLimit}
-use Rattle.dialect_command.specs.Script.{most_definition_bytes, refusal_of, stop_at}
+use Rattle.dialect_command.specs.Spec.{most_definition_bytes, refusal_of, stop_at}
 use Rattle.dialect_command.specs.Reads.{of_input, Halts}
 use Rattle.dialect_command.specs.Ends.{Refused, IsTooLong}
 

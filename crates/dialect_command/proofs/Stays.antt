@@ -7,20 +7,20 @@ use Rattle.run_status.specs.declared.input_errors.Bound.TheVariants.{DefinitionB
 use Rattle.run_status.specs.declared.input_errors.InputError.{InputError}
 use Rattle.run_status.specs.declared.input_errors.InputError.TheVariants.{AtLimit}
 use Rattle.run_status.specs.Runs.{Steady}
-use Rattle.dialect_command.specs.Script.{most_definition_bytes, stop_at, reading, definitions_script, telling}
+use Rattle.dialect_command.specs.Spec.{most_definition_bytes, stop_at, reading, definitions_spec, telling}
 
 -- too many bytes stop a run, and no fewer do before the input ended
-pub stops_long : (ended : Bool) (taken : List ℕ) → most_definition_bytes < length taken → definitions_script.stop ended taken ≡ Some (AtLimit DefinitionBytes)
+pub stops_long : (ended : Bool) (taken : List ℕ) → most_definition_bytes < length taken → definitions_spec.stop ended taken ≡ Some (AtLimit DefinitionBytes)
 stops_long ended taken long = ap (λ b. if b then Some (AtLimit DefinitionBytes) else stop_at ended taken) (lt-ltb most_definition_bytes (length taken) long)
 
-pub goes_on : (ended : Bool) (taken : List ℕ) → length taken ≤ most_definition_bytes → definitions_script.stop ended taken ≡ stop_at ended taken
+pub goes_on : (ended : Bool) (taken : List ℕ) → length taken ≤ most_definition_bytes → definitions_spec.stop ended taken ≡ stop_at ended taken
 goes_on ended taken short = ap (λ b. if b then Some (AtLimit DefinitionBytes) else stop_at ended taken) (le-ltb most_definition_bytes (length taken) short)
 
 -- with more bytes
 longer : (taken more : List ℕ) → most_definition_bytes < length taken → most_definition_bytes < length (taken ++ more)
 longer taken more long = omega (arith, long, length-append taken more)
 
-stays_at : (ended : Bool) (taken more : List ℕ) (stop : InputError) (long : Bool) → ltb most_definition_bytes (length taken) ≡ long → (if long then Some (AtLimit DefinitionBytes) else None) ≡ Some stop → definitions_script.stop ended (taken ++ more) ≡ Some stop
+stays_at : (ended : Bool) (taken more : List ℕ) (stop : InputError) (long : Bool) → ltb most_definition_bytes (length taken) ≡ long → (if long then Some (AtLimit DefinitionBytes) else None) ≡ Some stop → definitions_spec.stop ended (taken ++ more) ≡ Some stop
 stays_at ended taken more stop true is e = stops_long ended (taken ++ more) (longer taken more (ltb-true most_definition_bytes (length taken) is)) ∙ e
 stays_at ended taken more stop false is e = absurd (cc e)
 

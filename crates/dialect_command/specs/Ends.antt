@@ -6,7 +6,7 @@ use Rattle.dialect.specs.declared.faults.DialectFault.{DialectFault}
 use Rattle.dialect.specs.Grammar.{definitions_of}
 use Rattle.mav_text.specs.LayoutText.{dialect_text}
 use Rattle.run_status.specs.declared.input_errors.Reason.{Reason}
-use Rattle.dialect_command.specs.Script.{told_reason, most_definition_bytes}
+use Rattle.dialect_command.specs.Spec.{told_reason, most_definition_bytes}
 use Rattle.dialect_command.specs.Reads.{Holds}
 
 -- what `dialect` wrote of the definitions that an input holds

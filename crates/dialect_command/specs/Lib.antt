@@ -1,4 +1,4 @@
-pub mod Script
+pub mod Spec
 pub mod Reads
 pub mod Writes
 pub mod Ends

@@ -11,7 +11,7 @@ use Rattle.run_status.specs.declared.input_errors.InputError.TheVariants.{Bad}
 use Rattle.dialect.specs.declared.faults.DialectFault.{DialectFault}
 use Rattle.dialect.specs.declared.faults.DialectFault.TheVariants.{NoMemory as NoMemoryToRead}
 use Rattle.run_status.specs.Runs.{PortOutcome, Cause}
-use Rattle.dialect_command.specs.Script.{told_reason, definitions_script, most_definition_bytes}
+use Rattle.dialect_command.specs.Spec.{told_reason, definitions_spec, most_definition_bytes}
 
 -- what stands of the outside where only an input is called
 abbrev pub of_input : Type 0 → ℕ → ℕ → ℕ → ℕ → PortOutcome
@@ -36,7 +36,7 @@ pub record Halts (o : PortOutcome) (left_before left_after : Option (List ℕ)) 
   pub ended : Bool
   pub took : left_before ≡ prepend_known taken left_after
   pub at_end : IsTrue ended → o.spent
-  pub cause : Cause definitions_script (Some halt) o ended taken
+  pub cause : Cause definitions_spec (Some halt) o ended taken
 
 -- the halt by a fault of the definitions
 abbrev pub told : DialectFault → RunEnd

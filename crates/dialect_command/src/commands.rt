@@ -4,7 +4,7 @@ ghost use Rattle.std.specs.Result.{result_err};
 ghost use Rattle.mav_ports.specs.Gets.{IsSpent};
 ghost use Rattle.run_status.specs.Runs.{RunBeforeStatus, port_outcome};
 ghost use Rattle.dialect_command.specs.Ends.{Told, Refused, IsTooLong};
-ghost use Rattle.dialect_command.specs.Script.{dialect_script, profile_script};
+ghost use Rattle.dialect_command.specs.Spec.{dialect_spec, profile_spec};
 
 use crate::definitions::read_definitions;
 use crate::layouts::write_dialect;
@@ -20,7 +20,7 @@ pub fn dialect<S: Source, K: Sink>(
     definitions: &mut S,
     out: &mut K,
 ) -> Result<(), RunEnd>
-    ensures untold { RunBeforeStatus dialect_script (port_outcome
+    ensures untold { RunBeforeStatus dialect_spec (port_outcome
         (S.has_ended definitions.new × IsSpent (S.left definitions.new))
         (S.faults definitions.old) (S.faults definitions.new)
         (S.idles definitions.old) (S.idles definitions.new) (K.faults out.old) (K.faults out.new))
@@ -45,7 +45,7 @@ pub fn dialect<S: Source, K: Sink>(
 
 /// Tells the layouts of the profile, as a command over an input without bytes would.
 pub fn profile<K: Sink>(alloc: Global, out: &mut K) -> Result<(), RunEnd>
-    ensures untold { RunBeforeStatus profile_script (port_outcome ⊤ 0 0 0 0 (K.faults out.old) (K.faults out.new))
+    ensures untold { RunBeforeStatus profile_spec (port_outcome ⊤ 0 0 0 0 (K.faults out.old) (K.faults out.new))
         (Some []) (Some []) (K.sent out.old) (K.sent out.new) (result_err result) }
     ensures sound { ¬ IsErrOf result RunEnd.WriteFault → K.faults out.new ≡ K.faults out.old }
 {

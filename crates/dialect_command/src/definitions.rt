@@ -2,7 +2,7 @@
 ghost use Rattle.std.specs.Prelude.{◌≡◌, ◌<◌, ◌≤◌, length, IfOk, IfErr};
 ghost use Rattle.std.specs.Io.KnownBytes.{prepend_known};
 ghost use Rattle.mav_ports.specs.Gets.{IsSpent};
-ghost use Rattle.dialect_command.specs.Script.{most_definition_bytes};
+ghost use Rattle.dialect_command.specs.Spec.{most_definition_bytes};
 ghost use Rattle.dialect_command.specs.Reads.{Holds, Halts, of_input, halt_of};
 
 use dialect::{Dialect, DialectFault};

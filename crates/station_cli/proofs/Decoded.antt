@@ -13,9 +13,9 @@ use Rattle.run_status.proofs.RunsBeforeStatus.{before_status_nothing, run_report
 use Rattle.run_status.proofs.Ends.{promised}
 use Rattle.key_file.specs.Spec.{key_spec, TookAtMost}
 use Rattle.key_file.proofs.Stays.{key_steady}
-use Rattle.dialect_command.specs.Script.{definitions_script}
+use Rattle.dialect_command.specs.Spec.{definitions_spec}
 use Rattle.dialect_command.proofs.Stays.{reading_steady}
-use Rattle.decode_command.specs.Script.{decode_script}
+use Rattle.decode_command.specs.Spec.{decode_spec}
 use Rattle.decode_command.proofs.Stays.{decode_steady}
 use Rattle.station_cli.specs.Seen.{Input, input_of, around, before_status_over, promised_over}
 use Rattle.station_cli.specs.Decoding.{WithKey, DecodesWith, Decodes, KeyIs}
@@ -46,10 +46,10 @@ decodes_as one other first second runs halted key defs main same too d =
 module _ (first second : CommandSpec → Input → Type 0) (halted stopped : Type 0) (on : (s : CommandSpec) → Steady s → (i : Input) → (i.spent → IsSpent i.left_after) → first s i → second s i) (ends : halted → stopped) where
   with_reported : (key : Option (List ℕ)) (named : Bool) (defs main : Input) → (defs.spent → IsSpent defs.left_after) → (main.spent → IsSpent main.left_after) → DecodesWith key named first halted defs main → DecodesWith key named second stopped defs main
   with_reported key false defs main ds ms d =
-      on (decode_script (record { dialect = profile_definitions; key = key })) (decode_steady (record { dialect = profile_definitions; key = key })) main ms d
-  with_reported key true defs main ds ms (inl (run, h, unread)) = inl (on definitions_script (reading_steady definitions_script.closing) defs ds run, ends h, unread)
+      on (decode_spec (record { dialect = profile_definitions; key = key })) (decode_steady (record { dialect = profile_definitions; key = key })) main ms d
+  with_reported key true defs main ds ms (inl (run, h, unread)) = inl (on definitions_spec (reading_steady definitions_spec.closing) defs ds run, ends h, unread)
   with_reported key true defs main ds ms (inr (known, holds, run)) =
-      inr (known, holds, on (decode_script (record { dialect = known; key = key })) (decode_steady (record { dialect = known; key = key })) main ms run)
+      inr (known, holds, on (decode_spec (record { dialect = known; key = key })) (decode_steady (record { dialect = known; key = key })) main ms run)
 
   pub decodes_reported : (named_key named_defs : Bool) (key defs main : Input) → (key.spent → IsSpent key.left_after) → (defs.spent → IsSpent defs.left_after) → (main.spent → IsSpent main.left_after) → Decodes named_key named_defs first halted key defs main → Decodes named_key named_defs second stopped key defs main
   decodes_reported false n key defs main ks ds ms d = with_reported None n defs main ds ms d
@@ -72,6 +72,6 @@ module _ {A : Type 0} (has_ended : A → Type 0) (faults idles : A → ℕ) (lef
   unmade s a = before_status_nothing s (around (input_of has_ended faults idles left a a) (record { refusals_before = refusals; refusals_after = refusals; sent_before = sent; sent_after = sent })) (left a) sent
 
   pub decodes_unread : (halted : Type 0) → halted → (named_key named_defs : Bool) → Decodes named_key named_defs (before_status_over (record { refusals_before = refusals; refusals_after = refusals; sent_before = sent; sent_after = sent }) (Some NoMemory)) halted (input_of has_ended faults idles left key key) (input_of has_ended faults idles left defs defs) (input_of has_ended faults idles left main main)
-  decodes_unread halted h false false = unmade (decode_script (record { dialect = profile_definitions; key = None })) main
-  decodes_unread halted h false true = inl (unmade definitions_script defs, h, refl)
+  decodes_unread halted h false false = unmade (decode_spec (record { dialect = profile_definitions; key = None })) main
+  decodes_unread halted h false true = inl (unmade definitions_spec defs, h, refl)
   decodes_unread halted h true n = inl (unmade key_spec key, h, took_nothing (left key), (refl, refl))

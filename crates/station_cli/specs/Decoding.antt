@@ -6,8 +6,8 @@ use Rattle.mav_profile.specs.Profile.{profile_definitions}
 use Rattle.run_status.specs.Runs.{CommandSpec}
 use Rattle.key_file.specs.Spec.{key_spec, HoldsKey, TookAtMost}
 use Rattle.dialect_command.specs.Reads.{Holds}
-use Rattle.dialect_command.specs.Script.{definitions_script}
-use Rattle.decode_command.specs.Script.{decode_script}
+use Rattle.dialect_command.specs.Spec.{definitions_spec}
+use Rattle.decode_command.specs.Spec.{decode_spec}
 use Rattle.station_cli.specs.Seen.{Input}
 
 -- a key that is named is read first: the run halts at it and reads nothing else, or it goes on with the key; without one
@@ -23,13 +23,13 @@ WithKey true runs halted others key next =
 abbrev pub WithDefinitions : Bool → (CommandSpec → Input → Type 0) → (halted others : Type 0) → Input → (List Definition → Type 0) → Type 0
 WithDefinitions false runs halted others defs next = next profile_definitions
 WithDefinitions true runs halted others defs next =
-    (runs definitions_script defs × halted × others)
+    (runs definitions_spec defs × halted × others)
     ⊎ ((ds : List Definition) × Holds defs.spent defs.left_before defs.left_after ds × next ds)
 
 -- and then the main input is decoded by these
 abbrev pub DecodesWith : Option (List ℕ) → (named_defs : Bool) → (CommandSpec → Input → Type 0) → (halted : Type 0) → (defs main : Input) → Type 0
 DecodesWith key named_defs runs halted defs main =
-    WithDefinitions named_defs runs halted main.unread defs (λ ds. runs (decode_script (record { dialect = ds; key = key })) main)
+    WithDefinitions named_defs runs halted main.unread defs (λ ds. runs (decode_spec (record { dialect = ds; key = key })) main)
 
 abbrev pub Decodes : (named_key named_defs : Bool) → (CommandSpec → Input → Type 0) → (halted : Type 0) → (key defs main : Input) → Type 0
 Decodes named_key named_defs runs halted key defs main =

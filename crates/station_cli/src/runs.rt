@@ -8,7 +8,7 @@ ghost use Rattle.command_line.specs.Built.{is_built, built};
 ghost use Rattle.command_line.specs.Forms.{has_given};
 ghost use Rattle.command_line.specs.Grammar.{Asked, Asks, AskNothing};
 ghost use Rattle.command_line.specs.Lines.{given_of};
-ghost use Rattle.dialect_command.specs.Script.{dialect_script, profile_script};
+ghost use Rattle.dialect_command.specs.Spec.{dialect_spec, profile_spec};
 ghost use Rattle.station_cli.specs.Decoding.{Decodes};
 ghost use Rattle.station_cli.specs.Fleets.{Fleets, FleetsCarry, FleetsComplete};
 ghost use Rattle.station_cli.specs.Seen.{input_of, output_of, before_status_over, promised_over};
@@ -30,12 +30,12 @@ fn run_dialect<S: Source, K: Sink>(
     defs: &mut S,
     out: &mut K,
 ) -> Result<(), RunEnd>
-    ensures named { named ≡ true → RunBeforeStatus dialect_script (port_outcome
+    ensures named { named ≡ true → RunBeforeStatus dialect_spec (port_outcome
         (S.has_ended defs.new × IsSpent (S.left defs.new)) (S.faults defs.old) (S.faults defs.new)
         (S.idles defs.old) (S.idles defs.new) (K.faults out.old) (K.faults out.new))
         (S.left defs.old) (S.left defs.new) (K.sent out.old) (K.sent out.new)
         (result_err result) }
-    ensures unnamed { named ≡ false → RunBeforeStatus profile_script
+    ensures unnamed { named ≡ false → RunBeforeStatus profile_spec
         (port_outcome ⊤ 0 0 0 0 (K.faults out.old) (K.faults out.new))
         (Some []) (Some []) (K.sent out.old) (K.sent out.new) (result_err result) }
     ensures unread { named ≡ false → defs.new ≡ defs.old }
@@ -64,7 +64,7 @@ fn run_line<S: Source, K: Sink>(
         (input_of S.has_ended S.faults S.idles S.left inputs.old.main inputs.new.main) }
     ensures dialect { line.now.command ≡ Command.Dialect
         → has_given OptionName.Defs (map given_of line.now.settings.items) ≡ true
-        → RunBeforeStatus dialect_script (port_outcome
+        → RunBeforeStatus dialect_spec (port_outcome
         (S.has_ended inputs.new.defs × IsSpent (S.left inputs.new.defs))
         (S.faults inputs.old.defs) (S.faults inputs.new.defs)
         (S.idles inputs.old.defs) (S.idles inputs.new.defs) (K.faults out.old) (K.faults out.new))
@@ -72,7 +72,7 @@ fn run_line<S: Source, K: Sink>(
         (K.sent out.old) (K.sent out.new) (result_err result) }
     ensures profile { line.now.command ≡ Command.Dialect
         → has_given OptionName.Defs (map given_of line.now.settings.items) ≡ false
-        → RunBeforeStatus profile_script (port_outcome ⊤ 0 0 0 0 (K.faults out.old) (K.faults out.new))
+        → RunBeforeStatus profile_spec (port_outcome ⊤ 0 0 0 0 (K.faults out.old) (K.faults out.new))
         (Some []) (Some []) (K.sent out.old) (K.sent out.new) (result_err result) }
     ensures decode { line.now.command ≡ Command.Decode → Decodes
         (has_given OptionName.Key (map given_of line.now.settings.items))
@@ -114,7 +114,7 @@ fn run_words<S: Source, K: Sink>(
         (input_of S.has_ended S.faults S.idles S.left inputs.old.main inputs.new.main) }
     ensures dialect { (asked : Asked) → Asks built (map string_bytes words.now) asked
         → asked.command ≡ Command.Dialect → has_given OptionName.Defs asked.settings ≡ true
-        → RunBeforeStatus dialect_script (port_outcome
+        → RunBeforeStatus dialect_spec (port_outcome
         (S.has_ended inputs.new.defs × IsSpent (S.left inputs.new.defs))
         (S.faults inputs.old.defs) (S.faults inputs.new.defs)
         (S.idles inputs.old.defs) (S.idles inputs.new.defs) (K.faults out.old) (K.faults out.new))
@@ -122,7 +122,7 @@ fn run_words<S: Source, K: Sink>(
         (K.sent out.old) (K.sent out.new) (result_err result) }
     ensures profile { (asked : Asked) → Asks built (map string_bytes words.now) asked
         → asked.command ≡ Command.Dialect → has_given OptionName.Defs asked.settings ≡ false
-        → RunBeforeStatus profile_script (port_outcome ⊤ 0 0 0 0 (K.faults out.old) (K.faults out.new))
+        → RunBeforeStatus profile_spec (port_outcome ⊤ 0 0 0 0 (K.faults out.old) (K.faults out.new))
         (Some []) (Some []) (K.sent out.old) (K.sent out.new) (result_err result) }
     ensures decode { (asked : Asked) → Asks built (map string_bytes words.now) asked
         → asked.command ≡ Command.Decode → Decodes
@@ -201,7 +201,7 @@ pub fn run<S: Source, K: Sink, C: Clock>(
     // `dialect --defs F`, over the definitions
     ensures dialect { (asked : Asked) → Asks built (map string_bytes words.now) asked
         → asked.command ≡ Command.Dialect → has_given OptionName.Defs asked.settings ≡ true
-        → Promises dialect_script (port_outcome
+        → Promises dialect_spec (port_outcome
         (S.has_ended inputs.new.defs × IsSpent (S.left inputs.new.defs))
         (S.faults inputs.old.defs) (S.faults inputs.new.defs)
         (S.idles inputs.old.defs) (S.idles inputs.new.defs) (K.faults out.old) (K.faults out.new))
@@ -210,7 +210,7 @@ pub fn run<S: Source, K: Sink, C: Clock>(
     // `dialect`, over no input
     ensures profile { (asked : Asked) → Asks built (map string_bytes words.now) asked
         → asked.command ≡ Command.Dialect → has_given OptionName.Defs asked.settings ≡ false
-        → Promises profile_script (port_outcome ⊤ 0 0 0 0 (K.faults out.old) (K.faults out.new))
+        → Promises profile_spec (port_outcome ⊤ 0 0 0 0 (K.faults out.old) (K.faults out.new))
         (Some []) (Some []) (K.sent out.old) (K.sent out.new) result }
     // `decode [--defs F] [--key F] FILE`: the run halts at the key, and no other input is read; or at
     // the definitions, as `dialect` would, with nothing written of them and the main input unread; or

@@ -4,7 +4,7 @@ use Rattle.std.proofs.lemmas.Result.{err_from_is_err_and}
 use Rattle.mav_ports.specs.Counts.{Rose}
 use Rattle.mav_ports.proofs.Known.{prepend_known_nil}
 use Rattle.run_status.proofs.RunsBeforeStatus.{took_none, took_more}
-use Rattle.decode_command.specs.Script.{most_input_bytes}
+use Rattle.decode_command.specs.Spec.{most_input_bytes}
 use Rattle.decode_command.specs.Decodes.{Drained, Front}
 use Rattle.decode_command.proofs.Ends.{untold_fault, untold_idle, untold_limit, untold_within, untold_past, untold_end, up_to_limit}
 use Rattle.decode_command.proofs.commands.decode_all.Goals as goal

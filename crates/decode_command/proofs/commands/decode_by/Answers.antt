@@ -2,14 +2,14 @@ use Rattle.std.proofs.Common.{refl}
 use Rattle.std.specs.Result.{result_err}
 use Rattle.std.proofs.lemmas.Result.{err_from_is_err_and}
 use Rattle.run_status.proofs.RunsBeforeStatus.{before_status_nothing}
-use Rattle.decode_command.specs.Script.{decode_script}
+use Rattle.decode_command.specs.Spec.{decode_spec}
 use Rattle.decode_command.proofs.Ends.{same_script}
 use Rattle.decode_command.proofs.commands.decode_by.Goals as goal
 
 pub returns-in_err-decoder-clause-untold : goal.returns-in_err-decoder-clause-untold
 returns-in_err-decoder-clause-untold g c =
     let e = err_from_is_err_and c.from_residual.result c.from_residual.ensures.1 in
-    rw (e.1, e.2) (before_status_nothing (decode_script c.args.known) _ (g.S.Source.left c.args.main.now) (g.K.Sink.sent c.args.out.now))
+    rw (e.1, e.2) (before_status_nothing (decode_spec c.args.known) _ (g.S.Source.left c.args.main.now) (g.K.Sink.sent c.args.out.now))
 
 pub returns-in_err-decoder-clause-sound : goal.returns-in_err-decoder-clause-sound
 returns-in_err-decoder-clause-sound g c = λ other. refl

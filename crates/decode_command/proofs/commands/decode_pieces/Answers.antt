@@ -3,7 +3,7 @@ use Rattle.std.specs.Result.{result_err}
 use Rattle.std.proofs.lemmas.Result.{err_from_is_err_and}
 use Rattle.run_status.proofs.RunsBeforeStatus.{before_status_nothing}
 use Rattle.mav_stream.specs.Held.{Held}
-use Rattle.decode_command.specs.Script.{decode_script}
+use Rattle.decode_command.specs.Spec.{decode_spec}
 use Rattle.decode_command.proofs.Ends.{same_script}
 use Rattle.decode_command.proofs.Starts.{new_drained, new_within, new_start}
 use Rattle.decode_command.proofs.commands.decode_pieces.Goals as goal
@@ -11,12 +11,12 @@ use Rattle.decode_command.proofs.commands.decode_pieces.Goals as goal
 pub returns-in_err-make_room-clause-untold : goal.returns-in_err-make_room-clause-untold
 returns-in_err-make_room-clause-untold g c =
     let e = err_from_is_err_and c.from_residual.result c.from_residual.ensures.1 in
-    rw (e.1, e.2) (before_status_nothing (decode_script c.args.decoder.now.known) _ (g.S.Source.left c.args.main.now) (g.K.Sink.sent c.args.out.now))
+    rw (e.1, e.2) (before_status_nothing (decode_spec c.args.decoder.now.known) _ (g.S.Source.left c.args.main.now) (g.K.Sink.sent c.args.out.now))
 
 pub returns-in_err-buf-clause-untold : goal.returns-in_err-buf-clause-untold
 returns-in_err-buf-clause-untold g c =
     let e = err_from_is_err_and c.from_residual-in_err-buf.result c.from_residual-in_err-buf.ensures.1 in
-    rw (e.1, e.2) (before_status_nothing (decode_script c.args.decoder.now.known) _ (g.S.Source.left c.args.main.now) (g.K.Sink.sent c.args.out.now))
+    rw (e.1, e.2) (before_status_nothing (decode_spec c.args.decoder.now.known) _ (g.S.Source.left c.args.main.now) (g.K.Sink.sent c.args.out.now))
 
 pub decode_all-requires-clause-within : goal.decode_all-requires-clause-within
 decode_all-requires-clause-within g c = new_within c.make_room.new.self c.make_room.ensures.new

@@ -1,7 +1,7 @@
 use Rattle.std.proofs.Common.{refl, subst}
 use Rattle.std.specs.Result.{result_err}
 use Rattle.std.proofs.lemmas.Result.{err_from_is_err_and}
-use Rattle.dialect_command.specs.Script.{dialect_script}
+use Rattle.dialect_command.specs.Spec.{dialect_spec}
 use Rattle.dialect_command.specs.Reads.{Halts}
 use Rattle.dialect_command.proofs.Endings.{untold_unread, untold_written, told_written, sound_written, unstopped_written}
 use Rattle.dialect_command.proofs.Refusals.{refused_at, long_at}
@@ -12,7 +12,7 @@ returns-in_err-dialect-clause-untold g c =
     let refusals = g.K.Sink.faults c.args.out.now in
     let sent = g.K.Sink.sent c.args.out.now in
     let e = err_from_is_err_and c.from_residual.result c.from_residual.ensures.1 in
-    rw (e.1, e.2) (untold_unread dialect_script.closing _ (g.S.Source.faults c.args.definitions.now) (g.S.Source.faults c.read_definitions.new.input)
+    rw (e.1, e.2) (untold_unread dialect_spec.closing _ (g.S.Source.faults c.args.definitions.now) (g.S.Source.faults c.read_definitions.new.input)
     (g.S.Source.idles c.args.definitions.now) (g.S.Source.idles c.read_definitions.new.input) refusals refusals
     (g.S.Source.left c.args.definitions.now) (g.S.Source.left c.read_definitions.new.input) sent sent c.in_err-dialect.field-0.0 refl c.in_err-dialect.ensures.halts)
 

@@ -1,6 +1,6 @@
 use Rattle.std.proofs.Common.{◌≡◌, ◌≤◌, ◌-◌, length}
 use Rattle.std.specs.Io.KnownBytes.{prepend_known}
-use Rattle.dialect_command.specs.Script.{most_definition_bytes}
+use Rattle.dialect_command.specs.Spec.{most_definition_bytes}
 use Rattle.dialect_command.proofs.definitions.read_all.Given as goal
 
 abbrev pub invariant-loop-count : goal.invariant-loop-count

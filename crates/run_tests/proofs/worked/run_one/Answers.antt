@@ -3,7 +3,7 @@ use Rattle.std.specs.Prelude.{map, string_bytes}
 use Rattle.command_line.specs.declared.commands.Command.TheVariants.{Fleet, Decode}
 use Rattle.decode_command.specs.Examples.{one_heartbeat, one_heartbeat_text}
 use Rattle.decode_command.proofs.Worked.{script as decoding, one_heartbeat_code, one_heartbeat_output}
-use Rattle.dialect_command.specs.Script.{profile_script}
+use Rattle.dialect_command.specs.Spec.{profile_spec}
 use Rattle.dialect_command.specs.Examples.{profile_layouts}
 use Rattle.dialect_command.proofs.Worked.{profile_output}
 use Rattle.fleet_command.specs.Examples.{one_item, one_item_installed}
@@ -16,7 +16,7 @@ returns-clause-status c = elim c.requires.one [
   | inl fleet ↦ status_reported playing one_item one_item_installed one_item_code one_item_output (sure_input c.args.inputs.now.main c.run.new.inputs.main) c.args.out.now c.run.new.out c.run.result fleet.1 sure awake (c.run.ensures.fleet (asked Fleet) (asks_fleet (map string_bytes c.args.words.now) fleet.0) refl)
   | inr others ↦ elim others [
     | inl decode ↦ status_reported decoding one_heartbeat one_heartbeat_text one_heartbeat_code one_heartbeat_output (sure_input c.args.inputs.now.main c.run.new.inputs.main) c.args.out.now c.run.new.out c.run.result decode.1 sure awake (c.run.ensures.decode (asked Decode) (asks_decode (map string_bytes c.args.words.now) decode.0) refl)
-    | inr words ↦ status_reported profile_script [] profile_layouts refl profile_output no_input c.args.out.now c.run.new.out c.run.result refl sure awake (c.run.ensures.profile asked_dialect (asks_dialect (map string_bytes c.args.words.now) words) refl refl)
+    | inr words ↦ status_reported profile_spec [] profile_layouts refl profile_output no_input c.args.out.now c.run.new.out c.run.result refl sure awake (c.run.ensures.profile asked_dialect (asks_dialect (map string_bytes c.args.words.now) words) refl refl)
   ]
 ]
 
@@ -38,4 +38,4 @@ returns-clause-decoded c = λ words stream.
 
 pub returns-clause-reported : goal.returns-clause-reported
 returns-clause-reported c = λ words.
-    text_reported profile_script [] profile_layouts refl profile_output no_input c.args.out.now c.run.new.out c.run.result refl sure awake (c.run.ensures.profile asked_dialect (asks_dialect (map string_bytes c.args.words.now) words) refl refl) c.requires.empty
+    text_reported profile_spec [] profile_layouts refl profile_output no_input c.args.out.now c.run.new.out c.run.result refl sure awake (c.run.ensures.profile asked_dialect (asks_dialect (map string_bytes c.args.words.now) words) refl refl) c.requires.empty

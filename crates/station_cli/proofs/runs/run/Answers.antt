@@ -3,7 +3,7 @@ use Rattle.std.specs.Result.{result_err}
 use Rattle.run_status.proofs.RunsBeforeStatus.{run_reported, sound_reported}
 use Rattle.run_status.proofs.Ends.{promised}
 use Rattle.mav_profile.specs.Profile.{profile_definitions}
-use Rattle.dialect_command.specs.Script.{dialect_script, profile_script}
+use Rattle.dialect_command.specs.Spec.{dialect_spec, profile_spec}
 use Rattle.dialect_command.proofs.Stays.{reading_steady, telling_steady}
 use Rattle.station_cli.proofs.Usages.{words_reported, halted_code, usage_ended, five_only}
 use Rattle.station_cli.proofs.Decoded.{reported_over, decodes_reported}
@@ -35,14 +35,14 @@ returns-clause-completeness g c = λ asked asks is.
 pub returns-clause-dialect : goal.returns-clause-dialect
 returns-clause-dialect g c = λ asked asks is named.
     let ended = c.run_words-ended in
-    rw c.code_of.ensures (promised dialect_script (reading_steady dialect_script.closing) _ _ _ _ _ (result_err c.write_status.result) (λ spent. spent.1)
-    (run_reported dialect_script _ _ _ _ _ _ _ _ _ _ _ _ _ ended.result c.write_status.result (ended.ensures.dialect asked asks is named) ended.ensures.sound c.write_status.ensures.writes))
+    rw c.code_of.ensures (promised dialect_spec (reading_steady dialect_spec.closing) _ _ _ _ _ (result_err c.write_status.result) (λ spent. spent.1)
+    (run_reported dialect_spec _ _ _ _ _ _ _ _ _ _ _ _ _ ended.result c.write_status.result (ended.ensures.dialect asked asks is named) ended.ensures.sound c.write_status.ensures.writes))
 
 pub returns-clause-profile : goal.returns-clause-profile
 returns-clause-profile g c = λ asked asks is unnamed.
     let ended = c.run_words-ended in
-    rw c.code_of.ensures (promised profile_script (telling_steady profile_definitions) _ _ _ _ _ (result_err c.write_status.result) (λ spent. refl)
-    (run_reported profile_script _ 0 0 0 0 _ _ _ _ _ _ _ _ ended.result c.write_status.result (ended.ensures.profile asked asks is unnamed) ended.ensures.sound c.write_status.ensures.writes))
+    rw c.code_of.ensures (promised profile_spec (telling_steady profile_definitions) _ _ _ _ _ (result_err c.write_status.result) (λ spent. refl)
+    (run_reported profile_spec _ 0 0 0 0 _ _ _ _ _ _ _ _ ended.result c.write_status.result (ended.ensures.profile asked asks is unnamed) ended.ensures.sound c.write_status.ensures.writes))
 
 pub returns-clause-usage_only : goal.returns-clause-usage_only
 returns-clause-usage_only g c = λ nothing.

@@ -2,7 +2,7 @@ use Rattle.std.proofs.Common.{true, false, refl}
 use Rattle.command_line.specs.declared.commands.Command.TheVariants.{Fleet, Dialect, Decode}
 use Rattle.command_line.specs.declared.commands.OptionName.TheVariants.{Frames, Defs, Key}
 use Rattle.run_status.proofs.RunsBeforeStatus.{before_status_nothing}
-use Rattle.dialect_command.specs.Script.{dialect_script, profile_script}
+use Rattle.dialect_command.specs.Spec.{dialect_spec, profile_spec}
 use Rattle.station_cli.proofs.Same.{same_command, same_given, same_options}
 use Rattle.station_cli.proofs.Decoded.{decodes_as, decodes_unread}
 use Rattle.station_cli.proofs.Scenarios.{fleets_as, fleets_unread}
@@ -14,10 +14,10 @@ returns-in-Err-NoMemory-clause-fleet g c = λ asked asks is.
     fleets_unread g.S.Source.has_ended g.S.Source.faults g.S.Source.idles g.S.Source.left inputs.key inputs.main (g.K.Sink.faults c.args.out.now) (g.K.Sink.sent c.args.out.now) _ refl _ _
 
 pub returns-in-Err-NoMemory-clause-dialect : goal.returns-in-Err-NoMemory-clause-dialect
-returns-in-Err-NoMemory-clause-dialect g c = λ asked asks is named. before_status_nothing dialect_script _ _ _
+returns-in-Err-NoMemory-clause-dialect g c = λ asked asks is named. before_status_nothing dialect_spec _ _ _
 
 pub returns-in-Err-NoMemory-clause-profile : goal.returns-in-Err-NoMemory-clause-profile
-returns-in-Err-NoMemory-clause-profile g c = λ asked asks is unnamed. before_status_nothing profile_script _ _ _
+returns-in-Err-NoMemory-clause-profile g c = λ asked asks is unnamed. before_status_nothing profile_spec _ _ _
 
 pub returns-clause-fleet : goal.returns-clause-fleet
 returns-clause-fleet g c = λ asked asks is.

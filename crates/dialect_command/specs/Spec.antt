@@ -55,12 +55,12 @@ reading closing = record {
 }
 
 -- the layouts are told at the end, in the order read
-abbrev pub dialect_script : CommandSpec
-dialect_script = reading (λ bytes. text_of (definitions_of bytes))
+abbrev pub dialect_spec : CommandSpec
+dialect_spec = reading (λ bytes. text_of (definitions_of bytes))
 
 -- nothing is told of definitions that are read for another command
-abbrev pub definitions_script : CommandSpec
-definitions_script = reading (λ bytes. [])
+abbrev pub definitions_spec : CommandSpec
+definitions_spec = reading (λ bytes. [])
 
 -- without definitions those of the profile are told, and nothing is read
 abbrev pub telling : List Definition → CommandSpec
@@ -70,5 +70,5 @@ telling defs = record {
   closing = λ bytes. dialect_text defs;
 }
 
-abbrev pub profile_script : CommandSpec
-profile_script = telling profile_definitions
+abbrev pub profile_spec : CommandSpec
+profile_spec = telling profile_definitions

@@ -18,8 +18,8 @@ lines_at known true bytes = event_lines known (final_events (extras_of known.dia
 lines_at known false bytes = event_lines known (incremental_events (extras_of known.dialect) bytes)
 
 -- too many bytes stop a run, and then only those up to the limit are decoded
-abbrev pub decode_script : Known → CommandSpec
-decode_script known = record {
+abbrev pub decode_spec : Known → CommandSpec
+decode_spec known = record {
   stop = λ ended bytes. if nat_lt most_input_bytes (length bytes) then Some (AtLimit InputBytes) else None;
   report = λ ended bytes. if nat_lt most_input_bytes (length bytes) then lines_at known false (take most_input_bytes bytes) else lines_at known ended bytes;
   closing = λ bytes. last_line (final_events (extras_of known.dialect) bytes);
