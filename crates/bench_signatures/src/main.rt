@@ -23,6 +23,7 @@ fn frame_of(len: u8) -> Frame
     ensures { IsSome result.block }
 {
     Frame {
+        old: false,
         compat: 0,
         seq: 0,
         from: Name { sys: 1, comp: 1 },
