@@ -72,25 +72,37 @@ fn code(event: &Event) -> (u32, u16) {
 
 // How many events are as wanted.
 fn as_wanted(events: &[Event], wanted: &[(u32, u16)]) -> usize {
-    for (place, event) in events.iter().enumerate() {
-        if wanted.get(place) != Some(&code(event)) {
-            return place;
+    for (index, event) in events.iter().enumerate() {
+        if wanted.get(index) != Some(&code(event)) {
+            return index;
         }
     }
     events.len()
 }
 
-// The same of the capture as a whole, and in pieces of seven bytes.
-fn told(alloc: Global, wanted: &[(u32, u16)]) -> Result<(usize, usize), NoMemory> {
-    let table = extras(alloc)?;
-    let whole = parse(alloc, &table, true, &CAPTURE)?;
-    let pieces = read_in_pieces(alloc, table, &CAPTURE, 7)?;
-    Ok((as_wanted(&whole, wanted), as_wanted(&pieces, wanted)))
+// The same of the capture in pieces of one size.
+fn in_pieces(alloc: Global, wanted: &[(u32, u16)], size: usize) -> Result<usize, NoMemory>
+    requires { 0 < size }
+{
+    let events = read_in_pieces(alloc, extras(alloc)?, &CAPTURE, size)?;
+    Ok(as_wanted(&events, wanted))
+}
+
+// The same of the capture as a whole, and in pieces of several sizes.
+fn reported(alloc: Global, wanted: &[(u32, u16)]) -> Result<[usize; 5], NoMemory> {
+    let whole = parse(alloc, &extras(alloc)?, true, &CAPTURE)?;
+    Ok([
+        as_wanted(&whole, wanted),
+        in_pieces(alloc, wanted, 1)?,
+        in_pieces(alloc, wanted, 2)?,
+        in_pieces(alloc, wanted, 7)?,
+        in_pieces(alloc, wanted, 280)?,
+    ])
 }
 
 #[test]
 fn a_capture_whole_and_in_pieces(rt: HostRuntime) -> Result<(), Fail> {
     let wanted = [(0, 1), (0, 0x1EE7), (0, 0xDD7D), (42, 0x492F)];
-    assert_eq!(rt; told(rt.alloc(), &wanted)?, (4, 4));
+    assert_eq!(rt; reported(rt.alloc(), &wanted)?, [4; 5]);
     Ok(())
 }
