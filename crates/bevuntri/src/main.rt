@@ -1,4 +1,4 @@
-//! The program: opens what the words name, and hands it to `run`.
+//! The program: opens what the words name, and passes it to `run`.
 #![tactic(auto)]
 
 use mav_ports::{StdClock, StdSink, StdSource};
@@ -27,7 +27,7 @@ impl Read for Reader {
     }
 }
 
-// The words behind the program's name; none where one of them isn't UTF-8, which no command takes.
+// The words after the program's name; none if one of them isn't UTF-8, which no command takes.
 fn words_of(rt: &HostRuntime) -> Result<Vec<String>, AllocError> {
     let mut words = Vec::new(rt.alloc());
     match env::args(rt) {

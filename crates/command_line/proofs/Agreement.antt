@@ -13,7 +13,7 @@ use Rattle.command_line.specs.Grammar.{is_dashed, Piece, Flag, Apart, Joined, Ba
 use Rattle.command_line.specs.Pieces.{command_named, sort_of, joined_value, Parts, given, plainly, sorted, parts_at}
 use Rattle.command_line.proofs.Sorts.{IsSort, sort_is, sort_alone, sort_apart, sort_joined, sort_plain, command_word_of, command_of_word}
 
--- words behind a command, and what they give
+-- words after a command, and what they give
 pub record Tree (words : List (List ℕ)) (parts : Parts) : Type 0 where
   pub pieces : List Piece
   pub behind : Option (List (List ℕ))
@@ -28,7 +28,7 @@ with_given name value p = record { settings = (record { name = name; value = val
 abbrev pub with_plain : List ℕ → Parts → Parts
 with_plain word p = record { settings = p.settings; plain = word ∷ p.plain }
 
--- a value and the words behind it
+-- a value and the words after it
 pub record ValueTree (name : OptionName) (words : List (List ℕ)) (parts : Parts) : Type 0 where
   pub value : List ℕ
   pub rest : List (List ℕ)
@@ -51,7 +51,7 @@ given_some : (name : OptionName) (value : List ℕ) (o : Option Parts) (p : Part
 given_some name value None p never = absurd (cc never)
 given_some name value (Some q) p e = (q, refl, let same : p ≡ with_given name value q = cc e in same)
 
--- a piece in front of a tree
+-- a piece before a tree
 plain_tree : (word : List ℕ) (ws : List (List ℕ)) (q p : Parts) → is_dashed word ≡ false → p ≡ with_plain word q → Tree ws q → Tree (word ∷ ws) p
 plain_tree word ws q p plain e t = record {
   pieces = Bare word ∷ t.pieces;
@@ -92,14 +92,14 @@ apart_tree name value ws q p has plain e t = record {
   plain_are = ap (λ (r : Parts). r.plain) e ∙ t.plain_are;
 }
 
--- nothing stands behind the command
+-- no word comes after the command
 empty_tree : (p : Parts) → p ≡ record { settings = []; plain = [] } → Tree [] p
 empty_tree p e = record { pieces = []; behind = None; are_pieces = tt; words_are = refl; settings_are = ap (λ (r : Parts). r.settings) e; plain_are = ap (λ (r : Parts). r.plain) e }
 
 behind_tree : (ws : List (List ℕ)) (p : Parts) → p ≡ record { settings = []; plain = ws } → Tree (codes "--" ∷ ws) p
 behind_tree ws p e = record { pieces = []; behind = Some ws; are_pieces = tt; words_are = refl; settings_are = ap (λ (r : Parts). r.settings) e; plain_are = ap (λ (r : Parts). r.plain) e }
 
--- a word of some sort, in front of words that are trees at each place
+-- a word of some sort, before words that are trees at each place
 sorted_tree : (s : Sort) (word : List ℕ) (ws : List (List ℕ)) (p : Parts) → IsSort s word → ((place : Place) (q : Parts) → parts_at place ws ≡ Some q → TreeAt place ws q) → sorted s word (λ place. parts_at place ws) ≡ Some p → Tree (word ∷ ws) p
 sorted_tree Plain word ws p is each e =
     let (q, found, same) = plainly_some word (parts_at Anything ws) p e in

@@ -173,7 +173,7 @@ all_hold c ss plain b t d p =
     sym (and_holds (is_built c) _ b ∙ and_holds (list_all (taken_now c) (map given_of ss)) _ (list_all_map (taken_now c) ss ∙ t)
     ∙ and_holds (all_differ (map given_of ss)) _ d ∙ and_holds (plain_now c plain) _ p)
 
--- the option that is looked up
+-- the option that is found
 found_map : (name : OptionName) (s : Setting) (ss : List Setting) → value_given name (map given_of ss) ≡ option_map held_value (find (λ t. is_named name (given_of t)) ss) → (is_named name (given_of s) ≡ true) ⊎ (is_named name (given_of s) ≡ false) → value_given name (map given_of (s ∷ ss)) ≡ option_map held_value (find (λ t. is_named name (given_of t)) (s ∷ ss))
 found_map name s ss rest (inl is) = rw (cond-true (is_named name (given_of s)) (Some (given_of s)) (find (is_named name) (map given_of ss)) is, cond-true (is_named name (given_of s)) (Some s) (find (λ t. is_named name (given_of t)) ss) is)
 found_map name s ss rest (inr isnt) = rw (cond-false (is_named name (given_of s)) (Some (given_of s)) (find (is_named name) (map given_of ss)) isnt, cond-false (is_named name (given_of s)) (Some s) (find (λ t. is_named name (given_of t)) ss) isnt) rest

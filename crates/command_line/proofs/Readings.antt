@@ -14,7 +14,7 @@ use Rattle.command_line.proofs.FormsAgree.{fits_when, when_fits}
 take_rest : (xs : List (String Global)) (x : String Global) → take (length (x ∷ xs) - 1) (drop 1 (x ∷ xs)) ≡ xs
 take_rest xs x = grind (arith, common_steps)
 
--- a first word and those behind it
+-- a first word and those after it
 pub words_split : (xs : List (String Global)) (x : String Global) → 1 ≤ length xs → x ≡ get_or xs 0 x → map string_bytes xs ≡ string_bytes x ∷ map string_bytes (take (length xs - 1) (drop 1 xs))
 words_split [] x some e = absurd (omega (arith, some))
 words_split (y ∷ ys) x some e = rw (take_rest ys y, e)

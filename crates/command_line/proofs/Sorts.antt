@@ -52,7 +52,7 @@ alone_is : (word : List ℕ) (found : Option OptionName) → option_named word �
 alone_is word None e = tt
 alone_is word (Some name) e = cond_both (has_value name) (Apart name) (Alone name) (λ s. IsSort s word) (λ has. (option_word_of word name e, has)) (λ none. (option_word_of word name e, none))
 
--- a word with `=` is what stands before the first one, that byte, and what stands behind it
+-- a word with `=` is what comes before the first one, that byte, and what comes after it
 cut : (word : List ℕ) → has_equals word ≡ true → word ≡ before_first is_equals word ++ 61 ∷ joined_value word
 cut word has =
     let within = ltb-true (position_or_len is_equals word) (length word) has in

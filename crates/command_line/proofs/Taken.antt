@@ -1,4 +1,4 @@
--- What a reader holds after a word that stands where options may.
+-- What a reader holds after a word that comes where options may.
 use Rattle.std.proofs.Common.{◌≡◌, ◌∙◌, ℕ, List, [], ◌∷◌, ◌++◌, refl, sym, ap, append_assoc, map, Option, Some, None, Ok, Err, Result, OnOk, String, string_bytes}
 use Rattle.std.specs.declared.alloc.Global.{Global}
 use Rattle.command_line.specs.declared.commands.OptionName.{OptionName}
@@ -11,7 +11,7 @@ use Rattle.command_line.specs.Forms.{Given}
 use Rattle.command_line.specs.Lines.{given_of, with_rest}
 use Rattle.command_line.specs.Pieces.{Parts, given, plainly, sorted, sort_of, parts_at, joined}
 
--- what follows from what an answer promises
+-- what follows from what a result promises
 pub on_ok_more : {A E P Q : Type 0} (answer : Result A E) → OnOk answer P → (P → Q) → OnOk answer Q
 on_ok_more (Ok value) p more = more p
 on_ok_more (Err e) p more = tt

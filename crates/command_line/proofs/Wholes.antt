@@ -16,13 +16,13 @@ held : (settings : List Setting) (words : List (String Global)) → joined (map 
 held settings words = rw (append-nil (map given_of settings), append-nil (map string_bytes words)) refl
 
 module _ (settings : List Setting) (words : List (String Global)) (ws : List (List ℕ)) where
-  -- the parts of all words, where no value is missing
+  -- the parts of all words, if no value is missing
   pub whole_parts : (place : Place) → is_some (parts_at place []) ≡ true → with_rest place settings words [] ≡ joined [] [] (parts_at Anything ws) → parts_at Anything ws ≡ Some (parts_of settings words)
   whole_parts Anything h e = sym (joined_nothing (parts_at Anything ws)) ∙ sym e ∙ held settings words
   whole_parts (Value name) h e = absurd (cc h)
   whole_parts Behind h e = sym (joined_nothing (parts_at Anything ws)) ∙ sym e ∙ held settings words
 
-  -- and none where one is
+  -- and none if one is
   pub value_missing : (place : Place) → is_some (parts_at place []) ≡ false → with_rest place settings words [] ≡ joined [] [] (parts_at Anything ws) → parts_at Anything ws ≡ None
   value_missing Anything h e = absurd (cc h)
   value_missing (Value name) h e = sym (joined_nothing (parts_at Anything ws)) ∙ sym e

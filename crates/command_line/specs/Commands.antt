@@ -53,7 +53,7 @@ has_option Station Ticks = true
 has_option Station File = true
 has_option _ _ = false
 
--- the commands that can't do without a key
+-- the commands that need a key
 abbrev pub needs_key : Command → Bool
 needs_key Route = true
 needs_key Drone = true

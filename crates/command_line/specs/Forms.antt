@@ -11,7 +11,7 @@ use Rattle.command_line.specs.Numbers.{IsNumber}
 use Rattle.command_line.specs.Ports.{IsPort}
 use Rattle.command_line.specs.Operations.{DroneWords, StationWords, OneNumber}
 
--- an option that stands in a line, and its value
+-- an option of a line, and its value
 pub record Given : Type 0 where
   pub name : OptionName
   pub value : List ℕ
@@ -46,7 +46,7 @@ AreTaken built command (g ∷ gs) = IsTaken built command g × AreTaken built co
 abbrev pub is_named : OptionName → Given → Bool
 is_named name g = bytes_eq (option_word g.name) (option_word name)
 
--- each option stands at most once
+-- each option is given at most once
 abbrev pub all_differ : List Given → Bool
 all_differ [] = true
 all_differ (g ∷ gs) = not (list_any (is_named g.name) gs) && all_differ gs
@@ -96,13 +96,13 @@ ArePlain Drone settings plain = DroneWords plain  -- SYS PORT
 ArePlain Station settings plain = StationWords (has_given File settings) plain  -- SYS COMP DRONE PORT OP..
 ArePlain Make settings plain = OneNumber 0 1000000 plain  -- N
 
--- the options and the plain words are such as the command takes
+-- the options and the plain words are of the forms that the command has
 pub record Fits (built : Built) (command : Command) (settings : List Given) (plain : List (List ℕ)) : Type 0 where
   -- the command is built
   pub command_built : IsTrue (built.commands command)
   -- so is each option, it is one of the command's, and its value is of its form
   pub options_taken : AreTaken built command settings
-  -- none stands twice
+  -- none is given twice
   pub once : all_differ settings ≡ true
   -- the commands that need a key have one
   pub key_given : IsTrue (needs_key command) → IsTrue (has_given Key settings)

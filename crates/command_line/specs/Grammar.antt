@@ -1,4 +1,4 @@
--- The grammar of the words behind the program's name: how a command, its options and its plain words are written.
+-- The grammar of the words after the program's name: how a command, its options and its plain words are written.
 use Rattle.std.specs.Prelude.{◌≡◌, ◌==◌, ℕ, Bool, true, false, List, [], ◌∷◌, ◌++◌, Option, Some, None, codes}
 use Rattle.command_line.specs.declared.commands.Command.{Command}
 use Rattle.command_line.specs.declared.commands.OptionName.{OptionName}
@@ -11,7 +11,7 @@ is_dashed [] = false
 is_dashed (b ∷ []) = false
 is_dashed (b ∷ c ∷ more) = b == 45
 
--- what stands in front of `--`
+-- what comes before `--`
 pub data Piece : Type 0 where
   Flag : OptionName → Piece  -- an option without value, `--one`
   Apart : OptionName → List ℕ → Piece  -- an option and its value, `--key FILE`
@@ -25,7 +25,7 @@ piece_words (Apart name value) = option_word name ∷ value ∷ []
 piece_words (Joined name value) = (option_word name ++ 61 ∷ value) ∷ []
 piece_words (Bare word) = word ∷ []
 
--- a value that is a word of its own and a plain word in front of `--` aren't dashed
+-- a value that is a word of its own and a plain word before `--` aren't dashed
 abbrev pub IsPiece : Piece → Type 0
 IsPiece (Flag name) = has_value name ≡ false
 IsPiece (Apart name value) = (has_value name ≡ true) × (is_dashed value ≡ false)
@@ -40,7 +40,7 @@ abbrev pub words_of : List Piece → List (List ℕ)
 words_of [] = []
 words_of (p ∷ ps) = piece_words p ++ words_of ps
 
--- the first `--` ends the options, and every word behind it is plain
+-- the first `--` ends the options, and every word after it is plain
 abbrev pub behind_words : Option (List (List ℕ)) → List (List ℕ)
 behind_words None = []
 behind_words (Some words) = codes "--" ∷ words
@@ -71,7 +71,7 @@ pub record Asked : Type 0 where
   pub settings : List Given
   pub plain : List (List ℕ)
 
--- these words are written so: the pieces behind the command, and what stands behind `--`, if anything does
+-- these words are written so: the pieces after the command, and what comes after `--`, if anything does
 pub record Written (words : List (List ℕ)) (asked : Asked) : Type 0 where
   pub pieces : List Piece
   pub behind : Option (List (List ℕ))

@@ -8,7 +8,7 @@ use Rattle.command_line.specs.declared.commands.OptionName.TheVariants.{File}
 use Rattle.command_line.specs.Forms.{Given, is_named, reads_file}
 use Rattle.command_line.specs.Grammar.{Asked}
 
--- the value of an option, where it is given
+-- the value of an option, if it is given
 abbrev pub value_given : OptionName → List Given → Option (List ℕ)
 value_given name settings = option_map (λ (g : Given). g.value) (find (is_named name) settings)
 
@@ -16,7 +16,7 @@ abbrev pub first_word : List (List ℕ) → Option (List ℕ)
 first_word [] = None
 first_word (word ∷ words) = Some word
 
--- the file that is read behind the others: the plain word FILE, or the file of an operation
+-- the file that is read after the others: the plain word FILE, or the file of an operation
 abbrev pub main_file : Asked → Option (List ℕ)
 main_file asked = if reads_file asked.command then first_word asked.plain else value_given File asked.settings
 

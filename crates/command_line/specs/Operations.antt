@@ -48,7 +48,7 @@ IsOperation (Get_file name) = Unit {0}
 IsOperation (Put_file name) = Unit {0}
 IsOperation (Remove_file name) = Unit {0}
 
--- the operations that a file of this machine goes with
+-- the operations that take a file of this machine
 abbrev pub takes_file : Operation → Bool
 takes_file (Upload kind) = true
 takes_file (Put_file name) = true
@@ -62,7 +62,7 @@ pub record DroneWords (plain : List (List ℕ)) : Type 0 where
   pub is_port : IsPort port
   pub plain_is : plain ≡ sys ∷ port ∷ []
 
--- SYS COMP DRONE PORT OP..; the file is given exactly where the operation takes one
+-- SYS COMP DRONE PORT OP..; the file is given exactly if the operation takes one
 pub record StationWords (file_given : Bool) (plain : List (List ℕ)) : Type 0 where
   pub sys : List ℕ
   pub comp : List ℕ

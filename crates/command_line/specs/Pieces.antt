@@ -1,4 +1,4 @@
--- How words are read from left to right: what a word is by itself, and what it is behind those before it.
+-- How words are read from left to right: what a word is by itself, and what it is after those before it.
 use Rattle.std.specs.Prelude.{◌==◌, nat_lt, ℕ, Bool, if◌then◌else◌, List, [], ◌∷◌, ◌++◌, length, Option, Some, None, codes}
 use Rattle.std.specs.List.{find, before_first, after_first, position_or_len}
 use Rattle.std.specs.Str.{bytes_eq}
@@ -64,7 +64,7 @@ abbrev pub plainly : List ℕ → Option Parts → Option Parts
 plainly word None = None
 plainly word (Some p) = Some (record { settings = p.settings; plain = word ∷ p.plain })
 
--- what a word gives that stands where options may, and the words behind it
+-- what a word gives that comes where options may, and the words after it
 abbrev pub sorted : Sort → List ℕ → (Place → Option Parts) → Option Parts
 sorted Plain word next = plainly word (next Anything)
 sorted Dashes word next = next Behind
@@ -73,7 +73,7 @@ sorted (Joined name) word next = given name (joined_value word) (next Anything)
 sorted (Apart name) word next = next (Value name)
 sorted Unknown word next = None
 
--- what the words give that follow at this place; None where they can't stand there
+-- what the words give that follow at this place; None if they can't come there
 abbrev pub parts_at : Place → List (List ℕ) → Option Parts
 parts_at Anything [] = Some (record { settings = []; plain = [] })
 parts_at (Value name) [] = None
@@ -82,7 +82,7 @@ parts_at Anything (w ∷ ws) = sorted (sort_of w) w (λ place. parts_at place ws
 parts_at (Value name) (w ∷ ws) = if is_dashed w then None else given name w (parts_at Anything ws)
 parts_at Behind (w ∷ ws) = plainly w (parts_at Behind ws)
 
--- these parts, and behind them those
+-- these parts, and after them those
 abbrev pub joined : List Given → List (List ℕ) → Option Parts → Option Parts
 joined settings plain None = None
 joined settings plain (Some p) = Some (record { settings = settings ++ p.settings; plain = plain ++ p.plain })

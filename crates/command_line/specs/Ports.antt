@@ -3,7 +3,7 @@ use Rattle.std.specs.Prelude.{◌≡◌, ◌≢◌, ◌==◌, ℕ, false, List, 
 use Rattle.std.specs.List.{list_any}
 use Rattle.command_line.specs.Numbers.{IsNumber}
 
--- what stands between two colons
+-- what is between two colons
 abbrev pub IsPart : List ℕ → Type 0
 IsPart part = (part ≢ []) × (list_any (λ b. b == 58) part ≡ false)
 
@@ -11,7 +11,7 @@ pub data PortKind : Type 0 where
   Tcp : PortKind  -- connects
   Listen : PortKind  -- takes one connection
   Udp : PortKind
-  Udp_listen : PortKind  -- answers its latest sender
+  Udp_listen : PortKind  -- replies to its latest sender
   Files : PortKind  -- reads one file and writes another
 
 abbrev pub port_word : PortKind → List ℕ

@@ -1,4 +1,4 @@
-// Why words ask for nothing.
+// Why words are no command line.
 ghost use Rattle.std.specs.Prelude.{◌≡◌};
 
 use std::alloc::{AllocError, AllocFailed};

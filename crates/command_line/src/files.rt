@@ -34,7 +34,7 @@ impl Line {
         is_any_named(&self.settings, name)
     }
 
-    /// The value of this option, where it is given.
+    /// The value of this option, if it is given.
     pub fn value(&self, alloc: Global, name: OptionName) -> Result<Option<String>, AllocError>
         ensures { IfOk result (λ value. option_map string_bytes value
             ≡ value_given name (map given_of self.now.settings.items)) }
@@ -45,7 +45,7 @@ impl Line {
         }
     }
 
-    /// The file that is read behind the key and the definitions, where the line names one.
+    /// The file that is read after the key and the definitions, if the line names one.
     pub fn main(&self, alloc: Global) -> Result<Option<String>, AllocError>
         ensures { IfOk result (λ file. option_map string_bytes file ≡ main_file (asked_by self.now)) }
     {

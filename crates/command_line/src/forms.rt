@@ -1,4 +1,4 @@
-// Whether options and plain words are such as the command takes.
+// Whether options and plain words are of the forms that the command has.
 ghost use Rattle.std.specs.Prelude.{◌≡◌, map, string_bytes, count_by, nat_le};
 ghost use Rattle.std.specs.List.{list_all, list_any};
 ghost use Rattle.command_line.specs.Forms.{all_differ, is_named, is_stdin, is_stdin_given, names_file};
@@ -15,7 +15,7 @@ fn is_some_text(text: &str) -> bool
     !text.is_empty()
 }
 
-// A value names a file, as that of each option built does; the others have none.
+// A value is the name of a file for each option that is built and has one; the others have none.
 fn is_value(name: OptionName, value: &str) -> bool
     ensures { result ≡ is_value_now name value.now }
 {
@@ -53,7 +53,7 @@ pub(crate) fn is_any_named(settings: &[Setting], name: OptionName) -> bool
     settings.iter().any(|setting| is_named(setting, name))
 }
 
-// No option stands twice.
+// No option is given twice.
 fn all_differ(mut settings: &[Setting]) -> bool
     ensures { result ≡ all_differ (map given_of settings.now) }
 {

@@ -1,7 +1,7 @@
 //! What the words of a command line ask for.
 //!
 //! The words are read by the grammar of `specs/Grammar.antt`: a command, then its options in any
-//! place, its plain words, and `--`, behind which every word is plain. [`read`] answers the
+//! order, its plain words, and `--`, after which every word is plain. [`read`] returns the
 //! [`Line`] that the words are, and [`at_most_one_line`] says that they are no other. The tables of
 //! `commands` say which commands and options are built. Nothing here opens a file.
 #![tactic(auto)]

@@ -6,7 +6,7 @@ ghost use Rattle.command_line.specs.Pieces.{option_sort, sort_of, joined_value};
 
 use crate::commands::{COMMANDS, Command, OPTION_NAMES, OptionName};
 
-/// What a word is in front of `--`.
+/// What a word is before `--`.
 #[derive(Clone, Copy)]
 pub(crate) enum Sort {
     Plain,
@@ -14,19 +14,19 @@ pub(crate) enum Sort {
     Dashes,
     /// An option without value.
     Alone(OptionName),
-    /// An option with its value behind `=`.
+    /// An option with its value after `=`.
     Joined(OptionName),
     /// An option whose value is the next word.
     Apart(OptionName),
     Unknown,
 }
 
-/// What may stand at the next word.
+/// What the next word may be.
 #[derive(Clone, Copy)]
 pub(crate) enum Place {
     Anything,
     Value(OptionName),
-    /// Behind `--`.
+    /// After `--`.
     Behind,
 }
 
@@ -100,7 +100,7 @@ pub(crate) fn sort_of(word: &str) -> Sort
     option_sort(word)
 }
 
-/// What stands behind the first `=`.
+/// What comes after the first `=`.
 pub(crate) fn joined_value(word: &str) -> &str
     ensures { result.now ≡ joined_value word.now }
 {

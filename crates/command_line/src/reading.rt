@@ -12,7 +12,7 @@ use crate::lines::{Line, Setting};
 use crate::pieces::{Place, Sort, command_named, is_dashed, joined_value, sort_of};
 use std::alloc::Global;
 
-/// What was read of the words behind the command.
+/// What was read of the words after the command.
 #[derive(Drop)]
 struct Reader {
     alloc: Global,
@@ -57,7 +57,7 @@ impl Reader {
         Ok(())
     }
 
-    // A word where options may stand.
+    // A word where an option may come.
     fn sort(&mut self, word: &str) -> Result<(), WantedFault>
         requires { self.old.place ≡ Place.Anything }
         ensures taken { (rest : List (List ℕ)) → OnOk result (
@@ -114,7 +114,7 @@ impl Reader {
         Ok(())
     }
 
-    // Whether no value is missing behind the last word.
+    // Whether no value is missing after the last word.
     fn is_whole(&self) -> bool
         ensures { result ≡ is_some (parts_at self.now.place []) }
     {
@@ -125,7 +125,7 @@ impl Reader {
     }
 }
 
-// Reads the words behind the command.
+// Reads the words after the command.
 fn read_behind(alloc: Global, words: &[String]) -> Result<Reader, WantedFault>
     ensures parts { IfOk result (λ r. parts_at Place.Anything (map string_bytes words.now)
         ≡ Some (parts_of r.settings.items r.words.items)) }
@@ -141,7 +141,7 @@ fn read_behind(alloc: Global, words: &[String]) -> Result<Reader, WantedFault>
     }
 }
 
-/// What the words behind the program's name ask for.
+/// What the words after the program's name ask for.
 pub fn read(alloc: Global, words: &[String]) -> Result<Line, WantedFault>
     ensures asks { IfOk result (λ line. Asks built (map string_bytes words.now) (asked_by line)) }
     ensures usage { IsErrOf result WantedFault.Usage → AskNothing built (map string_bytes words.now) }

@@ -1,4 +1,4 @@
--- How a run of `decode` comes to its end.
+-- How a run of `decode` ends.
 use Rattle.std.proofs.Common.{◌≡◌, ◌<◌, ◌≤◌, ◌+◌, ◌∙◌, ◌⊎◌, inl, inr, ℕ, if◌then◌else◌, Bool, true, false, List, [], ◌++◌, length, take, refl, sym, ap, subst, Option, Some, None, Result, Ok, Err, OnOk, IfErr, IsErrOf, IsTrue}
 use Rattle.std.proofs.Math.Seq.{take-append-add}
 use Rattle.std.proofs.lemmas.Bool.{lt-ltb, le-ltb}

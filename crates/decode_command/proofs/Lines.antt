@@ -10,7 +10,7 @@ use Rattle.mav_scan.specs.Spans.{skipped_for}
 use Rattle.mav_text.specs.FrameText.{skip_line, skip_lines}
 use Rattle.decode_command.specs.DecodeText.{event_size, frame_line, event_line, lines_from, bytes_in, frames_in, skips_in}
 
--- the line of the frame of that version that stands at the start of some bytes
+-- the line of the frame of that version at the start of some bytes
 pub line_at : (known : Known) (offset : ℕ) (is_old : Bool) (b : List ℕ) → frame_line (definition_with (id_at is_old b) known.dialect) known.key offset (packet_at is_old b) ≡ event_line known offset (Frame (packet_at is_old b))
 line_at known offset true b = refl
 line_at known offset false b = refl

@@ -43,7 +43,7 @@ module _ (extras : List (ℕ × ℕ)) where
       ap (final_events extras) h.0
       ∙ final_skip c rest w (subst (λ (z : List ℕ). (look_of extras true z ≡ NotHere w) ⊎ (IsIncomplete extras true z × (w ≡ Short))) h.0 (listed extras true b w h.2))
 
-  -- a beginning of the final parse, and the parse of what is left
+  -- a prefix of the final parse, and the parse of what is left
   pub final_begins : (given : List Event) (left b : List ℕ) → BeginsFinal extras true given left b → final_events extras b ≡ given ++ final_events extras left
   final_begins [] left b h = ap (final_events extras) h
   final_begins (e ∷ es) left b h = final_one e b h.0 h.1 ∙ ap (λ (more : List Event). e ∷ more) (final_begins es left h.0 h.2)

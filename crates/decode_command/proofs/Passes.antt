@@ -1,4 +1,4 @@
--- What stands at the start of the bytes is put, and then taken off.
+-- The lines of what is at the start of the bytes are added, and then those bytes are removed.
 use Rattle.std.proofs.Common.{◌≡◌, ℕ, ◌+◌, ◌≤◌, List, ◌++◌, length, take, drop, map, refl, ap, ◌∙◌, arith, length-take, length-drop, Option}
 use Rattle.std.specs.Global.{Vec}
 use Rattle.mav_ports.specs.Puts.{Sent, SentPrefix}
@@ -16,7 +16,7 @@ use Rattle.decode_command.specs.declared.decoder.Decoder.{Decoder}
 use Rattle.decode_command.proofs.Lines.{run_lines, run_bytes, run_frames, run_skips}
 use Rattle.decode_command.proofs.Steps.{events_put, stepped}
 
--- the lines of the bytes of a run were put
+-- the lines of the bytes of a run were added
 pub run_put : (why : Why) (run : List ℕ) (old new : Decoder) (count : ℕ) → count ≡ length run → new ≡ record old { text = new.text; chunk = new.chunk; offset = old.offset + count; skipped = old.skipped + count } → new.text.items ≡ old.text.items ++ skip_lines old.offset run why → Puts (map (skipped_for why) run) old new
 run_put why run old new count size is text = record {
   known = ap (λ (d : Decoder). d.known) is;

@@ -17,7 +17,7 @@ use Rattle.decode_command.proofs.Parses.{final_is, incremental_is}
 use Rattle.decode_command.proofs.Steps.{longer_front, sent_held}
 use Rattle.decode_command.proofs.Fronts.{halted_front}
 
--- the reader took bytes, or learned that the input ended
+-- the reader took bytes, or the input ended
 pub decoding_fed : (known : Known) (taken more : List ℕ) (decoder : Decoder) (held : Held) (before now : Option (List ℕ)) → Decoding known taken decoder before now → ((given : List Event) → Progress (extras_of known.dialect) true taken given decoder.reader → Progress (extras_of known.dialect) true more given held) → Decoding known more (record decoder { reader = held }) before now
 decoding_fed known taken more decoder held before now d on = record {
   given = d.given;
@@ -73,7 +73,7 @@ drained_written known taken decoder sent before middle after d moved is =
       whole = d.whole;
     })
 
--- or a front of them was
+-- or a prefix of them was
 pub drained_front : (known : Known) (taken : List ℕ) (decoder : Decoder) (before middle after : Option (List ℕ)) → decoder.reader.ended ≡ false → Drained known taken decoder before middle → ((before : Option (List ℕ)) (whole : List ℕ) → Sent before middle whole decoder.text.items → SentPrefix before after whole) → Front known taken before after
 drained_front known taken decoder before middle after still d front =
     let given = d.decoding.given in
@@ -89,7 +89,7 @@ module _ (known : Known) (taken : List ℕ) (decoder : Decoder) (before now : Op
   events : final_events (extras_of known.dialect) taken ≡ d.decoding.given
   events = final_is (extras_of known.dialect) d.decoding.given taken final
 
-  -- the last line isn't there
+  -- the last line isn't held yet
   pub uncounted : Unfinished known taken before now
   uncounted =
       longer_front before now (event_lines known d.decoding.given) (last_line d.decoding.given) (decode_text known (final_events (extras_of known.dialect) taken))

@@ -1,4 +1,4 @@
--- What holds of an answer, whichever it is.
+-- What holds of a result, whichever it is.
 use Rattle.std.proofs.Common.{Result, Ok, Err, OnOk, IfErr}
 use Rattle.run_status.specs.declared.run_ends.RunEnd.{RunEnd}
 

@@ -1,4 +1,4 @@
--- Bytes that are too many stay so, whatever follows.
+-- Bytes that are too many stay too many, whatever follows.
 use Rattle.std.proofs.Common.{◌≡◌, ◌∙◌, ◌<◌, ◌≤◌, ℕ, ltb, if◌then◌else◌, Bool, true, false, List, ◌++◌, length, refl, sym, ap, arith, Some, None, length-append}
 use Rattle.std.proofs.lemmas.Bool.{ltb-true}
 use Rattle.std.proofs.lemmas.List.{take-append-le}

@@ -78,7 +78,7 @@ within_put old new events w puts =
       counts = omega (arith, w.counts, puts.offset, puts.frames, puts.skipped, counted_within events);
     }
 
--- the lines were put, and enough lines were written
+-- the lines were added, and enough lines were written
 pub stepped : (events : List Event) (old new : Decoder) (middle after : Option (List ℕ)) (sent : Decoder) → IsWithin old (bytes_in events) → Puts events old new
     → ((before : Option (List ℕ)) (whole : List ℕ) → Sent before middle whole new.text.items → Sent before after whole sent.text.items)
     → sent ≡ record new { text = sent.text } → Stepped events old sent middle after
@@ -93,7 +93,7 @@ stepped events old new middle after sent w puts moved is =
           record { given = put.given; same = put.same; progress = put.progress; offset = put.offset; frames = put.frames; skipped = put.skipped; sent = moved before (event_lines known put.given) put.sent };
     })
 
--- nothing was put: the lines of the events so far were sent, but for those that are held
+-- nothing was added: the lines of the events so far were sent, but for those that are held
 pub unput_halted : (known : Known) (taken : List ℕ) (old new : Decoder) (before now : Option (List ℕ)) → new.reader ≡ old.reader → Decoding known taken old before now → Halted known taken new before now
 unput_halted known taken old new before now same d = record {
   given = d.given;

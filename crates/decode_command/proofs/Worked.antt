@@ -18,7 +18,7 @@ one_heartbeat_output = refl
 pub one_heartbeat_code : code_of (end_of (script.stop true one_heartbeat)) ≡ 0
 one_heartbeat_code = refl
 
--- a HEARTBEAT of node 1.1 as a frame of MAVLink 1, as it stands in captures, without its last byte
+-- a HEARTBEAT of node 1.1 as a frame of MAVLink 1, as captures have it, without its last byte
 
 abbrev old_heartbeat : List ℕ
 old_heartbeat = 0xFE ∷ 9 ∷ 0 ∷ 1 ∷ 1 ∷ 0 ∷ 0 ∷ 0 ∷ 0 ∷ 0 ∷ 2 ∷ 3 ∷ 81 ∷ 4 ∷ 3 ∷ 0x7D ∷ []

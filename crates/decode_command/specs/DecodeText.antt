@@ -31,7 +31,8 @@ verdict_text None packet block = []
 verdict_text (Some key) packet None = []
 verdict_text (Some key) packet (Some block) = if bytes_eq block.sig (signature_of key packet block.link block.stamp) then codes " good" else codes " bad"
 
--- `OFFSET NAME SYS.COMP #SEQ field=value ..`, of MAVLink 1 with ` v1` after the sequence number; a frame of a parse has the id of a message
+-- `OFFSET NAME SYS.COMP #SEQ field=value ..`, of MAVLink 1 with ` v1` after the sequence number; a frame of a parse has
+-- the id of a message
 abbrev pub frame_line : Option Definition → Option (List ℕ) → ℕ → Packet → List ℕ
 frame_line None key offset packet = []
 frame_line (Some def) key offset packet = decimal offset ++ 32 ∷ frame_text def packet ++ (verdict_text key packet packet.block ++ 10 ∷ [])
@@ -41,7 +42,7 @@ abbrev pub event_line : Known → ℕ → Event → List ℕ
 event_line known offset (Frame packet) = frame_line (definition_with packet.id known.dialect) known.key offset packet
 event_line known offset (Skipped byte why) = skip_line offset byte why
 
--- the lines of events, of which the first stands at an offset
+-- the lines of events, of which the first is at an offset
 abbrev pub lines_from : Known → ℕ → List Event → List ℕ
 lines_from known offset [] = []
 lines_from known offset (event ∷ events) = event_line known offset event ++ lines_from known (offset + event_size event) events

@@ -24,7 +24,7 @@ pub record IsNew (decoder : Decoder) : Type 0 where
   pub frames : decoder.frames ≡ 0
   pub skipped : decoder.skipped ≡ 0
 
--- the events so far begin the parse of the bytes taken; their lines were sent, but for those that are held
+-- the events so far are a prefix of the parse of the bytes taken; their lines were sent, but for those that are held
 pub record Decoding (known : Known) (taken : List ℕ) (decoder : Decoder) (before now : Option (List ℕ)) : Type 0 where
   pub given : List Event
   pub same : decoder.known ≡ known
@@ -64,7 +64,7 @@ abbrev pub Gave : Known → List ℕ → List Event → Held → Held → Type 0
 Gave known taken events before after =
     (given : List Event) → Progress (extras_of known.dialect) true taken given before → Progress (extras_of known.dialect) true taken (given ++ events) after
 
--- a frame stands at the start of what is held, and has so many bytes
+-- a frame is at the start of what is held, and has so many bytes
 abbrev pub IsFrameOf : Held → ℕ → Type 0
 IsFrameOf held size =
     (size ≡ length (encoding (first_packet held))) × (size ≡ frame_size_at (is_old_at held.reads_old held.bytes) held.bytes)

@@ -1,4 +1,4 @@
--- A stream of garbage, a HEARTBEAT of node 1.1 and the beginning of a frame, and its text as a person would write it down.
+-- A stream of garbage, a HEARTBEAT of node 1.1 and the start of a frame, and its text as a person would write it.
 use Rattle.std.specs.Prelude.{ℕ, List, [], ◌∷◌, codes}
 
 abbrev pub one_heartbeat : List ℕ

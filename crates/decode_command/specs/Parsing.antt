@@ -1,4 +1,4 @@
--- The parse of a stream as a function, by what stands at each offset of it. Frames of MAVLink 1 are read too.
+-- The parse of a stream as a function, by what is at each offset of it. Frames of MAVLink 1 are read too.
 use Rattle.std.specs.Prelude.{ℕ, zero, suc, ◌-◌, true, List, [], ◌∷◌}
 use Rattle.mav_frame.specs.Looks.{look_of}
 use Rattle.mav_frame.specs.declared.looks.Look.{Look}
@@ -7,7 +7,7 @@ use Rattle.mav_frame.specs.declared.looks.Why.TheVariants.{Short}
 use Rattle.mav_frame.specs.declared.events.Event.{Event}
 use Rattle.mav_frame.specs.declared.events.Event.TheVariants.{Frame, Skipped}
 
--- the events from a byte on, by what stands there, with those after it if so many bytes more belong to a frame
+-- the events from a byte on, by what is there, with those after it if so many bytes more belong to a frame
 abbrev pub final_at : Look → ℕ → (ℕ → List Event) → List Event
 final_at (Found packet size) byte after = Frame packet ∷ after (size - 1)
 final_at (NotHere why) byte after = Skipped byte why ∷ after 0

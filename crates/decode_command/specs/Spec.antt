@@ -1,4 +1,4 @@
--- What `decode` does with the bytes of its input, told by given definitions and perhaps a key.
+-- What `decode` does with the bytes of its input, by given definitions and perhaps a key.
 use Rattle.std.specs.Prelude.{ℕ, nat_lt, Bool, true, false, if◌then◌else◌, List, length, take, Some, None}
 use Rattle.decode_command.specs.declared.known.Known.{Known}
 use Rattle.mav_profile.specs.Messages.{extras_of}
@@ -12,7 +12,7 @@ use Rattle.decode_command.specs.DecodeText.{event_lines, last_line}
 abbrev pub most_input_bytes : ℕ
 most_input_bytes = 268435456
 
--- the lines of all events: of the final parse where the input ended, else of the incremental parse
+-- the lines of all events: of the final parse if the input ended, else of the incremental parse
 abbrev pub lines_at : Known → Bool → List ℕ → List ℕ
 lines_at known true bytes = event_lines known (final_events (extras_of known.dialect) bytes)
 lines_at known false bytes = event_lines known (incremental_events (extras_of known.dialect) bytes)

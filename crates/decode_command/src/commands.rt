@@ -20,7 +20,7 @@ const PIECE_BYTES: usize = 65_536;
 
 const MOST_INPUT_BYTES: usize = 268_435_456;
 
-/// Decodes an input by what is known. The lines of what was read are written before more is read. Why
+/// Decodes an input with the given messages and key. The lines of what was read are written before more is read. Why
 /// the run halted, if it did, isn't written.
 pub fn decode_by<S: Source, K: Sink>(
     alloc: Global,
@@ -97,7 +97,7 @@ fn decode_all<S: Source, K: Sink>(
     }
 }
 
-/// Decodes an input by the built-in profile, and by a key where there is one.
+/// Decodes an input by the built-in profile, and by a key if there is one.
 pub fn decode<S: Source, K: Sink>(
     alloc: Global,
     key: Option<Key>,

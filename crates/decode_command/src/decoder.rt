@@ -31,13 +31,13 @@ pub struct Decoder {
     reader: Scanner,
     text: Vec<u8>,
     chunk: Chunk,
-    /// Where the next event stands.
+    /// The offset of the next event.
     offset: u64,
     frames: u64,
     skipped: u64,
 }
 
-// A reader of nothing yet, which reads frames of MAVLink 1 too.
+// A reader that has taken no byte. It reads frames of MAVLink 1 too.
 fn scanner_of(alloc: Global, dialect: &Dialect) -> Result<Scanner, NoMemory>
     ensures { IfOk result (λ reader. reader ≡ nothing_held (extras_of dialect.now) true) }
 {
@@ -53,7 +53,7 @@ impl Decoder {
         Decoder::over(alloc, known, reader)
     }
 
-    // A decoder over a reader of nothing yet.
+    // A decoder over a reader that has taken no byte.
     fn over(alloc: Global, known: Known, reader: Scanner) -> Result<Decoder, NoMemory>
         requires { reader ≡ nothing_held (extras_of known.dialect) true }
         ensures known { IfOk result (λ d. d.known ≡ known) }
@@ -71,7 +71,7 @@ impl Decoder {
         })
     }
 
-    /// Takes the memory for the lines.
+    /// Allocates the memory for the lines.
     pub(crate) fn make_room(&mut self) -> Result<(), NoMemory>
         requires { IsNew self.old }
         ensures known { self.new.known ≡ self.old.known }
@@ -161,7 +161,7 @@ impl Decoder {
         }
     }
 
-    // Puts the lines of the next span, and takes its bytes off.
+    // Adds the lines of the next span, and removes its bytes.
     #[inline]
     fn pass<K: Sink>(&mut self, span: NextSpan, out: &mut K) -> Result<(), RunEnd>
         requires within { IsWithin self.old 0 }
@@ -187,7 +187,7 @@ impl Decoder {
         write_enough(&mut self.text, out)
     }
 
-    // Puts the lines.
+    // Adds the lines.
     #[inline]
     fn append(&mut self, span: NextSpan) -> Result<(), NoMemory>
         requires within { IsWithin self.old 0 }

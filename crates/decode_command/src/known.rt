@@ -1,8 +1,8 @@
-// What the lines of a stream are told by.
+// What the lines of a stream are written from.
 use dialect::Dialect;
 use mav_sign::Key;
 
-/// The messages that frames may have, and the key whose signatures are told, if there is one.
+/// The messages that frames may have, and the key against which signatures are tested, if there is one.
 #[derive(Drop)]
 pub struct Known {
     pub dialect: Dialect,

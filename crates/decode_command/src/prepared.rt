@@ -1,4 +1,4 @@
-// What is known, made ready for the lines of frames.
+// The dialect and the key, prepared for the lines of frames.
 ghost use Rattle.std.specs.Prelude.{◌≡◌, ◌∷◌, ◌++◌, ◌≤◌, [], length, true, OnOk, OnErr, IfOk};
 ghost use Rattle.mav_profile.specs.Messages.{definition_with};
 ghost use Rattle.mav_frame.specs.Looks.{id_at, is_old_at, frame_size_at, packet_at};
@@ -12,7 +12,7 @@ use mav_text::{Chunk, LineTemplates};
 use std::alloc::Global;
 use std::marker::Model;
 
-/// What contracts see as what it was made of.
+/// Contracts see it as what it was made from.
 #[derive(Drop)]
 pub(crate) struct Prepared {
     templates: LineTemplates,
@@ -27,7 +27,7 @@ impl Model for Prepared {
     ghost view = { λ p. record { dialect = p.templates; key = p.key } };
 }
 
-// What stands after a frame's text: whether the signature of a signed frame is that of the key, and the line end.
+// What comes after a frame's text: whether the signature of a signed frame is that of the key, and the line end.
 #[inline]
 fn ending(key: &Option<Key>, frame: &[u8]) -> &'static [u8]
     requires { frame_size_at (is_old_at true frame.now) frame.now ≤ length frame.now }
@@ -57,7 +57,7 @@ impl Prepared {
         })
     }
 
-    /// Appends the line of the frame that stands at the start of some bytes, of either version.
+    /// Appends the line of the frame at the start of some bytes, of either version.
     #[inline]
     pub(crate) fn put_frame(
         &self,

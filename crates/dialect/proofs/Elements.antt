@@ -10,7 +10,7 @@ pub elements-items_of : (ds : List Data) → elements (items_of ds) ≡ ds
 elements-items_of [] = refl
 elements-items_of (d ∷ ds) = ap (λ rest. d ∷ rest) (elements-items_of ds)
 
--- fields behind those that were read
+-- fields after those that were read
 abbrev pub behind : List FieldText → Option (List FieldText) → Option (List FieldText)
 behind done rest = option_map (λ fields. done ++ fields) rest
 
@@ -25,7 +25,7 @@ behind-one : (done : List FieldText) (field : FieldText) (rest : Option (List Fi
 behind-one done field None = refl
 behind-one done field (Some fields) = ap Some (sym (append_assoc done (field ∷ []) fields))
 
--- the values from a place on
+-- the values from an index on
 module _ (values : List Value) (i : ℕ) (value : Value) (within : i < length values) (here : value ≡ get_or values i value) where
   pub values-from : map view (drop i values) ≡ view value ∷ map view (drop (i + 1) values)
   values-from =

@@ -1,4 +1,4 @@
--- What follows where nothing is refused.
+-- What follows if nothing is rejected.
 use Rattle.std.proofs.Common.{◌≡◌, ℕ, Bool, true, false, not, if◌then◌else◌, List, Some, None, ap, refl}
 use Rattle.std.specs.Str.{is_utf8, IsUtf8}
 use Rattle.std.proofs.lemmas.Str.{IsUtf8-from_is_utf8, is_utf8-from_IsUtf8}
@@ -12,7 +12,7 @@ use Rattle.dialect.specs.Grammar.{json_of, has_types, has_names, has_id, has_nam
 pub json_of-utf8 : (bytes : List ℕ) → IsUtf8 bytes → json_of bytes ≡ read bytes
 json_of-utf8 bytes utf8 = ap (λ test. if test then read bytes else None) (is_utf8-from_IsUtf8 bytes utf8)
 
--- a text that is refused where it is UTF-8 is no JSON
+-- a text that is rejected whenever it is UTF-8 is no JSON
 pub json_of-refused : (bytes : List ℕ) → (IsUtf8 bytes → read bytes ≡ None) → json_of bytes ≡ None
 json_of-refused bytes refused =
     elim (is_utf8 bytes) as (λ test. is_utf8 bytes ≡ test → (if test then read bytes else None) ≡ None) [

@@ -1,4 +1,4 @@
--- Keys that stand beside what they are the keys of.
+-- Lists of keys that are kept with the elements that have them.
 use Rattle.std.proofs.Common.{◌≡◌, ℕ, ◌+◌, ◌<◌, ◌≤◌, Bool, true, false, not, ◌||◌, if◌then◌else◌, cond, ltb, List, [], ◌∷◌, ◌++◌, length, get_or, take, map, slice_get, position, find, Option, Some, None, Ok, Err, OnOk, refl, sym, ap, subst, ◌∙◌, arith}
 use Rattle.std.proofs.lemmas.Bool.Decides.{nat_tests}
 use Rattle.std.proofs.lemmas.List.{map-append, append-nil, length-map, take_at, take_more}
@@ -31,7 +31,7 @@ module _ {X Y : Type 0} (f : X → Y) (p : Y → Bool) where
   first-with : (xs : List X) → find (λ x. p (f x)) xs ≡ slice_get xs (position_or_len p (map f xs))
   first-with xs = find_at (λ x. p (f x)) xs ∙ ap (slice_get xs) (sym (position_or_len-map xs))
 
-  -- what stands at the first place of such a key is the first that has one
+  -- the element at the first index of such a key is the first that has one
   pub find-position-map : (xs : List X) (k : ℕ) → position p (map f xs) ≡ Some k → find (λ x. p (f x)) xs ≡ slice_get xs k
   find-position-map xs k there =
       let at : position_or_len p (map f xs) ≡ k =
@@ -41,7 +41,7 @@ module _ {X Y : Type 0} (f : X → Y) (p : Y → Bool) where
       ] there in
       first-with xs ∙ ap (slice_get xs) at
 
-  -- and nothing has such a key where no place does
+  -- and nothing has such a key if no index does
   pub find-nowhere-map : (xs : List X) → position p (map f xs) ≡ None → find (λ x. p (f x)) xs ≡ None
   find-nowhere-map xs none =
       let end = position_or_len p (map f xs) in
@@ -52,7 +52,7 @@ module _ {X Y : Type 0} (f : X → Y) (p : Y → Bool) where
       ] refl none in
       first-with xs ∙ slice_get_past xs end (subst (λ n. n ≤ end) (length-map xs f) past)
 
--- a new name goes behind those that stand
+-- a new name is added after the others
 pub names-insert_key : (keys : List (Vec ℕ)) (text : Vec ℕ) (name : List ℕ) (known : List (List ℕ))
     → text.items ≡ name → map bytes_of keys ≡ known → list_any (bytes_eq name) known ≡ false
     → map bytes_of (insert_key (λ (k other : Vec ℕ). bytes_eq k.items other.items) keys text) ≡ known ++ name ∷ []
@@ -65,7 +65,7 @@ names-insert_key keys text name known same view new =
     ∙ ap (λ names. names ++ text.items ∷ []) view
     ∙ ap (λ bytes. known ++ bytes ∷ []) same
 
--- a new id goes behind those that stand
+-- a new id is added after the others
 pub ids-insert_key : {X : Type 0} (f : X → ℕ) (eq : ℕ → ℕ → Bool) (xs : List X) (x : X) → list_any (λ y. eq (f x) (f y)) xs ≡ false
     → insert_key eq (map f xs) (f x) ≡ map f (xs ++ x ∷ [])
 ids-insert_key f eq xs x new =
@@ -76,15 +76,15 @@ module _ {X Y : Type 0} (h : X → Option Y) (xs : List X) (i : ℕ) (x : X) (wi
   one-more : take (i + 1) xs ≡ take i xs ++ x ∷ []
   one-more = take_more xs i x within ∙ ap (λ y. take i xs ++ y ∷ []) (sym at)
 
-  -- what is given of one more element stands last
+  -- what is given of one more element is last
   pub filter_map-more : (y : Y) → h x ≡ Some y → filter_map h (take (i + 1) xs) ≡ filter_map h (take i xs) ++ y ∷ []
   filter_map-more y given = ap (filter_map h) one-more ∙ filter_map-append h (take i xs) (x ∷ []) ∙ rw given refl
 
-  -- and where nothing is given, nothing more stands there
+  -- and if nothing is given, nothing is added
   pub filter_map-no_more : h x ≡ None → filter_map h (take (i + 1) xs) ≡ filter_map h (take i xs)
   filter_map-no_more none = ap (filter_map h) one-more ∙ filter_map-append h (take i xs) (x ∷ []) ∙ rw none (append-nil _)
 
--- what holds where a call fails, or where it doesn't
+-- what holds whether a call fails or not
 when_err : {Fault P : Type 0} (r : Result Unit Fault) → true ≡ is_err r → OnErr r P → P
 when_err (Ok _) failed h = absurd (cc)
 when_err (Err _) failed h = h
@@ -93,7 +93,7 @@ when_ok : {Fault P : Type 0} (r : Result Unit Fault) → false ≡ is_err r → 
 when_ok (Ok _) well h = h
 when_ok (Err _) well h = absurd (cc)
 
--- a name that was added goes off again, or its message is added too
+-- a name that was added is removed again, or its message is added too
 module _ {Fault : Type 0} {X : Type 0} (key : X → List ℕ) (names added : List (List ℕ)) (name : List ℕ) (old new : List X) (r : Result Unit Fault)
     (more : added ≡ names ++ name ∷ []) (were : names ≡ map key old) where
   pub names-cut : (cut : List (List ℕ)) (count : ℕ) → cut ≡ take count added → count ≡ length old

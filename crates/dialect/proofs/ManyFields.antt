@@ -1,4 +1,4 @@
--- Messages with many fields: names that stand twice, and payloads that are too long.
+-- Messages with many fields: repeated names, and payloads that are too long.
 use Rattle.std.proofs.Common.{◌≡◌, ◌≢◌, ℕ, ◌+◌, ◌<◌, ◌≤◌, ◌==◌, ltb, Bool, true, false, if◌then◌else◌, List, [], ◌∷◌, ◌++◌, length, take, slice_get, Some, None, sym, ap, ◌∙◌, arith}
 use Rattle.std.proofs.lemmas.Bool.Decides.{nat_tests}
 use Rattle.std.proofs.lemmas.List.{take_more}
@@ -14,7 +14,7 @@ use Rattle.field_layout.proofs.Faultless.{size_positive}
 use Rattle.field_layout.proofs.Names.{name_of_field, length-names}
 
 module _ (def : Definition) (place : ℕ) (field : Field) (there : slice_get (all_fields def) place ≡ Some field) where
-  -- the names up to a place, and that of the field there
+  -- the names up to an index, and that of the field there
   pub take-names : place < length (all_fields def) → take (place + 1) (names_of def) ≡ take place (names_of def) ++ field.name ∷ []
   take-names within =
       let inside : place < length (names_of def) = omega (arith, length-names def) in
@@ -44,7 +44,7 @@ first_fault-too_long def len some single is many =
     ∙ ap length_fault (sym is)
     ∙ ap (λ test. if test then Some (TooLong len) else None) long
 
--- a name that stands twice
+-- a repeated name
 pub first_fault-twice_named : (def : Definition) (place : ℕ) (field : Field) (name : List ℕ) → length def.fields ≢ 0 → first_repeat (names_of def) ≡ Some place
     → slice_get (all_fields def) place ≡ Some field → name ≡ field.name → first_fault def ≡ Some (TwiceNamed name)
 first_fault-twice_named def place field name some repeated there same =

@@ -1,4 +1,4 @@
--- What one more message is, behind those that were read.
+-- What one more message is, after those that were read.
 use Rattle.std.proofs.Common.{◌≡◌, ◌≢◌, ℕ, false, List, length, Option, Some, None, Ok, Err, IfOk, IfErr, sym, ap, ◌∙◌}
 use Rattle.std.specs.declared.result.Result.{Result}
 use Rattle.std.specs.Option.{option_or}
@@ -11,7 +11,7 @@ use Rattle.dialect.specs.Grammar.{has_id, has_name, text_fault, layout_fault, fa
 use Rattle.dialect.proofs.Faultless.{text_fault-none}
 
 module _ (earlier : List Definition) (text : Option MessageText) where
-  -- one that hasn't the members
+  -- one that lacks the members
   pub behind-shape : (at : ℕ) → at ≡ length earlier → text ≡ None → definition_behind earlier text ≡ Err (Shape (Some at))
   behind-shape at here none = ap (definition_behind earlier) none ∙ ap (λ at. Err (Shape (Some at))) (sym here)
 

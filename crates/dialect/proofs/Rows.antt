@@ -16,7 +16,7 @@ three_tests None false false h = absurd (cc)
 three_tests None false true h = (refl, refl, refl)
 
 module _ (defs : List Definition) (rows : List MessageRow) (i : ℕ) (d : MessageRow) (within : i < length rows) (good : are_laid_out_behind defs (map definition_of_row (drop i rows)) ≡ true) where
-  -- what is known of the row at a place, and of the rest behind it
+  -- what is known of the row at an index, and of the rest after it
   pub row_laid_out : (first_fault (definition_of_row (get_or rows i d)) ≡ None) × (has_id defs (get_or rows i d).id ≡ false)
       × (are_laid_out_behind (defs ++ definition_of_row (get_or rows i d) ∷ []) (map definition_of_row (drop (i + 1) rows)) ≡ true)
   row_laid_out =

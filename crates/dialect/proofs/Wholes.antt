@@ -13,7 +13,7 @@ use Rattle.dialect.specs.Shape.{message_in, messages_in}
 use Rattle.dialect.specs.Grammar.{max_messages, json_of, of_top, of_messages, and_then, definition_behind, definitions_behind, definitions_of}
 use Rattle.dialect.proofs.Elements.{values-from}
 
--- the message at a place, behind those before it
+-- the message at an index, after those before it
 module _ (values : List Value) (i : ℕ) (value : Value) (within : i < length values) (here : value ≡ get_or values i value)
     (known : List Definition) (whole : Result (List Definition) DialectFault) (together : definitions_behind known (map view (drop i values)) ≡ whole) where
   one : (first : Result Definition DialectFault) → definition_behind known (message_in (view value)) ≡ first

@@ -47,11 +47,11 @@ has_id earlier id = list_any (λ (def : Definition). id == def.id) earlier
 abbrev pub has_name : List Definition → List ℕ → Bool
 has_name earlier name = list_any (λ (def : Definition). bytes_eq name def.name) earlier
 
--- the fault of a layout, at a place
+-- the fault of a layout, with the index of its message
 abbrev pub layout_fault : ℕ → Option LayoutFault → Option DialectFault
 layout_fault at fault = option_map (λ (fault : LayoutFault). Layout at fault) fault
 
--- the first fault of a message's types, names, id and name, behind earlier messages
+-- the first fault of a message's types, names, id and name, after earlier messages
 abbrev pub text_fault : List Definition → MessageText → Option DialectFault
 text_fault earlier text =
     if not (has_types text) then Some (BadType (length earlier))
@@ -73,7 +73,7 @@ abbrev pub definition_behind : List Definition → Option MessageText → Result
 definition_behind earlier None = Err (Shape (Some (length earlier)))
 definition_behind earlier (Some text) = faultless (fault_behind earlier text) (definition_of text)
 
--- the messages in order, behind those that were read
+-- the messages in order, after those that were read
 abbrev pub and_then : Result Definition DialectFault → (Definition → Result (List Definition) DialectFault) → Result (List Definition) DialectFault
 and_then (Ok def) next = next def
 and_then (Err fault) next = Err fault

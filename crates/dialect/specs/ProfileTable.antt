@@ -18,7 +18,7 @@ definition_of_row row = record {
   extensions = map field_of_row row.extensions.now;
 }
 
--- each message has a layout, and an id of its own behind earlier messages
+-- each message has a layout, and an id that no earlier message has
 abbrev pub are_laid_out_behind : List Definition → List Definition → Bool
 are_laid_out_behind earlier [] = true
 are_laid_out_behind earlier (def ∷ defs) =

@@ -3,12 +3,12 @@ use Rattle.std.specs.Prelude.{ℕ, ◌^◌, nat_lt, if◌then◌else◌, List, [
 use Rattle.serde_json.specs.Data.{Data, Items, no_items, item}
 use Rattle.serde_json.specs.Find.{get, as_str, as_array, as_number, as_u64}
 
--- a field as it is spelled
+-- a field as it is written
 pub record FieldText : Type 0 where
   pub ty : List ℕ
   pub name : List ℕ
 
--- a message as it is spelled
+-- a message as it is written
 pub record MessageText : Type 0 where
   pub id : ℕ
   pub name : List ℕ
@@ -45,7 +45,7 @@ field_text_of _ _ = None
 abbrev pub field_in : Data → Option FieldText
 field_in d = field_text_of (text_at (codes "type") d) (text_at (codes "name") d)
 
--- a field before others, where each is one
+-- a field before others, if each is one
 abbrev pub before_others : Option FieldText → Option (List FieldText) → Option (List FieldText)
 before_others (Some field) (Some fields) = Some (field ∷ fields)
 before_others _ _ = None
@@ -78,6 +78,6 @@ message_text_of _ _ _ _ = None
 abbrev pub message_in : Data → Option MessageText
 message_in d = message_text_of (id_in d) (text_at (codes "name") d) (fields_in d) (extensions_in d)
 
--- the top: an array `messages`
+-- the top level: an array `messages`
 abbrev pub messages_in : Data → Option (List Data)
 messages_in d = option_and_then elements_of (get (codes "messages") d)

@@ -47,7 +47,7 @@ fn extras(alloc: Global, layouts: &[Layout]) -> Result<Extras, NoMemory>
 }
 
 impl Dialect {
-    /// Reads definitions as JSON, and answers their first fault; want of memory may come at any place.
+    /// Reads definitions as JSON, and returns their first fault; want of memory may come at any point.
     pub fn read(alloc: Global, bytes: &[u8]) -> Result<Dialect, DialectFault>
         ensures read { IfOk result (λ dialect. definitions_of bytes.now ≡ Ok dialect) }
         ensures fault { IfErr result
@@ -79,7 +79,7 @@ impl Dialect {
         self.layouts.get(id)
     }
 
-    /// The layout of the message at a place, in the order read.
+    /// The layout of the message at an index, in the order read.
     pub fn at(&self, place: usize) -> Option<&Layout>
         ensures { option_copied result ≡ slice_get self.now place }
     {

@@ -4,12 +4,12 @@ use std::alloc::{AllocError, AllocFailed};
 use std::fmt;
 use thiserror::Error;
 
-/// The first fault of definitions. Messages are tested in order; `at` is the place of the message, from 0.
+/// The first fault of definitions. Messages are tested in order; `at` is the index of the message, from 0.
 #[derive(Drop, Error)]
 pub enum DialectFault {
     #[error("the text is no JSON")]
     NotJson,
-    /// The top (None), or a message with its fields, hasn't the members that it should have.
+    /// The top level (None), or a message with its fields, lacks the members that it should have.
     #[error("a definition hasn't the members that it should have")]
     Shape { at: Option<u32> },
     #[error("a message has a field of an unknown type")]

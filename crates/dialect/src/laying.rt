@@ -1,4 +1,4 @@
-// Laying a message out, in time that grows with its fields however many they are.
+// Laying a message out, in time that is linear in the number of its fields.
 ghost use Rattle.std.specs.Prelude.{◌≡◌, ◌≢◌, ◌<◌, ◌*◌, ◌≤◌, length, Some, None, IfOk, IfErr, IfSome, option_map, sum_by};
 ghost use Rattle.field_layout.specs.Definition.{all_fields, full_len_of};
 ghost use Rattle.field_layout.specs.Faults.{names_of, first_repeat, first_fault};
@@ -9,10 +9,10 @@ use crate::{DialectFault, NoMemory};
 use field_layout::{Label, Layout, LayoutFault, MessageDef};
 use std::alloc::Global;
 
-// The most fields that a payload of 255 bytes holds. `Layout::of` compares each two names.
+// The most fields that a payload of 255 bytes holds. `Layout::of` compares each pair of names.
 const MAX_FIELDS: usize = 255;
 
-// The first place whose name an earlier place has.
+// The first index whose name an earlier index has.
 fn repeated_place(alloc: Global, def: &MessageDef) -> Result<Option<usize>, NoMemory>
     ensures first { IfOk result (λ place. place ≡ first_repeat (names_of def.now)) }
     ensures within { IfOk result (λ place. IfSome place (λ place. place < length (all_fields def.now))) }
@@ -61,7 +61,7 @@ fn fault_of_many(alloc: Global, def: &MessageDef) -> Result<LayoutFault, NoMemor
     Ok(LayoutFault::TooLong { len })
 }
 
-/// The layout of the message at a place.
+/// The layout of the message at an index.
 pub(crate) fn laid_out(alloc: Global, def: MessageDef, at: u32) -> Result<Layout, DialectFault>
     ensures faultless { IfOk result (λ layout. first_fault def ≡ None) }
     ensures same { IfOk result (λ layout. layout ≡ def) }

@@ -1,4 +1,4 @@
-// Layouts by their ids and by their places.
+// Layouts by their ids and by their indices.
 ghost use Rattle.std.specs.Prelude.{◌≡◌, ◌∷◌, ◌++◌, [], false, length, slice_get, OnOk, OnErr};
 ghost use Rattle.std.specs.Option.{option_copied};
 ghost use Rattle.dialect.specs.Grammar.{has_id};
@@ -10,7 +10,7 @@ use indexmap::IndexSet;
 use std::alloc::Global;
 use std::marker::Model;
 
-/// Layouts of different ids in the order of their coming. Contracts see the list of their definitions.
+/// Layouts of different ids in the order in which they were added. Contracts see the list of their definitions.
 #[derive(Drop)]
 pub(crate) struct Layouts {
     ids: IndexSet<u32>,
@@ -45,7 +45,7 @@ impl Layouts {
         self.ids.contains(&id)
     }
 
-    /// Appends a layout of another id. Where there is no memory for it nothing has changed.
+    /// Appends a layout of another id. If there is no memory for it nothing has changed.
     pub(crate) fn add(&mut self, layout: Layout) -> Result<(), NoMemory>
         requires { has_id self.old layout.id ≡ false }
         ensures added { OnOk result (self.new ≡ self.old ++ layout ∷ []) }
@@ -65,7 +65,7 @@ impl Layouts {
         self.at(place)
     }
 
-    /// The layout at a place in the order of their coming.
+    /// The layout at an index in the order in which they were added.
     pub(crate) fn at(&self, place: usize) -> Option<&Layout>
         ensures { option_copied result ≡ slice_get self.now place }
     {

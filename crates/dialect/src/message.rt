@@ -50,7 +50,7 @@ pub(crate) fn has_names(message: &SpelledMessage) -> bool
     is_message_name(message.name) && have_names(&message.fields) && have_names(&message.extensions)
 }
 
-// The field, where its type is one of the list.
+// The field, if its type is one of the list.
 fn field_of(alloc: Global, field: &SpelledField) -> Result<Option<Field>, NoMemory>
     ensures { IfOk result (λ defined. defined ≡ spec.field_of field.now) }
 {

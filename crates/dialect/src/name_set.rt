@@ -1,4 +1,4 @@
-// Names that stand already.
+// Names that are taken already.
 ghost use Rattle.std.specs.Prelude.{◌≡◌, false, [], ◌∷◌, ◌++◌, take, OnOk, OnErr};
 ghost use Rattle.std.specs.List.{list_any};
 ghost use Rattle.std.specs.Str.{bytes_eq};
@@ -8,7 +8,7 @@ use indexmap::IndexSet;
 use std::alloc::Global;
 use std::marker::Model;
 
-/// Names, each of which stands once; contracts see them in the order of their coming.
+/// Names without repetition; contracts see them in the order in which they were added.
 #[derive(Drop)]
 pub(crate) struct NameSet {
     names: IndexSet<Vec<u8>>,
@@ -48,7 +48,7 @@ impl NameSet {
         Ok(())
     }
 
-    /// Keeps the first `count` names alone.
+    /// Keeps only the first `count` names.
     pub(crate) fn cut(&mut self, count: usize)
         ensures { self.new ≡ take count self.old }
     {

@@ -74,7 +74,7 @@ fn read_message(alloc: Global, known: &Known, value: &Value) -> Result<Layout, D
     laid_out(alloc, def, at)
 }
 
-// Reads messages behind those that are known.
+// Reads messages after those that are known.
 fn read_each(alloc: Global, values: &[Value], known: &mut Known) -> Result<(), DialectFault>
     requires { length known.old + length values.now ≤ 512 }
     ensures read { OnOk result

@@ -13,7 +13,7 @@ use std::marker::Model;
 // One more than the greatest id: an id has three bytes.
 const MAX_ID: u64 = 1 << 24;
 
-/// A field's type and name as they are spelled.
+/// A field's type and name as they are written.
 #[derive(Drop)]
 pub(crate) struct SpelledField<'a> {
     pub(crate) ty: &'a [u8],
@@ -28,7 +28,7 @@ impl<'a> Model for SpelledField<'a> {
     ghost view = { λ f. record { ty = f.ty.now; name = f.name.now } };
 }
 
-/// A message as it is spelled.
+/// A message as it is written.
 #[derive(Drop)]
 pub(crate) struct SpelledMessage<'a> {
     pub(crate) id: u32,
@@ -82,7 +82,7 @@ fn field_in(value: &Value) -> Option<SpelledField<'_>>
     Some(SpelledField { ty, name })
 }
 
-// The fields that the elements of an array are, where each is one.
+// The fields that the elements of an array are, if each is one.
 fn each_field<'a>(
     alloc: Global,
     values: &'a [Value],
@@ -127,7 +127,7 @@ fn extensions_in(alloc: Global, value: &Value) -> Result<Option<Vec<SpelledField
     }
 }
 
-/// The message that a value is, where it has the members of one.
+/// The message that a value is, if it has the members of one.
 pub(crate) fn message_in(
     alloc: Global,
     value: &Value,
@@ -149,7 +149,7 @@ pub(crate) fn message_in(
     }))
 }
 
-/// The messages of the top.
+/// The messages of the top level.
 pub(crate) fn messages_in(top: &Value) -> Option<&[Value]>
     ensures { option_map (λ values. map view values.now) result ≡ spec.messages_in (view top.now) }
 {

@@ -100,7 +100,7 @@ fn number_of(digits: &[u8]) -> u16
     }
 }
 
-// The number of up to three digits before a `]`, where it is from 1 to 255.
+// The number of up to three digits before a `]`, if it is from 1 to 255.
 fn closed(byte: u8, digits: &[u8]) -> Option<u8>
     requires { length digits.now ≤ 3 }
     ensures { result ≡ spec.closed byte digits.now }
@@ -112,7 +112,7 @@ fn closed(byte: u8, digits: &[u8]) -> Option<u8>
     }
 }
 
-// The length of an array, behind the `[`.
+// The length of an array, after the `[`.
 fn length_before_bracket(word: &[u8]) -> Option<u8>
     ensures { result ≡ spec.length_before_bracket word.now }
 {

@@ -1,4 +1,4 @@
--- How a run of `dialect` comes to its end.
+-- How a run of `dialect` ends.
 use Rattle.std.proofs.Common.{◌≡◌, ◌∙◌, ℕ, true, false, List, [], refl, sym, ap, subst, Option, Some, None, Result, Ok, Err, IsErrOf, OnOk}
 use Rattle.std.specs.Result.{result_err}
 use Rattle.std.specs.Io.KnownBytes.{append_known}
@@ -32,7 +32,7 @@ untold_unread closing spent fb fa ib ia rb ra lb la sb sa WriteFault same h = ab
 untold_unread closing spent fb fa ib ia rb ra lb la sb sa NoMemory same h = record { taken = h.taken; ended = h.ended; took = h.took; at_end = h.at_end; cause = tt; wrote = nothing_front sb sa (text_so_far (reading closing) h.ended h.taken) same }
 untold_unread closing spent fb fa ib ia rb ra lb la sb sa TurnsSpent same h = record { taken = h.taken; ended = h.ended; took = h.took; at_end = h.at_end; cause = h.cause; wrote = nothing_sent sb sa same }
 
--- the definitions were read, and their text was written, or a front of it
+-- the definitions were read, and their text was written, or a prefix of it
 module _ (spent : Type 0) (fb fa ib ia rb ra : ℕ) (lb la sb sa : Option (List ℕ)) (defs : List Definition) (h : Holds spent lb la defs) where
   is_text : text_of (Ok defs) ≡ dialect_spec.closing h.taken
   is_text = ap text_of (sym h.read)
@@ -64,7 +64,7 @@ untold_known defs known same rb ra sb sa end wrote =
 pub untold_early : (known : List Definition) (refusals : ℕ) (sb : Option (List ℕ)) → RunBeforeStatus (telling known) (port_outcome (Unit {0}) 0 0 0 0 refusals refusals) (Some []) (Some []) sb sb (Some NoMemory)
 untold_early known refusals sb = record { taken = []; ended = false; took = refl; at_end = λ never. absurd (cc never); cause = tt; wrote = ([], sent_start sb []) }
 
--- the output refused nothing where the writing doesn't end so
+-- no write failed unless the writing ends with a failed one
 pub sound_written : (text : List ℕ) (rb ra : ℕ) (sb sa : Option (List ℕ)) (r : Result (Unit {0}) RunEnd) → WroteText text (result_err r) rb ra sb sa → (IsErrOf r WriteFault → ⊥) → ra ≡ rb
 sound_written text rb ra sb sa (Ok done) wrote other = wrote.1
 sound_written text rb ra sb sa (Err Usage) wrote other = absurd wrote
@@ -74,7 +74,7 @@ sound_written text rb ra sb sa (Err WriteFault) wrote other = absurd (other refl
 sound_written text rb ra sb sa (Err NoMemory) wrote other = wrote.1
 sound_written text rb ra sb sa (Err TurnsSpent) wrote other = absurd wrote
 
--- nor did it stop there
+-- no error of an input ends the writing
 pub unstopped_written : {P : Type 0} (text : List ℕ) (rb ra : ℕ) (sb sa : Option (List ℕ)) (r : Result (Unit {0}) RunEnd) (stop : InputError) → WroteText text (result_err r) rb ra sb sa → IsErrOf r (Stopped stop) → P
 unstopped_written text rb ra sb sa (Ok done) stop wrote e = absurd (cc e)
 unstopped_written text rb ra sb sa (Err Usage) stop wrote e = absurd wrote
@@ -84,7 +84,7 @@ unstopped_written text rb ra sb sa (Err WriteFault) stop wrote e = absurd (cc e)
 unstopped_written text rb ra sb sa (Err NoMemory) stop wrote e = absurd (cc e)
 unstopped_written text rb ra sb sa (Err TurnsSpent) stop wrote e = absurd wrote
 
--- all of it was written where the writing was done
+-- all of it was written if the writing was done
 pub told_written : (spent : Type 0) (rb ra : ℕ) (lb la sb sa : Option (List ℕ)) (defs : List Definition) (r : Result (Unit {0}) RunEnd) → Holds spent lb la defs → WroteText (dialect_text defs) (result_err r) rb ra sb sa → OnOk r (Told spent lb la sb sa)
 told_written spent rb ra lb la sb sa defs (Ok done) holds wrote = record { defs = defs; holds = holds; sent = wrote.0 }
 told_written spent rb ra lb la sb sa defs (Err halt) holds wrote = tt

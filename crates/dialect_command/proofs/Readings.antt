@@ -1,4 +1,4 @@
--- What was taken of an input of definitions where the reading of it halted.
+-- What was taken of an input of definitions if the reading of it halted.
 use Rattle.std.proofs.Common.{◌≡◌, ◌≢◌, ◌∙◌, ◌<◌, ◌≤◌, ◌-◌, ℕ, true, false, List, [], ◌++◌, take, length, arith, refl, sym, subst, ap, Option, Some, Ok, Err}
 use Rattle.std.proofs.lemmas.List.{length-append, length-take-le}
 use Rattle.std.specs.Io.KnownBytes.{prepend_known}
@@ -42,7 +42,7 @@ module _ (o : PortOutcome) (lb la : Option (List ℕ)) (taken : List ℕ) (took 
   pub halts_idled : length taken ≤ most_definition_bytes → o.idled → Halts o lb la TurnsSpent
   halts_idled short idled = record { taken = taken; ended = false; took = took; at_end = λ never. absurd (cc never); cause = (idled, refl, goes_on false taken short) }
 
-  -- the definitions have a fault that is told so
+  -- the definitions have a fault that is reported with this reason
   halts_told : (fault : DialectFault) (reason : Reason) → told_reason fault ≡ reason → o.spent → length taken ≤ most_definition_bytes → definitions_of taken ≡ Err fault → Halts o lb la (Stopped (Bad Definitions reason))
   halts_told fault reason told spent short is = record {
     taken = taken;
@@ -63,7 +63,7 @@ module _ (o : PortOutcome) (lb la : Option (List ℕ)) (taken : List ℕ) (took 
   halts_by TooMany spent short is = halts_told TooMany AreTooMany refl spent short (is (λ e. cc e))
   halts_by Unread spent short is = halts_memory
 
-  -- the same of bytes that are lent
+  -- the same of borrowed bytes
   pub halts_refused : (lent : List ℕ) → lent ≡ taken → (fault : DialectFault) → o.spent → length taken ≤ most_definition_bytes → (fault ≢ Unread → definitions_of lent ≡ Err fault) → Halts o lb la (halt_of fault)
   halts_refused lent same fault spent short is = halts_by fault spent short (subst (λ bytes. fault ≢ Unread → definitions_of bytes ≡ Err fault) same is)
 

@@ -1,4 +1,4 @@
--- Bytes that are too many stay so, whatever follows.
+-- Bytes that are too many stay too many, whatever follows.
 use Rattle.std.proofs.Common.{◌≡◌, ◌∙◌, ◌<◌, ◌≤◌, ℕ, ltb, if◌then◌else◌, Bool, true, false, List, ◌++◌, length, refl, ap, arith, Some, None}
 use Rattle.std.proofs.lemmas.Bool.{lt-ltb, le-ltb, ltb-true}
 use Rattle.std.proofs.lemmas.List.{length-append}

@@ -13,7 +13,7 @@ use Rattle.run_status.specs.declared.run_ends.RunEnd.{RunEnd}
 use Rattle.run_status.specs.declared.run_ends.RunEnd.TheVariants.{Usage, Stopped, ReadFault, WriteFault, NoMemory, TurnsSpent}
 use Rattle.dialect_command.specs.Writes.{WroteText}
 
--- the lines of a message stand in front of those of the messages behind it
+-- the lines of a message come before those of the messages after it
 pub lines_left : (defs : List Definition) (i : ℕ) (def : Definition) (last : List ℕ) → slice_get defs i ≡ Some def → flat_map layout_text (drop i defs) ++ last ≡ layout_text def ++ (flat_map layout_text (drop (i + 1) defs) ++ last)
 lines_left defs i def last is =
     let next : suc i ≡ i + 1 = omega arith in
@@ -23,7 +23,7 @@ lines_left defs i def last is =
     ap (λ (rest : List Definition). flat_map layout_text rest ++ last) here
     ∙ append_assoc (layout_text def) (flat_map layout_text (drop (i + 1) defs)) last
 
--- behind the last message none are left
+-- after the last message none are left
 pub nothing_left : (defs : List Definition) (i : ℕ) (last : List ℕ) → length defs ≤ i → flat_map layout_text (drop i defs) ++ last ≡ last
 nothing_left defs i last done = ap (λ (rest : List Definition). flat_map layout_text rest ++ last) (drop_of_length-le defs done)
 
@@ -32,7 +32,7 @@ pub wrote_nothing : (text : List ℕ) (refusals : ℕ) (sb : Option (List ℕ)) 
 wrote_nothing text refusals sb = ((text, sent_start sb text), refl)
 
 module _ (sb sm sa : Option (List ℕ)) (rb rm ra : ℕ) (same : rm ≡ rb) where
-  -- a front of a text, and then a front of the next piece
+  -- a prefix of a text, and then a prefix of the next piece
   front_more : (text next rest : List ℕ) → Sent sb sm text (next ++ rest) → SentPrefix sm sa next → SentPrefix sb sa text
   front_more text next rest sent (more, part) = (more ++ rest, sent_in sb sm sa text next rest more sent part)
 

@@ -1,4 +1,4 @@
--- What `dialect` took and wrote, where it is done or stops.
+-- What `dialect` took and wrote, when it is done or stops.
 use Rattle.std.specs.Prelude.{◌≡◌, ◌<◌, ◌≤◌, ℕ, List, length, Option, Err}
 use Rattle.std.specs.Io.KnownBytes.{append_known, prepend_known}
 use Rattle.field_layout.specs.Definition.{Definition}
@@ -15,7 +15,7 @@ pub record Told (spent : Type 0) (left_before left_after sent_before sent_after 
   pub holds : Holds spent left_before left_after defs
   pub sent : sent_after ≡ append_known sent_before (dialect_text defs)
 
--- the definitions that an input holds were refused for this reason, and nothing was written
+-- the definitions that an input holds were rejected for this reason, and nothing was written
 pub record Refused (reason : Reason) (spent : Type 0) (left_before left_after sent_before sent_after : Option (List ℕ)) : Type 0 where
   pub taken : List ℕ
   pub took : left_before ≡ prepend_known taken left_after

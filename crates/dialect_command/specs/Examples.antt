@@ -1,4 +1,4 @@
--- What `dialect` tells of the profile: each message with its lengths and CRC_EXTRA, its fields at their offsets.
+-- What `dialect` writes of the profile: each message with its lengths and CRC_EXTRA, its fields at their offsets.
 use Rattle.std.specs.Prelude.{ℕ, List, codes}
 
 abbrev pub profile_layouts : List ℕ

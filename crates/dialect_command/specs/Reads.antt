@@ -13,7 +13,7 @@ use Rattle.dialect.specs.declared.faults.DialectFault.TheVariants.{NoMemory as N
 use Rattle.run_status.specs.Runs.{PortOutcome, Cause}
 use Rattle.dialect_command.specs.Spec.{told_reason, definitions_spec, most_definition_bytes}
 
--- what stands of the outside where only an input is called
+-- the outcome at the ports if only an input is called
 abbrev pub of_input : Type 0 → ℕ → ℕ → ℕ → ℕ → PortOutcome
 of_input spent faults_before faults_after idles_before idles_after = record {
   spent = spent;
@@ -42,7 +42,7 @@ pub record Halts (o : PortOutcome) (left_before left_after : Option (List ℕ)) 
 abbrev pub told : DialectFault → RunEnd
 told fault = Stopped (Bad Definitions (told_reason fault))
 
--- how a fault halts a run: it is told, or there was no memory
+-- how a fault halts a run: it is reported, or there was no memory
 abbrev pub halt_of : DialectFault → RunEnd
 halt_of NoMemoryToRead = NoMemory
 halt_of fault = told fault

@@ -1,4 +1,5 @@
--- What is done with the bytes of definitions, by `dialect` and by other commands, and what `dialect` tells without any.
+-- What is done with the bytes of definitions, by `dialect` and by other commands, and what `dialect` writes without
+-- any.
 use Rattle.std.specs.Prelude.{ℕ, nat_lt, Bool, true, false, if◌then◌else◌, List, [], length, Option, Some, None, Ok, Err}
 use Rattle.std.specs.declared.result.Result.{Result}
 use Rattle.field_layout.specs.Definition.{Definition}
@@ -19,7 +20,7 @@ use Rattle.run_status.specs.Runs.{CommandSpec}
 abbrev pub most_definition_bytes : ℕ
 most_definition_bytes = 16777216
 
--- a fault of definitions, as it is told; no text has the fault that there is no memory
+-- a fault of definitions, as it is reported; no text has the fault that there is no memory
 abbrev pub told_reason : DialectFault → Reason
 told_reason NotJson = Json
 told_reason (Shape at) = IsShape
@@ -31,7 +32,7 @@ told_reason (Layout at fault) = IsLayout
 told_reason TooMany = AreTooMany
 told_reason NoMemory = Json
 
--- why a text is refused as definitions, if it is
+-- why a text is rejected as definitions, if it is
 abbrev pub refusal_of : Result (List Definition) DialectFault → Option InputError
 refusal_of (Ok defs) = None
 refusal_of (Err fault) = Some (Bad Definitions (told_reason fault))
@@ -46,7 +47,7 @@ abbrev pub stop_at : Bool → List ℕ → Option InputError
 stop_at true bytes = refusal_of (definitions_of bytes)
 stop_at false bytes = None
 
--- definitions are read, and this is told after them
+-- definitions are read, and this is written after them
 abbrev pub reading : (List ℕ → List ℕ) → CommandSpec
 reading closing = record {
   stop = λ ended bytes. if nat_lt most_definition_bytes (length bytes) then Some (AtLimit DefinitionBytes) else stop_at ended bytes;
@@ -54,15 +55,15 @@ reading closing = record {
   closing = closing;
 }
 
--- the layouts are told at the end, in the order read
+-- the layouts are written at the end, in the order read
 abbrev pub dialect_spec : CommandSpec
 dialect_spec = reading (λ bytes. text_of (definitions_of bytes))
 
--- nothing is told of definitions that are read for another command
+-- nothing is written of definitions that are read for another command
 abbrev pub definitions_spec : CommandSpec
 definitions_spec = reading (λ bytes. [])
 
--- without definitions those of the profile are told, and nothing is read
+-- without definitions those of the profile are written, and nothing is read
 abbrev pub telling : List Definition → CommandSpec
 telling defs = record {
   stop = λ ended bytes. None;

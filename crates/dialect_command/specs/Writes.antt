@@ -12,7 +12,7 @@ use Rattle.run_status.specs.declared.run_ends.RunEnd.TheVariants.{Usage, Stopped
 abbrev pub count_line : ℕ → List ℕ
 count_line messages = line (codes "messages " ++ decimal messages)
 
--- all of a text was written, or a front of it where a write failed or there was no memory
+-- all of a text was written, or a prefix of it if a write failed or there was no memory
 abbrev pub WroteText : List ℕ → Option RunEnd → ℕ → ℕ → Option (List ℕ) → Option (List ℕ) → Type 0
 WroteText text None refusals_before refusals_after before after = (after ≡ append_known before text) × (refusals_after ≡ refusals_before)
 WroteText text (Some Usage) refusals_before refusals_after before after = ⊥

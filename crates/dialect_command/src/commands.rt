@@ -13,7 +13,7 @@ use mav_ports::{Sink, Source};
 use run_status::{Bound, InputError, Place, Reason, RunEnd};
 use std::alloc::Global;
 
-/// Tells the layouts of the definitions that an input holds. Why the run halted, if it did, isn't
+/// Writes the layouts of the definitions that an input holds. Why the run halted, if it did, isn't
 /// written.
 pub fn dialect<S: Source, K: Sink>(
     alloc: Global,
@@ -26,7 +26,7 @@ pub fn dialect<S: Source, K: Sink>(
         (S.idles definitions.old) (S.idles definitions.new) (K.faults out.old) (K.faults out.new))
         (S.left definitions.old) (S.left definitions.new) (K.sent out.old) (K.sent out.new)
         (result_err result) }
-    // It is done where the input holds definitions, and all of their text was written.
+    // It is done if the input holds definitions, and all of their text was written.
     ensures done { OnOk result (Told (S.has_ended definitions.new × IsSpent (S.left definitions.new))
         (S.left definitions.old) (S.left definitions.new) (K.sent out.old) (K.sent out.new)) }
     // It stops at their first fault, or at one byte too many.
@@ -43,7 +43,7 @@ pub fn dialect<S: Source, K: Sink>(
     write_dialect(alloc, &dialect, out)
 }
 
-/// Tells the layouts of the profile, as a command over an input without bytes would.
+/// Writes the layouts of the profile, as a command over an input without bytes would.
 pub fn profile<K: Sink>(alloc: Global, out: &mut K) -> Result<(), RunEnd>
     ensures untold { RunBeforeStatus profile_spec (port_outcome ⊤ 0 0 0 0 (K.faults out.old) (K.faults out.new))
         (Some []) (Some []) (K.sent out.old) (K.sent out.new) (result_err result) }

@@ -1,8 +1,8 @@
-//! The command `dialect`: the layouts and CRC_EXTRA of messages, told line by line.
+//! The command `dialect`: the layouts and CRC_EXTRA of messages, written line by line.
 //!
-//! [`dialect`] tells those of the definitions that an input holds, [`profile`] those of the
+//! [`dialect`] writes those of the definitions that an input holds, [`profile`] those of the
 //! built-in profile; `specs/Spec.antt` says what stops them and what they write. The text of a
-//! halt isn't written here. [`read_definitions`] is for each command that takes definitions.
+//! halt isn't written here. [`read_definitions`] serves each command that takes definitions.
 #![tactic(auto)]
 
 mod commands;

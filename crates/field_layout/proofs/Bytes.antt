@@ -1,4 +1,4 @@
--- The bytes of words: how many they are, and what a buffer keeps behind them.
+-- The bytes of words: how many they are, and what a buffer keeps after them.
 use Rattle.std.proofs.Common.{◌≡◌, ℕ, zero, suc, ◌+◌, ◌-◌, ◌*◌, ◌/◌, ◌%◌, ◌<◌, List, [], ◌∷◌, ◌++◌, length, get_or, take, drop, set, replicate, sym, ap, ◌∙◌, refl, arith}
 use Rattle.std.specs.List.{flat_map}
 use Rattle.std.proofs.lemmas.List.{drop-set-lt, drop-drop, drop-replicate, length-append, append-nil, take_more}
@@ -22,7 +22,7 @@ word_bytes_more size words i inside =
     let f : ℕ → List ℕ = le_bytes size in
     ap (flat_map f) (take_more words i 0 inside) ∙ (flat_map-append f (take i words) (get_or words i 0 ∷ []) ∙ ap (λ (l : List ℕ). flat_map f (take i words) ++ l) (append-nil (f (get_or words i 0))))
 
--- the zeros behind a buffer's bytes, after one more byte
+-- the zeros after a buffer's bytes, after one more byte
 pub zeros_behind : (bytes : List ℕ) (len byte : ℕ) → drop len bytes ≡ replicate (255 - len) 0 → drop (len + 1) (set bytes len byte) ≡ replicate (255 - (len + 1)) 0
 zeros_behind bytes len byte before =
     let fewer : (255 - len) - 1 ≡ 255 - (len + 1) = omega arith in

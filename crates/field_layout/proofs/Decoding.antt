@@ -23,7 +23,7 @@ use Rattle.field_layout.proofs.Serialised.{entry_bytes, fits_from_places}
 abbrev pub IsBytes : List ℕ → Type 0
 IsBytes payload = (i : ℕ) → get_or payload i 0 < 256
 
--- ---- bytes from a place on
+-- ---- bytes from an offset on
 
 bytes_from : List ℕ → ℕ → ℕ → List ℕ
 bytes_from payload at zero = []
@@ -87,7 +87,7 @@ bytes_of_words payload bytes at size (suc n) =
 
 -- ---- the values that are read
 
--- the words of the field at a place
+-- the words of the field at an index
 abbrev pub decoded : Definition → List ℕ → ℕ → List ℕ
 decoded def payload place =
     words_from payload (offset_of def place) (element_size (get_or (all_fields def) place nowhere.1).ty) (element_count (get_or (all_fields def) place nowhere.1))
@@ -116,9 +116,9 @@ decoded_fits def payload bytes =
     let count = element_count field in
     subst P (sym (decoded_at def payload place field there)) (length-map-range_with_len (λ (k : ℕ). word_from payload (offset_of def place + size * k) size) 0 count, words_fit payload bytes (offset_of def place) size count))
 
--- ---- along the wire
+-- ---- in wire order
 
--- an entry of the wire is the field at its place
+-- an entry of the wire is the field at its index
 pub split_entry : (def : Definition) (before : List Placed) (entry : Placed) (behind : List Placed) → wire_order def ≡ before ++ entry ∷ behind → IsEntry def entry
 split_entry def before entry behind split =
     let inside : length before < length (wire_order def) = omega (arith, ap length split, length-append before (entry ∷ behind)) in

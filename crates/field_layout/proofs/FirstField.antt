@@ -1,4 +1,4 @@
--- The place of the first field that passes a test.
+-- The index of the first field that passes a test.
 use Rattle.std.proofs.Common.{◌≡◌, ◌<◌, ℕ, Bool, true, false, Some, None, List, length, get_or, refl, arith, ltb}
 use Rattle.std.specs.Prelude.{position}
 use Rattle.std.specs.List.{position_or_len}

@@ -1,4 +1,4 @@
--- The names of fields, and the first that stands twice.
+-- The names of fields, and the first that repeats an earlier one.
 use Rattle.std.proofs.Common.{◌≡◌, ℕ, zero, suc, ◌+◌, ◌<◌, Bool, true, false, List, [], length, get_or, take, Some, None, ap, ◌∙◌, refl, subst, arith}
 use Rattle.std.specs.Prelude.{slice_get, find}
 use Rattle.std.specs.List.{list_any, range_with_len}
@@ -10,7 +10,7 @@ use Rattle.field_layout.specs.declared.fields.Field.{Field}
 use Rattle.field_layout.specs.Definition.{Definition, all_fields}
 use Rattle.field_layout.specs.Faults.{names_of, name_at, repeats_at, first_repeat}
 
--- the name at a place is that of the field there
+-- the name at an index is that of the field there
 pub name_of_field : (def : Definition) (place : ℕ) (field : Field) → slice_get (all_fields def) place ≡ Some field → name_at (names_of def) place ≡ field.name
 name_of_field def place field there =
     get_or-map (λ (f : Field). f.name) (all_fields def) place field [] (slice_get_within (all_fields def) place field there) ∙ ap (λ (f : Field). f.name) (get_or_from_slice_get (all_fields def) place field field there)

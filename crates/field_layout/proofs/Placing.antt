@@ -1,4 +1,4 @@
--- The wire order holds each field once, with its place; so an offset is the sum of the sizes before a field.
+-- The wire order holds each field once, with its index; so an offset is the sum of the sizes before a field.
 use Rattle.std.proofs.Common.{◌≡◌, ◌⊎◌, inl, inr, ℕ, zero, suc, ◌+◌, ◌<◌, ◌==◌, not, Bool, true, false, List, [], ◌∷◌, ◌++◌, length, get_or, take, drop, map, Some, sym, ap, ◌∙◌, refl, cond, subst, arith, eqb, append_assoc, add-zero, zero-add}
 use Rattle.std.specs.Prelude.{slice_get, take_while, All, Contains}
 use Rattle.std.specs.List.{sum_by, prefix_len, enumerate_from, range_with_len, AllByRecursion, IsDistinct}
@@ -18,11 +18,11 @@ use Rattle.field_layout.specs.Types.{element_size}
 use Rattle.field_layout.specs.Definition.{Definition, all_fields, size_of, full_len_of}
 use Rattle.field_layout.specs.WireOrder.{Placed, of_size, by_size, base_order, wire_order, offset_of, place_of}
 
--- the fields with their places, in definition order
+-- the fields with their indices, in definition order
 abbrev pub placed_fields : Definition → List Placed
 placed_fields def = enumerate_from 0 def.fields ++ enumerate_from (length def.fields) def.extensions
 
--- ---- each entry of the wire order is the field at its place
+-- ---- each entry of the wire order is the field at its index
 
 abbrev pub IsEntry : Definition → Placed → Type 0
 IsEntry def entry = slice_get (all_fields def) entry.0 ≡ Some entry.1
@@ -54,7 +54,7 @@ base_order_entries def =
 pub wire_entries : (def : Definition) → All (IsEntry def) (wire_order def)
 wire_entries def = All-append (IsEntry def) _ _ (base_order_entries def) (extension_entries def)
 
--- ---- the wire order is a permutation of the fields with their places
+-- ---- the wire order is a permutation of the fields with their indices
 
 size_cases : (ty : Ty) → (element_size ty ≡ 8) ⊎ ((element_size ty ≡ 4) ⊎ ((element_size ty ≡ 2) ⊎ (element_size ty ≡ 1)))
 size_cases I8 = inr (inr (inr refl))
@@ -70,7 +70,7 @@ size_cases F32 = inr (inl refl)
 size_cases F64 = inl refl
 size_cases Version = inr (inr (inr refl))
 
--- an element goes in front of the second part
+-- an element is prepended to the second part
 put_second : (x : Placed) (a b : List Placed) → IsPermutation (x ∷ (a ++ b)) (a ++ x ∷ b)
 put_second x a b = IsPermutation-sym (a ++ x ∷ b) (x ∷ (a ++ b)) (IsPermutation-middle a x b)
 
@@ -125,7 +125,7 @@ sum_placed n [] = refl
 sum_placed n (f ∷ fs) =
     sum_by-cons entry_size (n, f) (enumerate_from (n + 1) fs) ∙ (ap (λ (m : ℕ). size_of f + m) (sum_placed (n + 1) fs) ∙ sym (sum_by-cons size_of f fs))
 
--- the sizes along the wire add up to the payload's length
+-- the sizes in wire order add up to the payload's length
 pub full_len_of_wire : (def : Definition) → sum_by entry_size (wire_order def) ≡ full_len_of def
 full_len_of_wire def =
     let base = sum_placed 0 def.fields in
@@ -135,7 +135,7 @@ full_len_of_wire def =
     let turned : sum_by entry_size (wire_order def) ≡ sum_by entry_size (placed_fields def) = sum_by-IsPermutation entry_size (placed_fields def) (wire_order def) (wire_permutes def) in
     omega (arith, base, more, joined, whole, turned)
 
--- ---- no place comes twice
+-- ---- no index comes twice
 
 pub places_from : (n : ℕ) (fields : List Field) → map place_of (enumerate_from n fields) ≡ range_with_len n (length fields)
 places_from n [] = refl
@@ -148,7 +148,7 @@ range_append a (suc n) m =
     let f : suc n + m ≡ suc (n + m) = omega arith in
     rw (e, f) (ap (λ (ks : List ℕ). a ∷ ks) (range_append (a + 1) n m))
 
--- the places of all fields are 0, 1, 2 and so on
+-- the indices of all fields are 0, 1, 2 and so on
 pub places_in_order : (def : Definition) → map place_of (placed_fields def) ≡ range_with_len 0 (length (all_fields def))
 places_in_order def =
     let n = length def.fields in
@@ -201,9 +201,9 @@ offset_at_split def a p b split =
     let fails : test p ≡ false = grind (arith, nat_tests) in
     ap (λ (l : List Placed). sum_by entry_size (take_while test l)) split ∙ ap (sum_by entry_size) (stops test a p b (recursion_from_All (λ q. test q ≡ true) a differs) fails)
 
--- ---- each field stands somewhere along the wire
+-- ---- each field is at some position in wire order
 
--- an entry of the wire order, with what stands before and behind it
+-- an entry of the wire order, with the entries before and after it
 pub record Stands (def : Definition) (place : ℕ) : Type 0 where
   pub before : List Placed
   pub entry : Placed

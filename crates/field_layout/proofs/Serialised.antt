@@ -1,4 +1,4 @@
--- The serialised payload, one field after another along the wire.
+-- The serialised payload, one field after another in wire order.
 use Rattle.std.proofs.Common.{◌≡◌, ℕ, zero, suc, ◌+◌, ◌*◌, ◌<◌, ◌≤◌, List, [], ◌∷◌, ◌++◌, length, get_or, take, map, Some, sym, ap, ◌∙◌, refl, subst, arith}
 use Rattle.std.specs.Prelude.{slice_get, All}
 use Rattle.std.specs.List.{sum_by, flat_map, AllZip, AllByRecursion}
@@ -27,7 +27,7 @@ fits_in (f ∷ fs) (v ∷ vs) zero field fits there =
     subst P (same_Some f field there) fits.0
 fits_in (f ∷ fs) (v ∷ vs) (suc place) field fits there = fits_in fs vs place field fits.1 there
 
--- the words of the field at a place fit it
+-- the words of the field at an index fit it
 pub fits_at : (def : Definition) (values : List (List ℕ)) (place : ℕ) (field : Field) → FitsLayout def values → slice_get (all_fields def) place ≡ Some field → FieldFits field (words_at values place)
 fits_at def values place field fits there = fits_in (all_fields def) values place field fits there
 
@@ -38,7 +38,7 @@ length-fitting [] (v ∷ vs) fits = absurd fits
 length-fitting (f ∷ fs) [] fits = absurd fits
 length-fitting (f ∷ fs) (v ∷ vs) fits = ap suc (length-fitting fs vs fits.1)
 
--- values fit where the words at each place do
+-- values fit if the words at each index do
 pub fits_from_places : (fields : List Field) (values : List (List ℕ)) → length fields ≡ length values → ((place : ℕ) (field : Field) → slice_get fields place ≡ Some field → FieldFits field (words_at values place)) → AllZip FieldFits fields values
 fits_from_places [] [] same each = tt
 fits_from_places [] (v ∷ vs) same each = absurd (omega (arith, same))
@@ -80,12 +80,12 @@ room_for def values i fits inside =
     let so_far : length (flat_map (entry_bytes values) (take i wire)) ≡ sum_by entry_size (take i wire) = length-entries values (take i wire) (All-take (IsWhole values) i wire (wire_whole def values fits)) in
     omega (arith, so_far, sum_by_more_le entry_size wire i nowhere inside, full_len_of_wire def)
 
--- ---- a walk along the wire by the places of its fields
+-- ---- a loop over the fields in wire order, by their indices
 
 pub within_wire : (def : Definition) (order : List ℕ) (i : ℕ) → order ≡ map place_of (wire_order def) → i < length order → i < length (wire_order def)
 within_wire def order i in_order inside = omega (arith, ap length in_order, length-map (wire_order def) place_of)
 
--- the entry at an index is the field that was found by its place
+-- the entry at a position of the wire is the field that was found by its index
 pub entry_at : (def : Definition) (order : List ℕ) (i : ℕ) (field : Field) → order ≡ map place_of (wire_order def) → i < length order → slice_get (all_fields def) (get_or order i 0) ≡ Some field → get_or (wire_order def) i nowhere ≡ (get_or order i 0, field)
 entry_at def order i field in_order inside got =
     let wire = wire_order def in

@@ -45,7 +45,7 @@ step_back xs len more inside zero_there =
     let some : 0 < length (take (len - 1) xs) = omega (arith, length-take-le (len - 1) xs (omega arith)) in
     sym (ap truncated (last_of xs len (omega arith) inside ∙ ap (λ (y : ℕ). take (len - 1) xs ++ y ∷ []) zero_there) ∙ truncated_zero (take (len - 1) xs) some)
 
--- no step is left where the last byte isn't a zero, or is the first
+-- no step is left if the last byte isn't a zero, or is the first
 pub stop_other : (xs : List ℕ) (len : ℕ) → 1 ≤ len → len ≤ length xs → get_or xs (len - 1) 0 ≢ 0 → length (truncated (take len xs)) ≡ len
 stop_other xs len some inside other =
     let whole : truncated (take len xs) ≡ take len xs = ap truncated (last_of xs len some inside) ∙ (truncated_other (take (len - 1) xs) (get_or xs (len - 1) 0) other ∙ sym (last_of xs len some inside)) in
@@ -56,7 +56,7 @@ stop_short xs len short inside =
     let taken = length-take-le len xs inside in
     ap length (truncated_short (take len xs) (omega (arith, taken))) ∙ taken
 
--- ---- zeros behind the truncated payload give the payload back
+-- ---- zeros after the truncated payload give the payload back
 
 kept_padded : (x : ℕ) (t xs : List ℕ) → xs ≡ t ++ replicate (length xs - length t) 0 → x ∷ xs ≡ kept x t ++ replicate (length (x ∷ xs) - length (kept x t)) 0
 kept_padded x [] xs padded =
@@ -102,7 +102,7 @@ padded_same xs size fits =
     let count : few + (size - length xs) ≡ size - length t = omega (arith, truncated_le xs) in
     ap (λ (l : List ℕ). l ++ replicate (size - length xs) 0) (truncated_padded xs) ∙ (append_assoc t (replicate few 0) (replicate (size - length xs) 0) ∙ (ap (λ (l : List ℕ). t ++ l) (replicate-append-replicate few (size - length xs) 0) ∙ ap (λ (n : ℕ). t ++ replicate n 0) count))
 
--- ---- zeros at the end can't be told from bytes past the end
+-- ---- zeros at the end can't be distinguished from bytes past the end
 
 zeros_are : (m k : ℕ) → let zero_byte : ℕ = 0 in get_or (replicate m zero_byte) k zero_byte ≡ zero_byte
 zeros_are zero k = refl

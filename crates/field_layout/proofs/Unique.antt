@@ -59,7 +59,7 @@ same_field field vs ws fits_v fits_w same =
 
 -- ---- values from their serialised payload
 
--- the words at each place are the same
+-- the words at each index are the same
 same_at : (def : Definition) (v w : List (List ℕ)) → FitsLayout def v → FitsLayout def w → serialised def v ≡ serialised def w → (place : ℕ) → place < length (all_fields def) → words_at v place ≡ words_at w place
 same_at def v w fits_v fits_w same place inside =
     let s : Stands def place = each_stands def place inside in

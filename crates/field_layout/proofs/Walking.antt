@@ -1,4 +1,4 @@
--- A walk along the wire by the places of its fields: what stands at an index, and the sizes still to come.
+-- A loop over the fields in wire order, by their indices: the entry at a position, and the sizes still to come.
 use Rattle.std.proofs.Common.{◌≡◌, ◌≢◌, ℕ, zero, suc, ◌+◌, ◌-◌, ◌<◌, ◌≤◌, ◌==◌, not, Bool, true, false, List, [], ◌∷◌, ◌++◌, length, get_or, take, drop, map, Some, sym, ap, ◌∙◌, refl, cond, arith, eqb, append_assoc, add-zero, zero-add}
 use Rattle.std.specs.Prelude.{slice_get, filter, take_while, All}
 use Rattle.std.specs.List.{sum_by, prefix_len, flat_map, enumerate_from, range_with_len}
@@ -19,11 +19,11 @@ use Rattle.field_layout.specs.WireOrder.{Placed, place_of, of_size, base_order, 
 use Rattle.field_layout.specs.CrcExtra.{spaced, field_text}
 use Rattle.field_layout.proofs.Placing.{IsEntry, entry_size, places_from, base_order_entries, wire_entries, full_len_of_wire}
 
--- an entry for where there is none
+-- a placeholder entry, for a position past the end
 abbrev pub nowhere : Placed
 nowhere = (0, record { ty = U8; len = 0; name = [] })
 
--- the place that stands at an index is that of a field
+-- the index at a position of the wire is that of a field
 pub place_in_range : (def : Definition) (entries : List Placed) (k : ℕ) → All (IsEntry def) entries → k < length entries → get_or (map place_of entries) k 0 < length (all_fields def)
 place_in_range def entries k all inside =
     rw (get_or-map place_of entries k nowhere 0 inside) (slice_get_within (all_fields def) (get_or entries k nowhere).0 (get_or entries k nowhere).1 (all k nowhere inside))
@@ -34,7 +34,7 @@ field_here def entries k field all inside got =
     let same : get_or (map place_of entries) k 0 ≡ (get_or entries k nowhere).0 = get_or-map place_of entries k nowhere 0 inside in
     same_Some (get_or entries k nowhere).1 field (sym (all k nowhere inside) ∙ (ap (slice_get (all_fields def)) (sym same) ∙ got))
 
--- ---- the sizes before a place, of the entries still to come
+-- ---- the sizes before an index, of the entries still to come
 
 abbrev pub rest_size : ℕ → List Placed → ℕ
 rest_size place entries = sum_by entry_size (take_while (λ (field : Placed). not (field.0 == place)) entries)
@@ -59,7 +59,7 @@ pub offset_bound : (def : Definition) (place : ℕ) → offset_of def place ≤ 
 offset_bound def place =
     omega (arith, sum_by-take-le entry_size (wire_order def) (prefix_len (λ (field : Placed). not (field.0 == place)) (wire_order def)), full_len_of_wire def)
 
--- one entry on, at another place
+-- one entry on, at another index
 pub offset_step : (def : Definition) (order : List ℕ) (place i sum : ℕ) (field : Field) → order ≡ map place_of (wire_order def) → sum + rest_size place (drop i (wire_order def)) ≡ offset_of def place → i < length order → slice_get (all_fields def) (get_or order i 0) ≡ Some field → get_or order i 0 ≢ place → (sum + size_of field) + rest_size place (drop (i + 1) (wire_order def)) ≡ offset_of def place
 offset_step def order place i sum field in_order so_far inside got differs =
     let wire = wire_order def in
@@ -71,7 +71,7 @@ offset_step def order place i sum field in_order so_far inside got differs =
     let next : rest_size place (drop i wire) ≡ entry_size (get_or wire i nowhere) + rest_size place (drop (i + 1) wire) = ap (rest_size place) (drop_more wire i nowhere within) ∙ rest_size_more place (get_or wire i nowhere) (drop (i + 1) wire) other in
     omega (arith, next, so_far, ap size_of same)
 
--- the entry of the place itself
+-- the entry of the index itself
 pub offset_found : (def : Definition) (order : List ℕ) (place i sum : ℕ) → order ≡ map place_of (wire_order def) → sum + rest_size place (drop i (wire_order def)) ≡ offset_of def place → i < length order → get_or order i 0 ≡ place → sum ≡ offset_of def place
 offset_found def order place i sum in_order so_far inside found =
     let wire = wire_order def in
@@ -88,7 +88,7 @@ offset_ended def order place i sum in_order so_far past =
     let stop : rest_size place (drop i wire) ≡ 0 = ap (rest_size place) none in
     omega (arith, stop, so_far)
 
--- ---- lists of places that grow by one
+-- ---- lists of indices that grow by one
 
 -- the fields of one size among one more field
 pub places_more : (fields : List Field) (size i : ℕ) (field : Field) → i < length fields → get_or fields i field ≡ field → of_size size (take (i + 1) (enumerate_from 0 fields)) ≡ of_size size (take i (enumerate_from 0 fields)) ++ cond (element_size field.ty == size) ((i, field) ∷ []) []
@@ -111,7 +111,7 @@ pub flat_map_more : (f : Placed → List ℕ) (entries : List Placed) (i : ℕ) 
 flat_map_more f entries i inside =
     ap (flat_map f) (take_more entries i nowhere inside) ∙ (flat_map-append f (take i entries) (get_or entries i nowhere ∷ []) ∙ ap (λ (l : List ℕ). flat_map f (take i entries) ++ l) (append-nil (f (get_or entries i nowhere))))
 
--- a field of that size adds its place
+-- a field of that size adds its index
 pub places_taken : (fields : List Field) (size i : ℕ) (field : Field) → i < length fields → get_or fields i field ≡ field → element_size field.ty ≡ size → map place_of (of_size size (take (i + 1) (enumerate_from 0 fields))) ≡ map place_of (of_size size (take i (enumerate_from 0 fields))) ++ i ∷ []
 places_taken fields size i field inside is fits =
     let before = of_size size (take i (enumerate_from 0 fields)) in
@@ -132,7 +132,7 @@ range_to n k above =
     let last : n + (k - n) ≡ k = omega arith in
     ap (range_with_len n) longer ∙ (range_push n (k - n) ∙ ap (λ (m : ℕ). range_with_len n (k - n) ++ m ∷ []) last)
 
--- the places of the whole wire are those of the base fields, and then the extensions' in order
+-- the indices of the whole wire are those of the base fields, and then the extensions' in order
 pub wire_places : (def : Definition) → map place_of (wire_order def) ≡ map place_of (base_order def) ++ range_with_len (length def.fields) (length def.extensions)
 wire_places def =
     map-append place_of (base_order def) (enumerate_from (length def.fields) def.extensions) ∙ ap (λ (l : List ℕ). map place_of (base_order def) ++ l) (places_from (length def.fields) def.extensions)

@@ -6,7 +6,7 @@ use Rattle.field_layout.specs.Types.{type_name}
 use Rattle.field_layout.specs.Definition.{Definition}
 use Rattle.field_layout.specs.WireOrder.{Placed, base_order}
 
--- a name and the space behind it
+-- a name and the space after it
 abbrev pub spaced : List ℕ → List ℕ
 spaced name = name ++ 32 ∷ []
 

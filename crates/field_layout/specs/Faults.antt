@@ -14,11 +14,11 @@ names_of def = map (λ (field : Field). field.name) (all_fields def)
 abbrev pub name_at : List (List ℕ) → ℕ → List ℕ
 name_at names place = slice_index_or names place []
 
--- whether an earlier place has the name at this one
+-- whether an earlier index has the name at this one
 abbrev pub repeats_at : List (List ℕ) → ℕ → Bool
 repeats_at names place = list_any (bytes_eq (name_at names place)) (take place names)
 
--- the first place whose name an earlier place has
+-- the first index whose name an earlier index has
 abbrev pub first_repeat : List (List ℕ) → Option ℕ
 first_repeat names = find (repeats_at names) (range_with_len 0 (length names))
 
@@ -26,12 +26,12 @@ first_repeat names = find (repeats_at names) (range_with_len 0 (length names))
 abbrev pub length_fault : ℕ → Option LayoutFault
 length_fault len = if nat_lt 255 len then Some (TooLong len) else None
 
--- a name that stands twice comes before the length
+-- a repeated name comes before the length
 abbrev pub name_fault : List (List ℕ) → ℕ → Option ℕ → Option LayoutFault
 name_fault names len (Some place) = Some (TwiceNamed (name_at names place))
 name_fault names len None = length_fault len
 
--- the first fault, or none: no base field, a name that stands twice, more than 255 bytes
+-- the first fault, or none: no base field, a repeated name, more than 255 bytes
 abbrev pub first_fault : Definition → Option LayoutFault
 first_fault def =
     if length def.fields == 0 then Some NoFields else name_fault (names_of def) (full_len_of def) (first_repeat (names_of def))

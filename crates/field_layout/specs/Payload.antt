@@ -15,7 +15,7 @@ le_bytes (suc size) word = word % 256 ∷ le_bytes size (word / 256)
 abbrev pub field_bytes : Field → List ℕ → List ℕ
 field_bytes field words = flat_map (le_bytes (element_size field.ty)) words
 
--- the words of the field at a place, in definition order
+-- the words of the field at an index, in definition order
 abbrev pub words_at : List (List ℕ) → ℕ → List ℕ
 words_at values place = slice_index_or values place []
 
@@ -36,7 +36,7 @@ pub record Represents (def : Definition) (payload : List ℕ) (values : List (Li
   pub fits : FitsLayout def values
   pub bytes : (k : ℕ) → k < full_len_of def → slice_index payload k ≡ slice_index (serialised def values) k
 
--- a byte in front of what is kept behind it: a zero at the end isn't kept
+-- a byte before what is kept after it: a zero at the end isn't kept
 abbrev pub kept : ℕ → List ℕ → List ℕ
 kept byte [] = if byte == 0 then [] else byte ∷ []
 kept byte (next ∷ rest) = byte ∷ next ∷ rest

@@ -2,7 +2,7 @@
 use Rattle.std.specs.Prelude.{ℕ, zero, suc, ◌+◌, ◌*◌, List, map, slice_index}
 use Rattle.std.specs.List.{range_with_len}
 
--- the word of `size` bytes from a place on, lowest byte first
+-- the word of `size` bytes from an offset on, lowest byte first
 abbrev pub word_from : List ℕ → ℕ → ℕ → ℕ
 word_from payload at zero = 0
 word_from payload at (suc size) = slice_index payload at + 256 * word_from payload (at + 1) size

@@ -1,4 +1,4 @@
--- What a layout keeps beside its definition, each determined by it.
+-- What a layout keeps besides its definition, which determines each of its tables.
 use Rattle.std.specs.Prelude.{◌≡◌, length, map, codes, None}
 use Rattle.std.specs.List.{range_with_len}
 use Rattle.field_layout.specs.declared.layout.Layout.TheInside.{Inside}

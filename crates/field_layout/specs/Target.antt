@@ -16,11 +16,11 @@ is_uint8 _ = false
 abbrev pub is_target : List ℕ → Field → Bool
 is_target name field = is_uint8 field.ty && field.len == 0 && bytes_eq field.name name
 
--- the offset of that target field, base or extension, where there is one
+-- the offset of that target field, base or extension, if there is one
 abbrev pub target_offset : List ℕ → Definition → Option ℕ
 target_offset name def = option_map (offset_of def) (position (is_target name) (all_fields def))
 
--- the payload's byte there, 0 where there is no such field or the payload ends before it
+-- the payload's byte there, 0 if there is no such field or the payload ends before it
 abbrev pub target_byte : Option ℕ → List ℕ → ℕ
 target_byte None payload = 0
 target_byte (Some offset) payload = slice_index payload offset

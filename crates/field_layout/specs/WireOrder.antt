@@ -5,7 +5,7 @@ use Rattle.field_layout.specs.declared.fields.Field.{Field}
 use Rattle.field_layout.specs.Types.{element_size}
 use Rattle.field_layout.specs.Definition.{Definition, size_of}
 
--- a field with its place in definition order, extensions counted after the base fields
+-- a field with its index in definition order, extensions counted after the base fields
 abbrev pub Placed : Type 0
 Placed = ℕ × Field
 
@@ -28,7 +28,7 @@ base_order def = by_size (enumerate_from 0 def.fields)
 abbrev pub wire_order : Definition → List Placed
 wire_order def = base_order def ++ enumerate_from (length def.fields) def.extensions
 
--- where a field begins in the payload: the sizes of the fields before it in wire order
+-- the offset of a field in the payload: the sizes of the fields before it in wire order
 abbrev pub offset_of : Definition → ℕ → ℕ
 offset_of def place =
     sum_by (λ (field : Placed). size_of field.1) (take_while (λ (field : Placed). not (field.0 == place)) (wire_order def))

@@ -30,7 +30,7 @@ impl From<NoMemory> for LayoutFault {
     }
 }
 
-// Whether an earlier field has the name of the field at a place.
+// Whether an earlier field has the name of the field at an index.
 fn repeats(def: &MessageDef, place: usize) -> bool
     requires { place < length (all_fields def.now) }
     ensures { result ≡ repeats_at (names_of def.now) place }
@@ -44,7 +44,7 @@ fn repeats(def: &MessageDef, place: usize) -> bool
     false
 }
 
-/// The first place whose name an earlier place has.
+/// The first index whose name an earlier index has.
 pub(crate) fn repeated_place(def: &MessageDef) -> Option<usize>
     ensures first { result ≡ first_repeat (names_of def.now) }
     ensures within { IfSome result (λ place. place < length (all_fields def.now)) }

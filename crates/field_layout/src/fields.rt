@@ -82,7 +82,7 @@ impl MessageDef {
         self.fields.len() + self.extensions.len()
     }
 
-    /// The field at a place in definition order, extensions last.
+    /// The field at an index in definition order, extensions last.
     pub fn field(&self, place: usize) -> &Field
         requires { place < length (all_fields self.now) }
         ensures { slice_get (all_fields self.now) place ≡ Some result.now }
@@ -103,7 +103,7 @@ impl MessageDef {
         byte_len(&self.fields)
     }
 
-    /// The name of the field at a place, moved out.
+    /// The name of the field at an index, moved out.
     pub(crate) fn into_name(self, place: usize) -> Label
         requires { place < length (all_fields self) }
         ensures { result ≡ name_at (names_of self) place }

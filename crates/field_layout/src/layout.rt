@@ -43,7 +43,7 @@ impl Model for Layout {
 }
 
 impl Layout {
-    /// Lays a message out. The first fault is answered: no base field, a name that stands twice, more than 255
+    /// Lays a message out. The first fault is returned: no base field, a repeated name, more than 255
     /// bytes, and only then want of memory.
     pub fn of(def: MessageDef) -> Result<Layout, LayoutFault>
         ensures fault { IfSome (first_fault def) (λ fault. result ≡ Err fault) }
@@ -120,7 +120,7 @@ impl Layout {
         self.full_len
     }
 
-    /// Where a field, in definition order, begins in the payload.
+    /// The offset of a field, in definition order, in the payload.
     pub fn offset(&self, field: usize) -> u8
         requires { field < length (all_fields self.now) }
         ensures { result ≡ offset_of self.now field }
@@ -129,7 +129,7 @@ impl Layout {
         offsets[field]
     }
 
-    /// The places of the fields in wire order.
+    /// The indices of the fields in wire order.
     pub fn order(&self) -> &[usize]
         ensures { result.now ≡ map place_of (wire_order self.now) }
     {
@@ -145,7 +145,7 @@ impl Layout {
     }
 
     /// The node that a message with this payload is for: its fields `target_system` and `target_component`, each 0
-    /// where it is absent (MAVLink guide, Routing).
+    /// if it is absent (MAVLink guide, Routing).
     pub fn target(&self, payload: &[u8]) -> Name
         ensures { result ≡ target_of self.now payload.now }
     {

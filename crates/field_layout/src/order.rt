@@ -9,7 +9,7 @@ ghost use Rattle.field_layout.specs.CrcExtra.{spaced, field_text, crc_extra_of};
 use crate::{Field, MessageDef, NoMemory};
 use x25_check::X25;
 
-// Appends the places of the fields whose elements have that size.
+// Appends the indices of the fields whose elements have that size.
 fn push_places(order: &mut Vec<usize>, fields: &[Field], size: usize) -> Result<(), NoMemory>
     ensures { OnOk result
         (order.new.items ≡ order.old.items ++ map place_of (of_size size (enumerate_from 0 fields.now))) }
@@ -22,7 +22,7 @@ fn push_places(order: &mut Vec<usize>, fields: &[Field], size: usize) -> Result<
     Ok(())
 }
 
-// Appends the places of the base fields in wire order.
+// Appends the indices of the base fields in wire order.
 fn push_base(order: &mut Vec<usize>, def: &MessageDef) -> Result<(), NoMemory>
     requires { order.old.items ≡ [] }
     ensures { OnOk result (order.new.items ≡ map place_of (base_order def.now)) }
@@ -33,7 +33,7 @@ fn push_base(order: &mut Vec<usize>, def: &MessageDef) -> Result<(), NoMemory>
     push_places(order, &def.fields, 1)
 }
 
-// Appends the places of the extensions to those of the base fields.
+// Appends the indices of the extensions to those of the base fields.
 fn push_extensions(order: &mut Vec<usize>, def: &MessageDef) -> Result<(), NoMemory>
     requires { order.old.items ≡ map place_of (base_order def.now) }
     ensures { OnOk result (order.new.items ≡ map place_of (wire_order def.now)) }
@@ -44,7 +44,7 @@ fn push_extensions(order: &mut Vec<usize>, def: &MessageDef) -> Result<(), NoMem
     Ok(())
 }
 
-// Appends the places of the fields in wire order, and answers the CRC_EXTRA.
+// Appends the indices of the fields in wire order, and returns the CRC_EXTRA.
 fn push_wire_order(order: &mut Vec<usize>, def: &MessageDef) -> Result<u8, NoMemory>
     requires { order.old.items ≡ [] }
     ensures order { OnOk result (order.new.items ≡ map place_of (wire_order def.now)) }
@@ -56,7 +56,7 @@ fn push_wire_order(order: &mut Vec<usize>, def: &MessageDef) -> Result<u8, NoMem
     Ok(crc_extra)
 }
 
-// The sizes of the fields before a place in wire order.
+// The sizes of the fields before an index in wire order.
 fn offset_in(def: &MessageDef, order: &[usize], place: usize) -> usize
     requires in_order { order.now ≡ map place_of (wire_order def.now) }
     requires short { full_len_of def.now ≤ 255 }
@@ -87,7 +87,7 @@ fn offset_table(def: &MessageDef, order: &[usize]) -> Result<Vec<u8>, NoMemory>
     Ok(table)
 }
 
-// Pushes a name and the space behind it.
+// Pushes a name and the space after it.
 fn push_spaced(check: &mut X25, name: &[u8])
     ensures { check.new ≡ check_from check.old (spaced name.now) }
 {
@@ -106,7 +106,7 @@ fn push_field(check: &mut X25, field: &Field)
     }
 }
 
-// The CRC_EXTRA of a message, from the places of its base fields in wire order.
+// The CRC_EXTRA of a message, from the indices of its base fields in wire order.
 fn crc_extra(def: &MessageDef, base: &[usize]) -> u8
     requires { base.now ≡ map place_of (base_order def.now) }
     ensures { result ≡ crc_extra_of def.now }

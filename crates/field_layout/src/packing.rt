@@ -32,7 +32,7 @@ fn truncated_len(payload: &[u8]) -> usize
     len
 }
 
-/// Writes the payload of values that fit the layout into `out`, with zeros behind it, and answers its length without
+/// Writes the payload of values that fit the layout into `out`, with zeros after it, and returns its length without
 /// the zeros at its end, which is at least 1 (MAVLink guide, Packet Serialization: Empty-Byte Payload Truncation).
 pub fn pack(layout: &Layout, values: &Values, out: &mut [u8; 255]) -> u8
     requires { FitsLayout layout.now values.now }

@@ -1,4 +1,4 @@
-// Where a message names the node that it is for.
+// The node that a message is for.
 ghost use Rattle.std.specs.Prelude.{◌≡◌, length, map};
 ghost use Rattle.std.specs.List.{range_with_len};
 ghost use Rattle.field_layout.specs.Definition.{all_fields};
@@ -15,7 +15,7 @@ fn is_target(field: &Field, name: &[u8]) -> bool
     matches!(field.ty, Ty::U8) && field.len == 0 && field.name.bytes() == name
 }
 
-/// The offset of the target field of that name, where there is one.
+/// The offset of the target field of that name, if there is one.
 pub(crate) fn target_offset(def: &MessageDef, offsets: &[u8], name: &[u8]) -> Option<u8>
     requires { offsets.now ≡ map (offset_of def.now) (range_with_len 0 (length (all_fields def.now))) }
     ensures { result ≡ target.target_offset name.now def.now }
@@ -28,7 +28,7 @@ pub(crate) fn target_offset(def: &MessageDef, offsets: &[u8], name: &[u8]) -> Op
     None
 }
 
-/// The byte of a payload at a target field, 0 where there is none or the payload ends before it.
+/// The byte of a payload at a target field, 0 if there is none or the payload ends before it.
 pub(crate) fn target_byte(offset: Option<u8>, payload: &[u8]) -> u8
     ensures { result ≡ target.target_byte offset payload.now }
 {

@@ -6,14 +6,14 @@ ghost use Rattle.field_layout.specs.Reading.{word_from, words_from};
 use crate::{Layout, NoMemory, Values};
 use std::alloc::Global;
 
-/// The byte at a place of a payload, 0 past its end.
+/// The byte at an offset of a payload, 0 past its end.
 pub(crate) fn byte_at(payload: &[u8], at: usize) -> u8
     ensures { result ≡ slice_index payload.now at }
 {
     payload.get(at).copied().unwrap_or(0)
 }
 
-// The word of `size` bytes from a place on, lowest byte first.
+// The word of `size` bytes from an offset on, lowest byte first.
 fn read_word(payload: &[u8], at: usize, size: usize) -> u64
     requires size { size ≤ 8 }
     requires within { at + size ≤ 255 }

@@ -1,4 +1,4 @@
--- An answer of `look` is an event.
+-- A result of `look` is an event.
 use Rattle.std.proofs.Common.{◌≡◌, Bool, ℕ, zero, suc, ◌<◌, ◌≤◌, List, [], ◌∷◌, ◌++◌, length, take, drop, slice_index, sym, ap, ◌∙◌, take-append-drop, drop-cons, arith}
 use Rattle.mav_frame.specs.Packet.{Packet, FitsFrame}
 use Rattle.mav_frame.specs.Encoding.{encoding, Encodes}

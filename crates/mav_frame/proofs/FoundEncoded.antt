@@ -20,7 +20,7 @@ use Rattle.mav_frame.specs.declared.looks.Why.TheVariants.{NotStx, UnknownFlag, 
 abbrev pub IsBytes : List ℕ → Type 0
 IsBytes b = (i : ℕ) → get_or b i 0 < 256
 
--- the bytes from a place on
+-- the bytes from an index on
 abbrev listed : ℕ → ℕ → List ℕ → List ℕ
 listed zero i b = []
 listed (suc k) i b = slice_index b i ∷ listed k (i + 1) b
@@ -66,7 +66,7 @@ not_found w p n e = cc
 more_found : (k : ℕ) (p : Packet) (n : ℕ) → More k ≡ Found p n → ⊥
 more_found k p n e = cc
 
--- the facts that a look at a header tells whose answer is a frame
+-- the facts that follow from a look at a header which finds a frame
 pub record Facts (extras : List (ℕ × ℕ)) (v : Bool) (b : List ℕ) : Type 0 where
   pub long : header_size v ≤ length b
   pub extra : ℕ
@@ -91,7 +91,7 @@ facts extras v b p n e =
       a6.2,
     )
 
--- STX of the version and no unknown flag stand there too
+-- the bytes start with STX of the version and no unknown flag
 pub record Starts (v : Bool) (b : List ℕ) : Type 0 where
   pub stx : slice_index b 0 ≡ stx_of v
   pub flag : v ≡ false → slice_index b 2 ≤ 1
@@ -126,7 +126,7 @@ module _ (v : Bool) (b : List ℕ) (h : IsBytes b) where
   all_bytes : All (λ x. x < 256) b
   all_bytes k d l = subst (λ (z : ℕ). z < 256) (get_or_default b k 0 d l) (h k)
 
-  -- the payload that stands after a header of that many bytes
+  -- the payload after a header of that many bytes
   payload_long : offset ≤ length b → length (slice_range b (header_size v) offset) ≡ len
   payload_long e = omega (arith, length-take (offset - header_size v) (drop (header_size v) b), length-drop (header_size v) b)
 
@@ -293,7 +293,7 @@ module _ (extras : List (ℕ × ℕ)) (b : List ℕ) (h : IsBytes b) (f : Facts 
     old = λ bad. absurd (let no_such : false ≡ true = bad in cc);
   }
 
--- a look finds a frame only where its bytes encode it
+-- a look finds a frame only if its bytes encode it
 once_as : (v : Bool) (extras : List (ℕ × ℕ)) (old : Bool) (b : List ℕ) → IsBytes b → Facts extras v b → Starts v b → (v ≡ true → old ≡ true) → (frame_size_at v b ≤ length b) × Encodes extras old (packet_at v b) (take (frame_size_at v b) b) × FitsFrame (packet_at v b)
 once_as true extras old b h f s is = (f.whole, record { sealed = old_sealed extras b h f s old (is refl); bytes = old_encoded extras b h f s }, old_fits extras b h f s)
 once_as false extras old b h f s is = (f.whole, record { sealed = new_sealed extras b h f s old; bytes = new_encoded extras b h f s }, new_fits extras b h f s)

@@ -1,4 +1,4 @@
--- More bytes change no event, and a parse goes on event by event.
+-- More bytes change no event, and a parse continues event by event.
 use Rattle.std.proofs.Common.{◌≡◌, Bool, ℕ, List, [], ◌∷◌, ◌++◌, refl, sym, ap, ◌∙◌, subst, ⊎_elim, append_assoc}
 use Rattle.std.specs.Prelude.{flat_map}
 use Rattle.mav_frame.specs.Packet.{Packet}
@@ -31,7 +31,7 @@ module _ (extras : List (ℕ × ℕ)) (old : Bool) (b more : List ℕ) where
   never_incomplete (NotHere w) e never h = let l = lacks extras old (b ++ more) h in not_more w l.0 (sym (stays extras old b more (NotHere w) (not_more w) e) ∙ l.1)
   never_incomplete (More k) e never h = never (incomplete extras old b k e)
 
--- no frame is encoded where the table has a reason, nor where it lacks bytes
+-- no frame is encoded if the table has a reason, nor if it lacks bytes
 pub no_frame : (extras : List (ℕ × ℕ)) (old : Bool) (b : List ℕ) (r : Look) → look_of extras old b ≡ r → ((p : Packet) (n : ℕ) → r ≡ Found p n → ⊥) → NoFrame extras old b
 no_frame extras old b r e never p front rest f s is = never p _ (sym e ∙ found extras old p b rest f s.sealed (is ∙ ap (λ (l : List ℕ). l ++ rest) s.bytes))
 

@@ -222,7 +222,7 @@ module _ (extras : List (ℕ × ℕ)) (b : List ℕ) where
       (λ (t : ((nat_lt 0 (length b) && not (slice_index b 0 == 0xFD)) ≡ false) × (after_stx ≡ NotHere w)). reason_stx (of_first_false (length b) (slice_index b 0) t.0) w t.1)
       (tested (nat_lt 0 (length b) && not (slice_index b 0 == 0xFD)) _ _ (NotHere w) e)
 
--- ---- of the version whose STX stands there
+-- ---- of the version whose STX comes first
 
 old_stx : (old : Bool) (b : List ℕ) → is_old_at old b ≡ true → slice_index b 0 ≡ 0xFE
 old_stx true b e = equal_of (slice_index b 0) 0xFE e

@@ -7,7 +7,7 @@ use Rattle.mav_frame.specs.declared.looks.Why.TheVariants.{Short}
 use Rattle.mav_frame.specs.declared.events.Event.{Event}
 use Rattle.mav_frame.specs.declared.events.Event.TheVariants.{Frame, Skipped}
 
--- the event of what stands at the start, and then those of the rest
+-- the event at the start, and then those of the rest
 abbrev pub events_by : Look → List ℕ → (List ℕ → List Event) → List Event
 events_by (Found packet size) b rest = Frame packet ∷ rest (drop size b)
 events_by (NotHere why) b rest = Skipped (slice_index b 0) why ∷ rest (drop 1 b)

@@ -1,4 +1,4 @@
--- What stands at the start of some bytes, in the order of the tests.
+-- What is at the start of some bytes, in the order of the tests.
 use Rattle.std.specs.Prelude.{ℕ, ◌+◌, ◌-◌, ◌==◌, ◌&&◌, ◌∷◌, [], ◌++◌, Bool, true, false, List, length, slice_index, slice_range, nat_lt, not, Option, Some, None, if◌then◌else◌}
 use Rattle.x25_check.specs.Check.{check}
 use Rattle.x25_check.specs.Extras.{extra_of}
@@ -90,7 +90,7 @@ look_header extras old b =
     if nat_lt (length b) (header_size old) then More (header_size old - length b)
     else look_id old (extra_of (id_at old b) extras) b
 
--- as a frame of MAVLink 1, whose STX stands there, or of MAVLink 2
+-- as a frame of MAVLink 1, whose STX comes first, or of MAVLink 2
 abbrev pub look_as : List (ℕ × ℕ) → Bool → List ℕ → Look
 look_as extras true b = look_header extras true b
 look_as extras false b =

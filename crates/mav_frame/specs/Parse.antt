@@ -22,7 +22,7 @@ pub record IsIncompleteAs (extras : List (ℕ × ℕ)) (is_old : Bool) (b : List
   pub known : header_size is_old ≤ length b → IsSome (extra_of (id_at is_old b) extras)
   pub short : header_size is_old ≤ length b → length b < frame_size_at is_old b
 
--- an incomplete frame of the version whose STX stands there
+-- an incomplete frame of the version whose STX comes first
 abbrev pub IsIncomplete : List (ℕ × ℕ) → Bool → List ℕ → Type 0
 IsIncomplete extras old b = IsIncompleteAs extras (is_old_at old b) b
 
@@ -62,19 +62,19 @@ abbrev pub Final : List (ℕ × ℕ) → Bool → List Event → List ℕ → Ty
 Final extras old [] b = b ≡ []
 Final extras old (event ∷ events) b = (rest : List ℕ) × EventAt extras old event b rest × Final extras old events rest
 
--- the incremental parse: the events go on until all that is left is an incomplete frame, or nothing
+-- the incremental parse: the events continue until all that is left is an incomplete frame, or nothing
 abbrev pub Incremental : List (ℕ × ℕ) → Bool → List Event → List ℕ → List ℕ → Type 0
 Incremental extras old [] left b = (left ≡ b) × IsIncomplete extras old b
 Incremental extras old (event ∷ events) left b =
     (IsIncomplete extras old b → ⊥) × ((rest : List ℕ) × EventAt extras old event b rest × Incremental extras old events left rest)
 
--- the events begin the incremental parse of the bytes, and this is left
+-- the events are a prefix of the incremental parse of the bytes, and this is left
 abbrev pub BeginsIncremental : List (ℕ × ℕ) → Bool → List Event → List ℕ → List ℕ → Type 0
 BeginsIncremental extras old [] left b = b ≡ left
 BeginsIncremental extras old (event ∷ events) left b =
     (IsIncomplete extras old b → ⊥) × ((rest : List ℕ) × EventAt extras old event b rest × BeginsIncremental extras old events left rest)
 
--- the events begin the final parse of the bytes, and this is left
+-- the events are a prefix of the final parse of the bytes, and this is left
 abbrev pub BeginsFinal : List (ℕ × ℕ) → Bool → List Event → List ℕ → List ℕ → Type 0
 BeginsFinal extras old [] left b = b ≡ left
 BeginsFinal extras old (event ∷ events) left b = (rest : List ℕ) × EventAt extras old event b rest × BeginsFinal extras old events left rest

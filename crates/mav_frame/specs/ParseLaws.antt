@@ -27,22 +27,22 @@ abbrev pub MoreBytesKeep : Type 0
 MoreBytesKeep =
     (extras : List (ℕ × ℕ)) (old : Bool) (events : List Event) (left b more : List ℕ) → BeginsIncremental extras old events left b → BeginsIncremental extras old events (left ++ more) (b ++ more)
 
--- a beginning of the incremental parse goes on by the event at the start of what is left
+-- a prefix of the incremental parse continues by the event at the start of what is left
 abbrev pub IncrementalGoesOn : Type 0
 IncrementalGoesOn =
     (extras : List (ℕ × ℕ)) (old : Bool) (events : List Event) (event : Event) (left rest b : List ℕ) → BeginsIncremental extras old events left b → (IsIncomplete extras old left → ⊥) → EventAt extras old event left rest → BeginsIncremental extras old (events ++ event ∷ []) rest b
 
--- it is whole where what is left is an incomplete frame
+-- it is whole if what is left is an incomplete frame
 abbrev pub IncrementalEnds : Type 0
 IncrementalEnds =
     (extras : List (ℕ × ℕ)) (old : Bool) (events : List Event) (left b : List ℕ) → BeginsIncremental extras old events left b → IsIncomplete extras old left → Incremental extras old events left b
 
--- a beginning of the final parse goes on by the event at the start of what is left
+-- a prefix of the final parse continues by the event at the start of what is left
 abbrev pub FinalGoesOn : Type 0
 FinalGoesOn =
     (extras : List (ℕ × ℕ)) (old : Bool) (events : List Event) (event : Event) (left rest b : List ℕ) → BeginsFinal extras old events left b → EventAt extras old event left rest → BeginsFinal extras old (events ++ event ∷ []) rest b
 
--- it is whole where nothing is left
+-- it is whole if nothing is left
 abbrev pub FinalEnds : Type 0
 FinalEnds =
     (extras : List (ℕ × ℕ)) (old : Bool) (events : List Event) (b : List ℕ) → BeginsFinal extras old events [] b → Final extras old events b
@@ -52,7 +52,7 @@ abbrev pub IncrementalBeginsFinal : Type 0
 IncrementalBeginsFinal =
     (extras : List (ℕ × ℕ)) (old : Bool) (events : List Event) (left b : List ℕ) → BeginsIncremental extras old events left b → BeginsFinal extras old events left b
 
--- the answer `More` is that of an incomplete frame, and of nothing else
+-- the result `More` is that of an incomplete frame, and of nothing else
 abbrev pub IncompleteIsMore : Type 0
 IncompleteIsMore =
     (extras : List (ℕ × ℕ)) (old : Bool) (b : List ℕ) → IsIncomplete extras old b ↔ ((k : ℕ) × (look_of extras old b ≡ More k))
@@ -72,7 +72,7 @@ abbrev pub IsNew : Event → Type 0
 IsNew (Frame packet) = packet.old ≡ false
 IsNew (Skipped byte why) = Unit {0}
 
--- where frames of MAVLink 1 aren't read, none is in a parse
+-- if frames of MAVLink 1 aren't read, none is in a parse
 abbrev pub OldFramesUnread : Type 0
 OldFramesUnread =
     (extras : List (ℕ × ℕ)) (events : List Event) (b : List ℕ) → Final extras false events b → All IsNew events

@@ -1,4 +1,4 @@
-// What stands at the start of some bytes.
+// What is at the start of some bytes.
 ghost use Rattle.std.specs.Prelude.{◌≡◌, ◌+◌, ◌≤◌, ◌++◌, ℕ, List, length, take, drop, false, true};
 ghost use Rattle.mav_frame.specs.Padding.{IsPadded};
 ghost use Rattle.mav_frame.specs.Packet.{Packet, FitsFrame};
@@ -25,9 +25,9 @@ const BLOCK_BYTES: usize = 13;
 /// What the bytes begin with: the tests go from left to right, and none needs a byte after the one that decides it.
 /// Frames of MAVLink 1 are read if `old` says so.
 pub fn look(extras: &Extras, old: bool, bytes: &[u8]) -> Look
-    // The answer, in the order of the tests.
+    // The result, in the order of the tests.
     ensures exact { result ≡ look_of extras.now old bytes.now }
-    // What is found is encoded by the bytes in front.
+    // What is found is encoded by the bytes at the start.
     ensures found { IfFrame result (λ packet size. (size ≤ length bytes.now) × Encodes extras.now old packet (take size bytes.now) × FitsFrame packet) }
     // What is encoded there is found, whatever follows.
     ensures only { (packet : Packet) (rest : List ℕ) → FitsFrame packet → IsSealed extras.now old packet → bytes.now ≡ encoding packet ++ rest → result ≡ Look.Frame packet (length (encoding packet)) }
@@ -50,13 +50,13 @@ fn answer(extras: &Extras, old: bool, bytes: &[u8]) -> Look
 pub fn check_frame<T: CrcExtras>(extras: &T, old: bool, bytes: &[u8]) -> FrameCheck
     ensures exact { look_by result (is_old_at old bytes.now) bytes.now ≡ look_of (T.pairs extras.now) old bytes.now }
     ensures whole { IfWhole result (λ size. frame_size_at (is_old_at old bytes.now) bytes.now ≤ length bytes.now) }
-    // The bytes in front encode a frame.
+    // The bytes at the start encode a frame.
     ensures found { IfWhole result (λ size. (size ≤ length bytes.now) × Encodes (T.pairs extras.now) old (packet_at (is_old_at old bytes.now) bytes.now) (take size bytes.now) × FitsFrame (packet_at (is_old_at old bytes.now) bytes.now)) }
 {
     checked(extras, old, bytes)
 }
 
-/// The frame that stands at the start of the bytes, if one does.
+/// The frame at the start of the bytes, if there is one.
 pub fn frame_at(old: bool, bytes: &[u8]) -> Frame
     requires { frame_size_at (is_old_at old bytes.now) bytes.now ≤ length bytes.now }
     ensures { result ≡ packet_at (is_old_at old bytes.now) bytes.now }
@@ -118,7 +118,7 @@ fn id_in(old: bool, bytes: &[u8]) -> u32
     }
 }
 
-// The length of the frame whose header stands there.
+// The length of the frame whose header comes first.
 #[inline(always)]
 fn size_in(old: bool, bytes: &[u8]) -> usize
     requires { header_size old ≤ length bytes.now }
@@ -132,7 +132,7 @@ fn size_in(old: bool, bytes: &[u8]) -> usize
     }
 }
 
-// The same, where STX of this version and known flags stand there.
+// The same, if STX of this version and known flags come first.
 #[inline(always)]
 fn check_header<T: CrcExtras>(extras: &T, old: bool, bytes: &[u8]) -> FrameCheck
     ensures exact { look_by result old bytes.now ≡ look_header (T.pairs extras.now) old bytes.now }
@@ -149,7 +149,7 @@ fn check_header<T: CrcExtras>(extras: &T, old: bool, bytes: &[u8]) -> FrameCheck
     }
 }
 
-// The same, where the CRC_EXTRA of the id is known.
+// The same, if the CRC_EXTRA of the id is known.
 #[inline(always)]
 fn check_known(extra: u8, old: bool, bytes: &[u8]) -> FrameCheck
     requires { header_size old ≤ length bytes.now }

@@ -42,7 +42,7 @@ impl Frame {
         }
     }
 
-    /// Sets the checksum, where the message has that CRC_EXTRA.
+    /// Sets the checksum, if the message has that CRC_EXTRA.
     pub fn seal(&mut self, extra: u8)
         ensures { self.exit.now ≡ record self.entry.now { check = checksum self.entry.now extra } }
     {
@@ -65,7 +65,8 @@ impl Frame {
         &self.payload[..usize::from(self.len)]
     }
 
-    /// How many bytes encode the frame without its signature block: the payload's, and 8 of MAVLink 1 or 12 of MAVLink 2.
+    /// How many bytes encode the frame without its signature block: the payload's, and 8 of MAVLink 1 or 12 of
+    /// MAVLink 2.
     pub fn unsigned_size(&self) -> usize
         ensures exact { result ≡ header_size self.now.old + length self.now.payload + 2 }
         ensures short { result ≤ 267 }

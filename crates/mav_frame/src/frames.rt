@@ -6,8 +6,8 @@ ghost use Rattle.mav_frame.specs.Padding.{IsPadded, padded, unpadded};
 use mav_names::Name;
 use std::marker::Model;
 
-/// The signature block behind a frame: link id, timestamp in units of 10 microseconds since 1 January 2015, and the first
-/// six bytes of the signature (MAVLink guide, Message Signing: Signature).
+/// The signature block after a frame: link id, timestamp in units of 10 microseconds since 1 January 2015, and the
+/// first six bytes of the signature (MAVLink guide, Message Signing: Signature).
 #[derive(Clone, Copy)]
 pub struct Block {
     pub link: u8,

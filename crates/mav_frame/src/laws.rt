@@ -21,22 +21,22 @@ pub fn more_bytes_keep()
     ensures { MoreBytesKeep }
 {}
 
-/// A beginning of the incremental parse goes on by one event.
+/// A prefix of the incremental parse continues by one event.
 pub fn incremental_goes_on()
     ensures { IncrementalGoesOn }
 {}
 
-/// A beginning of the incremental parse is the whole where an incomplete frame is left.
+/// A prefix of the incremental parse is the whole if an incomplete frame is left.
 pub fn incremental_ends()
     ensures { IncrementalEnds }
 {}
 
-/// A beginning of the final parse goes on by one event.
+/// A prefix of the final parse continues by one event.
 pub fn final_goes_on()
     ensures { FinalGoesOn }
 {}
 
-/// A beginning of the final parse is the whole where nothing is left.
+/// A prefix of the final parse is the whole if nothing is left.
 pub fn final_ends()
     ensures { FinalEnds }
 {}
@@ -46,7 +46,7 @@ pub fn incremental_begins_final()
     ensures { IncrementalBeginsFinal }
 {}
 
-/// `look` answers `More` exactly at an incomplete frame.
+/// `look` returns `More` exactly at an incomplete frame.
 pub fn incomplete_is_more()
     ensures { IncompleteIsMore }
 {}
@@ -61,7 +61,7 @@ pub fn encodings_are_prefix_free()
     ensures { EncodingsArePrefixFree }
 {}
 
-/// Where frames of MAVLink 1 aren't read, none is in a parse.
+/// If frames of MAVLink 1 aren't read, none is in a parse.
 pub fn old_frames_unread()
     ensures { OldFramesUnread }
 {}

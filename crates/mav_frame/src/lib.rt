@@ -1,9 +1,9 @@
 //! Frames of MAVLink 2 and of MAVLink 1: their bytes, and the search for them in a stream.
 //!
-//! [`encode`] writes a [`Frame`], and [`look`] says what stands at the start of some bytes: a frame, no frame and why, or
+//! [`encode`] writes a [`Frame`], and [`look`] says what is at the start of some bytes: a frame, no frame and why, or
 //! the beginning of one. The parse of a whole stream is defined here as a list of [`Event`]s, and [`parse`] is that
-//! definition's program; a reader of streams that come in pieces stands in the crate above. Frames of MAVLink 1 are read
-//! only if the caller says so. Only [`parse`] takes memory.
+//! definition's program; a reader of streams that come in pieces is in the crate above. Frames of MAVLink 1 are read
+//! only if the caller says so. Only [`parse`] allocates.
 #![tactic(auto)]
 
 mod checking;

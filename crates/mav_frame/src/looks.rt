@@ -1,4 +1,4 @@
-// What can stand at the start of some bytes.
+// What can be at the start of some bytes.
 use crate::Frame;
 
 /// Why no frame begins at a byte, numbered from 1 to 5. `Short` is the reason of an incomplete frame at the end of the
@@ -12,7 +12,8 @@ pub enum Why {
     Short = 5,
 }
 
-/// A frame and its length in bytes, no frame, or an incomplete frame and how many bytes it lacks as far as that is known.
+/// A frame and its length in bytes, no frame, or an incomplete frame and how many bytes it lacks as far as that is
+/// known.
 #[derive(Clone, Copy)]
 pub enum Look {
     Frame(Frame, usize),
@@ -20,7 +21,7 @@ pub enum Look {
     More(usize),
 }
 
-/// The same without the frame: its length alone.
+/// The same with the length of the frame only.
 #[derive(Clone, Copy)]
 pub enum FrameCheck {
     Whole(usize),

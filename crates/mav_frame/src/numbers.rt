@@ -32,7 +32,7 @@ pub fn bytes_6(n: u64) -> [u8; 6]
     ]
 }
 
-/// The number of two bytes from a place on.
+/// The number of two bytes from an index on.
 pub(crate) fn number_2(bytes: &[u8], at: usize) -> u16
     requires { at + 2 ≤ length bytes.now }
     ensures { result ≡ number_at 2 at bytes.now }
@@ -40,7 +40,7 @@ pub(crate) fn number_2(bytes: &[u8], at: usize) -> u16
     bytes[at] as u16 + 256 * bytes[at + 1] as u16
 }
 
-/// The number of three bytes from a place on.
+/// The number of three bytes from an index on.
 pub(crate) fn number_3(bytes: &[u8], at: usize) -> u32
     requires { at + 3 ≤ length bytes.now }
     ensures value { result ≡ number_at 3 at bytes.now }
@@ -50,7 +50,7 @@ pub(crate) fn number_3(bytes: &[u8], at: usize) -> u32
     bytes[at] as u32 + 256 * high
 }
 
-/// The number of six bytes from a place on.
+/// The number of six bytes from an index on.
 pub(crate) fn number_6(bytes: &[u8], at: usize) -> u64
     requires { at + 6 ≤ length bytes.now }
     ensures value { result ≡ number_at 6 at bytes.now }

@@ -7,7 +7,7 @@ use crate::{Event, Look, NoMemory, Why};
 use std::alloc::Global;
 use x25_check::Extras;
 
-/// The events of the final parse of all the bytes, by its definition: at each place a frame, or one byte skipped.
+/// The events of the final parse of all the bytes, by its definition: at each index a frame, or one byte skipped.
 pub fn parse(
     alloc: Global,
     extras: &Extras,
@@ -26,7 +26,7 @@ pub fn parse(
     Ok(events)
 }
 
-/// The event at the start of the bytes in their final parse, and how many bytes it takes. Takes no memory.
+/// The event at the start of the bytes in their final parse, and how many bytes it takes. Doesn't allocate.
 pub fn event_at(extras: &Extras, old: bool, bytes: &[u8]) -> (Event, usize)
     requires { 0 < length bytes.now }
     ensures size { (0 < result.1) × (result.1 ≤ length bytes.now) }

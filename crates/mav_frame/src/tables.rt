@@ -1,4 +1,4 @@
-// Where the CRC_EXTRA bytes of messages are looked up.
+// Tables of the CRC_EXTRA bytes of messages.
 ghost use Rattle.std.specs.Prelude.{◌≡◌, ℕ, List};
 ghost use Rattle.x25_check.specs.Extras.{extra_of};
 

@@ -42,7 +42,7 @@ signed_word payload small w at size x same read =
     let bound : word_from payload at size < 2 ^ bits w = omega (arith, same, word_from_bound payload small at size) in
     ap (λ (n : ℕ). cast_unsigned w (cast_signed w n)) read ∙ of_z-to_z w (word_from payload at size) bound
 
--- the bytes of a part are the words of one byte each from its place on
+-- the bytes of a part are the words of one byte each from its offset on
 pub part_as_words : (payload : List ℕ) (at n : ℕ) → at + n ≤ length payload → take n (drop at payload) ≡ words_from payload at 1 n
 part_as_words payload at n inside =
     let word : ℕ → ℕ = λ k. word_from payload (at + 1 * k) 1 in
@@ -87,7 +87,7 @@ fits_layout (field ∷ fields) [] ranges = absurd ranges
 fits_layout (field ∷ fields) (words ∷ rest) ranges =
     (words_fit field.len (element_size field.ty) words ranges.0, fits_layout fields rest ranges.1)
 
--- ---- the front of a payload with zeros behind it
+-- ---- the start of a payload with zeros after it
 
 padded_inside : (payload part : List ℕ) (len k : ℕ) → part ≡ take len payload → length part ≡ len → k < len → get_or (part ++ drop len (replicate 255 0)) k 0 ≡ get_or payload k 0
 padded_inside payload part len k front long inside =
@@ -105,7 +105,7 @@ padded_front payload part len front count k small =
       | no outside ↦ padded_past payload part len k long (omega arith) (omega arith) small
     ]
 
--- ---- what a buffer keeps behind the bytes that were appended
+-- ---- what a buffer keeps after the bytes that were appended
 
 pub zeros_behind_part : (held part : List ℕ) (len n : ℕ) → len ≤ length held → length part ≡ n → drop len held ≡ replicate (255 - len) 0 → drop (len + n) (put_mid len ((len + n) - len) held part) ≡ replicate (255 - (len + n)) 0
 zeros_behind_part held part len n inside size before =

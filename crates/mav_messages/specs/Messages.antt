@@ -6,7 +6,7 @@ use Rattle.mav_messages.specs.declared.messages.Message.{Message}
 use Rattle.mav_messages.specs.declared.messages.Message.TheVariants.{Heartbeat, Ping, ParamRequestRead, ParamRequestList, ParamValue, ParamSet, GlobalPositionInt, MissionCurrent, MissionRequestList, MissionCount, MissionClearAll, MissionItemReached, MissionAck, MissionRequestInt, MissionItemInt, CommandLong, CommandAck, FileTransferProtocol, Statustext}
 use Rattle.mav_messages.specs.Values.{heartbeat_values, ping_values, param_request_read_values, param_request_list_values, param_value_values, param_set_values, global_position_int_values, mission_current_values, mission_request_list_values, mission_count_values, mission_clear_all_values, mission_item_reached_values, mission_ack_values, mission_request_int_values, mission_item_int_values, command_long_values, command_ack_values, file_transfer_protocol_values, statustext_values}
 
--- the definition of that id, where the profile has one
+-- the definition of that id, if the profile has one
 abbrev pub profile_definition : ℕ → Option Definition
 profile_definition id = find (λ (def : Definition). def.id == id) profile_definitions
 

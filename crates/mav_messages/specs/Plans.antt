@@ -60,7 +60,7 @@ message_of_plan (plan.Ping to usec seq) =
 abbrev node : ℕ → ℕ → Name
 node sys comp = record { sys = sys; comp = comp }
 
--- the message of the protocol that a message carries, where it carries one
+-- the message of the protocol that a message carries, if it carries one
 abbrev pub plan_of : Message → Option PlanMsg
 plan_of (MissionCount m) = Some (plan.Count (node m.target_system m.target_component) m.count m.mission_type)
 plan_of (MissionRequestInt m) = Some (plan.Request (node m.target_system m.target_component) m.seq m.mission_type)

@@ -5,7 +5,7 @@ use Rattle.field_layout.specs.Payload.{words_at}
 use Rattle.field_layout.specs.Target.{is_target}
 use Rattle.mav_names.specs.declared.names.Name.{Name}
 
--- the word of the field at that place, 0 where there is no such field
+-- the word of the field at that index, 0 if there is no such field
 abbrev pub word_or_zero : List (List ℕ) → Option ℕ → ℕ
 word_or_zero values None = 0
 word_or_zero values (Some place) = slice_index (words_at values place) 0

@@ -4,7 +4,7 @@ ghost use Rattle.field_layout.specs.Payload.{le_bytes, truncated};
 
 use std::marker::Model;
 
-/// The bytes of a payload so far, which contracts see as their list; there are zeros behind them.
+/// The bytes of a payload so far, which contracts see as their list. The rest of the buffer is zeros.
 #[derive(Drop)]
 pub(crate) struct Buffer {
     bytes: [u8; 255],
@@ -105,7 +105,7 @@ impl Buffer {
         self.len = end;
     }
 
-    /// Copies the payload out, with zeros behind it.
+    /// Copies the payload out, with zeros after it.
     pub(crate) fn copy_to(&self, out: &mut [u8; 255])
         ensures { out.new ≡ truncated self.now ++ replicate (255 - length (truncated self.now)) 0 }
     {

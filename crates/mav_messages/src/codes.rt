@@ -1,4 +1,4 @@
-// Numbers that messages carry, by their names in the MAVLink common messages. Those of plans stand in plan_items.
+// Numbers that messages carry, by their names in the MAVLink common messages. Those of plans are in plan_items.
 
 /// Kinds of nodes (MAVLink common messages, MAV_TYPE).
 pub struct MavType;
@@ -82,5 +82,5 @@ impl VehicleCommand {
     pub const COMPONENT_ARM_DISARM: u16 = 400;
 }
 
-/// What `mavlink_version` of HEARTBEAT says (MAVLink guide, Heartbeat Protocol).
+/// The value of `mavlink_version` in HEARTBEAT (MAVLink guide, Heartbeat Protocol).
 pub const MAVLINK_VERSION: u8 = 3;

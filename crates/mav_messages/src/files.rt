@@ -7,7 +7,7 @@ ghost use Rattle.mav_messages.specs.Values.{file_transfer_protocol_values};
 use crate::buffer::Buffer;
 use crate::words::{Padded, bytes_at, u8_at};
 
-/// FILE_TRANSFER_PROTOCOL: a request of MAVLink FTP, or its answer.
+/// FILE_TRANSFER_PROTOCOL: a request of MAVLink FTP, or its response.
 #[derive(Clone, Copy)]
 pub struct FileTransferProtocol {
     pub target_network: u8,

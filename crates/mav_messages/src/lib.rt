@@ -1,8 +1,8 @@
-//! The nineteen messages of the profile as values: everything above speaks of `Message` and its fields, and never of
+//! The nineteen messages of the profile as values: the crates above use `Message` and its fields, and never
 //! byte offsets.
 //!
 //! `write` gives the truncated payload that the message's definition lays out, `read` the message that a payload
-//! represents, whatever its length. All types are Copy, and nothing here takes memory, sends or decides anything.
+//! represents, whatever its length. All types are Copy, and nothing here allocates, sends or decides anything.
 #![tactic(auto)]
 
 mod buffer;

@@ -98,7 +98,7 @@ impl Message {
         }
     }
 
-    /// Writes the payload into `out`, with zeros behind it, and answers the id and the payload's length without the
+    /// Writes the payload into `out`, with zeros after it, and returns the id and the payload's length without the
     /// zeros at its end, which is at least 1 (MAVLink guide, Packet Serialization: Empty-Byte Payload Truncation).
     pub fn write(&self, out: &mut [u8; 255]) -> (u32, u8)
         ensures id { result.0 ≡ (definition_of self.now).id }
@@ -114,7 +114,7 @@ impl Message {
         (self.id(), payload.truncated_len())
     }
 
-    // Reads a payload that has zeros behind it.
+    // Reads a payload that has zeros after it.
     fn read_padded(id: u32, payload: &Padded) -> Option<Message>
         ensures of_profile { option_map definition_of result ≡ profile_definition id }
         ensures represents { IfSome result (λ m. Represents (definition_of m) payload.now (values_of m)) }
@@ -150,7 +150,7 @@ impl Message {
     }
 
     /// Reads a payload of any length: bytes past its end are zeros, and bytes past the message's own length mean
-    /// nothing (MAVLink guide, Packet Serialization: Empty-Byte Payload Truncation). None where the profile has no
+    /// nothing (MAVLink guide, Packet Serialization: Empty-Byte Payload Truncation). None if the profile has no
     /// message of that id.
     pub fn read(id: u32, payload: &[u8]) -> Option<Message>
         ensures of_profile { option_map definition_of result ≡ profile_definition id }
@@ -187,7 +187,7 @@ impl Message {
         Name { sys, comp }
     }
 
-    /// The node that the message is for: its fields `target_system` and `target_component`, each 0 where it is absent
+    /// The node that the message is for: its fields `target_system` and `target_component`, each 0 if it is absent
     /// (MAVLink guide, Routing). Each payload that represents the message names it.
     pub fn target(&self) -> Name
         ensures { (payload : List ℕ) → Represents (definition_of self.now) payload (values_of self.now)

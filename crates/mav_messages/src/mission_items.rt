@@ -7,8 +7,8 @@ ghost use Rattle.mav_messages.specs.Values.{mission_item_int_values};
 use crate::buffer::Buffer;
 use crate::words::{Padded, i32_at, u8_at, u16_at, u32_at};
 
-/// MISSION_ITEM_INT: an item of a plan. `x` and `y` are latitude and longitude in degrees times 10^7; the parameters and `z`
-/// are words of floats.
+/// MISSION_ITEM_INT: an item of a plan. `x` and `y` are latitude and longitude in degrees times 10^7; the parameters
+/// and `z` are words of floats.
 #[derive(Clone, Copy)]
 pub struct MissionItemInt {
     pub target_system: u8,

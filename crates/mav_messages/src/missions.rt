@@ -7,7 +7,7 @@ ghost use Rattle.mav_messages.specs.Values.{mission_current_values, mission_requ
 use crate::buffer::Buffer;
 use crate::words::{Padded, u8_at, u16_at};
 
-/// MISSION_CURRENT: the number of the item under way.
+/// MISSION_CURRENT: the number of the current item.
 #[derive(Clone, Copy)]
 pub struct MissionCurrent {
     pub seq: u16,
@@ -65,7 +65,7 @@ impl MissionRequestList {
     }
 }
 
-/// MISSION_COUNT: begins an upload, or answers MISSION_REQUEST_LIST.
+/// MISSION_COUNT: begins an upload, or responds to MISSION_REQUEST_LIST.
 #[derive(Clone, Copy)]
 pub struct MissionCount {
     pub target_system: u8,
@@ -100,7 +100,7 @@ impl MissionCount {
     }
 }
 
-/// MISSION_CLEAR_ALL: clears a plan, or all where the type is `PlanKind::ALL`.
+/// MISSION_CLEAR_ALL: clears a plan, or all if the type is `PlanKind::ALL`.
 #[derive(Clone, Copy)]
 pub struct MissionClearAll {
     pub target_system: u8,

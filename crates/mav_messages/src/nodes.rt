@@ -49,7 +49,7 @@ impl Heartbeat {
     }
 }
 
-/// PING: a request where the target is 0, 0, and else the reply to it. `time_usec` is in microseconds.
+/// PING: a request if the target is 0, 0, and else the reply to it. `time_usec` is in microseconds.
 #[derive(Clone, Copy)]
 pub struct Ping {
     pub time_usec: u64,
@@ -84,8 +84,8 @@ impl Ping {
     }
 }
 
-/// GLOBAL_POSITION_INT: where a node is. `lat` and `lon` are in degrees times 10^7, altitudes in millimetres, speeds in
-/// centimetres a second, `hdg` in hundredths of a degree.
+/// GLOBAL_POSITION_INT: the position of a node. `lat` and `lon` are in degrees times 10^7, altitudes in millimetres,
+/// speeds in centimetres a second, `hdg` in hundredths of a degree.
 #[derive(Clone, Copy)]
 pub struct GlobalPositionInt {
     pub time_boot_ms: u32,
@@ -135,7 +135,7 @@ impl GlobalPositionInt {
     }
 }
 
-/// STATUSTEXT: a text for people, with zeros behind it.
+/// STATUSTEXT: a text for people, with zeros after it.
 #[derive(Clone, Copy)]
 pub struct Statustext {
     pub severity: u8,

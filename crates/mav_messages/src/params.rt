@@ -7,7 +7,7 @@ ghost use Rattle.mav_messages.specs.Values.{param_request_read_values, param_req
 use crate::buffer::Buffer;
 use crate::words::{Padded, bytes_at, i16_at, u8_at, u16_at, u32_at};
 
-/// PARAM_REQUEST_READ: asks for one parameter by its index, or by its id where the index is -1.
+/// PARAM_REQUEST_READ: asks for one parameter by its index, or by its id if the index is -1.
 #[derive(Clone, Copy)]
 pub struct ParamRequestRead {
     pub target_system: u8,
@@ -71,8 +71,8 @@ impl ParamRequestList {
     }
 }
 
-/// PARAM_VALUE: a parameter, its place and how many there are. The id has 16 bytes, with zeros behind a shorter one. The
-/// value is the word of the four bytes sent; `param_type` is one of `MavParamType`.
+/// PARAM_VALUE: a parameter, its index and how many there are. The id has 16 bytes, with zeros after a shorter one.
+/// The value is the word of the four bytes sent; `param_type` is one of `MavParamType`.
 #[derive(Clone, Copy)]
 pub struct ParamValue {
     pub param_id: [u8; 16],

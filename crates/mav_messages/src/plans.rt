@@ -101,7 +101,7 @@ impl Message {
         }
     }
 
-    /// The message of the mission protocol that it carries; None where it carries none.
+    /// The message of the mission protocol that it carries; None if it carries none.
     pub fn to_plan(&self) -> Option<PlanMsg>
         ensures plan { result ≡ plan_of self.now }
         ensures back { IfSome result (λ plan. message_of_plan plan ≡ self.now) }

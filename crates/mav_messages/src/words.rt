@@ -3,7 +3,7 @@ ghost use Rattle.std.specs.Prelude.{◌≡◌, ℕ, ◌+◌, ◌<◌, ◌≤◌,
 ghost use Rattle.std.specs.Int.{w16, w32, cast_unsigned};
 ghost use Rattle.field_layout.specs.Reading.{word_from, words_from};
 
-/// A payload with zeros behind it.
+/// A payload with zeros after it.
 pub(crate) type Padded = [u8; 255];
 
 /// The first 255 bytes of a payload, and zeros past its end.
@@ -16,7 +16,7 @@ pub(crate) fn padded(payload: &[u8]) -> Padded
     padded
 }
 
-/// The byte at a place.
+/// The byte at an offset.
 pub(crate) fn u8_at(payload: &Padded, at: usize) -> u8
     requires { at + 1 ≤ 255 }
     ensures { result ≡ word_from payload.now at 1 }
@@ -24,7 +24,7 @@ pub(crate) fn u8_at(payload: &Padded, at: usize) -> u8
     payload[at]
 }
 
-/// The word of the 2 bytes from a place on, lowest first.
+/// The word of the 2 bytes from an offset on, lowest first.
 pub(crate) fn u16_at(payload: &Padded, at: usize) -> u16
     requires { at + 2 ≤ 255 }
     ensures { result ≡ word_from payload.now at 2 }
@@ -32,7 +32,7 @@ pub(crate) fn u16_at(payload: &Padded, at: usize) -> u16
     payload[at] as u16 + 256 * payload[at + 1] as u16
 }
 
-/// The word of the 4 bytes from a place on, lowest first.
+/// The word of the 4 bytes from an offset on, lowest first.
 pub(crate) fn u32_at(payload: &Padded, at: usize) -> u32
     requires { at + 4 ≤ 255 }
     ensures { result ≡ word_from payload.now at 4 }
@@ -40,7 +40,7 @@ pub(crate) fn u32_at(payload: &Padded, at: usize) -> u32
     u16_at(payload, at) as u32 + 65536 * u16_at(payload, at + 2) as u32
 }
 
-/// The word of the 8 bytes from a place on, lowest first.
+/// The word of the 8 bytes from an offset on, lowest first.
 pub(crate) fn u64_at(payload: &Padded, at: usize) -> u64
     requires { at + 8 ≤ 255 }
     ensures { result ≡ word_from payload.now at 8 }
@@ -48,7 +48,7 @@ pub(crate) fn u64_at(payload: &Padded, at: usize) -> u64
     u32_at(payload, at) as u64 + 4294967296 * u32_at(payload, at + 4) as u64
 }
 
-/// The signed number whose word the 2 bytes from a place on are.
+/// The signed number whose word the 2 bytes from an offset on are.
 pub(crate) fn i16_at(payload: &Padded, at: usize) -> i16
     requires { at + 2 ≤ 255 }
     ensures { cast_unsigned w16 result ≡ word_from payload.now at 2 }
@@ -56,7 +56,7 @@ pub(crate) fn i16_at(payload: &Padded, at: usize) -> i16
     u16_at(payload, at).cast_signed()
 }
 
-/// The signed number whose word the 4 bytes from a place on are.
+/// The signed number whose word the 4 bytes from an offset on are.
 pub(crate) fn i32_at(payload: &Padded, at: usize) -> i32
     requires { at + 4 ≤ 255 }
     ensures { cast_unsigned w32 result ≡ word_from payload.now at 4 }
@@ -64,7 +64,7 @@ pub(crate) fn i32_at(payload: &Padded, at: usize) -> i32
     u32_at(payload, at).cast_signed()
 }
 
-/// The `N` bytes from a place on.
+/// The `N` bytes from an offset on.
 pub(crate) fn bytes_at<const N: usize>(payload: &Padded, at: usize) -> [u8; N]
     requires { at + N ≤ 255 }
     ensures { result ≡ words_from payload.now at 1 N }

@@ -1,4 +1,4 @@
--- Bounds of what stands in a frame: its checksum, its signature and its payload.
+-- Bounds of what a frame contains: its checksum, its signature and its payload.
 use Rattle.std.proofs.Common.{◌≡◌, ℕ, zero, suc, ◌/◌, ◌%◌, ◌^◌, ◌<◌, ◌==◌, ◌&&◌, nat_lt, Bool, true, false, if◌then◌else◌, List, [], ◌∷◌, length, take, fold, bit_xor, refl, arith}
 use Rattle.std.specs.Prelude.{All, flat_map, slice_index}
 use Rattle.std.specs.Int.{to_be_bytes, w32}

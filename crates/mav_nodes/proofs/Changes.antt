@@ -1,4 +1,4 @@
--- What a drone's answer tells of its plans.
+-- What a drone's reply says of its plans.
 use Rattle.std.proofs.Common.{◌≡◌, ℕ, Bool, true, false, if◌then◌else◌, not, ◌&&◌, nat_lt, length, List, ◌∷◌, [], ◌++◌, Option, Some, None, refl, ap, arith}
 use Rattle.std.specs.Prelude.{◌==◌, ◌+◌, is_some, slice_get}
 use Rattle.mav_names.specs.declared.names.Stream.{Stream}
@@ -17,7 +17,7 @@ use Rattle.plan_upload.specs.declared.changes.Change.TheVariants.{Same}
 use Rattle.plan_upload.specs.Changes.{install_of, change_by}
 use Rattle.mav_nodes.specs.Cores.{accepts, change_told}
 
--- its answer tells what the step did to the plans
+-- its reply says what the step did to the plans
 abbrev Tells : PlanMsg → DroneStep → Type 0
 Tells m step = change_told m (accepts step.answer) ≡ change_by step.event
 

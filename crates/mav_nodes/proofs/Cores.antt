@@ -45,7 +45,7 @@ core_did core None endpoint Is before after h f = h
 core_did core (Some d) endpoint Is before after h f =
     (f d.node h.0, h.1 ∙ ap (λ (l : List NodeEvent). events_of before ++ map shown l) (sym (append-nil d.events)))
 
--- news, an answer and news again
+-- news, a reply and news again
 pub said_in_turn : (clock : ℕ) (link : Link) (first last : List NodeEvent) (answer : Option PlanMsg) (endpoint : EndpointState) (one two three four : List News) → events_of two ≡ events_of one ++ map shown first → LinkDid (answers clock answer link) endpoint two three → events_of four ≡ events_of three ++ map shown last → LinkDid (says clock first answer last link) endpoint one four
 said_in_turn clock link first last answer endpoint one two three four e h f =
     joined (answers clock answer link) h
@@ -68,7 +68,7 @@ stepped {Core} clock link did view given endpoint before after is h =
     with_view core first last None e h = h
     with_view core first last (Some d) e h = (record { link = h.0; core = e }, h.1)
 
--- what nothing more is done of
+-- what nothing more is done about
 pub steps_none : {Core : Type 0} (clock : ℕ) (link : Link) (did : CoreStep Core) (view : Core) (given : Step) → IsStep did view given → says clock did.first given.answer did.last link ≡ None → steps clock link did ≡ None
 steps_none {Core} clock link did view given is h =
     with_none did.core did.first did.last (answers clock did.answer link) (ap (λ (a : Option PlanMsg). says clock did.first a did.last link) (sym is.answer) ∙ h)
@@ -77,7 +77,7 @@ steps_none {Core} clock link did view given is h =
     with_none core first last None h = refl
     with_none core first last (Some d) h = absurd cc
 
--- the same of a node, seen in another way
+-- the same of a node, in another view
 pub did_so : {A : Type 0} {P Q : A → Type 0} (outcome : Outcome A) (before after : List News) → ((a : A) → P a → Q a) → Did outcome P before after → Did outcome Q before after
 did_so None before after f h = h
 did_so (Some d) before after f h = (f d.node h.0, h.1)
@@ -93,7 +93,7 @@ module _ {Core : Type 0} (step : Core → Stream → PlanMsg → CoreStep Core) 
   answered node packet from message (TooOld local) block h = absurd (let t : Plan from message ≡ Dropped (TooOld local) = h in cc)
   answered node packet from message TooManyStreams block h = absurd (let t : Plan from message ≡ Dropped TooManyStreams = h in cc)
 
-  -- a frame whose plan message was told
+  -- a frame whose plan message was returned
   hears_plan : (node : Side Core) (packet : Packet) (from : Stream) (message : PlanMsg) → IsTried node.link packet (Plan from message) → hears step clock packet node ≡ takes step clock (record node { link = tries packet node.link }) from (Some message)
   hears_plan node packet from message h =
       answered (record node { link = tries packet node.link }) packet from message (answer_to node.link.key node.link.history packet) packet.block h
@@ -134,7 +134,7 @@ module _ {Core : Type 0} (step : Core → Stream → PlanMsg → CoreStep Core) 
   hears_dropped node packet why h =
       refused (record node { link = tries packet node.link }) packet why (answer_to node.link.key node.link.history packet) packet.block h
 
-  -- the messages that a node knows stay
+  -- the messages that a node knows don't change
   abbrev LinkKeeps : Outcome Link → List (ℕ × ℕ) → Type 0
   LinkKeeps None extras = Unit {0}
   LinkKeeps (Some d) extras = d.node.extras ≡ extras
@@ -181,7 +181,7 @@ module _ {Core : Type 0} (step : Core → Stream → PlanMsg → CoreStep Core) 
   hears_keep packet node =
       admits_keep (record node { link = tries packet node.link }) packet (answer_to node.link.key node.link.history packet) packet.block
 
--- what became of a frame, by what was heard of it
+-- the result of a frame, by what was received in it
 pub heard_plan : (packet : Packet) (from : Stream) (message : Message) (answer : Admit) (block : Option SignatureBlock) (plan : PlanMsg) → AnswerIs answer packet block (HeardMessage from message) → (profile_definition packet.id ≡ Some (definition_of message) → Represents (definition_of message) packet.payload (values_of message) → plan_in packet.id packet.payload ≡ Some plan) → IsAnswer answer packet block (Plan from plan)
 heard_plan packet from message Admitted (Some block) plan h f = (h.0, f h.1 h.2)
 heard_plan packet from message Admitted None plan h f = h
@@ -209,7 +209,7 @@ heard_other packet from id (NotLater last) block h = absurd (let t : HeardOther 
 heard_other packet from id (TooOld local) block h = absurd (let t : HeardOther from id ≡ HeardDropped (TooOld local) = h in cc)
 heard_other packet from id TooManyStreams block h = absurd (let t : HeardOther from id ≡ HeardDropped TooManyStreams = h in cc)
 
--- the same, by a frame seen from inside
+-- the same, by a frame in its inner view
 pub plan_tried : {p q : Packet} → p ≡ q → (link : Link) (from : Stream) (message : Message) (plan : PlanMsg) → HeardIs link.key link.history q (HeardMessage from message) → (profile_definition p.id ≡ Some (definition_of message) → Represents (definition_of message) p.payload (values_of message) → plan_in p.id p.payload ≡ Some plan) → IsTried link q (Plan from plan)
 plan_tried {p} {q} e link from message plan h f =
     subst (λ (z : Packet). IsTried link z (Plan from plan)) e (heard_plan p from message (answer_to link.key link.history p) p.block plan (subst (λ (z : Packet). HeardIs link.key link.history z (HeardMessage from message)) (sym e) h) f)

@@ -25,7 +25,7 @@ behind_twice first next None = refl
 behind_twice first next (Some d) = ap (λ (l : List NodeEvent). Some (record { node = d.node; events = l })) (sym (append_assoc first next d.events))
 
 module _ {Core : Type 0} (step : Core → Stream → PlanMsg → CoreStep Core) (clock : ℕ) where
-  -- the node is so now, and the news told so far say what was done before what the other bytes lead to
+  -- this is the node now, and the news so far report what was done before what the other bytes lead to
   pub record Leads (total : Outcome (Side Core)) (left : List ℕ) (Is : Side Core → Type 0) (news : List News) : Type 0 where
     pub node : Side Core
     pub is : Is node
@@ -79,7 +79,7 @@ module _ {Core : Type 0} (step : Core → Stream → PlanMsg → CoreStep Core) 
   leads_on total left rest Is Now news after packet l bytes more at did =
       goes_on total (hears step clock packet l.node) l.node.link.extras rest Now news after l.events (hears_keep step clock packet l.node) l.said (here total left rest Is news packet l bytes more at) did
 
-  -- a frame whose answer has no timestamp left
+  -- a frame whose reply has no timestamp left
   pub leads_to_none : (total : Outcome (Side Core)) (left rest : List ℕ) (Is : Side Core → Type 0) (news : List News) (packet : Packet) → (l : Leads total left Is news) → All (λ x. x < 256) left → All (λ x. x < 256) rest → EventAt l.node.link.extras false (Frame packet) left rest → hears step clock packet l.node ≡ None → total ≡ None
   leads_to_none total left rest Is news packet l bytes more at none =
       here total left rest Is news packet l bytes more at ∙ ap (λ (o : Outcome (Side Core)). behind l.events (and_then o (hears_all step clock (frames_of (final_parse l.node.link.extras false rest))))) none
@@ -98,7 +98,7 @@ part_bytes bytes place small = All-drop (λ x. x < 256) place bytes (all_small b
     all_small [] h = All-nil (λ x. x < 256)
     all_small (x ∷ xs) h = All-cons (λ x. x < 256) x xs (h 0) (all_small xs (λ i. h (suc i)))
 
--- the event at a place of the datagram, by the part of it that was looked at
+-- the event at an index of the datagram, by the part of it that was checked
 pub event_here : (known extras : List (ℕ × ℕ)) (bytes : List ℕ) (place size : ℕ) (seen event : Event) → known ≡ extras → seen ≡ event → EventAt known false seen (slice_range bytes place (length bytes)) (drop size (slice_range bytes place (length bytes))) → EventAt extras false event (drop place bytes) (drop (place + size) bytes)
 event_here known extras bytes place size seen event same is at =
     let all : slice_range bytes place (length bytes) ≡ drop place bytes = take_all (length bytes - place) (drop place bytes) (omega (arith, length-drop place bytes)) in

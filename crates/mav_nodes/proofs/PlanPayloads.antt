@@ -83,7 +83,7 @@ differs id k none some = at_test id k (id == k) none refl some
 known : (def : Definition) → ◌≡◌ {A = Option Definition} (Some def) None → ⊥
 known def e = cc
 
--- no plan message stands in a frame of another id
+-- a frame of another id carries no plan message
 pub none_carried : (id : ℕ) (payload : List ℕ) → profile_definition id ≡ None → plan_in id payload ≡ None
 none_carried id payload none =
     let d4 = differs id 4 none (known ping_definition) in

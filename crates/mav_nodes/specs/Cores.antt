@@ -1,4 +1,4 @@
--- A node over any core: what the code of a core gives of its step, and what the calls of such a node promise.
+-- A node over any core: what the code of a core returns of its step, and what the calls of such a node promise.
 use Rattle.std.specs.Prelude.{ℕ, ◌≡◌, ◌==◌, ◌++◌, Bool, true, false, List, [], ◌∷◌, map, Option, Some, None}
 use Rattle.plan_items.specs.declared.kinds.PlanKind.TheVariants.{Mission, Fence, Rally}
 use Rattle.plan_items.specs.declared.messages.PlanMsg.{PlanMsg}
@@ -19,26 +19,26 @@ use Rattle.mav_nodes.specs.Links.{Link, IsLink, Outcome, done, behind}
 use Rattle.mav_nodes.specs.Steps.{Side, CoreStep, answers}
 use Rattle.mav_nodes.specs.Promises.{Did}
 
--- what is told of a drone's plans
+-- what is reported of a drone's plans
 abbrev pub said_of_plans : PlanNews → List Shown
 said_of_plans Same = []
 said_of_plans (Installed kind count by) = Shows_installed kind count by ∷ []
 said_of_plans (Emptied None) = Shows_emptied Mission ∷ Shows_emptied Fence ∷ Shows_emptied Rally ∷ []
 said_of_plans (Emptied (Some kind)) = Shows_emptied kind ∷ []
 
--- what is told of an outcome
+-- what is reported of an outcome
 abbrev pub said_of_outcome : Option Ended → List Shown
 said_of_outcome None = []
 said_of_outcome (Some outcome) = Shows_ended (told_of outcome) ∷ []
 
--- a core did this step: it is so now, and the code gave this of it
+-- a core did this step: this is its state now, and the code returned this of it
 pub record IsStep {Core : Type 0} (step : CoreStep Core) (view : Core) (given : Step) : Type 0 where
   pub core : view ≡ step.core
   pub first : said_of_plans given.plans ≡ map shown step.first
   pub answer : given.answer ≡ step.answer
   pub last : said_of_outcome given.outcome ≡ map shown step.last
 
--- what a link does of a step: it tells what came first, sends the answer, and tells what came last
+-- what a link does of a step: it reports what came first, sends the reply, and reports what came last
 abbrev pub ends : List NodeEvent → Outcome Link → Outcome Link
 ends last None = None
 ends last (Some d) = done d.node (d.events ++ last)
@@ -54,7 +54,7 @@ pub record IsNode {Core : Type 0} (node : Side Core) (endpoint : EndpointState) 
 abbrev pub NodeDid : {Core : Type 0} → Outcome (Side Core) → EndpointState → Core → List News → List News → Type 0
 NodeDid outcome endpoint view before after = Did outcome (λ node. IsNode node endpoint view) before after
 
--- an answer says that what was asked is done: MISSION_ACK with ACCEPTED
+-- a reply says that what was asked is done: MISSION_ACK with ACCEPTED
 abbrev pub accepts : Option PlanMsg → Bool
 accepts (Some (Ack to code kind)) = code == 0
 accepts answer = false

@@ -28,7 +28,7 @@ abbrev pub SignedVerifies : Type 0
 SignedVerifies =
     (key : List ℕ) (extras : List (ℕ × ℕ)) (me : Stream) (seq stamp : ℕ) (message : Message) → Verifies key (signed_packet key extras me seq stamp message) (signed_packet key extras me seq stamp message).block
 
--- the truncated payload of a message carries its plan message, or none where it is no message of the mission protocol
+-- the truncated payload of a message carries its plan message, or none if it is no message of the mission protocol
 abbrev pub PlanReadsBack : Type 0
 PlanReadsBack =
     (message : Message) → FitsLayout (definition_of message) (values_of message) → ItemFits (plan_of message)

@@ -1,4 +1,4 @@
--- A node's end of its links: what it has heard and sent, and what it sends next.
+-- A node's end of its links: what it has received and sent, and what it sends next.
 use Rattle.std.specs.Prelude.{ℕ, ◌≡◌, ◌+◌, ◌%◌, nat_lt, if◌then◌else◌, List, [], ◌∷◌, ◌++◌, Option, Some, None}
 use Rattle.mav_names.specs.declared.names.Stream.{Stream}
 use Rattle.mav_frame.specs.Packet.{Packet}
@@ -9,8 +9,8 @@ use Rattle.mav_sign.specs.Endpoints.{EndpointState, after_frame}
 use Rattle.mav_nodes.specs.News.{NodeEvent, Sends}
 use Rattle.mav_nodes.specs.Signed.{signed_packet}
 
--- its key, its stream, the CRC_EXTRA bytes of the messages that it knows, the history of the frames that it tried and the
--- timestamps that it sent, and its next sequence number
+-- its key, its stream, the CRC_EXTRA bytes of the messages that it knows, the history of the frames that it tried and
+-- the timestamps that it sent, and its next sequence number
 pub record Link : Type 0 where
   pub key : List ℕ
   pub me : Stream
@@ -18,7 +18,7 @@ pub record Link : Type 0 where
   pub history : List Entry
   pub seq : ℕ
 
--- it has heard and sent nothing
+-- it has received and sent nothing
 abbrev pub new_link : List ℕ → Stream → List (ℕ × ℕ) → Link
 new_link key me extras = record { key = key; me = me; extras = extras; history = []; seq = 0 }
 
@@ -30,7 +30,7 @@ pub record IsLink (link : Link) (endpoint : EndpointState) : Type 0 where
   pub seq : endpoint.seq ≡ link.seq
   pub history : Represents endpoint.stamps link.history
 
--- what a call leaves of a node, and what happened in it
+-- the node after a call, and what happened in it
 pub record Done (A : Type 0) : Type 0 where
   pub node : A
   pub events : List NodeEvent
@@ -42,7 +42,7 @@ Outcome A = Option (Done A)
 abbrev pub done : {A : Type 0} → A → List NodeEvent → Outcome A
 done node events = Some (record { node = node; events = events })
 
--- the same behind earlier events
+-- the same after earlier events
 abbrev pub behind : {A : Type 0} → List NodeEvent → Outcome A → Outcome A
 behind events None = None
 behind events (Some d) = done d.node (events ++ d.events)

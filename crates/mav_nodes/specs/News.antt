@@ -1,4 +1,4 @@
--- What happens to a node, and what its calls tell of it.
+-- What happens to a node, and what its calls report of it.
 use Rattle.std.specs.Prelude.{ℕ, List, length, map}
 use Rattle.mav_names.specs.declared.names.Stream.{Stream}
 use Rattle.plan_items.specs.declared.items.Item.{Item}
@@ -23,7 +23,7 @@ pub data NodeEvent : Type 0 where
   -- an operation has ended
   Ends : (told : Told) → NodeEvent
 
--- what news say of an event: of an installed plan, how many items it has
+-- what news report of an event: of an installed plan, how many items it has
 pub data Shown : Type 0 where
   Shows_sent : (packet : Packet) (message : Message) → Shown
   Shows_installed : (kind : PlanKind) (count : ℕ) (by : Stream) → Shown
@@ -38,7 +38,7 @@ shown (Empties kind) = Shows_emptied kind
 shown (Drops answer) = Shows_dropped answer
 shown (Ends told) = Shows_ended told
 
--- what a piece of news says
+-- what a piece of news reports
 abbrev pub said_by : News → Shown
 said_by (Sent frame message) = Shows_sent frame message
 said_by (Installed kind count by) = Shows_installed kind count by

@@ -37,7 +37,7 @@ change_events by plans (Install kind) = Installs kind (plan_at plans (number_of 
 change_events by plans (Empty None) = Empties Mission ∷ Empties Fence ∷ Empties Rally ∷ []
 change_events by plans (Empty (Some kind)) = Empties kind ∷ []
 
--- a plan message comes to its core
+-- its core receives a plan message
 abbrev pub drone_core : DroneState → Stream → PlanMsg → CoreStep DroneState
 drone_core drone from message =
     let step = drone_step true drone from message in
@@ -66,7 +66,7 @@ tick_answer (Some sent) = Some sent.1
 abbrev pub drone_waits : DroneTick → CoreStep DroneState
 drone_waits tick = record { core = tick.drone; first = []; answer = tick_answer tick.answer; last = [] }
 
--- time passes
+-- one tick
 abbrev pub drone_ticks : ℕ → Side DroneState → Outcome (Side DroneState)
 drone_ticks clock node = steps clock node.link (drone_waits (drone_tick node.core))
 
@@ -93,7 +93,7 @@ abbrev pub told_events : Option Told → List NodeEvent
 told_events None = []
 told_events (Some told) = Ends told ∷ []
 
--- a step of its core: an outcome is handed out at once
+-- a step of its core: an outcome is returned at once
 abbrev pub station_does : StationStep → CoreStep StationState
 station_does step = record {
   core = untold step.station;
@@ -105,7 +105,7 @@ station_does step = record {
 abbrev pub station_core : StationState → Stream → PlanMsg → CoreStep StationState
 station_core station from message = station_does (station_step station from message)
 
--- a station of that name, started at that time, where no PING number is used
+-- a station of that name, started at that time, with no PING number used
 abbrev pub new_station : List ℕ → Stream → ℕ → Side StationState
 new_station key me boot = record {
   link = new_link key me (extras_of profile_definitions);
@@ -115,7 +115,7 @@ new_station key me boot = record {
 abbrev pub station_receives : ℕ → List ℕ → Side StationState → Outcome (Side StationState)
 station_receives clock datagram node = receives station_core clock datagram node
 
--- time passes
+-- one tick
 abbrev pub station_ticks : ℕ → Side StationState → Outcome (Side StationState)
 station_ticks clock node = steps clock node.link (station_does (station_tick node.core))
 
@@ -132,7 +132,7 @@ abbrev pub station_begins : ℕ → Stream → ℕ → List Item → Side Statio
 station_begins clock drone kind plan node =
     steps clock node.link (station_does (begin_upload node.core drone kind plan))
 
--- it gives its operation up
+-- it gives up its operation
 abbrev pub station_cancels : ℕ → Side StationState → Outcome (Side StationState)
 station_cancels clock node = steps clock node.link (station_does (station_cancel node.core))
 
@@ -171,7 +171,7 @@ order_refusal station Cancel = None
 order_refusal station (Clear drone kind) = refusal station
 order_refusal station (Get drone kind) = refusal station
 
--- why an order without a plan fails in the core: a download also where its buffer finds no memory
+-- why an order without a plan fails in the core: a download also fails if there is no memory for its buffer
 abbrev pub order_fault : StationState → Order → Option OpFault
 order_fault station (Begin drone kind plan) = None
 order_fault station Cancel = None

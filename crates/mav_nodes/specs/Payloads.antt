@@ -25,7 +25,7 @@ word_of values place = slice_index (words_at values place) 0
 abbrev pub node_of : List (List ℕ) → ℕ → ℕ → Name
 node_of values sys comp = record { sys = word_of values sys; comp = word_of values comp }
 
--- the messages, by the places of their fields
+-- the messages, by the indices of their fields
 abbrev pub ping_in : List (List ℕ) → PlanMsg
 ping_in v = Ping (node_of v 2 3) (word_of v 0) (word_of v 1)
 
@@ -56,7 +56,7 @@ item_in v = Give (node_of v 0 1) (word_of v 2) (word_of v 14) (record {
   z = word_of v 13;
 })
 
--- the message of the mission protocol that a frame of that id carries, where it carries one
+-- the message of the mission protocol that a frame of that id carries, if it carries one
 abbrev pub plan_in : ℕ → List ℕ → Option PlanMsg
 plan_in id payload =
     if id == 4 then Some (ping_in (values_in ping_definition payload))

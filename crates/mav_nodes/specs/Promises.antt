@@ -1,4 +1,4 @@
--- What calls promise of a node: how they leave it, and which news they append.
+-- What calls promise of a node: its state after them, and the news that they append.
 use Rattle.std.specs.Prelude.{ℕ, ◌≡◌, List, ◌++◌, map, Option, Some, None}
 use Rattle.plan_upload.specs.Drone.{DroneState}
 use Rattle.plan_upload.specs.Station.{StationState}
@@ -20,16 +20,16 @@ use Rattle.mav_nodes.specs.declared.faults.OrderFault.{OrderFault}
 use Rattle.mav_nodes.specs.declared.faults.OrderFault.TheVariants.{Begin, Op, Node}
 use Rattle.mav_nodes.specs.declared.faults.NodeFault.TheVariants.{StampsSpent}
 
--- this was done: the node is so, and these news came behind the earlier ones
+-- this was done: this is the node now, and these news came after the earlier ones
 abbrev pub Did : {A : Type 0} → Outcome A → (A → Type 0) → List News → List News → Type 0
 Did None Is before after = ⊥
 Did (Some d) Is before after = Is d.node × (events_of after ≡ events_of before ++ map shown d.events)
 
--- of a link
+-- the same of a link
 abbrev pub LinkDid : Outcome Link → EndpointState → List News → List News → Type 0
 LinkDid outcome endpoint before after = Did outcome (λ link. IsLink link endpoint) before after
 
--- what became of a frame that carries that plan message, or none
+-- the result of a frame that carries that plan message, or none
 abbrev pub IsAnswer : Admit → Packet → Option SignatureBlock → Tried → Type 0
 IsAnswer Admitted packet (Some block) (Plan from message) = (from ≡ stream_of packet block) × (plan_in packet.id packet.payload ≡ Some message)
 IsAnswer Admitted packet (Some block) Other = plan_in packet.id packet.payload ≡ None
@@ -37,18 +37,18 @@ IsAnswer Admitted packet (Some block) (Dropped answer) = ⊥
 IsAnswer Admitted packet None tried = ⊥
 IsAnswer answer packet block tried = tried ≡ Dropped answer
 
--- after the history of a link
+-- the same after the history of a link
 abbrev pub IsTried : Link → Packet → Tried → Type 0
 IsTried link packet tried = IsAnswer (answer_to link.key link.history packet) packet packet.block tried
 
--- of a drone and of a station
+-- the same of a drone and of a station
 abbrev pub DroneDid : Outcome (Side DroneState) → DroneView → List News → List News → Type 0
 DroneDid outcome view before after = Did outcome (λ node. IsDrone node view) before after
 
 abbrev pub StationDid : Outcome (Side StationState) → StationView → List News → List News → Type 0
 StationDid outcome view before after = Did outcome (λ node. IsStation node view) before after
 
--- an order was refused, for the first cause; an upload's plan is handed back
+-- an order was refused, for the first cause; an upload's plan is returned
 abbrev pub IsRefusal : StationState → Order → OrderFault → Type 0
 IsRefusal station order (Begin fault) = (order_refusal station order ≡ Some fault.why) × (order_plan order ≡ Some fault.plan)
 IsRefusal station order (Op fault) = order_fault station order ≡ Some fault

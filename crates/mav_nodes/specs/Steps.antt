@@ -1,5 +1,5 @@
--- What a node does at frames, whatever its core is: each is tried, the core takes the plan message of an admitted one, and
--- its answer is sent before the next frame is tried.
+-- What a node does at frames, whatever its core is: each is tried, the core takes the plan message of an admitted one,
+-- and its reply is sent before the next frame is tried.
 use Rattle.std.specs.Prelude.{false, ℕ, List, [], ◌∷◌, ◌++◌, Option, Some, None}
 use Rattle.mav_names.specs.declared.names.Stream.{Stream}
 use Rattle.plan_items.specs.declared.messages.PlanMsg.{PlanMsg}
@@ -19,14 +19,14 @@ pub record Side (Core : Type 0) : Type 0 where
   pub link : Link
   pub core : Core
 
--- a core's step: the core after it, its events before and behind what it sends
+-- a core's step: the core after it, its events before and after what it sends
 pub record CoreStep (Core : Type 0) : Type 0 where
   pub core : Core
   pub first : List NodeEvent
   pub answer : Option PlanMsg
   pub last : List NodeEvent
 
--- what is sent for an answer
+-- what is sent for a reply
 abbrev pub answers : ℕ → Option PlanMsg → Link → Outcome Link
 answers clock None link = done link []
 answers clock (Some message) link = sends clock (message_of_plan message) link
@@ -40,12 +40,12 @@ with_core core last (Some d) = done (record { link = d.node; core = core }) (d.e
 abbrev pub steps : {Core : Type 0} → ℕ → Link → CoreStep Core → Outcome (Side Core)
 steps clock link step = behind step.first (with_core step.core step.last (answers clock step.answer link))
 
--- a node that has a plan message, or none
+-- a node that receives a plan message, or none
 abbrev pub takes : {Core : Type 0} → (Core → Stream → PlanMsg → CoreStep Core) → ℕ → Side Core → Stream → Option PlanMsg → Outcome (Side Core)
 takes step clock node from None = done node []
 takes step clock node from (Some message) = steps clock node.link (step node.core from message)
 
--- the answer to a frame; one that isn't admitted changes nothing else
+-- the verdict on a frame; one that isn't admitted changes nothing else
 abbrev pub admits : {Core : Type 0} → (Core → Stream → PlanMsg → CoreStep Core) → ℕ → Side Core → Packet → Admit → Option SignatureBlock → Outcome (Side Core)
 admits step clock node packet Admitted (Some block) =
     takes step clock node (stream_of packet block) (plan_in packet.id packet.payload)

@@ -70,7 +70,7 @@ impl Core for Drone {
     }
 }
 
-// Whether an answer acknowledges what was done.
+// Whether a reply acknowledges what was done.
 fn is_accepted(answer: &Option<PlanMsg>) -> bool
     ensures { result ≡ accepts answer.now }
 {
@@ -80,7 +80,7 @@ fn is_accepted(answer: &Option<PlanMsg>) -> bool
     }
 }
 
-// What became of the drone's plans at a message: an item or a clear is accepted exactly where it changed them.
+// What a message did to the drone's plans: an item or a clear is accepted exactly if it changed them.
 fn plan_news(drone: &Drone, by: Stream, message: &PlanMsg, accepted: bool) -> PlanNews
     ensures { said_of_plans result ≡ map shown (change_events by drone.now.plans (change_told message.now accepted)) }
 {
@@ -105,8 +105,8 @@ fn installed(drone: &Drone, by: Stream, kind: Option<PlanKind>) -> PlanNews
 }
 
 impl DroneNode {
-    /// A drone of this system with empty plans, disarmed at that place, in units of 1e-7 degrees. It knows the messages of
-    /// the profile. Its memory is all taken here, but for the news.
+    /// A drone of this system with empty plans, disarmed at that location, in units of 1e-7 degrees. It knows the
+    /// messages of the profile. All its memory is allocated here, but for the news.
     pub fn new(alloc: Global, key: Key, sys: u8, _x: i32, _y: i32) -> Result<DroneNode, NoMemory>
         ensures { IfOk result (λ node. IsDrone (new_drone key sys) node) }
     {
@@ -129,7 +129,7 @@ impl DroneNode {
         &self.drone
     }
 
-    /// Takes a datagram as a whole input by itself: each of its frames in order, and each answer is sent before the next
+    /// Takes a datagram as a whole input by itself: each of its frames in order, and each reply is sent before the next
     /// frame is tried.
     pub fn receive(&mut self, datagram: &[u8], clock: u64) -> Result<Vec<News>, NodeFault>
         ensures done { IfOk result (λ news. (node : Side DroneState) → IsDrone node self.old
@@ -140,7 +140,7 @@ impl DroneNode {
         node::receive(self.alloc, &mut self.link, &mut self.drone, datagram, clock)
     }
 
-    /// Time passes: an open upload asks again or is closed, and an idle download is closed.
+    /// One tick: an open upload asks again or is closed, and an idle download is closed.
     pub fn tick(&mut self, clock: u64) -> Result<Vec<News>, NodeFault>
         ensures done { IfOk result (λ news. (node : Side DroneState) → IsDrone node self.old
             → DroneDid (drone_ticks clock node) self.new [] news.items) }

@@ -48,10 +48,10 @@ impl From<SpentStamps> for NodeFault {
     }
 }
 
-/// Why a station doesn't follow an order. A refusal has changed nothing.
+/// Why a station doesn't follow an order. A refused order changes nothing.
 #[derive(Drop)]
 pub enum OrderFault {
-    /// The upload was refused, and its plan is handed back.
+    /// The upload was refused, and its plan is returned.
     Begin(BeginFault),
     /// The clear or the download was refused.
     Op(OpFault),

@@ -1,4 +1,4 @@
-// What nodes say of themselves (MAVLink guide, Heartbeat Protocol).
+// What nodes report of themselves (MAVLink guide, Heartbeat Protocol).
 ghost use Rattle.std.specs.Prelude.{◌≡◌};
 ghost use Rattle.mav_nodes.specs.Nodes.{drone_heartbeat as drone_says, station_heartbeat as station_says};
 

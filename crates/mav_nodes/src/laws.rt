@@ -31,7 +31,7 @@ pub fn same_bytes_same_frame()
     ensures { SameBytesSameFrame }
 {}
 
-/// What nodes say of themselves can be sent, and is no plan message.
+/// The HEARTBEAT of a node can be sent, and is no plan message.
 pub fn heartbeats_fit()
     ensures { HeartbeatsFit }
 {}

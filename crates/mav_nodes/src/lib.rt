@@ -1,8 +1,8 @@
 //! Drones and stations as nodes over datagrams: each frame that comes in is tried, an admitted plan message goes to the
-//! node's plan core, and its answer is sent at once as a signed frame.
+//! node's plan core, and its reply is sent at once as a signed frame.
 //!
-//! A node tells all that happened as a list of [`News`]; a caller sends the frames among them. What a node does is a total
-//! function of its state, the datagram and the clock. It has no link of its own, and no clock.
+//! A node reports all that happened as a list of [`News`]; a caller sends the frames among them. What a node does is a
+//! total function of its state, the datagram and the clock. It has no link of its own, and no clock.
 #![tactic(auto)]
 
 mod drone_node;

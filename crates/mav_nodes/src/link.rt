@@ -32,7 +32,7 @@ pub(crate) struct Link {
     endpoint: Endpoint,
 }
 
-/// What became of a frame.
+/// The result of a frame.
 #[derive(Clone, Copy)]
 pub(crate) enum Tried {
     /// An admitted plan message of a stream.
@@ -83,7 +83,7 @@ fn signed_fit(message: &Message)
 }
 
 impl Link {
-    /// A link that has heard and sent nothing, and knows the messages of the profile.
+    /// A link that has received and sent nothing, and knows the messages of the profile.
     pub(crate) fn new(alloc: Global, key: Key, me: Stream) -> Result<Link, NoMemory>
         ensures { IfOk result (λ link. IsLink (new_link key me (extras_of profile_definitions)) link) }
     {
@@ -106,7 +106,7 @@ impl Link {
         self.endpoint.take(frame)
     }
 
-    /// Tries one frame, and answers the plan message that it carries.
+    /// Tries one frame, and returns the plan message that it carries.
     pub(crate) fn hear(&mut self, frame: &Frame) -> Tried
         ensures tried { (link : LinkState) → IsLink link self.old → IsTried link frame.now result }
         ensures link { (link : LinkState) → IsLink link self.old → IsLink (tries frame.now link) self.new }
@@ -124,7 +124,7 @@ impl Link {
         }
     }
 
-    /// Sends a message, and tells it.
+    /// Sends a message, and reports it.
     pub(crate) fn send(
         &mut self,
         message: &Message,
@@ -140,7 +140,7 @@ impl Link {
         tell(news, News::Sent(frame, *message))
     }
 
-    /// Sends an answer, where there is one.
+    /// Sends a reply, if there is one.
     pub(crate) fn answer(
         &mut self,
         answer: Option<PlanMsg>,
@@ -158,7 +158,7 @@ impl Link {
         }
     }
 
-    /// Does what a core's step asks for: tells its first news, sends its answer, and tells its outcome.
+    /// Does what a core's step asks for: reports its first news, sends its reply, and reports its outcome.
     pub(crate) fn say(
         &mut self,
         step: Step,

@@ -9,7 +9,7 @@ use mav_sign::Admit;
 use plan_items::PlanKind;
 use plan_upload::Outcome;
 
-/// What happened in a node, in the order in which it did.
+/// What happened in a node, in order.
 #[derive(Drop)]
 pub enum News {
     /// The node sent this frame, which carries the message.
@@ -20,7 +20,7 @@ pub enum News {
         count: u16,
         by: Stream,
     },
-    /// A plan was emptied, also where it was so already.
+    /// A plan was emptied, even if it already was empty.
     Emptied {
         kind: PlanKind,
     },

@@ -33,7 +33,7 @@ fn hear<C: Core>(
     }
 }
 
-/// Takes a datagram as a whole input by itself: each of its frames in order, and each answer is sent before the next
+/// Takes a datagram as a whole input by itself: each of its frames in order, and each reply is sent before the next
 /// frame is tried.
 pub(crate) fn receive<C: Core>(
     alloc: Global,
@@ -60,7 +60,7 @@ pub(crate) fn receive<C: Core>(
     Ok(news)
 }
 
-/// Time passes.
+/// One tick.
 pub(crate) fn tick<C: Core>(
     alloc: Global,
     link: &mut Link,

@@ -11,7 +11,7 @@ pub enum Order {
         kind: PlanKind,
         plan: Plan,
     },
-    /// To give its operation up.
+    /// To give up its operation.
     Cancel,
     /// To empty a drone's plan of a kind, and with None all three.
     Clear {

@@ -52,7 +52,7 @@ impl Core for Station {
     }
 }
 
-// The station has done a step with this answer: an outcome that it has reached is handed out.
+// The station has done a step with this reply: an outcome that it has reached is returned.
 fn step_of(station: &mut Station, answer: Option<PlanMsg>) -> Step
     ensures { (step : StationStep) → station.old ≡ step.station → answer ≡ step.answer → IsStep (station_does step) station.new result }
 {
@@ -89,8 +89,8 @@ fn obey(station: &mut Station, order: Order) -> Result<Option<PlanMsg>, OrderFau
 }
 
 impl StationNode {
-    /// A station with this stream and boot time in microseconds. It knows the messages of the profile. Its memory is all
-    /// taken here, but for the news.
+    /// A station with this stream and boot time in microseconds. It knows the messages of the profile. All its
+    /// memory is allocated here, but for the news.
     pub fn new(alloc: Global, key: Key, me: Stream, boot: u64) -> Result<StationNode, NoMemory>
         ensures { IfOk result (λ node. IsStation (new_station key me boot) node) }
     {
@@ -103,7 +103,7 @@ impl StationNode {
         })
     }
 
-    /// Takes a datagram as a whole input by itself: each of its frames in order, and each answer is sent before the next
+    /// Takes a datagram as a whole input by itself: each of its frames in order, and each reply is sent before the next
     /// frame is tried.
     pub fn receive(&mut self, datagram: &[u8], clock: u64) -> Result<Vec<News>, NodeFault>
         ensures done { IfOk result (λ news. (node : Side StationState) → IsStation node self.old
@@ -137,7 +137,7 @@ impl StationNode {
         }
     }
 
-    /// Time passes: what an operation sends again, or how it goes on.
+    /// One tick: what an operation sends again, or how it continues.
     pub fn tick(&mut self, clock: u64) -> Result<Vec<News>, NodeFault>
         ensures done { IfOk result (λ news. (node : Side StationState) → IsStation node self.old
             → StationDid (station_ticks clock node) self.new [] news.items) }

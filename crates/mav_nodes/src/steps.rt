@@ -1,4 +1,4 @@
-// What a node's core does, and how it is told.
+// What a node's core does, and how it is reported.
 ghost use Rattle.std.specs.Prelude.{◌≡◌, ◌++◌, ◌∷◌, [], OnOk, IfErr};
 ghost use Rattle.mav_nodes.specs.News.{Shows_emptied, events_of};
 ghost use Rattle.mav_nodes.specs.Cores.{said_of_plans, said_of_outcome};
@@ -9,17 +9,17 @@ use mav_names::Stream;
 use plan_items::{PlanKind, PlanMsg};
 use plan_upload::Outcome;
 
-/// What became of a drone's plans.
+/// What was done to a drone's plans.
 #[derive(Drop)]
 pub(crate) enum PlanNews {
     Same,
     /// A plan of so many items was installed, uploaded by this stream.
     Installed(PlanKind, u16, Stream),
-    /// The plan of this kind, or with None all three, became empty, also where it was so already.
+    /// The plan of this kind, or with None all three, became empty, even if it already was.
     Emptied(Option<PlanKind>),
 }
 
-/// A step of a core: the plans' news are told before the answer is sent, and the outcome after it.
+/// A step of a core: the plans' news are reported before the reply is sent, and the outcome after it.
 #[derive(Drop)]
 pub(crate) struct Step {
     pub(crate) plans: PlanNews,
@@ -27,7 +27,7 @@ pub(crate) struct Step {
     pub(crate) outcome: Option<Outcome>,
 }
 
-/// What a node does something with. It has no link and no clock, and takes no memory.
+/// The core of a node. It has no link and no clock, and doesn't allocate.
 pub(crate) trait Core {
     ghost use Rattle.mav_names.specs.declared.names.Stream.{Stream};
     ghost use Rattle.plan_items.specs.declared.messages.PlanMsg.{PlanMsg};
@@ -37,7 +37,7 @@ pub(crate) trait Core {
     /// Its step at a plan message of a stream.
     ghost taken: { Self → Stream → PlanMsg → CoreStep Self };
 
-    /// Its step as time passes.
+    /// Its step at a tick.
     ghost waited: { Self → CoreStep Self };
 
     fn take(&mut self, from: Stream, message: &PlanMsg) -> Step
@@ -47,7 +47,7 @@ pub(crate) trait Core {
         ensures { IsStep (waited self.old) self.new result };
 }
 
-/// Tells what became of the plans.
+/// Reports what was done to the plans.
 pub(crate) fn tell_plans(news: &mut Vec<News>, plans: PlanNews) -> Result<(), NodeFault>
     ensures told { OnOk result (events_of news.new.items ≡ events_of news.old.items ++ said_of_plans plans) }
     ensures fault { IfErr result (λ fault. fault ≡ NodeFault.NoMemory) }
@@ -71,7 +71,7 @@ fn tell_emptied(news: &mut Vec<News>, kind: PlanKind) -> Result<(), NodeFault>
     tell(news, News::Emptied { kind })
 }
 
-/// Tells an outcome, where there is one.
+/// Reports an outcome, if there is one.
 pub(crate) fn tell_outcome(news: &mut Vec<News>, outcome: Option<Outcome>) -> Result<(), NodeFault>
     ensures told { OnOk result (events_of news.new.items ≡ events_of news.old.items ++ said_of_outcome outcome) }
     ensures fault { IfErr result (λ fault. fault ≡ NodeFault.NoMemory) }

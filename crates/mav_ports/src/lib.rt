@@ -1,9 +1,9 @@
-//! Sources, sinks and clocks: all that the program takes from outside, and all that it hands there.
+//! Sources, sinks and clocks: all that the program reads from outside, and all that it writes there.
 //!
-//! [`Source`], [`Sink`] and [`Clock`] promise which bytes moved, and that a call failed only where a
-//! count of faults rose. The ports over memory say besides what each call answers, for tests and
-//! runs without a system; the `Std` ports stand over the real things and promise nothing of what
-//! these hold. Nothing here takes memory but the constructors that answer [`NoMemory`].
+//! [`Source`], [`Sink`] and [`Clock`] promise which bytes moved, and that a call failed only if a
+//! count of faults rose. The ports over memory also say what each call returns, for tests and
+//! runs without a system; the `Std` ports wrap the system's own and promise nothing of what
+//! these hold. Nothing here allocates but the constructors that return [`NoMemory`].
 #![tactic(auto)]
 
 mod calls;

@@ -1,9 +1,9 @@
-// A clock that stands still.
+// A clock that doesn't advance.
 ghost use Rattle.std.specs.Prelude.{◌≡◌, Some};
 
 use crate::Clock;
 
-/// A clock that always answers the same.
+/// A clock that always returns the same time.
 #[derive(Drop)]
 pub struct MemClock {
     at: u64,

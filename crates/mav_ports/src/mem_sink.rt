@@ -38,7 +38,7 @@ impl Model for MemSink {
 }
 
 impl MemSink {
-    /// It has room for `room` bytes, for which it takes the memory here, and takes at most `chunk`
+    /// It has room for `room` bytes, which it allocates here, and takes at most `chunk`
     /// bytes a call. Calls are numbered from 0: it fails at those in `fails`.
     pub fn new(
         alloc: Global,
@@ -68,7 +68,7 @@ impl MemSink {
         &self.sent
     }
 
-    // What the next write answers, where `offered` bytes are given to it.
+    // What the next write returns, if `offered` bytes are given to it.
     fn answer(&self, offered: usize) -> Put
         ensures { result ≡ write_answer self.now offered }
     {
@@ -93,7 +93,7 @@ impl Sink for MemSink {
         ensures bytes { self.new.sent ≡ self.old.sent ++ taken result bytes.now }
         ensures faults { CountsRefusal result self.old.faults self.new.faults }
 
-        // The whole answer, and what stands afterwards.
+        // The whole result, and the state afterwards.
         ensures answer { result ≡ write_answer self.old (length bytes.now) }
         ensures after { self.new ≡ after_write self.old result bytes.now }
     {

@@ -63,7 +63,7 @@ impl MemSource {
         }
     }
 
-    // What the next read answers, into a buffer of `room` bytes.
+    // What the next read returns, into a buffer of `room` bytes.
     fn answer(&self, room: usize) -> Got
         ensures { result ≡ read_answer self.now room }
     {
@@ -101,7 +101,7 @@ impl Source for MemSource {
         ensures ended { result ≡ Got.End → IsTrue self.new.ended }
         ensures stays { IsTrue self.old.ended → result ≡ Got.End }
 
-        // The whole answer, and what is left behind.
+        // The whole result, and the state afterwards.
         ensures answer { result ≡ read_answer self.old (length buf.old) }
         ensures after { self.new ≡ after_read self.old result }
         ensures buffer { buf.new ≡ buffer_after result self.old.left buf.old }

@@ -1,4 +1,4 @@
-// Bytes that are given out from their front.
+// Bytes that are given out from their start.
 ghost use Rattle.std.specs.Prelude.{◌≡◌, ◌≤◌, length, take, drop};
 
 use std::marker::Model;

@@ -13,15 +13,15 @@ const START_OF_2015: u64 = 1_420_070_400;
 
 const NANOS_PER_UNIT: u128 = 10_000;
 
-/// The system's clock. Where the system gives no time, or one before 2015, it answers what it
-/// answered last, and 0 at first.
+/// The system's clock. If the system gives no time, or one before 2015, it returns what it
+/// returned last, and 0 at first.
 #[derive(Drop)]
 pub struct StdClock<C: time::Clock + Drop> {
     system: C,
     last: u64,
 }
 
-// Seen as its last answer.
+// Contracts see the time that it returned last.
 impl<C: time::Clock + Drop> Model for StdClock<C> {
     ghost use Rattle.std.specs.Prelude.{ℕ};
 
@@ -49,7 +49,7 @@ impl<C: time::Clock + Drop> Clock for StdClock<C> {
     }
 }
 
-// The time in units since 2015, where there is one, or else the last answer.
+// The time in units since 2015, if there is one, or else the last one returned.
 fn answer(now: io::Result<SystemTime>, last: u64) -> u64
     ensures { MatchResult now (λ time. result ≡ unwrap_or (units_at (system_time_nanos time)) last) (λ _. result ≡ last) }
 {

@@ -1,11 +1,11 @@
-// A sink over the real thing.
+// A sink over a writer of the system.
 ghost use Rattle.std.specs.Prelude.{◌≡◌, None};
 
 use crate::{Put, Sink};
 use std::io::Write;
 
 /// A sink over any writer. It says nothing of the bytes, and counts as a fault each error of the
-/// writer and each write that takes none. It doesn't flush: hand it a writer without a buffer.
+/// writer and each write that takes none. It doesn't flush, so the writer must have no buffer.
 #[derive(Drop)]
 pub struct StdSink<W: Write + Drop> {
     writer: W,

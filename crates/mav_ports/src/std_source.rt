@@ -1,4 +1,4 @@
-// A source over the real thing.
+// A source over a reader of the system.
 ghost use Rattle.std.specs.Prelude.{◌≡◌, ◌<◌, None, IsTrue, IsSome, IsNone, length};
 ghost use Rattle.mav_ports.specs.Gets.{GivesWithin, CountsFault, idles_after};
 

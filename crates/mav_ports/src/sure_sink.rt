@@ -1,4 +1,4 @@
-// A sink over memory that fails only where no room is left.
+// A sink over memory that fails only if no room is left.
 ghost use Rattle.std.specs.Prelude.{◌≡◌, ◌<◌, ◌++◌, Some, [], length, IfOk};
 ghost use Rattle.mav_ports.specs.Puts.{taken, TakesWithin, CountsRefusal};
 ghost use Rattle.mav_ports.specs.SureWrites.{sure_put, after_sure_write};
@@ -27,7 +27,7 @@ impl Model for SureSink {
 }
 
 impl SureSink {
-    /// It has room for this many bytes, for which it takes the memory here.
+    /// It has room for this many bytes, which it allocates here.
     pub fn with_room(alloc: Global, bytes: usize) -> Result<SureSink, NoMemory>
         ensures start { IfOk result (λ sink. sink ≡ record { sent = []; room = bytes; faults = 0 }) }
         ensures sent { IfOk result (λ sink. ⟦<SureSink as Sink>⟧.sent sink ≡ Some []) }
@@ -60,7 +60,7 @@ impl Sink for SureSink {
         ensures bytes { self.new.sent ≡ self.old.sent ++ taken result bytes.now }
         ensures faults { CountsRefusal result self.old.faults self.new.faults }
 
-        // The whole answer, and what stands afterwards.
+        // The whole result, and the state afterwards.
         ensures answer { result ≡ sure_put self.old (length bytes.now) }
         ensures after { self.new ≡ after_sure_write self.old result bytes.now }
     {

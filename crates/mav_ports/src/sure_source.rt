@@ -58,7 +58,7 @@ impl Source for SureSource {
         ensures ended { result ≡ Got.End → IsTrue self.new.ended }
         ensures stays { IsTrue self.old.ended → result ≡ Got.End }
 
-        // The whole answer, and what is left behind.
+        // The whole result, and the state afterwards.
         ensures answer { result ≡ sure_answer self.old (length buf.old) }
         ensures after { self.new ≡ after_sure_read self.old result }
         ensures buffer { buf.new ≡ buffer_after result self.old.left buf.old }

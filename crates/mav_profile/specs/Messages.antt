@@ -1,4 +1,4 @@
--- What a dialect answers of its messages.
+-- What a dialect reports of its messages.
 use Rattle.std.specs.Prelude.{ℕ, ◌==◌, List, [], find, fold, Option}
 use Rattle.std.specs.BTreeMap.{insert_entry}
 use Rattle.std.specs.Ordering.{nat_cmp}

@@ -1,4 +1,4 @@
-//! The messages of the profile (MAVLink common message set): their definitions, which contracts speak of, and the table
+//! The messages of the profile (MAVLink common message set): their definitions, which contracts refer to, and the table
 //! of their CRC_EXTRA bytes.
 #![tactic(auto)]
 

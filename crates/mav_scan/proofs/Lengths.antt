@@ -16,7 +16,7 @@ length_by why extras reads_old b n most is within each ends =
     let here : n ≡ count_while (test (drop 1 b)) (min most_skipped (length b) - 1) = e ∙ (λ i. count_while (test (rest_is b i)) (is i)) in
     omega (arith, here)
 
--- where only the bytes that count were searched for an STX
+-- if only the bytes that count were searched for an STX
 pub length_searched : (extras : List (ℕ × ℕ)) (reads_old : Bool) (b searched : List ℕ) (n most : ℕ) → most ≡ min most_skipped (length b) - 1 → searched ≡ take most (slice_range b 1 (length b)) → length searched ≡ most → n ≤ length searched → ((k : ℕ) → k < n → skips_at NotStx [] reads_old searched k ≡ true) → (n < length searched → skips_at NotStx [] reads_old searched n ≡ false) → 1 + n ≡ skipped_length NotStx extras reads_old b
 length_searched extras reads_old b searched n most is part long within each ends =
     let same : (k : ℕ) → k < most → slice_index searched k ≡ slice_index (slice_range b 1 (length b)) k =

@@ -1,4 +1,4 @@
--- What stands at the start goes on with the parse.
+-- What is at the start continues the parse.
 use Rattle.std.proofs.Common.{◌≡◌, ℕ, ◌-◌, ◌<◌, ◌≤◌, ◌==◌, ◌&&◌, Bool, true, false, not, nat_lt, slice_index, List, [], ◌∷◌, ◌++◌, length, take, drop, Option, Some, None, if◌then◌else◌, refl, sym, ap, ◌∙◌, subst, arith, length-take, append-nil}
 use Rattle.std.proofs.lemmas.Bool.Decides.{nat_tests}
 use Rattle.mav_frame.specs.Packet.{Packet}
@@ -37,7 +37,7 @@ module _ (held : Held) (bytes : IsBytes held.bytes) where
   abbrev is_short : Bool
   is_short = held.ended && nat_lt 0 (length held.bytes)
 
-  -- ---- what stands at the start is held
+  -- ---- what is at the start is held
 
   short_within : (t : Bool) → is_short ≡ t → span_size (if t then Skipped Short 1 else Need) ≤ length held.bytes
   short_within true e = let some = (ended_some held.ended (length held.bytes) e).1 in omega arith
@@ -103,7 +103,7 @@ module _ (held : Held) (bytes : IsBytes held.bytes) where
     short_on k e true is = let over = ended_some held.ended (length held.bytes) is in first_short k held.bytes refl e over.0 over.1
     short_on k e false is = subst (λ (z : List Event). Progress extras reads_old taken z held) (sym (append-nil given)) h
 
-    -- the events at the start go on with it
+    -- the events at the start continue it
     pub progress : (look : Look) → look_of held.extras held.reads_old held.bytes ≡ look → Progress extras reads_old taken (given ++ span_events held (span_by look held)) (held_after held (span_by look held))
     progress (Found p n) e =
         let now : Held = record held { bytes = drop n held.bytes } in

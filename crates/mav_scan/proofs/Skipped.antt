@@ -88,7 +88,7 @@ module _ (extras : List (ℕ × ℕ)) (reads_old : Bool) where
   abbrev Looks : Why → List ℕ → Type 0
   Looks why b = look_of extras reads_old b ≡ NotHere why
 
-  -- by the reason in words, at the version that stands there
+  -- by the reason in words, at the version whose STX comes first
   by_words : (why : Why) (v : Bool) (b : List ℕ) → is_old_at reads_old b ≡ v → (why ≢ Short) → SkipReasonAs extras v b why → Looks why b
   by_words why v b is other h =
       elim (listed extras reads_old b why (subst (λ (w : Bool). SkipReasonAs extras w b why) (sym is) h)) [ inl e ↦ e | inr e ↦ absurd (other e.1) ]

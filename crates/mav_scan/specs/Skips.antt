@@ -14,8 +14,8 @@ count_while test (suc count) = if test 0 then suc (count_while (λ k. test (suc 
 abbrev pub is_stx : Bool → ℕ → Bool
 is_stx reads_old byte = byte == 0xFD || (reads_old && (byte == 0xFE))
 
--- whether it shows at an offset that a byte is skipped for this reason: it is no STX; an unknown flag stands two bytes
--- after an STX of MAVLink 2, or an unknown id five bytes after one of MAVLink 1
+-- whether the bytes at an offset show that a byte is skipped for this reason: it is no STX; an unknown flag is two
+-- bytes after an STX of MAVLink 2, or an unknown id five bytes after one of MAVLink 1
 abbrev pub skips_at : Why → List (ℕ × ℕ) → Bool → List ℕ → ℕ → Bool
 skips_at NotStx extras reads_old b at = not (is_stx reads_old (slice_index b at))
 skips_at UnknownFlag extras reads_old b at = slice_index b at == 0xFD && nat_lt 1 (slice_index b (at + 2))
@@ -24,7 +24,7 @@ skips_at UnknownId extras reads_old b at =
 skips_at BadCheck extras reads_old b at = false
 skips_at Short extras reads_old b at = false
 
--- the most bytes of one answer
+-- the most bytes of one result
 abbrev pub most_skipped : ℕ
 most_skipped = 1024
 

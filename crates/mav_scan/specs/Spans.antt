@@ -1,4 +1,4 @@
--- What stands at the start of the bytes that a scanner holds.
+-- What is at the start of the bytes that a scanner holds.
 use Rattle.std.specs.Prelude.{ℕ, ◌&&◌, nat_lt, if◌then◌else◌, List, [], ◌∷◌, length, take, drop, map}
 use Rattle.mav_frame.specs.Packet.{Packet}
 use Rattle.mav_frame.specs.Looks.{is_old_at, look_of, packet_at}
@@ -17,7 +17,7 @@ use Rattle.mav_scan.specs.declared.spans.NextSpan.TheVariants.{Frame, Skipped, N
 abbrev pub first_packet : Held → Packet
 first_packet held = packet_at (is_old_at held.reads_old held.bytes) held.bytes
 
--- what a look at the bytes tells; an incomplete frame is skipped once the input has ended
+-- the result of a look at the bytes; an incomplete frame is skipped once the input has ended
 abbrev pub span_by : Look → Held → NextSpan
 span_by (Found packet size) held = Frame size
 span_by (NotHere why) held = Skipped why (skipped_length why held.extras held.reads_old held.bytes)
@@ -50,7 +50,7 @@ IfNeed (Frame size) P = Unit {0}
 IfNeed (Skipped why count) P = Unit {0}
 IfNeed Need P = P
 
--- a fact if bytes of an event stand at the start
+-- a fact if the bytes of an event are at the start
 abbrev pub IfEvent : NextSpan → Type 0 → Type 0
 IfEvent (Frame size) P = P
 IfEvent (Skipped why count) P = P

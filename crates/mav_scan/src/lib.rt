@@ -1,5 +1,5 @@
-//! A reader of a stream in large pieces: the same parse as the reader that holds one frame, over frames that stay
-//! where they stand.
+//! A reader of a stream in large pieces: the same parse as the reader that holds one frame, over frames that aren't
+//! copied.
 #![tactic(auto)]
 
 mod scanner;

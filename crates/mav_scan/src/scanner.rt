@@ -18,8 +18,8 @@ use std::alloc::Global;
 use std::marker::Model;
 use x25_check::Extras;
 
-/// A reader of one stream, which contracts see as the bytes that it holds: those taken that are in no event yet, at most
-/// 65,816.
+/// A reader of one stream, which contracts see as the bytes that it holds: those taken that are in no event yet, at
+/// most 65,816.
 #[derive(Drop)]
 pub struct Scanner {
     table: ExtrasTable,
@@ -37,7 +37,8 @@ impl Model for Scanner {
 }
 
 impl Scanner {
-    /// A reader of frames whose messages have these CRC_EXTRA bytes; `old` says whether frames of MAVLink 1 are read too.
+    /// A reader of frames whose messages have these CRC_EXTRA bytes; `old` says whether frames of MAVLink 1 are read
+    /// too.
     pub fn new(alloc: Global, extras: Extras, old: bool) -> Result<Scanner, NoMemory>
         ensures { IfOk result (λ scanner. scanner ≡ nothing_held extras old) }
     {
@@ -55,7 +56,7 @@ impl Scanner {
     pub fn feed(&mut self, piece: &[u8]) -> usize
         ensures count { result ≡ min (length piece.now) (65816 - length self.old.bytes) }
         ensures held { self.new ≡ record self.old { bytes = self.old.bytes ++ take result piece.now } }
-        // The events given begin the parse of all bytes taken.
+        // The events given are a prefix of the parse of all bytes taken.
         ensures progress { (extras : List (ℕ × ℕ)) (reads_old : Bool) (taken : List ℕ) (given : List Event) → self.old.ended ≡ false
             → Progress extras reads_old taken given self.old → Progress extras reads_old (taken ++ take result piece.now) given self.new }
     {
@@ -79,14 +80,14 @@ impl Scanner {
         self.window.bytes()
     }
 
-    /// What stands at the start of the bytes held.
+    /// What is at the start of the bytes held.
     #[inline]
     pub fn next_span(&self) -> NextSpan
         ensures exact { result ≡ next_span self.now }
         ensures within { span_size result ≤ length self.now.bytes }
         ensures some { IfEvent result (0 < span_size result) }
         ensures frame { IfFrame result (λ size. (size ≡ length (encoding (first_packet self.now))) × (size ≡ frame_size_at (is_old_at self.now.reads_old self.now.bytes) self.now.bytes)) }
-        // The events given and those at the start begin the parse.
+        // The events given and those at the start are a prefix of the parse.
         ensures progress { (extras : List (ℕ × ℕ)) (reads_old : Bool) (taken : List ℕ) (given : List Event)
             → Progress extras reads_old taken given self.now
             → Progress extras reads_old taken (given ++ span_events self.now result) (held_after self.now result) }
@@ -100,7 +101,7 @@ impl Scanner {
         self.span()
     }
 
-    /// Takes bytes off the start, once their events were seen.
+    /// Removes bytes from the start, once their events were seen.
     #[inline]
     pub fn consume(&mut self, count: usize)
         requires { count ≤ length self.old.bytes }
@@ -128,7 +129,7 @@ impl Scanner {
         check_frame(&self.table, self.reads_old, self.window.bytes())
     }
 
-    // The answer where no frame stands at the start.
+    // The result if no frame is at the start.
     #[inline(always)]
     fn skipped(&self, why: Why) -> NextSpan
         requires { 0 < length self.now.bytes }
@@ -140,7 +141,7 @@ impl Scanner {
         )
     }
 
-    // The answer where an incomplete frame is held, or nothing.
+    // The result if an incomplete frame is held, or nothing.
     fn lacking(&self) -> NextSpan
         ensures { (lacks : ℕ) → result ≡ span_by (More lacks) self.now }
     {

@@ -8,7 +8,7 @@ use crate::table::ExtrasTable;
 use mav_frame::{CrcExtras, OLD_STX, STX, Why};
 use memchr::{memchr, memchr2};
 
-// The most bytes of one answer, so that what is made of it stays small.
+// The most bytes of one result, so that its text stays small.
 const MOST_SKIPPED: usize = 1024;
 
 // The offset of the first STX, or how many bytes there are.
@@ -23,7 +23,7 @@ fn first_stx(bytes: &[u8]) -> usize
     }
 }
 
-// The same, where frames of MAVLink 1 are read too.
+// The same, if frames of MAVLink 1 are read too.
 fn first_stx_of_either(bytes: &[u8]) -> usize
     ensures within { result ≤ length bytes.now }
     ensures each { (k : ℕ) → k < result → is_stx true (slice_index bytes.now k) ≡ false }
@@ -48,7 +48,7 @@ fn before_stx(reads_old: bool, bytes: &[u8]) -> usize
     }
 }
 
-// Whether STX of MAVLink 2 with unknown flags stands at an offset; both bytes are read, which a loop can do for several
+// Whether STX of MAVLink 2 and unknown flags are at an offset; both bytes are read, which a loop can do for several
 // offsets at once.
 #[inline(always)]
 fn is_flagged(bytes: &[u8], at: usize) -> bool
@@ -58,7 +58,7 @@ fn is_flagged(bytes: &[u8], at: usize) -> bool
     (bytes[at] == STX) & (bytes[at + 2] > 1)
 }
 
-// Whether it does at eight offsets from one on.
+// Whether they are at eight offsets from one on.
 #[inline(always)]
 fn are_flagged(bytes: &[u8], at: usize) -> bool
     requires { at + 10 ≤ length bytes.now }
@@ -71,7 +71,7 @@ fn are_flagged(bytes: &[u8], at: usize) -> bool
     all
 }
 
-// At how many of the first offsets it does, eight by eight.
+// At how many of the first offsets they are, eight by eight.
 fn flagged_eights(bytes: &[u8], most: usize) -> usize
     requires { most ≤ length bytes.now - 2 }
     ensures within { result ≤ most }
@@ -84,7 +84,7 @@ fn flagged_eights(bytes: &[u8], most: usize) -> usize
     at
 }
 
-// At how many of the first offsets it does, one after another.
+// At how many of the first offsets they are, one after another.
 fn flagged_length(bytes: &[u8], most: usize) -> usize
     requires { most ≤ length bytes.now }
     ensures within { result ≤ most }
@@ -100,7 +100,7 @@ fn flagged_length(bytes: &[u8], most: usize) -> usize
     end
 }
 
-// Whether STX of MAVLink 1 with an unknown id stands at an offset.
+// Whether STX of MAVLink 1 and an unknown id are at an offset.
 #[inline(always)]
 fn is_unknown(table: &ExtrasTable, bytes: &[u8], at: usize) -> bool
     requires { at + 6 ≤ length bytes.now }
@@ -109,7 +109,7 @@ fn is_unknown(table: &ExtrasTable, bytes: &[u8], at: usize) -> bool
     bytes[at] == OLD_STX && table.extra(u32::from(bytes[at + 5])).is_none()
 }
 
-// At how many of the first offsets it does, one after another.
+// At how many of the first offsets they are, one after another.
 fn unknown_length(table: &ExtrasTable, bytes: &[u8], most: usize) -> usize
     requires { most ≤ length bytes.now }
     ensures within { result ≤ most }

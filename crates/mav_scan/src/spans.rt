@@ -1,4 +1,4 @@
-// What can stand next.
+// What can come next.
 ghost use Rattle.std.specs.Prelude.{◌≡◌};
 ghost use Rattle.mav_scan.specs.Spans.{span_size};
 

@@ -1,4 +1,4 @@
-// The CRC_EXTRA byte of each message id, found at once for the ids that messages mostly have.
+// The CRC_EXTRA byte of each message id, in an array for the low ids that most messages have.
 ghost use Rattle.std.specs.Prelude.{◌≡◌, ℕ, ◌<◌, length, slice_index, IfOk};
 ghost use Rattle.x25_check.specs.Extras.{extra_of};
 ghost use Rattle.mav_scan.specs.Entries.{byte_of};
@@ -15,7 +15,7 @@ const LOW_IDS: usize = 65_536;
 // The entry of an id that has no CRC_EXTRA.
 const UNKNOWN: u16 = 256;
 
-/// What contracts see as the pairs of ids and bytes that it was made of.
+/// Contracts see the pairs of ids and bytes from which it was made.
 #[derive(Drop)]
 pub(crate) struct ExtrasTable {
     extras: Extras,
@@ -44,7 +44,7 @@ fn entry_for(extra: Option<u8>) -> u16
     }
 }
 
-// What an entry says.
+// What an entry represents.
 #[inline(always)]
 fn extra_in(entry: u16) -> Option<u8>
     ensures { result ≡ byte_of entry }

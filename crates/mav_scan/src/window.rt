@@ -5,7 +5,7 @@ use crate::NoMemory;
 use std::alloc::Global;
 use std::marker::Model;
 
-// A piece of 65,536 bytes behind the front of a frame.
+// A piece of 65,536 bytes after the start of a frame.
 pub(crate) const ROOM: usize = 65_816;
 
 /// At most 65,816 bytes, seen as their list: those of a buffer from `start` to `end`.
@@ -26,7 +26,7 @@ impl Model for Window {
     ghost invariant = { λ w. (length w.buffer.items ≡ 65816) × (w.start ≤ w.end) × (w.end ≤ 65816) };
 }
 
-// Moves a part of a buffer to its front.
+// Moves a part of a buffer to its start.
 fn move_to_front(buffer: &mut [u8], start: usize, end: usize)
     requires order { start ≤ end }
     requires within { end ≤ length buffer.old }
@@ -37,7 +37,7 @@ fn move_to_front(buffer: &mut [u8], start: usize, end: usize)
     }
 }
 
-// Writes a piece behind the first bytes of a buffer.
+// Writes a piece after the first bytes of a buffer.
 fn write_behind(buffer: &mut [u8], held: usize, piece: &[u8])
     requires { held + length piece.now ≤ length buffer.old }
     ensures { take (held + length piece.now) buffer.new ≡ take held buffer.old ++ piece.now }
@@ -74,7 +74,7 @@ impl Window {
         as_bytes(&self.buffer[self.start..self.end])
     }
 
-    /// Appends as many bytes as there is room for, and answers how many.
+    /// Appends as many bytes as there is room for, and returns how many.
     pub(crate) fn append(&mut self, piece: &[u8]) -> usize
         ensures count { result ≡ min (length piece.now) (65816 - length self.old) }
         ensures bytes { self.new ≡ self.old ++ take result piece.now }
@@ -88,7 +88,7 @@ impl Window {
         count
     }
 
-    /// Takes bytes off the front.
+    /// Removes bytes from the start.
     #[inline(always)]
     pub(crate) fn remove(&mut self, count: usize)
         requires { count ≤ length self.old }

@@ -1,4 +1,4 @@
--- The front of a frame's bytes.
+-- The prefix of a frame's bytes.
 use Rattle.std.proofs.Common.{◌≡◌, ℕ, zero, suc, ◌+◌, Bool, true, false, List, [], ◌∷◌, ◌++◌, length, take, refl, ap, ◌∙◌, arith, length-append}
 use Rattle.mav_frame.specs.Numbers.{little_endian}
 use Rattle.mav_frame.specs.Packet.{Packet}

@@ -1,4 +1,4 @@
--- What is told of frames, one after another.
+-- What is reported of frames, one after another.
 use Rattle.std.proofs.Common.{◌≡◌, Bool, true, false, ℕ, ◌+◌, ◌-◌, ◌≤◌, List, [], ◌∷◌, ◌++◌, length, take, drop, slice_range, refl, sym, ap, ◌∙◌, subst, arith, append_assoc, length-append, length-take, length-drop}
 use Rattle.std.proofs.lemmas.List.{append-nil, drop-drop, take_all}
 use Rattle.std.proofs.lemmas.List.Elements.{filter_map-append}
@@ -60,7 +60,7 @@ least_frame extras packet bytes size within encodes =
     let checked : length (checked_bytes packet) ≡ length (header_of packet.old packet) + length packet.payload = length-append (header_of packet.old packet) packet.payload in
     omega (arith, long, header, rest, front, checked, length-take size bytes)
 
--- the parse goes on by what was heard at its front
+-- the parse continues after the bytes that were received at the start
 pub heard_on : (extras : List (ℕ × ℕ)) (key : List ℕ) (history : List Entry) (bytes : List ℕ) (place size : ℕ) (before between after : List Heard) (middle stamps : Kept) → (to : HeardTo extras key history bytes place before between middle) → FrontHeard extras key (after_frames key history (frames_of to.events)) (slice_range bytes place (length bytes)) size between after stamps → HeardTo extras key history bytes (place + size) before after stamps
 heard_on extras key history bytes place size before between after middle stamps to front =
     let all : slice_range bytes place (length bytes) ≡ drop place bytes = take_all (length bytes - place) (drop place bytes) (omega (arith, length-drop place bytes)) in

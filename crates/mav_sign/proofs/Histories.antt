@@ -84,7 +84,7 @@ stamps_same stream admitted s other =
     let none : filter test (s ∷ []) ≡ [] = ap (λ (b : Bool). cond b (s ∷ []) []) other in
     ap (map stamp) (filter-append test admitted (s ∷ []) ∙ (ap (λ (l : List Stamped). filter test admitted ++ l) none ∙ append-nil (filter test admitted)))
 
--- a stream has a last timestamp where it has an entry
+-- a stream has a last timestamp if it has an entry
 pub has_last : (stream : Stream) (admitted : List Stamped) → is_some (greatest_of (stamps_of stream admitted)) ≡ list_any (λ s. same_stream stream s.stream) admitted
 has_last stream [] = refl
 has_last stream (s ∷ rest) =
@@ -115,7 +115,7 @@ among stream [] seen = sym (or-false (list_any (same_stream stream) seen))
 among stream (s ∷ rest) seen =
     among stream rest (with_stream seen s.stream) ∙ (ap (λ (b : Bool). b || list_any (λ t. same_stream stream t.stream) rest) (one_more stream s.stream seen) ∙ or_assoc (list_any (same_stream stream) seen) (same_stream stream s.stream) (list_any (λ t. same_stream stream t.stream) rest))
 
--- a stream is kept where it has a last timestamp
+-- a stream is kept if it has a last timestamp
 pub is_kept : (stream : Stream) (history : List Entry) → list_any (same_stream stream) (streams_of history) ≡ is_some (last_of stream history)
 is_kept stream history = among stream (admitted_in history) [] ∙ sym (has_last stream (admitted_in history))
 
@@ -123,7 +123,7 @@ counted : (streams : List Stream) (x : Stream) (known : Bool) → length (if kno
 counted streams x true = refl
 counted streams x false = length_push streams x
 
--- one more admitted timestamp adds its stream where that isn't kept yet
+-- one more admitted timestamp adds its stream if that isn't kept yet
 pub streams_more : (history : List Entry) (entry : Entry) (s : Stamped) → admitted_by entry ≡ Some s → length (streams_of (history ++ entry ∷ [])) ≡ (if is_some (last_of s.stream history) then length (streams_of history) else length (streams_of history) + 1)
 streams_more history entry s is =
     let stream : Stamped → Stream = λ t. t.stream in

@@ -1,4 +1,4 @@
--- What is kept goes on representing the history.
+-- What is kept still represents the history.
 use Rattle.std.proofs.Common.{◌≡◌, ℕ, ◌+◌, ◌<◌, max, Bool, true, false, ◌==◌, List, [], ◌∷◌, ◌++◌, Option, Some, None, length, map, sym, ap, ◌∙◌, refl, subst, arith}
 use Rattle.std.specs.Prelude.{is_some, if◌then◌else◌, nat_lt, option_map}
 use Rattle.std.proofs.lemmas.Bool.Decides.{nat_tests}
@@ -20,7 +20,7 @@ same_number a b of_a of_b same =
     let link : a.link ≡ b.link = omega (arith, of_a.sys, of_a.comp, of_a.link, of_b.sys, of_b.comp, of_b.link) in
     λ i. record { sys = sys i; comp = comp i; link = link i }
 
--- two streams have one number where they are the same
+-- two streams have one number if they are the same
 pub number_test : (a b : Stream) → IsStream a → IsStream b → (stream_number a == stream_number b) ≡ same_stream b a
 number_test a b of_a of_b =
     elim (same_stream b a) as (λ t. same_stream b a ≡ t → (stream_number a == stream_number b) ≡ t) [
@@ -37,14 +37,14 @@ number_test a b of_a of_b =
           ] refl
     ] refl
 
--- ---- the answer
+-- ---- the verdict
 
 -- the local timestamp is that of the history
 pub local_same : (kept : Kept) (history : List Entry) → Represents kept history → local_kept kept ≡ local_of history
 local_same kept history of =
     ap (λ (n : ℕ). max n kept.previous) of.accepted ∙ ap (max (accepted_in history)) of.sent
 
--- the answer by what is kept is that by the history
+-- the verdict by what is kept is that by the history
 pub answer_same : (kept : Kept) (history : List Entry) (stream : Stream) (stamp : ℕ) → IsStream stream → Represents kept history → kept_answer kept stream stamp ≡ stamp_answer stream stamp history
 answer_same kept history stream stamp bytes of =
     ap (λ (o : Option ℕ). answer_after o (length kept.last) (local_kept kept) stamp) (of.last stream bytes) ∙ (ap (λ (n : ℕ). answer_after (last_of stream history) n (local_kept kept) stamp) of.streams ∙ ap (λ (n : ℕ). answer_after (last_of stream history) (length (streams_of history)) n stamp) (local_same kept history of))

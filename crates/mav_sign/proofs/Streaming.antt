@@ -1,4 +1,4 @@
--- How the reading of a stream goes on.
+-- How the reading of a stream continues.
 use Rattle.std.proofs.Common.{◌≡◌, ℕ, ◌+◌, ◌-◌, ◌≤◌, List, [], ◌∷◌, ◌++◌, Option, Some, None, false, length, take, drop, slice_range, refl, sym, ap, ◌∙◌, subst, append_assoc, take-add}
 use Rattle.std.proofs.lemmas.List.{append-nil, take-take}
 use Rattle.mav_frame.specs.Packet.{Packet}

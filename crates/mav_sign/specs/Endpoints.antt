@@ -1,4 +1,4 @@
--- One end of signed links: what it hears and sends.
+-- One end of signed links: what it receives and sends.
 use Rattle.std.specs.Prelude.{ℕ, ◌≡◌, false, List, [], ◌∷◌, ◌++◌, fold, drop, All, Option, Some, None, IsSome, IfSome}
 use Rattle.std.specs.List.{filter_map}
 use Rattle.x25_check.specs.Extras.{extra_of}
@@ -39,21 +39,21 @@ pub record EndpointState : Type 0 where
 abbrev pub new_endpoint : List ℕ → Stream → List (ℕ × ℕ) → Kept → EndpointState
 new_endpoint key me extras stamps = record { key = key; me = me; extras = extras; stamps = stamps; seq = 0; held = [] }
 
--- what is told of an admitted frame of a stream: the message that its payload represents, or its id where the profile has
--- no such message
+-- what is reported of an admitted frame of a stream: the message that its payload represents, or its id if the profile
+-- has no such message
 abbrev pub AdmittedIs : Stream → Packet → Heard → Type 0
 AdmittedIs stream packet (HeardMessage from message) =
     (from ≡ stream) × (profile_definition packet.id ≡ Some (definition_of message)) × PayloadRepresents (definition_of message) packet.payload (values_of message)
 AdmittedIs stream packet (Other from id) = (from ≡ stream) × (id ≡ packet.id) × (profile_definition packet.id ≡ None)
 AdmittedIs stream packet (Dropped answer) = ⊥
 
--- what is told by the answer
+-- what is reported by the verdict
 abbrev pub AnswerIs : Admit → Packet → Option SignatureBlock → Heard → Type 0
 AnswerIs Admitted packet None heard = ⊥
 AnswerIs Admitted packet (Some block) heard = AdmittedIs (stream_of packet block) packet heard
 AnswerIs answer packet block heard = heard ≡ Dropped answer
 
--- what is told of a frame after a history
+-- what is reported of a frame after a history
 abbrev pub HeardIs : List ℕ → List Entry → Packet → Heard → Type 0
 HeardIs key history packet heard = AnswerIs (answer_to key history packet) packet packet.block heard
 
@@ -61,7 +61,7 @@ HeardIs key history packet heard = AnswerIs (answer_to key history packet) packe
 abbrev pub after_frame : List ℕ → List Entry → Packet → List Entry
 after_frame key history packet = history ++ tried packet (answer_to key history packet) ∷ []
 
--- what is told of frames, one after another
+-- what is reported of frames, one after another
 abbrev pub HeardAll : List ℕ → List Entry → List Packet → List Heard → Type 0
 HeardAll key history [] [] = Unit {0}
 HeardAll key history [] (heard ∷ rest) = ⊥
@@ -81,26 +81,27 @@ frame_in (SkippedEvent byte why) = None
 abbrev pub frames_of : List Event → List Packet
 frames_of events = filter_map frame_in events
 
--- frames were tried after a history: what is told of them is appended, and what is kept represents the history with them
+-- frames were tried after a history: what is reported of them is appended, and what is kept represents the history with
+-- them
 pub record Told (key : List ℕ) (history : List Entry) (packets : List Packet) (before after : List Heard) (stamps : Kept) : Type 0 where
   pub heard : List Heard
   pub each : HeardAll key history packets heard
   pub appended : after ≡ before ++ heard
   pub represents : Represents stamps (after_frames key history packets)
 
--- what stands at the front of some bytes was heard
+-- what is at the start of some bytes was received
 pub record FrontHeard (extras : List (ℕ × ℕ)) (key : List ℕ) (history : List Entry) (bytes : List ℕ) (size : ℕ) (before after : List Heard) (stamps : Kept) : Type 0 where
   pub event : Event
   pub stands : EventAt extras false event bytes (drop size bytes)
   pub told : Told key history (frames_of (event ∷ [])) before after stamps
 
--- the bytes from a place on are left
+-- the bytes from an index on are left
 pub record HeardTo (extras : List (ℕ × ℕ)) (key : List ℕ) (history : List Entry) (bytes : List ℕ) (place : ℕ) (before after : List Heard) (stamps : Kept) : Type 0 where
   pub events : List Event
   pub begun : BeginsFinal extras false events (drop place bytes) bytes
   pub told : Told key history (frames_of events) before after stamps
 
--- a whole datagram was heard: the frames of its final parse, in order
+-- a whole datagram was received: the frames of its final parse, in order
 pub record Received (extras : List (ℕ × ℕ)) (key : List ℕ) (history : List Entry) (datagram : List ℕ) (before after : List Heard) (stamps : Kept) : Type 0 where
   pub events : List Event
   pub parse : Final extras false events datagram

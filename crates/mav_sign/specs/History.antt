@@ -10,7 +10,7 @@ use Rattle.mav_sign.specs.declared.admission.StampsSpent.{StampsSpent}
 use Rattle.mav_sign.specs.declared.admission.Admit.{Admit}
 use Rattle.mav_sign.specs.declared.admission.Admit.TheVariants.{Admitted, Unsigned, BadSignature, NotLater, TooOld, TooManyStreams}
 
--- a frame that was tried, with its answer, or a timestamp that was given to a frame sent; a history is the list of its
+-- a frame that was tried, with its verdict, or a timestamp that was given to a frame sent; a history is the list of its
 -- entries, the earliest first
 pub data Entry : Type 0 where
   tried : Packet → Admit → Entry
@@ -46,16 +46,16 @@ sent_in history = filter_map sent_by history
 abbrev pub same_stream : Stream → Stream → Bool
 same_stream a b = (a.sys == b.sys) && (a.comp == b.comp) && (a.link == b.link)
 
--- the greatest of some numbers, 0 where there is none
+-- the greatest of some numbers, 0 if there is none
 abbrev pub greatest : List ℕ → ℕ
 greatest numbers = fold max 0 numbers
 
--- the same, None where there is none
+-- the same, None if there is none
 abbrev pub greatest_of : List ℕ → Option ℕ
 greatest_of [] = None
 greatest_of (number ∷ numbers) = Some (greatest (number ∷ numbers))
 
--- the last of some numbers, 0 where there is none
+-- the last of some numbers, 0 if there is none
 abbrev pub latest : List ℕ → ℕ
 latest numbers = fold (λ _ number. number) 0 numbers
 
@@ -84,19 +84,19 @@ with_stream streams stream = if list_any (same_stream stream) streams then strea
 abbrev pub streams_of : List Entry → List Stream
 streams_of history = fold with_stream [] (map (λ (s : Stamped). s.stream) (admitted_in history))
 
--- a minute in units of 10 microseconds: so far behind may a frame be
+-- a minute in units of 10 microseconds: a frame may be older by so much
 abbrev pub one_minute : ℕ
 one_minute = 6000000
 
--- a verifier keeps at most so many streams
+-- the most streams that a verifier keeps
 abbrev pub stream_limit : ℕ
 stream_limit = 256
 
--- TooOld: more than a minute behind the greatest timestamp admitted or sent
+-- TooOld: more than a minute older than the greatest timestamp admitted or sent
 abbrev pub unless_old : ℕ → ℕ → Admit → Admit
 unless_old local stamp answer = if nat_lt (stamp + one_minute) local then TooOld local else answer
 
--- the answer to a right signature, by the last timestamp of its stream, the number of streams and the local timestamp
+-- the verdict on a right signature, by the last timestamp of its stream, the number of streams and the local timestamp
 abbrev pub answer_after : Option ℕ → ℕ → ℕ → ℕ → Admit
 answer_after (Some last) streams local stamp = if nat_lt last stamp then unless_old local stamp Admitted else NotLater last
 answer_after None streams local stamp =
@@ -106,14 +106,14 @@ abbrev pub stamp_answer : Stream → ℕ → List Entry → Admit
 stamp_answer stream stamp history =
     answer_after (last_of stream history) (length (streams_of history)) (local_of history) stamp
 
--- the answer by the frame's signature block, where a right signature is answered by its stream and timestamp
+-- the verdict by the frame's signature block, in which a right signature is judged by its stream and timestamp
 abbrev pub block_answer : List ℕ → (Stream → ℕ → Admit) → Packet → Option SignatureBlock → Admit
 block_answer key answer packet None = Unsigned
 block_answer key answer packet (Some block) =
     if bytes_eq block.sig (signature_of key packet block.link block.stamp) then answer (stream_of packet block) block.stamp
     else BadSignature
 
--- the answer to a frame after a history: the first that applies
+-- the verdict on a frame after a history: the first that applies
 abbrev pub answer_to : List ℕ → List Entry → Packet → Admit
 answer_to key history packet =
     block_answer key (λ stream stamp. stamp_answer stream stamp history) packet packet.block
@@ -134,6 +134,6 @@ next_in history clock = max (previous_in history + 1) (max clock (accepted_in hi
 abbrev pub greatest_stamp : ℕ
 greatest_stamp = 281474976710655
 
--- what is given for a next timestamp
+-- the result for a next timestamp
 abbrev pub stamp_given : ℕ → Result ℕ StampsSpent
 stamp_given next = if nat_lt greatest_stamp next then Err (record {}) else Ok next

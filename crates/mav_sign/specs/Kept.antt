@@ -13,7 +13,7 @@ pub record Kept : Type 0 where
   pub accepted : ℕ
   pub previous : ℕ
 
--- the timestamp that stands with a number
+-- the timestamp that is paired with a number
 abbrev pub stamp_at : ℕ → List (ℕ × ℕ) → Option ℕ
 stamp_at number pairs = lookup (nat_eq number) pairs
 
@@ -39,7 +39,7 @@ pub record Represents (kept : Kept) (history : List Entry) : Type 0 where
 abbrev pub local_kept : Kept → ℕ
 local_kept kept = max kept.accepted kept.previous
 
--- the answer by what is kept
+-- the verdict by what is kept
 abbrev pub kept_answer : Kept → Stream → ℕ → Admit
 kept_answer kept stream stamp =
     answer_after (stamp_at (stream_number stream) kept.last) (length kept.last) (local_kept kept) stamp

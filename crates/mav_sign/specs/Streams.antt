@@ -1,4 +1,4 @@
--- What an endpoint hears of a stream that comes in pieces.
+-- What an endpoint receives of a stream that comes in pieces.
 use Rattle.std.specs.Prelude.{ℕ, ◌≡◌, List, [], ◌∷◌, ◌++◌, Option, Some, None, false}
 use Rattle.mav_frame.specs.Packet.{Packet}
 use Rattle.mav_frame.specs.Parse.{Incremental}
@@ -15,14 +15,14 @@ abbrev pub listed : {A : Type 0} → Option A → List A
 listed None = []
 listed (Some a) = a ∷ []
 
--- the parse went on until a frame, or to all of it
+-- the parse advanced to the end of a frame, or over all of the bytes
 pub record ReadTo (extras : List (ℕ × ℕ)) (taken : List ℕ) (given : List Event) (frame : Option Packet) (held : Held) : Type 0 where
   pub events : List Event
   pub frames : frames_of events ≡ listed frame
   pub progress : Progress extras false taken (given ++ events) held
   pub whole : frame ≡ None → Incremental extras false (given ++ events) held.bytes taken
 
--- the parse went on over skipped bytes alone
+-- the parse advanced over skipped bytes only
 pub record SkippedTo (extras : List (ℕ × ℕ)) (taken : List ℕ) (given : List Event) (held : Held) : Type 0 where
   pub events : List Event
   pub frames : frames_of events ≡ []
@@ -32,7 +32,7 @@ pub record SkippedTo (extras : List (ℕ × ℕ)) (taken : List ℕ) (given : Li
 abbrev pub reader_of : EndpointState → Held
 reader_of endpoint = record { extras = endpoint.extras; reads_old = false; bytes = endpoint.held; ended = false }
 
--- the incremental parse went on by some events, whose frame, if there is one, was heard; without one it is whole
+-- the incremental parse advanced by some events, whose frame, if there is one, was received; without one it is whole
 pub record PartHeard (extras : List (ℕ × ℕ)) (key : List ℕ) (history : List Entry) (taken : List ℕ) (given : List Event) (heard : Option Heard) (held : Held) (stamps : Kept) : Type 0 where
   pub events : List Event
   pub progress : Progress extras false taken (given ++ events) held

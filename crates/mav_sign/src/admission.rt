@@ -1,6 +1,6 @@
-// What a verifier answers.
+// The verdict of a verifier.
 
-/// The answer to a frame: admitted, or the first reason against it (MAVLink guide, Message Signing: Accepting Signed
+/// The verdict on a frame: admitted, or the first reason against it (MAVLink guide, Message Signing: Accepting Signed
 /// Packets). Only an admitted frame may change anything.
 #[derive(Clone, Copy, Debug, PartialEq, Eq)]
 pub enum Admit {
@@ -11,7 +11,7 @@ pub enum Admit {
     BadSignature,
     /// Its timestamp isn't greater than the last admitted one of its stream.
     NotLater { last: u64 },
-    /// It is more than a minute behind the greatest timestamp that was admitted or sent.
+    /// It is more than a minute older than the greatest timestamp that was admitted or sent.
     TooOld { local: u64 },
     /// Its stream is new, and as many streams are kept as can be.
     TooManyStreams,

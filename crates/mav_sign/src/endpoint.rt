@@ -24,8 +24,8 @@ use x25_check::Extras;
 const LEAST_FRAME_BYTES: usize = 12;
 
 /// A node's end of signed links: it admits what comes in, and signs what goes out. Contracts see its key, its stream,
-/// the CRC_EXTRA bytes of the messages it knows, what its verifier keeps, the sequence number of its next frame, and the
-/// bytes of an incoming stream that are in no frame yet.
+/// the CRC_EXTRA bytes of the messages it knows, what its verifier keeps, the sequence number of its next frame, and
+/// the bytes of an incoming stream that are in no frame yet.
 #[derive(Drop)]
 pub struct Endpoint {
     key: Key,
@@ -47,7 +47,7 @@ impl Model for Endpoint {
     ghost invariant = { λ e. HasProfile e.extras × (e.reader.extras ≡ e.extras) × (e.reader.ended ≡ false) × (e.reader.reads_old ≡ false) };
 }
 
-// What an admitted frame says.
+// What an admitted frame carries.
 fn message_of(stream: Stream, frame: &Frame) -> Heard
     ensures { AdmittedIs stream frame.now result }
 {
@@ -59,7 +59,7 @@ fn message_of(stream: Stream, frame: &Frame) -> Heard
 }
 
 impl Endpoint {
-    /// An endpoint that has heard and sent nothing. `extras` has the CRC_EXTRA of each message of the profile.
+    /// An endpoint that has received and sent nothing. `extras` has the CRC_EXTRA of each message of the profile.
     pub fn new(alloc: Global, key: Key, me: Stream, extras: Extras) -> Result<Endpoint, NoMemory>
         requires { HasProfile extras }
         ensures state { IfOk result (λ endpoint. endpoint ≡ new_endpoint key me extras endpoint.stamps) }
@@ -78,8 +78,8 @@ impl Endpoint {
         })
     }
 
-    /// Tries one frame, and keeps its timestamp where it is admitted; `receive` and `receive_part` do so with each frame of
-    /// a parse. Takes no memory.
+    /// Tries one frame, and keeps its timestamp if it is admitted; `receive` and `receive_part` do so with each frame
+    /// of a parse. Doesn't allocate.
     pub fn take(&mut self, frame: &Frame) -> Heard
         ensures heard { (history : List Entry) → Represents self.old.stamps history
             → HeardIs self.old.key history frame.now result }
@@ -94,7 +94,7 @@ impl Endpoint {
         }
     }
 
-    // Tries a frame, and appends what is told of it.
+    // Tries a frame, and appends what is reported of it.
     #[inline]
     fn hear_frame(&mut self, frame: &Frame, out: &mut Vec<Heard>)
         requires { vec_len out.old < vec_capacity out.old }
@@ -108,7 +108,7 @@ impl Endpoint {
         added.unwrap();
     }
 
-    // Hears what stands at the front of some bytes, and answers how many bytes that takes.
+    // Receives what is at the start of some bytes, and returns how many bytes that takes.
     fn hear_front(&mut self, bytes: &[u8], out: &mut Vec<Heard>) -> usize
         requires some { 0 < length bytes.now }
         requires room { 12 ≤ length bytes.now → vec_len out.old < vec_capacity out.old }
@@ -128,8 +128,8 @@ impl Endpoint {
         }
     }
 
-    /// Takes a datagram as a whole input by itself, and appends what is told of each of its frames, in order. Takes the
-    /// memory for that first, and where there is none nothing has changed.
+    /// Takes a datagram as a whole input by itself, and appends what is reported of each of its frames, in order.
+    /// Allocates the memory for that first, and without it nothing changes.
     pub fn receive(&mut self, datagram: &[u8], out: &mut Vec<Heard>) -> Result<(), NoMemory>
         ensures received { OnOk result ((history : List Entry) → Represents self.old.stamps history
             → Received self.old.extras self.old.key history datagram.now out.old.items out.new.items self.new.stamps) }
@@ -156,8 +156,9 @@ impl Endpoint {
         read_frame(&mut self.reader, piece)
     }
 
-    /// Takes bytes of a stream that comes in pieces, and answers how many it took and what is told of the next frame of
-    /// the stream. Without a frame it took the whole piece, and every frame of the bytes taken was told. Takes no memory.
+    /// Takes bytes of a stream that comes in pieces, and returns how many it took and what is reported of the next
+    /// frame of the stream. Without a frame it took the whole piece, and every frame of the bytes taken was reported.
+    /// Doesn't allocate.
     pub fn receive_part(&mut self, piece: &[u8]) -> (usize, Option<Heard>)
         ensures count { result.0 ≤ length piece.now }
         ensures heard { (taken : List ℕ) (given : List Event) (history : List Entry)
@@ -208,8 +209,8 @@ impl Endpoint {
         self.extras.get(message.id()).unwrap()
     }
 
-    /// Makes the frame that carries a message: with the next sequence number and timestamp, signed. The clock counts units
-    /// of 10 microseconds since 1 January 2015. Where no timestamp is left nothing has changed.
+    /// Makes the frame that carries a message: with the next sequence number and timestamp, signed. The clock counts
+    /// units of 10 microseconds since 1 January 2015. If no timestamp is left nothing has changed.
     pub fn send(&mut self, message: &Message, clock: u64) -> Result<Frame, StampsSpent>
         ensures frame { IfOk result
             (SentFrame self.old.key self.old.me self.old.extras self.old.seq (kept_next self.old.stamps clock) message.now) }

@@ -1,9 +1,9 @@
-// What an endpoint tells of a frame.
+// What an endpoint reports of a frame.
 use crate::Admit;
 use mav_messages::Message;
 use mav_names::Stream;
 
-/// What became of a frame that came in.
+/// The result for a frame that came in.
 #[derive(Clone, Copy)]
 pub enum Heard {
     /// An admitted message of the profile.

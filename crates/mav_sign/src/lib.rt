@@ -1,9 +1,9 @@
 //! Signed links of MAVLink 2: keys, signatures, timestamps, the admission of frames, and a node's end of its links.
 //!
-//! A [`Stamps`] represents a history: the frames tried, with their answers, and the timestamps given. Each of its answers
-//! is by that history alone, and each call leaves one that represents the history with the call added. An [`Endpoint`]
-//! hears the frames of datagrams or of a stream, and sends messages in signed frames. Nothing that isn't admitted changes
-//! anything. Only the constructors and `receive` take memory.
+//! A [`Stamps`] represents a history: the frames tried, with their verdicts, and the timestamps given. Each of its
+//! results follows from that history alone, and each call leaves one that represents the history with the call added.
+//! An [`Endpoint`] receives the frames of datagrams or of a stream, and sends messages in signed frames. A frame
+//! that isn't admitted changes nothing. Only the constructors and `receive` allocate.
 #![tactic(auto)]
 
 mod admission;

@@ -7,7 +7,7 @@ use crate::Key;
 use mav_frame::{Block, Frame, bytes_6, encode};
 use sha2::{Digest, Sha256};
 
-// Writes the bytes of a frame, and returns how many of them stand through its checksum.
+// Writes the bytes of a frame, and returns the length of the part through its checksum.
 fn write_through_checksum(frame: &Frame, out: &mut [u8; 280]) -> usize
     ensures within { result < 280 }
     ensures bytes { take result out.new ≡ through_checksum frame.now }

@@ -11,7 +11,7 @@ use mav_names::{Name, Stream};
 use std::alloc::Global;
 use std::marker::Model;
 
-// A minute in units of 10 microseconds: a frame may be so far behind.
+// A minute in units of 10 microseconds: a frame may be older by so much.
 const ONE_MINUTE: u64 = 6_000_000;
 
 // The greatest timestamp of 6 bytes.
@@ -55,7 +55,7 @@ pub(crate) fn stream_of(frame: &Frame, block: &Block) -> Stream
 }
 
 impl Stamps {
-    /// Nothing was tried, and nothing sent. Takes the memory for all that is kept later.
+    /// Nothing was tried, and nothing sent. Allocates the memory for all that is kept later.
     pub fn new(alloc: Global) -> Result<Stamps, NoMemory>
         ensures { IfOk result (λ stamps. Represents stamps []) }
     {
@@ -67,7 +67,7 @@ impl Stamps {
         })
     }
 
-    /// The last admitted timestamp of a stream; None where none of its frames was admitted.
+    /// The last admitted timestamp of a stream; None if none of its frames was admitted.
     pub fn last(&self, stream: Stream) -> Option<u64>
         ensures kept { result ≡ stamp_at (stream_number stream) self.now.last }
         ensures history { (history : List Entry) → Represents self.now history → result ≡ last_of stream history }
@@ -83,7 +83,7 @@ impl Stamps {
         self.accepted.max(self.previous)
     }
 
-    // The answer to a right signature.
+    // The verdict on a right signature.
     fn answer(&self, stream: Stream, stamp: u64) -> Admit
         requires { stamp < 2 ^ 48 }
         ensures { result ≡ kept_answer self.now stream stamp }
@@ -118,7 +118,7 @@ impl Stamps {
         answer
     }
 
-    /// Tries a frame, and keeps its timestamp where it is admitted.
+    /// Tries a frame, and keeps its timestamp if it is admitted.
     pub fn admit(&mut self, key: &Key, frame: &Frame) -> Admit
         ensures kept { result ≡ block_answer key.now (kept_answer self.old) frame.now frame.now.block }
         ensures unchanged { is_admitted result ≡ false → self.new ≡ self.old }
@@ -136,8 +136,8 @@ impl Stamps {
         self.admit_stamp(stream_of(frame, block), block.stamp)
     }
 
-    /// Gives the next timestamp: above the previous one, and not below the clock, which counts units of 10 microseconds
-    /// since 1 January 2015, and each admitted one.
+    /// Returns the next timestamp: above the previous one, and not below the clock, which counts units of 10
+    /// microseconds since 1 January 2015, and each admitted one.
     pub fn next_stamp(&mut self, clock: u64) -> Result<u64, StampsSpent>
         ensures kept { result ≡ stamp_given (kept_next self.old clock) }
         ensures rises { IfOk result (λ stamp. self.old.previous < stamp) }

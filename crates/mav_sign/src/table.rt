@@ -8,10 +8,10 @@ use std::alloc::Global;
 use std::collections::HashMap;
 use std::marker::Model;
 
-/// A verifier keeps the last timestamps of at most so many streams.
+/// The most streams of which a verifier keeps the last timestamp.
 pub(crate) const STREAM_LIMIT: usize = 256;
 
-/// The last timestamps by the streams' numbers, with room for as many streams as may be. Contracts see the pairs of
+/// The last timestamps by the streams' numbers, with room for the most streams. Contracts see the pairs of
 /// number and timestamp, in some order.
 #[derive(Drop)]
 pub(crate) struct Table {

@@ -1,4 +1,4 @@
--- An answer of `look` is what `next` gives.
+-- A result of `look` is what `next` gives.
 use Rattle.std.proofs.Common.{◌≡◌, ℕ, ◌<◌, ◌≤◌, Bool, true, false, List, [], ◌∷◌, inl, inr, ◌==◌, if◌then◌else◌, length, take, drop, slice_index, refl, sym, ap, ◌∙◌, subst, arith, length-append}
 use Rattle.mav_frame.specs.Packet.{Packet, FitsFrame}
 use Rattle.mav_frame.specs.Encoding.{Encodes, encoding}
@@ -52,7 +52,7 @@ module _ (old : Held) where
   pub needs : (k : ℕ) → look_of old.extras old.reads_old old.bytes ≡ More k → (old.ended ≡ true → old.bytes ≡ []) → Needs old old
   needs k e empty = record { same = refl; incomplete = incomplete old.extras old.reads_old old.bytes k e; empty = empty }
 
--- where a byte is skipped there is one
+-- if a byte is skipped there is one
 none_held : (extras : List (ℕ × ℕ)) (reads_old : Bool) → look_of extras reads_old [] ≡ More 3
 none_held extras true = refl
 none_held extras false = refl

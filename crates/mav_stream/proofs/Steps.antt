@@ -1,4 +1,4 @@
--- Each call of a reader goes on with the parse of the bytes taken.
+-- Each call of a reader continues the parse of the bytes taken.
 use Rattle.std.proofs.Common.{◌≡◌, ℕ, Bool, true, false, List, [], ◌∷◌, ◌++◌, refl, sym, ap, ◌∙◌, subst, append-nil}
 use Rattle.mav_frame.specs.Parse.{IsIncomplete, EventAt, BeginsFinal}
 use Rattle.mav_frame.specs.declared.events.Event.{Event}

@@ -2,7 +2,7 @@
 use Rattle.std.proofs.Common.{◌≡◌, ℕ, ◌+◌, ◌-◌, ◌≤◌, List, take, drop, slice_range, sym, ap, ◌∙◌, arith}
 use Rattle.std.proofs.lemmas.List.{drop-take, drop-drop}
 
--- the part without its first bytes begins behind them
+-- the part without its first bytes begins after them
 pub without_first : (count start end : ℕ) (buffer : List ℕ) → start ≤ end → count ≤ end - start → slice_range buffer (start + count) end ≡ drop count (slice_range buffer start end)
 without_first count start end buffer order h =
     let n : ℕ = end - start - count in

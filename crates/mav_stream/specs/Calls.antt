@@ -1,4 +1,4 @@
--- Any list of calls of one reader, however its stream is cut.
+-- Any list of calls of one reader, whatever the pieces of its stream.
 use Rattle.std.specs.Prelude.{ℕ, ◌≡◌, ◌-◌, ◌++◌, ◌∷◌, List, [], length, take, min, flat_map, Bool, true, false}
 use Rattle.mav_frame.specs.declared.events.Event.{Event}
 use Rattle.mav_stream.specs.Held.{Held, nothing_held}
@@ -7,7 +7,7 @@ use Rattle.mav_stream.specs.Progress.{Progress, IsWhole}
 use Rattle.mav_stream.specs.declared.Next.{Next}
 use Rattle.mav_stream.specs.declared.Next.TheVariants.{Need}
 
--- `feed` of a piece, which took so many bytes; `end`; `next` and its answer
+-- `feed` of a piece, which took so many bytes; `end`; `next` and its result
 pub data Call : Type 0 where
   fed : List ℕ → ℕ → Call
   closed : Call
@@ -36,12 +36,12 @@ events_of (fed piece count) = []
 events_of closed = []
 events_of (asked answer) = given_by answer
 
--- over any list of calls the events given begin the parse of the bytes taken
+-- over any list of calls the events given are a prefix of the parse of the bytes taken
 abbrev pub AnyCalls : Type 0
 AnyCalls =
     (extras : List (ℕ × ℕ)) (reads_old : Bool) (calls : List Call) (held : Held) → CallsAre (nothing_held extras reads_old) calls held → Progress extras reads_old (flat_map taken_by calls) (flat_map events_of calls) held
 
--- and they are the whole parse where `next` then answers Need
+-- and they are the whole parse if `next` then returns Need
 abbrev pub AnyCallsToNeed : Type 0
 AnyCallsToNeed =
     (extras : List (ℕ × ℕ)) (reads_old : Bool) (calls : List Call) (held new : Held) → CallsAre (nothing_held extras reads_old) calls held → CallIs held (asked Need) new → IsWhole extras reads_old (flat_map taken_by calls) (flat_map events_of calls) held

@@ -7,13 +7,14 @@ use Rattle.mav_stream.specs.Held.{Held}
 use Rattle.mav_stream.specs.declared.Next.{Next}
 use Rattle.mav_stream.specs.declared.Next.TheVariants.{Frame, Skipped, Need}
 
--- the event stands at the start of what was held, and the rest is held; before the end of the input no incomplete frame does
+-- the event is at the start of what was held, and the rest is held; before the end of the input no incomplete frame is
+-- at the start
 pub record Gives (old : Held) (event : Event) (new : Held) : Type 0 where
   pub stands : EventAt old.extras old.reads_old event old.bytes new.bytes
   pub decided : old.ended ≡ false → IsIncomplete old.extras old.reads_old old.bytes → ⊥
   pub same : new ≡ record old { bytes = new.bytes }
 
--- an incomplete frame is held and may still go on, or nothing is held
+-- an incomplete frame is held and may still be completed, or nothing is held
 pub record Needs (old new : Held) : Type 0 where
   pub same : new ≡ old
   pub incomplete : IsIncomplete old.extras old.reads_old old.bytes
@@ -24,7 +25,7 @@ NextIs old (Frame packet) new = Gives old (FrameEvent packet) new
 NextIs old (Skipped byte why) new = Gives old (SkippedEvent byte why) new
 NextIs old Need new = Needs old new
 
--- the event that an answer gives, if it gives one
+-- the event that a result gives, if it gives one
 abbrev pub given_by : Next → List Event
 given_by (Frame packet) = FrameEvent packet ∷ []
 given_by (Skipped byte why) = SkippedEvent byte why ∷ []

@@ -6,7 +6,7 @@ use Rattle.mav_stream.specs.Held.{Held}
 use Rattle.mav_stream.specs.declared.Next.{Next}
 use Rattle.mav_stream.specs.declared.Next.TheVariants.{Frame, Skipped, Need}
 
--- the events given begin the parse of the bytes taken, and what is left of these is held:
+-- the events given are a prefix of the parse of the bytes taken, and what is left of these is held:
 -- the incremental parse before the end of the input, the final parse at any time
 pub record Progress (extras : List (ℕ × ℕ)) (reads_old : Bool) (taken : List ℕ) (given : List Event) (held : Held) : Type 0 where
   pub same : held.extras ≡ extras

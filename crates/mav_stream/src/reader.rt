@@ -11,7 +11,8 @@ use mav_frame::{FrameCheck, Why, check_frame, frame_at};
 use std::marker::Model;
 use x25_check::Extras;
 
-/// A reader of one stream, which contracts see as the bytes that it holds: those taken that are in no event yet, at most 280.
+/// A reader of one stream, which contracts see as the bytes that it holds: those taken that are in no event yet, at
+/// most 280.
 #[derive(Drop)]
 pub struct Reader {
     extras: Extras,
@@ -29,7 +30,8 @@ impl Model for Reader {
 }
 
 impl Reader {
-    /// A reader of frames whose messages have these CRC_EXTRA bytes; `old` says whether frames of MAVLink 1 are read too.
+    /// A reader of frames whose messages have these CRC_EXTRA bytes; `old` says whether frames of MAVLink 1 are read
+    /// too.
     pub fn new(extras: Extras, old: bool) -> Reader
         ensures new { result ≡ nothing_held extras old }
         ensures progress { Progress extras old [] [] result }
@@ -42,11 +44,11 @@ impl Reader {
         }
     }
 
-    /// Takes as many bytes as fit beside those held, and returns how many. It isn't called after `end`.
+    /// Takes as many bytes as fit after those held, and returns how many. It isn't called after `end`.
     pub fn feed(&mut self, piece: &[u8]) -> usize
         ensures count { result ≡ min (length piece.now) (280 - length self.old.bytes) }
         ensures held { self.new ≡ record self.old { bytes = self.old.bytes ++ take result piece.now } }
-        // The events given begin the parse of all bytes taken.
+        // The events given are a prefix of the parse of all bytes taken.
         ensures progress { (extras : List (ℕ × ℕ)) (reads_old : Bool) (taken : List ℕ) (given : List Event) → self.old.ended ≡ false → Progress extras reads_old taken given self.old → Progress extras reads_old (taken ++ take result piece.now) given self.new }
     {
         self.window.append(piece)
@@ -65,7 +67,7 @@ impl Reader {
         ensures next { NextIs self.old result self.new }
         // Fewer bytes are held, or there is room for more.
         ensures room { HasRoomBehind self.old result self.new }
-        // The events given and this one begin the parse.
+        // The events given and this one are a prefix of the parse.
         ensures progress { (extras : List (ℕ × ℕ)) (reads_old : Bool) (taken : List ℕ) (given : List Event) → Progress extras reads_old taken given self.old → Progress extras reads_old taken (given ++ given_by result) self.new }
         // At Need all of it was given.
         ensures whole { (extras : List (ℕ × ℕ)) (reads_old : Bool) (taken : List ℕ) (given : List Event) → Progress extras reads_old taken given self.old → WholeAtNeed extras reads_old taken given result self.new }

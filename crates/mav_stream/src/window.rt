@@ -24,7 +24,7 @@ impl Model for Window {
     ghost invariant = { λ w. (w.start ≤ w.end) × (w.end ≤ 280) };
 }
 
-// Moves a part of the buffer to its front.
+// Moves a part of the buffer to its start.
 fn move_to_front(buffer: &mut [u8; 280], start: usize, end: usize)
     requires order { start ≤ end }
     requires within { end ≤ 280 }
@@ -63,7 +63,7 @@ impl Window {
         as_bytes(&self.buffer[self.start..self.end])
     }
 
-    /// Appends as many bytes as there is room for, and answers how many.
+    /// Appends as many bytes as there is room for, and returns how many.
     pub(crate) fn append(&mut self, piece: &[u8]) -> usize
         ensures count { result ≡ min (length piece.now) (280 - length self.old) }
         ensures bytes { self.new ≡ self.old ++ take result piece.now }
@@ -77,7 +77,7 @@ impl Window {
         count
     }
 
-    /// Takes bytes off the front.
+    /// Removes bytes from the start.
     #[inline(always)]
     pub(crate) fn remove(&mut self, count: usize)
         requires { count ≤ length self.old }

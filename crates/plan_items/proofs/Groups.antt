@@ -1,4 +1,4 @@
--- Groups of items, one behind the other.
+-- Groups of items, one after the other.
 use Rattle.std.proofs.Common.{◌≡◌, ℕ, zero, suc, ◌-◌, ◌<◌, ◌≤◌, ◌&&◌, Bool, true, false, nat_le, List, [], ◌∷◌, length, take, drop, refl, sym, ◌∙◌, ap, subst, arith}
 use Rattle.std.specs.Prelude.{Option, Some, None, slice_get, unwrap_or, if◌then◌else◌}
 use Rattle.std.specs.List.{list_all}
@@ -8,7 +8,7 @@ use Rattle.plan_items.specs.declared.items.Item.{Item}
 use Rattle.plan_items.specs.Words.{word_number}
 use Rattle.plan_items.specs.Validation.{is_vertex, from_three, vertex_count, param1_of, group_len_of, is_like, begins_group, is_grouped}
 
--- items inside a group are passed over
+-- items inside a group are skipped
 pub is_grouped-inside : (inside : ℕ) (items : List Item) → is_grouped inside items ≡ is_grouped 0 (drop inside items)
 is_grouped-inside zero [] = refl
 is_grouped-inside (suc inside) [] = refl
@@ -47,7 +47,7 @@ begun first rest (suc len) (Some other) is positive within alike =
     let inside : len ≡ other - 1 = omega arith in
     sym (is_grouped-inside len rest) ∙ (ap (λ n. is_grouped n rest) inside ∙ both_hold _ _ _ (le_test _ _ fits) whole)
 
--- behind a whole group the rest decides
+-- after a whole group the rest decides
 pub is_grouped-behind : (items : List Item) (first : Item) (len : ℕ) → Some first ≡ slice_get items 0 → group_len_of first ≡ Some len → len ≤ length items → list_all (is_like first) (take len items) ≡ true → is_grouped 0 (drop len items) ≡ is_grouped 0 items
 is_grouped-behind [] first len at is within alike = absurd (cc)
 is_grouped-behind (other ∷ rest) first len at is within alike =

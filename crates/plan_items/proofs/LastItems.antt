@@ -1,4 +1,4 @@
--- Groups of items with one more behind them.
+-- Groups of items with one more after them.
 use Rattle.std.proofs.Common.{◌≡◌, ℕ, zero, suc, ◌+◌, ◌-◌, ◌<◌, ◌≤◌, ◌&&◌, ◌==◌, not, Bool, true, false, nat_le, List, [], ◌∷◌, ◌++◌, length, take, drop, refl, sym, ◌∙◌, ap, subst, arith, length-append}
 use Rattle.std.specs.Prelude.{Option, Some, None, slice_get, unwrap_or, if◌then◌else◌}
 use Rattle.std.specs.List.{list_all}
@@ -19,7 +19,7 @@ short (Some count) last = elim (nat_le 3 count) as (λ b. nat_le 3 count ≡ b �
   | false ↦ λ test. refl
 ] refl
 
--- an item alone is a group where it is no vertex
+-- an item alone is a group if it is no vertex
 pub is_grouped-alone : (last : Item) → not (is_vertex last.command) ≡ is_grouped 0 (last ∷ [])
 is_grouped-alone last = elim (is_vertex last.command) as (λ b. not b ≡ (begins_group last (if b then vertex_count (param1_of last) else Some 1) (last ∷ []) && is_grouped (unwrap_or (if b then vertex_count (param1_of last) else Some 1) 1 - 1) [])) [
   | true ↦ sym (short (word_number (param1_of last)) last)
@@ -68,7 +68,7 @@ is_grouped-end (other ∷ rest) first last len at is long =
     subst (λ (f : Item). ((length (other ∷ rest) + 1 == len) && list_all (is_like f) (other ∷ rest) && is_like f last) ≡ is_grouped 0 ((other ∷ rest) ++ last ∷ [])) (sym same)
     (ends other rest last len (group_len_of other) (ap group_len_of (sym same) ∙ is) long)
 
--- behind a whole group the rest decides, with the last item too
+-- after a whole group the rest decides, with the last item too
 pub is_grouped-behind_with : (items : List Item) (first last : Item) (len : ℕ) → Some first ≡ slice_get items 0 → group_len_of first ≡ Some len → len ≤ length items → list_all (is_like first) (take len items) ≡ true
     → is_grouped 0 (take (length items - len) (drop len items) ++ last ∷ []) ≡ is_grouped 0 (items ++ last ∷ [])
 is_grouped-behind_with [] first last len at is within alike = absurd (cc)

@@ -11,7 +11,8 @@ use Rattle.plan_items.specs.Kinds.{number_of, limit_of, kind_of}
 use Rattle.plan_items.specs.Validation.{code_of, item_fault, whole_fault, first_fault, plan_fault, is_grouped, IsValid}
 use Rattle.plan_items.proofs.KindNumbers.{number_of-kind_of}
 
--- a fault's code is from 2 to 11, so neither MAV_MISSION_ACCEPTED nor MAV_MISSION_ERROR nor MAV_MISSION_OPERATION_CANCELLED
+-- a fault's code is from 2 to 11, so it is neither MAV_MISSION_ACCEPTED nor MAV_MISSION_ERROR nor
+-- MAV_MISSION_OPERATION_CANCELLED
 pub code_of-bounds : (fault : PlanFault) → (2 ≤ code_of fault) × (code_of fault ≤ 11)
 code_of-bounds UnsupportedFrame = (omega arith, omega arith)
 code_of-bounds Unsupported = (omega arith, omega arith)
@@ -57,7 +58,7 @@ whole_fault-Some kind items fault = elim ((kind == 1) && not (is_grouped 0 items
   | false ↦ λ is. absurd (cc)
 ]
 
--- where no item has a fault there is no first
+-- if no item has a fault there is no first
 pub first_fault-None : (kind : ℕ) (items : List Item) → All (λ item. item_fault kind item ≡ None) items → first_fault kind items ≡ None
 first_fault-None kind [] sound = refl
 first_fault-None kind (item ∷ rest) sound =
@@ -68,7 +69,7 @@ or_none : (fault other : Option PlanFault) → option_or fault other ≡ None �
 or_none None other e = (refl, e)
 or_none (Some fault) other e = absurd (cc)
 
--- where there is no first fault no item has one
+-- if there is no first fault no item has one
 pub first_fault-All : (kind : ℕ) (items : List Item) → first_fault kind items ≡ None → All (λ item. item_fault kind item ≡ None) items
 first_fault-All kind [] none = λ k d below. absurd (omega (arith, below))
 first_fault-All kind (item ∷ rest) none =
@@ -79,7 +80,7 @@ first_fault-All kind (item ∷ rest) none =
     at_place here behind zero d below = here
     at_place here behind (suc k) d below = behind k d (omega (arith, below))
 
--- where no item has a fault the plan's is that of the whole
+-- if no item has a fault the plan's is that of the whole
 pub plan_fault-whole : (kind : ℕ) (items : List Item) → All (λ item. item_fault kind item ≡ None) items → plan_fault kind items ≡ whole_fault kind items
 unfolding plan_fault
 plan_fault-whole kind items sound = ap (λ fault. option_or fault (whole_fault kind items)) (first_fault-None kind items sound)

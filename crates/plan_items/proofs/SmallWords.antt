@@ -26,7 +26,7 @@ some_of : (o : Option ℕ) (k : ℕ) → k ≤ 70 → unwrap_or o 71 ≡ k → o
 some_of None k h e = absurd (omega arith)
 some_of (Some x) k h e = ap Some e
 
--- the word of k names k
+-- the number of the word of k is k
 pub word_number-small_word_of : (k : ℕ) → k ≤ 70 → word_number (small_word_of k) ≡ Some k
 unfolding agrees
 word_number-small_word_of k h = some_of _ k h (eq_of _ _ (both _ _ (below agrees 71 k all_agree (omega arith))).1)
@@ -41,7 +41,7 @@ up_to (suc most) word k e = elim (small_word_of (suc most) == word) as (λ b. (s
   | false ↦ λ test is. let rest = up_to most word k is in (omega (arith, rest.0), rest.1)
 ] refl e
 
--- a word that names a number is that number's word, and the number is at most 70
+-- a word that has a number is that number's word, and the number is at most 70
 pub small_word_of-word_number : (word k : ℕ) → word_number word ≡ Some k → (k ≤ 70) × (small_word_of k ≡ word)
 unfolding word_number
 small_word_of-word_number word k e = up_to 70 word k e
@@ -50,7 +50,7 @@ none_of : (o : Option ℕ) → ((k : ℕ) → o ≡ Some k → ⊥) → None ≡
 none_of None h = refl
 none_of (Some k) h = absurd (h k refl)
 
--- a word that is none of the table's names no number
+-- a word that is none of the table's has no number
 pub word_number-none : (word : ℕ) → ((k : ℕ) → k ≤ 70 → small_word_of k ≡ word → ⊥) → None ≡ word_number word
 word_number-none word no_word = none_of (word_number word) (λ k is. let known = small_word_of-word_number word k is in no_word k known.0 known.1)
 

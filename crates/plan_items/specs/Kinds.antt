@@ -13,7 +13,7 @@ number_of Rally = 2
 abbrev pub limit_of : ℕ → ℕ
 limit_of kind = if kind == 0 then 1000 else if kind == 1 then 200 else 50
 
--- the kind with this number, where there is one
+-- the kind with this number, if there is one
 abbrev pub kind_of : ℕ → Option PlanKind
 kind_of number =
     if number == 0 then Some Mission else if number == 1 then Some Fence else if number == 2 then Some Rally else None

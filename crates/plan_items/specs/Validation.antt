@@ -8,15 +8,16 @@ use Rattle.plan_items.specs.declared.items.Item.{Item}
 use Rattle.plan_items.specs.declared.faults.PlanFault.{PlanFault}
 use Rattle.plan_items.specs.declared.faults.PlanFault.TheVariants.{UnsupportedFrame, Unsupported, InvalidX, InvalidY, InvalidParam1, Invalid}
 
--- the frames of items that have a place: MAV_FRAME_GLOBAL, GLOBAL_RELATIVE_ALT, GLOBAL_INT, GLOBAL_RELATIVE_ALT_INT
+-- the frames of items that have a location: MAV_FRAME_GLOBAL, GLOBAL_RELATIVE_ALT, GLOBAL_INT,
+-- GLOBAL_RELATIVE_ALT_INT
 abbrev pub is_global : ℕ → Bool
 is_global frame = (frame == 0) || (frame == 3) || (frame == 5) || (frame == 6)
 
--- the commands of missions that go to a place: NAV_WAYPOINT, NAV_LAND, NAV_TAKEOFF
+-- the commands of missions that go to a location: NAV_WAYPOINT, NAV_LAND, NAV_TAKEOFF
 abbrev pub goes_to_place : ℕ → Bool
 goes_to_place command = (command == 16) || (command == 21) || (command == 22)
 
--- a global frame, or in a mission MAV_FRAME_MISSION for a command that goes to no place
+-- a global frame, or in a mission MAV_FRAME_MISSION for a command that goes to no location
 abbrev pub is_frame_supported : ℕ → Item → Bool
 is_frame_supported kind item =
     is_global item.frame || ((kind == 0) && (item.frame == 2) && not (goes_to_place item.command))
@@ -25,7 +26,8 @@ is_frame_supported kind item =
 abbrev pub is_vertex : ℕ → Bool
 is_vertex command = (command == 5001) || (command == 5002)
 
--- missions: also NAV_RETURN_TO_LAUNCH and IMAGE_START_CAPTURE; fences: NAV_FENCE_RETURN_POINT and vertices; rally plans: NAV_RALLY_POINT
+-- missions: also NAV_RETURN_TO_LAUNCH and IMAGE_START_CAPTURE; fences: NAV_FENCE_RETURN_POINT and vertices;
+-- rally plans: NAV_RALLY_POINT
 abbrev pub is_command_supported : ℕ → ℕ → Bool
 is_command_supported kind command =
     if kind == 0 then goes_to_place command || (command == 20) || (command == 2000)
@@ -36,7 +38,7 @@ is_command_supported kind command =
 abbrev pub is_within : ℕ → ℤ → Bool
 is_within bound place = int_le (neg_ℤ (pos bound)) place && int_le place (pos bound)
 
--- a coordinate is within its bound, where the frame has a place
+-- a coordinate is within its bound, if the frame has a location
 abbrev pub is_in_range : Item → ℕ → ℤ → Bool
 is_in_range item bound place = (item.frame == 2) || is_within bound place
 
@@ -44,12 +46,12 @@ is_in_range item bound place = (item.frame == 2) || is_within bound place
 abbrev pub param1_of : Item → ℕ
 param1_of item = slice_index item.p 0
 
--- the number, where it is 3 or more
+-- the number, if it is 3 or more
 abbrev pub from_three : Option ℕ → Option ℕ
 from_three None = None
 from_three (Some count) = if nat_le 3 count then Some count else None
 
--- the number of vertices of a polygon, from 3 to 70, that a word names
+-- the number of vertices of a polygon, from 3 to 70, that a word represents
 abbrev pub vertex_count : ℕ → Option ℕ
 vertex_count word = from_three (word_number word)
 
@@ -80,19 +82,20 @@ group_len_of first = if is_vertex first.command then vertex_count (param1_of fir
 abbrev pub is_like : Item → Item → Bool
 is_like first item = (item.command == first.command) && (param1_of item == param1_of first)
 
--- the items begin with a whole group of this length
+-- the items start with a whole group of this length
 abbrev pub begins_group : Item → Option ℕ → List Item → Bool
 begins_group first None items = false
 begins_group first (Some len) items = nat_le len (length items) && list_all (is_like first) (take len items)
 
--- the items are whole groups, one behind the other, but for the first `inside`, which belong to a group that began before
+-- the items are whole groups, one after the other, but for the first `inside`, which belong to an earlier group
 abbrev pub is_grouped : ℕ → List Item → Bool
 is_grouped inside [] = true
 is_grouped zero (first ∷ rest) =
     begins_group first (group_len_of first) (first ∷ rest) && is_grouped (unwrap_or (group_len_of first) 1 - 1) rest
 is_grouped (suc inside) (_ ∷ rest) = is_grouped inside rest
 
--- the fault of a whole plan whose items have none: a fence with a broken polygon (MAVLink guide, Mission Protocol: Geofence)
+-- the fault of a whole plan whose items have none: a fence with a broken polygon
+-- (MAVLink guide, Mission Protocol: Geofence)
 unfoldable pub whole_fault : ℕ → List Item → Option PlanFault
 whole_fault kind items = if (kind == 1) && not (is_grouped 0 items) then Some Invalid else None
 

@@ -1,4 +1,5 @@
--- The words of the whole numbers from 0 to 70: the bits of the equal IEEE 754 single (IEEE 754-2019, 3.4: a biased exponent and 23 bits of fraction).
+-- The words of the whole numbers from 0 to 70: the bits of the equal IEEE 754 single
+-- (IEEE 754-2019, 3.4: a biased exponent and 23 bits of fraction).
 use Rattle.std.specs.Prelude.{ℕ, zero, suc, ◌+◌, ◌-◌, ◌*◌, ◌^◌, ◌==◌, nat_le, if◌then◌else◌, Option, Some, None}
 
 -- the greatest exponent up to `most` of a power of two that is not above k
@@ -20,6 +21,6 @@ abbrev pub number_up_to : ℕ → ℕ → Option ℕ
 number_up_to zero word = if small_word_of 0 == word then Some 0 else None
 number_up_to (suc most) word = if small_word_of (suc most) == word then Some (suc most) else number_up_to most word
 
--- the number from 0 to 70 whose word it is, where there is one
+-- the number from 0 to 70 whose word it is, if there is one
 unfoldable pub word_number : ℕ → Option ℕ
 word_number word = number_up_to 70 word

@@ -46,7 +46,7 @@ pub struct MavFrame;
 impl MavFrame {
     pub const GLOBAL: u8 = 0;
 
-    /// No place at all: x and y mean nothing.
+    /// No location at all: x and y mean nothing.
     pub const MISSION: u8 = 2;
 
     pub const GLOBAL_RELATIVE_ALT: u8 = 3;

@@ -21,7 +21,7 @@ pub enum PlanFault {
     Invalid,
 }
 
-/// The result code with which a drone answers the fault, one of `MissionResult`.
+/// The result code that a drone sends for the fault, one of `MissionResult`.
 pub fn code(fault: PlanFault) -> u8
     ensures { result ≡ code_of fault }
 {

@@ -36,7 +36,7 @@ impl PlanKind {
         }
     }
 
-    /// The kind with this number. None for every number above 2, `ALL` among them.
+    /// The kind with this number. None for every number above 2, `ALL` included.
     pub fn of(number: u8) -> Option<PlanKind>
         ensures { result ≡ kind_of number }
     {

@@ -1,8 +1,8 @@
 //! Plans: the items of missions, fences and rally points, the messages that carry them, and the
 //! tests that an item and a whole plan must pass before a drone installs it.
 //!
-//! `check_item` and `check_plan` answer exactly the first fault of the validation table. Nothing
-//! here sends, stores or flies a plan, and a `Plan` takes memory only in `with_room` and `push`.
+//! `check_item` and `check_plan` return exactly the first fault of the validation table. Nothing
+//! here sends, stores or flies a plan, and a `Plan` allocates only in `with_room` and `push`.
 #![tactic(auto)]
 
 mod codes;

@@ -20,7 +20,7 @@ impl Plan {
         }
     }
 
-    /// An empty plan to which `items` items can be added with no more memory.
+    /// An empty plan to which `items` items can be added without allocating.
     pub fn with_room(alloc: Global, items: usize) -> Result<Plan, NoMemory>
         ensures empty { IfOk result (λ plan. items_of plan ≡ []) }
         ensures spare { IfOk result (λ plan. items ≤ spare_of plan) }
@@ -30,7 +30,7 @@ impl Plan {
         })
     }
 
-    /// Adds an item at the end. With an item to spare it takes no memory.
+    /// Adds an item at the end. With room to spare it doesn't allocate.
     pub fn push(&mut self, item: Item) -> Result<(), NoMemory>
         ensures ok { OnOk result (items_of self.new ≡ items_of self.old ++ item ∷ []) }
         ensures err { OnErr result (items_of self.new ≡ items_of self.old) }
@@ -41,7 +41,7 @@ impl Plan {
         Ok(())
     }
 
-    /// Adds an item at the end, and takes no memory.
+    /// Adds an item at the end, and doesn't allocate.
     pub fn put(&mut self, item: Item)
         requires { 0 < spare_of self.old }
         ensures items { items_of self.new ≡ items_of self.old ++ item ∷ [] }
@@ -59,7 +59,7 @@ impl Plan {
         self.items.clear();
     }
 
-    /// Becomes a copy of `from`, and takes no memory.
+    /// Becomes a copy of `from`, and doesn't allocate.
     pub fn fill(&mut self, from: &Plan)
         requires { length (items_of from.now) ≤ room_of self.old }
         ensures items { items_of self.new ≡ items_of from.now }

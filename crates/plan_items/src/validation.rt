@@ -85,7 +85,7 @@ fn has_longitude(item: &Item) -> bool
     item.frame == MavFrame::MISSION || (-MAX_LONGITUDE <= item.y && item.y <= MAX_LONGITUDE)
 }
 
-// The number of vertices of the polygon that a word of param1 names.
+// The number of vertices of the polygon that a word of param1 represents.
 fn polygon_len(word: u32) -> Option<u8>
     ensures { result ≡ vertex_count word }
 {
@@ -146,7 +146,7 @@ fn is_one_group(first: &Item, items: &[Item]) -> bool
     items.iter().all(|item| is_same_group(first, item))
 }
 
-// Whether the items are whole groups, one behind the other.
+// Whether the items are whole groups, one after the other.
 fn is_whole(items: &[Item]) -> bool
     ensures { result ≡ is_grouped 0 items.now }
 {
@@ -164,7 +164,7 @@ fn is_whole(items: &[Item]) -> bool
     true
 }
 
-// Whether the items and one more behind them are a group of this length.
+// Whether the items and one more after them are a group of this length.
 fn is_group_with(first: &Item, items: &[Item], last: &Item, len: usize) -> bool
     requires { length items.now < len }
     ensures { result ≡ ((length items.now + 1 == len) && list_all (is_like first.now) items.now && is_like first.now last.now) }
@@ -175,7 +175,7 @@ fn is_group_with(first: &Item, items: &[Item], last: &Item, len: usize) -> bool
     is_same_group(first, last)
 }
 
-// Whether the items with one more behind them are whole groups.
+// Whether the items with one more after them are whole groups.
 fn is_whole_with(items: &[Item], last: &Item) -> bool
     ensures { result ≡ is_grouped 0 (items.now ++ last.now ∷ []) }
 {

@@ -6,7 +6,7 @@ const EXPONENT_BIAS: u32 = 127;
 
 const FRACTION_BITS: u32 = 23;
 
-/// The greatest number that `small_word` and `word_small` know.
+/// The greatest number that `small_word` and `word_small` convert.
 pub const GREATEST_SMALL: u8 = 70;
 
 /// The bits of the IEEE 754 single that equals `k`.
@@ -22,7 +22,7 @@ pub fn small_word(k: u8) -> u32
     ((EXPONENT_BIAS + exponent) << FRACTION_BITS) + (rest << (FRACTION_BITS - exponent))
 }
 
-// The whole part of the single with this word, where that is from 1 to 2^24.
+// The whole part of the single with this word, if that is from 1 to 2^24.
 fn whole_part(word: u32) -> u32
     ensures { (k : ℕ) → k ≤ 70 → word ≡ small_word_of k → result ≡ k }
 {
@@ -34,7 +34,7 @@ fn whole_part(word: u32) -> u32
     fraction >> FRACTION_BITS.saturating_sub(exponent)
 }
 
-/// The number from 0 to 70 whose word this is. No other word names a number.
+/// The number from 0 to 70 whose word this is. No other word has a number.
 pub fn word_small(word: u32) -> Option<u8>
     ensures { result ≡ word_number word }
 {

@@ -1,4 +1,4 @@
--- The drone's rules, row by row, with answers from the protocol's tables. The answers are computed from the definitions.
+-- The drone's rules, row by row, against the protocol's tables. The replies are computed from the definitions.
 use Rattle.std.proofs.Common.{◌≡◌, ℕ, zero, suc, List, [], ◌∷◌, ◌++◌, Option, Some, None, true, pos, refl}
 use Rattle.mav_names.specs.declared.names.Name.{Name}
 use Rattle.mav_names.specs.declared.names.Stream.{Stream}
@@ -120,7 +120,7 @@ pub installed_mission : (after fresh (not_opened ++ refused ++ installed)).plans
 unfolding item_fault whole_fault plan_fault word_number small_word_of
 installed_mission = refl
 
--- a download goes on over its copy when the plan is cleared
+-- a download continues over its copy when the plan is cleared
 abbrev downloaded : List (Stream × PlanMsg)
 downloaded =
     (ground, Listing drone 0)
@@ -162,7 +162,7 @@ pub given_up_at_the_fifth_tick :
     ticks 6 counted ≡ asked_again ∷ asked_again ∷ asked_again ∷ asked_again ∷ Some (ground, Ack station 15 0) ∷ None ∷ []
 given_up_at_the_fifth_tick = refl
 
--- whose upload is open, and a change that is told before it comes
+-- the stream whose upload is open, and a change that is reported before it happens
 pub open_is_told : stream_of counted.upload ≡ Some ground
 open_is_told = refl
 

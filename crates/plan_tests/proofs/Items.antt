@@ -30,7 +30,7 @@ pub mission_items :
 unfolding item_fault
 mission_items = refl
 
--- coordinates have bounds in global frames alone
+-- coordinates have bounds in global frames only
 abbrev too_far_north : Item
 too_far_north = placed 0 5100 0 (pos 900000001) (pos 0)
 
@@ -77,7 +77,7 @@ pub small_words : map small_word_of (0 ∷ 1 ∷ 3 ∷ 4 ∷ 64 ∷ 70 ∷ []) �
 unfolding small_word_of
 small_words = refl
 
--- only words of small numbers name them
+-- only words of small numbers have a number
 pub named_numbers :
     map word_number (0x428C0000 ∷ 0 ∷ 0x428E0000 ∷ 0x3F000000 ∷ 0xFFFFFFFF ∷ []) ≡ Some 70 ∷ Some 0 ∷ None ∷ None ∷ None ∷ []
 unfolding small_word_of word_number

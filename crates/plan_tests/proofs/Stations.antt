@@ -1,4 +1,4 @@
--- The station's rules, phase by phase, with answers from the protocol's tables. The answers are computed from the
+-- The station's rules, phase by phase, against the protocol's tables. The replies are computed from the
 -- definitions.
 use Rattle.std.proofs.Common.{◌≡◌, ℕ, List, [], ◌∷◌, Option, Some, None, pos, refl}
 use Rattle.mav_names.specs.declared.names.Name.{Name}
@@ -77,7 +77,7 @@ begun s = begin_upload s drone 0 (waypoint ∷ [])
 pub first_ping : (begun fresh).answer ≡ ping 1
 first_ping = refl
 
--- a resynchronisation attempt that counts no other reply and is made anew at a tick, before an upload of one item
+-- a resynchronisation attempt that counts no other reply and is repeated at a tick, before an upload of one item
 abbrev synchronised : List Turn
 synchronised = Ticks ∷ replied 2 ∷ replied 1 ∷ Ticks ∷ replied 2 ∷ acked 14 0 ∷ acked 1 0 ∷ []
 
@@ -106,7 +106,7 @@ uploaded_is_answered = refl
 pub uploaded_is_installed : (after ready uploaded).outcome ≡ Some Told_installed
 uploaded_is_installed = refl
 
--- an outcome is handed out once
+-- an outcome is returned once
 pub outcome_is_told_once : (untold (after ready uploaded)).outcome ≡ None
 outcome_is_told_once = refl
 
@@ -136,7 +136,7 @@ cancelled_is_answered = refl
 pub cancelled_is_not_installed : (after next.station cancelled).outcome ≡ Some (Told_not_installed 15)
 cancelled_is_not_installed = refl
 
--- a clear of all kinds that isn't answered at first
+-- a clear of all kinds that gets no reply at first
 abbrev clearing : StationStep
 clearing = begin_clear fresh drone 255
 

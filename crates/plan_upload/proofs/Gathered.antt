@@ -1,4 +1,4 @@
--- The gathered items of an upload with one more behind them.
+-- The gathered items of an upload with one more after them.
 use Rattle.std.proofs.Common.{◌≡◌, ◌+◌, ℕ, IsTrue, not, is_some, List, [], ◌∷◌, ◌++◌, length, Option, Some, None, refl, sym, subst, arith, length-append}
 use Rattle.std.specs.Prelude.{All}
 use Rattle.std.proofs.lemmas.List.Elements.{All-push}
@@ -16,7 +16,7 @@ no_fault : (fault : Option PlanFault) → IsTrue (not (is_some fault)) → fault
 no_fault None sound = refl
 no_fault (Some fault) sound = absurd (cc)
 
--- the whole decides where no item has a fault of its own
+-- the whole decides if no item has a fault of its own
 pub plan_fault_with : (kind : ℕ) (items : List Item) (item : Item) → All (λ i. item_fault kind i ≡ None) items → item_fault kind item ≡ None → whole_fault kind (items ++ item ∷ []) ≡ plan_fault kind (items ++ item ∷ [])
 plan_fault_with kind items item sound last =
     sym (plan_fault-whole kind (items ++ item ∷ []) (All-push (λ i. item_fault kind i ≡ None) items item sound last))
@@ -27,7 +27,7 @@ valid u items item fitting sound =
     IsValid-plan_fault (number_of u.kind) (items ++ item ∷ []) (omega (arith, size)) (omega (arith, size, fitting.more, fitting.fits))
     (no_fault (plan_fault (number_of u.kind) (items ++ item ∷ [])) sound)
 
--- the finished plan is valid for its kind where the whole has no fault
+-- the finished plan is valid for its kind if the whole has no fault
 pub finished_is_valid : (slot : Option OpenUpload) (u : OpenUpload) (items more : List Item) (item : Item) (seen : Option Upload) → slot ≡ Some u → IsGathering slot items → upload_view slot items ≡ seen → IsTrue (is_sound_with seen item)
     → more ≡ items ++ item ∷ [] → IsValid (number_of u.kind) more
 finished_is_valid None u items more item seen is gathering view sound put = absurd (cc)

@@ -1,4 +1,4 @@
--- The kept results: what they say of a stream, by the place of its result in the list.
+-- The kept results: what they say of a stream, by the index of its result in the list.
 use Rattle.std.proofs.Common.{◌≡◌, ℕ, suc, zero, ◌<◌, ◌≤◌, Bool, true, false, cond, nat_lt, is_some, IsTrue, List, [], ◌∷◌, ◌++◌, length, Some, None, refl, ap, sym, ◌∙◌, get_or, position, arith}
 use borrow.Author.Tests.{ltb-true}
 use Rattle.std.specs.List.{position_or_len}
@@ -18,7 +18,7 @@ use Rattle.plan_upload.specs.declared.results.StreamResult.{StreamResult}
 abbrev pub is_for : Stream → StreamResult → Bool
 is_for s r = same_stream r.stream s
 
--- where no place is found, the search went past the end
+-- if no index is found, the search went past the end
 past_end : (rs : List StreamResult) (s : Stream) → position (is_for s) rs ≡ None → length rs ≤ position_or_len (is_for s) rs
 past_end rs s none = grind arith
 
@@ -28,7 +28,7 @@ all_others rs s d none k inside =
     let past : length rs ≤ position_or_len (is_for s) rs = past_end rs s none in
     fails_before_first (is_for s) rs k d (omega arith)
 
--- what is kept at the place that was found
+-- what is kept at the index that was found
 pub result_of-Some : (rs : List StreamResult) (s : Stream) (i : ℕ) (d : StreamResult) → position (is_for s) rs ≡ Some i → result_of (results_view rs) s ≡ Some (get_or rs i d).installed
 result_of-Some rs s i d some =
     let at : (i < length rs) × (is_for s (get_or rs i d) ≡ true) × ((k : ℕ) → k < i → is_for s (get_or rs k d) ≡ false) = position-Some (is_for s) rs i d some in
@@ -38,7 +38,7 @@ pub result_of-None : (rs : List StreamResult) (s : Stream) (d : StreamResult) �
 result_of-None rs s d none =
     found_nowhere (λ xs. result_of (results_view xs) s) (is_for s) (λ r. Some r.installed) None refl (λ x xs. refl) rs d (all_others rs s d none)
 
--- a result in the place of an earlier one
+-- a result that replaces an earlier one
 with_result-at : (rs : List StreamResult) (s : Stream) (b : Bool) (i : ℕ) (d : StreamResult) → i < length rs → is_for s (get_or rs i d) ≡ true → ((k : ℕ) → k < i → is_for s (get_or rs k d) ≡ false)
     → results_view (set rs i (record { stream = (get_or rs i d).stream; installed = b })) ≡ with_result (results_view rs) s b
 with_result-at [] s b i d inside here below = absurd (omega arith)
@@ -55,7 +55,7 @@ with_result-Some rs s b i d some =
     let at : (i < length rs) × (is_for s (get_or rs i d) ≡ true) × ((k : ℕ) → k < i → is_for s (get_or rs k d) ≡ false) = position-Some (is_for s) rs i d some in
     with_result-at rs s b i d at.0 at.1 at.2
 
--- a result behind all others
+-- a result after all others
 with_result-end : (rs : List StreamResult) (s : Stream) (b : Bool) (d : StreamResult) → ((k : ℕ) → k < length rs → is_for s (get_or rs k d) ≡ false)
     → results_view (rs ++ record { stream = s; installed = b } ∷ []) ≡ with_result (results_view rs) s b
 with_result-end [] s b d others = refl
@@ -70,7 +70,7 @@ pub with_result-None : (rs : List StreamResult) (s : Stream) (b : Bool) → posi
 with_result-None rs s b none =
     with_result-end rs s b (record { stream = s; installed = b }) (all_others rs s (record { stream = s; installed = b }) none)
 
--- the stream's own place is where a new result of it is found
+-- a new result of the stream is found at the stream's own index
 pub result_of-with_result : (rs : List UploadResult) (s : Stream) (b : Bool) → same_stream s s ≡ true → result_of (with_result rs s b) s ≡ Some b
 result_of-with_result [] s b same = rw same refl
 result_of-with_result (r ∷ rs) s b same =
@@ -79,7 +79,7 @@ result_of-with_result (r ∷ rs) s b same =
       | false ↦ λ e. rw e (result_of-with_result rs s b same)
     ] refl
 
--- a stream that has none yet, but has a place, leaves room for one result more
+-- a stream that has none yet, but room for one, leaves room for one result more
 pub room_left : (rs : List StreamResult) (s : Stream) (d : StreamResult) → position (is_for s) rs ≡ None → IsTrue (has_place (results_view rs) s) → length rs < 256
 room_left rs s d none place =
     let missing : result_of (results_view rs) s ≡ None = result_of-None rs s d none in
@@ -122,6 +122,6 @@ room_for_new rs xs seen s same view none place =
 same_stream-self : (s : Stream) → same_stream s s ≡ true
 same_stream-self s = grind arith
 
--- a stream has a result once one of it was put
+-- a stream has a result once one of it was added
 pub has_result_now : (rs : List UploadResult) (s : Stream) (b : Bool) → IsTrue (is_some (result_of (with_result rs s b) s))
 has_result_now rs s b = rw (result_of-with_result rs s b (same_stream-self s)) refl

@@ -3,11 +3,11 @@ use Rattle.std.specs.Prelude.{ℕ, ◌==◌, ◌&&◌, ◌||◌, Bool}
 use Rattle.mav_names.specs.declared.names.Name.{Name}
 use Rattle.mav_names.specs.declared.names.Stream.{Stream}
 
--- two streams are one
+-- two streams are equal
 abbrev pub same_stream : Stream → Stream → Bool
 same_stream a b = (a.sys == b.sys) && ((a.comp == b.comp) && (a.link == b.link))
 
--- two names are one
+-- two names are equal
 abbrev pub same_name : Name → Name → Bool
 same_name a b = (a.sys == b.sys) && (a.comp == b.comp)
 
@@ -19,6 +19,6 @@ node_of s = record { sys = s.sys; comp = s.comp }
 abbrev pub everyone : Name
 everyone = record { sys = 0; comp = 0 }
 
--- a drone is component 1 of its system, and hears what is for that component or for all of them
+-- a drone is component 1 of its system, and accepts what is for that component or for all of them
 abbrev pub is_for_drone : ℕ → Name → Bool
 is_for_drone sys to = (to.sys == sys) && ((to.comp == 1) || (to.comp == 0))

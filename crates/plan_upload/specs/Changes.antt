@@ -19,6 +19,6 @@ change_by (Installs by kind items) = install_of (kind_of kind)
 change_by (Empties by kind) = Empty (kind_of kind)
 change_by (Shows to kind items) = Same
 
--- the change that a step makes where the store keeps new plans
+-- the change that a step makes if the store keeps new plans
 abbrev pub change_of : DroneState → Stream → PlanMsg → Change
 change_of d s m = change_by (drone_step true d s m).event

@@ -1,4 +1,4 @@
--- The open download as the drone keeps it, and what its calls answer.
+-- The open download as the drone keeps it, and what its calls return.
 use Rattle.std.specs.Prelude.{ℕ, ◌==◌, ◌&&◌, slice_get, Option, Some, None, if◌then◌else◌}
 use Rattle.mav_names.specs.declared.names.Stream.{Stream}
 use Rattle.plan_items.specs.declared.items.Item.{Item}
@@ -7,12 +7,12 @@ use Rattle.plan_items.specs.declared.messages.PlanMsg.TheVariants.{Item as Give}
 use Rattle.plan_upload.specs.Addresses.{same_stream, node_of}
 use Rattle.plan_upload.specs.Drone.{Download, ack}
 
--- the item that a stream asks for, where its own download has it
+-- the item that a stream asks for, if its own download has it
 abbrev pub item_in : Option Download → Stream → ℕ → ℕ → Option Item
 item_in None s seq kind = None
 item_in (Some t) s seq kind = if same_stream t.stream s && (t.kind == kind) then slice_get t.items seq else None
 
--- the download after it, and the answer: INVALID_SEQUENCE where there is no such item
+-- the download after it, and the reply: INVALID_SEQUENCE if there is no such item
 abbrev pub download_after : Option Download → Option Item → Option Download
 download_after None item = None
 download_after (Some t) None = Some t

@@ -1,6 +1,6 @@
 -- The drone's side of the mission protocol: what a drone does at a plan message of a stream, and at a tick.
--- MAVLink guide, Mission Protocol: upload, download, clear. That a count of 0 is refused, and what a
--- cancel is answered by, is this project's profile.
+-- MAVLink guide, Mission Protocol: upload, download, clear. That a count of 0 is refused, and the reply
+-- to a cancel, are this project's profile.
 use Rattle.std.specs.Prelude.{ℕ, ◌+◌, ◌-◌, ◌^◌, ◌==◌, Bool, true, false, if◌then◌else◌, ◌&&◌, not, nat_lt, min, is_some, List, [], ◌∷◌, ◌++◌, length, slice_get, Option, Some, None}
 use Rattle.mav_names.specs.declared.names.Stream.{Stream}
 use Rattle.plan_items.specs.declared.items.Item.{Item}
@@ -45,7 +45,7 @@ pub data PlanEvent : Type 0 where
   Quiet : PlanEvent
   Installs : (by : Stream) (kind : ℕ) (items : List Item) → PlanEvent
   Empties : (by : Stream) (kind : ℕ) → PlanEvent
-  -- a count of the plan was told to a stream that asked for it
+  -- a count of the plan was sent to a stream that asked for it
   Shows : (to : Stream) (kind : ℕ) (items : List Item) → PlanEvent
 
 pub record DroneStep : Type 0 where
@@ -60,18 +60,18 @@ fresh_drone sys plans = record { sys = sys; plans = plans; upload = None; downlo
 abbrev pub restored : DroneState → DroneState
 restored d = fresh_drone d.sys d.plans
 
--- how many streams have a result at most, and after how many ticks a transfer is given up
+-- the most streams that have a result, and the number of ticks after which a transfer is given up
 abbrev pub most_results : ℕ
 most_results = 256
 
 abbrev pub idle_limit : ℕ
 idle_limit = 5
 
--- a count of installs stands still at the end of its type
+-- a count of installs stays at the maximum of its type
 abbrev pub one_more : ℕ → ℕ
 one_more n = min (n + 1) (2 ^ 64 - 1)
 
--- it answers the stream, and no plan is touched
+-- it replies to the stream, and no plan is changed
 abbrev pub answers : DroneState → PlanMsg → DroneStep
 answers d m = record { drone = d; answer = Some m; event = Quiet }
 
@@ -84,12 +84,12 @@ ack s code kind = Ack (node_of s) code kind
 abbrev pub ask : Stream → ℕ → ℕ → PlanMsg
 ask s kind seq = Request (node_of s) seq kind
 
--- the last upload result of a stream, where it has one
+-- the last upload result of a stream, if it has one
 abbrev pub result_of : List UploadResult → Stream → Option Bool
 result_of [] s = None
 result_of (r ∷ rs) s = if same_stream r.stream s then Some r.installed else result_of rs s
 
--- the results with that of one stream replaced, or put behind the others
+-- the results with that of one stream replaced, or added after the others
 abbrev pub with_result : List UploadResult → Stream → Bool → List UploadResult
 with_result [] s installed = record { stream = s; installed = installed } ∷ []
 with_result (r ∷ rs) s installed =
@@ -186,8 +186,8 @@ download_without (Some t) s = if same_stream t.stream s then None else Some t
 abbrev pub undownloaded : DroneState → Stream → DroneState
 undownloaded d s = record d { download = download_without d.download s }
 
--- what a cancel is answered by: ACCEPTED where the stream's last upload was installed,
--- OPERATION_CANCELLED where it was not, ERROR where there is none
+-- the code of the reply to a cancel: ACCEPTED if the stream's last upload was installed,
+-- OPERATION_CANCELLED if it was not, ERROR if there is none
 abbrev pub cancel_code : Option Bool → ℕ
 cancel_code None = 1
 cancel_code (Some true) = 0
@@ -224,7 +224,7 @@ abbrev pub is_downloading : Option Download → Stream → Bool
 is_downloading None s = false
 is_downloading (Some t) s = not (same_stream t.stream s)
 
--- the copy that a download goes over; an empty plan needs none
+-- the copy that a download reads; an empty plan needs none
 abbrev pub copy_of : Stream → ℕ → List Item → Option Download
 copy_of s kind [] = None
 copy_of s kind (item ∷ items) = Some (record { stream = s; kind = kind; items = item ∷ items; idle = 0 })
@@ -236,14 +236,14 @@ list_comes d s kind =
     if nat_lt 2 kind then answers d (ack s 3 kind)
     -- a download of another stream is open: DENIED
     else if is_downloading d.download s then answers d (ack s 14 kind)
-    -- else the number of items, 0 where the plan is empty
+    -- else the number of items, 0 if the plan is empty
     else record {
       drone = record d { download = copy_of s kind (plan_at d.plans kind) };
       answer = Some (Count (node_of s) (length (plan_at d.plans kind)) kind);
       event = Shows s kind (plan_at d.plans kind);
     }
 
--- the item that is asked for, where the copy has it; else INVALID_SEQUENCE
+-- the item that is asked for, if the copy has it; else INVALID_SEQUENCE
 abbrev pub give_item : DroneState → Stream → Download → ℕ → ℕ → Option Item → DroneStep
 give_item d s t seq kind None = answers d (ack s 13 kind)
 give_item d s t seq kind (Some item) = answers (record d { download = Some (record t { idle = 0 }) }) (Give (node_of s) seq kind item)
@@ -255,7 +255,7 @@ request_comes d s (Some t) seq kind =
     if same_stream t.stream s && (t.kind == kind) then give_item d s t seq kind (slice_get t.items seq)
     else answers d (ack s 13 kind)
 
--- a message for another node changes nothing and isn't answered
+-- a message for another node changes nothing and gets no reply
 abbrev pub heard : DroneState → Bool → DroneStep → DroneStep
 heard d is_for step = if is_for then step else rests d
 
@@ -274,7 +274,7 @@ pub record DroneTick : Type 0 where
   pub drone : DroneState
   pub answer : Option (Stream × PlanMsg)
 
--- a download that has been idle for too long is closed without a word
+-- a download that has been idle for too long is closed, and nothing is sent
 abbrev pub waited : Option Download → Option Download
 waited None = None
 waited (Some t) = if nat_lt (t.idle + 1) idle_limit then Some (record t { idle = t.idle + 1 }) else None

@@ -1,4 +1,4 @@
--- The open upload as the drone keeps it, and what its calls answer.
+-- The open upload as the drone keeps it, and what its calls return.
 use Rattle.std.specs.Prelude.{ℕ, ◌+◌, ◌==◌, Bool, false, ◌&&◌, not, nat_lt, is_some, [], ◌∷◌, ◌++◌, length, Option, Some, None, if◌then◌else◌}
 use Rattle.mav_names.specs.declared.names.Stream.{Stream}
 use Rattle.plan_items.specs.Kinds.{kind_of}
@@ -30,7 +30,7 @@ verdict_of (Some u) s seq kind item =
     else if not ((kind == u.kind) && (seq == length u.items)) then AskAgain
     else item_verdict u item (item_fault u.kind item)
 
--- the request of the next item, where an upload is open
+-- the request of the next item, if an upload is open
 abbrev pub asked_of : Option Upload → Stream → Option PlanMsg
 asked_of None s = None
 asked_of (Some u) s = Some (ask s u.kind (length u.items))
@@ -50,7 +50,7 @@ abbrev pub plans_with : Plans → Option Upload → Item → Plans
 plans_with plans None item = plans
 plans_with plans (Some u) item = with_plan plans u.kind (u.items ++ item ∷ [])
 
--- the item is sound, and isn't the last
+-- the item has no fault, and isn't the last
 abbrev pub can_gather : Option Upload → Item → Bool
 can_gather None item = false
 can_gather (Some u) item = not (is_some (item_fault u.kind item)) && nat_lt (length u.items + 1) u.total

@@ -1,4 +1,4 @@
--- Which plan messages a drone takes.
+-- Which plan messages a drone accepts.
 use Rattle.std.specs.Prelude.{ℕ, Bool, is_some, IsTrue, List, Option, Some, None}
 use Rattle.plan_items.specs.declared.messages.PlanMsg.{PlanMsg}
 use Rattle.plan_items.specs.declared.messages.PlanMsg.TheVariants.{Count, Request, Item as Give, Ack, List as Listing, Clear, Ping}

@@ -15,7 +15,7 @@ use Rattle.plan_upload.specs.declared.operations.Stage.{Stage}
 use Rattle.plan_upload.specs.declared.operations.Stage.TheVariants.{Pinging as InPinging, Cancelling as InCancelling, Sending as InSending, Clearing as InClearing, Listing as InListing, Getting as InGetting}
 use Rattle.plan_upload.specs.declared.operations.OpenOperation.{OpenOperation}
 
--- an operation as it comes to a resynchronisation attempt, before a PING number is taken for it
+-- an operation at the start of a resynchronisation attempt, before a PING number is taken for it
 abbrev pub upload_task : Stream → UploadTask → Operation
 upload_task drone t = record {
   work = Uploads;
@@ -87,7 +87,7 @@ abbrev pub operation_view : Option OpenOperation → Option Operation
 operation_view None = None
 operation_view (Some o) = Some (stage_view o.drone o.stage)
 
--- how a terminating task ends, by the answer to its cancel
+-- how a terminating task ends, by the reply to its cancel
 abbrev pub told_at : Task → ℕ → Told
 told_at (Upload t) code = outcome_at Uploads t.final_sent code t.code
 told_at (Clear kind) code = outcome_at Clears false code None

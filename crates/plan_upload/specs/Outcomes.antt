@@ -1,4 +1,4 @@
--- What an outcome tells.
+-- What an outcome reports.
 use Rattle.plan_items.specs.Plans.{items_of}
 use Rattle.plan_upload.specs.Station.{Told, Told_installed, Told_not_installed, Told_unknown, Told_cleared, Told_got, Told_ended}
 use Rattle.plan_upload.specs.declared.outcomes.Outcome.{Outcome}

@@ -4,7 +4,7 @@ use Rattle.plan_items.specs.Plans.{items_of}
 use Rattle.plan_items.specs.declared.items.Item.{Item}
 use Rattle.plan_upload.specs.declared.operations.UploadTask.{UploadTask}
 
--- the item with this number, where the plan has it
+-- the item with this number, if the plan has it
 abbrev pub item_at : UploadTask → ℕ → Option Item
 item_at upload seq = slice_get (items_of upload.plan) seq
 

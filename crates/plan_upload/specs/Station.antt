@@ -2,7 +2,7 @@
 -- drone that its operation is with, and at a tick.
 -- MAVLink guide, Mission Protocol: upload, download, clear, cancel. The resynchronisation before an
 -- operation, and after one that didn't end with the acknowledgement of its own last item, is this project's
--- profile: a PING with a number never used before, its reply, one cancel and its answer.
+-- profile: a PING with a number never used before, its reply, one cancel and its reply.
 use Rattle.std.specs.Prelude.{ℕ, ◌+◌, ◌==◌, Bool, true, false, if◌then◌else◌, ◌||◌, ◌&&◌, nat_lt, List, [], ◌∷◌, ◌++◌, length, take, slice_get, Option, Some, None}
 use Rattle.mav_names.specs.declared.names.Name.{Name}
 use Rattle.mav_names.specs.declared.names.Stream.{Stream}
@@ -19,11 +19,11 @@ pub data Work : Type 0 where
   Gets : Work
 
 pub data Phase : Type 0 where
-  Pinging : Phase  -- 1: a PING was sent, its reply is waited for
-  Cancelling : Phase  -- 2: a cancel was sent, its answer is waited for
+  Pinging : Phase  -- 1: a PING was sent, and the station waits for its reply
+  Cancelling : Phase  -- 2: a cancel was sent, and the station waits for its reply
   Sending : Phase  -- 3: an upload
   Clearing : Phase  -- 4: a clear
-  Listing_items : Phase  -- 5: a download whose count is waited for
+  Listing_items : Phase  -- 5: a download that waits for its count
   Getting : Phase  -- 6: a download
 
 pub record Operation : Type 0 where
@@ -32,9 +32,9 @@ pub record Operation : Type 0 where
   pub kind : ℕ  -- 255 in a clear of all kinds
   pub plan : List Item  -- of an upload
   pub phase : Phase
-  pub idle : ℕ  -- ticks since something was heard, in the phases 3 to 6
+  pub idle : ℕ  -- ticks since the last message that counted, in the phases 3 to 6
   pub terminating : Bool  -- it ends at the next resynchronisation
-  pub asked : Bool  -- of an upload: a request was seen
+  pub asked : Bool  -- of an upload: a request came
   pub final_sent : Bool  -- of an upload: its last item was sent
   pub code : Option ℕ  -- of an upload: the code that it was refused with
   pub number : Option ℕ  -- the PING of this resynchronisation attempt, in the phases 1 and 2
@@ -56,7 +56,7 @@ pub record StationState : Type 0 where
   pub pings : ℕ  -- the last PING number that was used
   pub synced : List Stream  -- the drones with which it is synchronised, the longest kept last
   pub operation : Option Operation
-  pub outcome : Option Told  -- one that wasn't handed out yet
+  pub outcome : Option Told  -- one that wasn't returned yet
 
 pub record StationStep : Type 0 where
   pub station : StationState
@@ -94,11 +94,11 @@ stays s = record { station = s; answer = None; told = None }
 abbrev pub with_operation : StationState → Operation → StationState
 with_operation s o = record s { operation = Some o }
 
--- the operation goes on as `o`, and sends nothing
+-- the operation continues as `o`, and sends nothing
 abbrev pub becomes : StationState → Operation → StationStep
 becomes s o = record { station = with_operation s o; answer = None; told = None }
 
--- the operation goes on as `o`, and sends a message
+-- the operation continues as `o`, and sends a message
 abbrev pub sends : StationState → Operation → PlanMsg → StationStep
 sends s o m = record { station = with_operation s o; answer = Some m; told = None }
 
@@ -106,7 +106,7 @@ sends s o m = record { station = with_operation s o; answer = Some m; told = Non
 abbrev pub pinging : Operation → Option ℕ → Operation
 pinging o number = record o { phase = Pinging; idle = 0; number = number; total = 0; got = [] }
 
--- a resynchronisation attempt. Where no PING number is left it says nothing, and no reply will count
+-- a resynchronisation attempt. If no PING number is left nothing is sent, and no reply will count
 abbrev pub resynchronises : StationState → Operation → StationStep
 resynchronises s o =
     if nat_lt s.pings last_ping
@@ -133,7 +133,7 @@ abbrev pub is_synced : List Stream → Stream → Bool
 is_synced [] drone = false
 is_synced (d ∷ ds) drone = same_stream d drone || is_synced ds drone
 
--- one drone more, and the longest kept dropped where there are 256
+-- one drone more, and the one kept longest is dropped if there are 256
 abbrev pub synced_too : List Stream → Stream → List Stream
 synced_too ds drone = if is_synced ds drone then ds else drone ∷ take 255 ds
 
@@ -151,12 +151,12 @@ ends_with s drone answer told = record {
 abbrev pub ends : StationState → Stream → Told → StationStep
 ends s drone told = ends_with s drone None told
 
--- the code of an upload that isn't installed: OPERATION_CANCELLED where the drone gave none
+-- the code of an upload that isn't installed: OPERATION_CANCELLED if the drone gave none
 abbrev pub given_code : Option ℕ → ℕ
 given_code None = 15
 given_code (Some code) = code
 
--- the outcome of a terminating operation, by the answer to its cancel
+-- the outcome of a terminating operation, by the reply to its cancel
 abbrev pub outcome_at : Work → Bool → ℕ → Option ℕ → Told
 outcome_at Uploads final_sent code kept =
     if final_sent && (code == 0) then Told_installed
@@ -165,7 +165,7 @@ outcome_at Uploads final_sent code kept =
 outcome_at Clears final_sent code kept = Told_ended 15
 outcome_at Gets final_sent code kept = Told_ended 15
 
--- the answer to the cancel came: the station is synchronised with the drone
+-- the reply to the cancel came: the station is synchronised with the drone
 abbrev pub synchronises : StationState → Operation → ℕ → StationStep
 synchronises s o code =
     if o.terminating then ends s o.drone (outcome_at o.work o.final_sent code o.code)
@@ -178,7 +178,7 @@ refused s o code = resynchronises s (record o { code = Some code; terminating = 
 abbrev pub terminated : StationState → Operation → StationStep
 terminated s o = resynchronises s (record o { terminating = true })
 
--- phase 3, MISSION_REQUEST_INT of the kind: the item, where the plan has it
+-- phase 3, MISSION_REQUEST_INT of the kind: the item, if the plan has it
 abbrev pub item_asked : StationState → Operation → ℕ → Option Item → StationStep
 item_asked s o seq None = stays s
 item_asked s o seq (Some item) =
@@ -257,7 +257,7 @@ operation_step s None from m = stays s
 operation_step s (Some o) from m =
     if same_stream from o.drone && same_name (addressee m) s.me then phase_step s o o.phase m else stays s
 
--- one plan message of a stream: it counts where it comes from the operation's drone and is for this station
+-- one plan message of a stream: it counts if it comes from the operation's drone and is for this station
 abbrev pub station_step : StationState → Stream → PlanMsg → StationStep
 station_step s from m = operation_step s s.operation from m
 
@@ -329,8 +329,8 @@ operation_of work drone kind plan = record {
   got = [];
 }
 
--- it starts at once where the station is synchronised with the drone, and resynchronises where it isn't.
--- An outcome that wasn't handed out is dropped
+-- it starts at once if the station is synchronised with the drone, and otherwise resynchronises.
+-- An outcome that wasn't returned is dropped
 abbrev pub begins : StationState → Operation → StationStep
 begins s o =
     let ready = record s { outcome = None } in
@@ -345,6 +345,6 @@ begin_clear s drone kind = begins s (operation_of Clears drone kind [])
 abbrev pub begin_get : StationState → Stream → ℕ → StationStep
 begin_get s drone kind = begins s (operation_of Gets drone kind [])
 
--- the outcome was handed out
+-- the outcome was returned
 abbrev pub untold : StationState → StationState
 untold s = record s { outcome = None }

@@ -10,7 +10,7 @@ use std::marker::Model;
 /// The most items of a plan of any kind.
 pub const MAX_ITEMS: usize = 1000;
 
-/// Items for which memory was taken at the start: none of its calls but `new` takes any.
+/// Items whose memory was allocated at the start: none of its calls but `new` allocates.
 #[derive(Drop)]
 pub struct Buffer {
     plan: Plan,

@@ -7,6 +7,6 @@ pub enum Change {
     Same,
     /// The gathered items would become the plan of this kind.
     Install(PlanKind),
-    /// The plan of this kind, or with None all three, would become empty, also where it is so already.
+    /// The plan of this kind, or with None all three, would become empty, even if it already is.
     Empty(Option<PlanKind>),
 }

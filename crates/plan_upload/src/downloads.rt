@@ -14,7 +14,7 @@ use plan_items::{Item, MissionResult, Plan, PlanKind, PlanMsg};
 use std::alloc::Global;
 use std::marker::Model;
 
-/// Who downloads which plan, and the ticks without a request that was met.
+/// Who downloads which plan, and the ticks without a request that was fulfilled.
 #[derive(Clone, Copy)]
 pub struct OpenDownload {
     pub stream: Stream,
@@ -67,7 +67,7 @@ impl DownloadSlot {
         }
     }
 
-    /// Becomes a download of a copy of the plan, and none where the plan is empty.
+    /// Becomes a download of a copy of the plan, and none if the plan is empty.
     pub fn copy(&mut self, stream: Stream, kind: PlanKind, plan: &Plan)
         requires { length (items_of plan.now) ≤ 1000 }
         ensures { self.new ≡ copy_of stream (number_of kind) (items_of plan.now) }
@@ -95,7 +95,7 @@ impl DownloadSlot {
         }
     }
 
-    /// The answer to a request of an item.
+    /// The reply to a request of an item.
     pub fn give(&mut self, to: Stream, seq: u16, kind: u8) -> PlanMsg
         ensures download { self.new ≡ download_after self.old (item_in self.old to seq kind) }
         ensures answer { result ≡ given_of to seq kind (item_in self.old to seq kind) }

@@ -23,8 +23,8 @@ use plan_items::{Plan, PlanKind, PlanMsg};
 use std::alloc::Global;
 use std::marker::Model;
 
-/// A drone's plans and the transfers that change or read them. Messages come from streams, since a
-/// stream is what signing tells apart.
+/// A drone's plans and the transfers that change or read them. Messages come from streams, since
+/// signing distinguishes streams.
 #[derive(Drop)]
 pub struct Drone {
     sys: u8,
@@ -49,7 +49,7 @@ impl Model for Drone {
 }
 
 impl Drone {
-    /// Takes all the memory that the drone will need.
+    /// Allocates all the memory that the drone will need.
     pub fn new(alloc: Global, sys: u8) -> Result<Drone, NoMemory>
         ensures { IfOk result (λ d. d ≡ fresh_drone sys no_plans) }
     {
@@ -82,7 +82,7 @@ impl Drone {
         self.plans.of(kind)
     }
 
-    /// Whose upload is open.
+    /// The stream whose upload is open.
     pub fn open(&self) -> Option<Stream>
         ensures { result ≡ stream_of self.now.upload }
     {
@@ -105,7 +105,7 @@ impl Drone {
         }
     }
 
-    /// One plan message of a stream, and the answer to it, if any.
+    /// One plan message of a stream, and the reply to it, if any.
     pub fn step(&mut self, from: Stream, msg: &PlanMsg) -> Option<PlanMsg>
         ensures drone { self.new ≡ (drone_step true self.old from msg.now).drone }
         ensures answer { result ≡ (drone_step true self.old from msg.now).answer }
@@ -133,7 +133,7 @@ impl Drone {
         }
     }
 
-    /// Time passes: what is sent, and to which stream.
+    /// One tick: what is sent, and to which stream.
     pub fn tick(&mut self) -> Option<(Stream, PlanMsg)>
         ensures drone { self.new ≡ (drone_tick self.old).drone }
         ensures answer { result ≡ (drone_tick self.old).answer }
@@ -146,7 +146,7 @@ impl Drone {
         Some(sent)
     }
 
-    /// What `step` would do to the plans. Nothing is changed, and no memory is taken.
+    /// What `step` would do to the plans. It changes nothing, and doesn't allocate.
     pub fn change(&self, from: Stream, msg: &PlanMsg) -> Change
         ensures { result ≡ change_of self.now from msg.now }
     {

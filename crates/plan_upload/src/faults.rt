@@ -12,11 +12,11 @@ pub enum OpFault {
     PingsSpent,
     /// An upload of more items than its kind has room for.
     NotFit { limit: u16 },
-    /// The buffer of a download found no memory.
+    /// There was no memory for the buffer of a download.
     NoMemory,
 }
 
-/// A refused upload, with its plan handed back.
+/// A refused upload, with its plan returned.
 #[derive(Drop)]
 pub struct BeginFault {
     pub why: OpFault,

@@ -1,8 +1,8 @@
-//! The two ends of the mission protocol for plans, as machines without links, clocks or files:
+//! The two ends of the mission protocol for plans, as state machines without links, clocks or files:
 //! a `Drone` that holds a plan of each kind, and a `Station` that uploads, clears and downloads them.
-//! Plan messages and ticks go in, plan messages and outcomes come out. What each does is stated by
+//! Plan messages and ticks go in, plan messages and outcomes come out. Each is defined by
 //! one total step function in specs/ (`drone_step`, `drone_tick`, `station_step`, `station_tick`),
-//! and no call but the constructors and `Station::get` takes memory.
+//! and no call but the constructors and `Station::get` allocates.
 #![tactic(auto)]
 
 mod addresses;

@@ -9,12 +9,12 @@ use crate::buffers::Buffer;
 use mav_names::Stream;
 use plan_items::{MissionResult, Plan, PlanKind};
 
-/// An upload: the plan, and what its drone was seen to do.
+/// An upload: the plan, and what its drone did.
 #[derive(Drop)]
 pub struct UploadTask {
     pub kind: PlanKind,
     pub plan: Plan,
-    /// A request was seen.
+    /// A request came.
     pub asked: bool,
     /// The last item was sent.
     pub final_sent: bool,
@@ -41,7 +41,7 @@ pub struct Getting {
     ghost fits: { total ≤ 1000 },
 }
 
-/// What an operation is for. None in a clear is all kinds.
+/// The work of an operation. None in a clear is all kinds.
 #[derive(Drop)]
 pub enum Task {
     Upload(UploadTask),
@@ -49,17 +49,17 @@ pub enum Task {
     Get(GetTask),
 }
 
-/// `idle` counts the ticks since something was heard that counts. A task that is `terminating` ends
+/// `idle` counts the ticks since the last message that counted. A task that is `terminating` ends
 /// as soon as the station is synchronised again.
 #[derive(Drop)]
 pub enum Stage {
-    /// A PING was sent, and its reply is waited for. With no number none was left, and nothing was sent.
+    /// A PING was sent, and the station waits for its reply. With no number none was left, and nothing was sent.
     Pinging {
         task: Task,
         terminating: bool,
         number: Option<u32>,
     },
-    /// A cancel was sent, and its answer is waited for.
+    /// A cancel was sent, and the station waits for the reply.
     Cancelling {
         task: Task,
         terminating: bool,
@@ -73,7 +73,7 @@ pub enum Stage {
         kind: Option<PlanKind>,
         idle: u8,
     },
-    /// The count of a download is waited for.
+    /// The station waits for the count of a download.
     Listing {
         get: GetTask,
         idle: u8,
@@ -111,7 +111,7 @@ impl Task {
         }
     }
 
-    /// How it ends where it was terminating, by the answer to its cancel.
+    /// How it ends if it was terminating, by the reply to its cancel.
     pub fn outcome(self, code: u8) -> Outcome
         ensures { told_of result ≡ told_at self code }
     {

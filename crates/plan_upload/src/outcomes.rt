@@ -1,14 +1,14 @@
 // How a station's operations end.
 use plan_items::Plan;
 
-/// What became of an operation. Codes are those of `MissionResult`.
+/// How an operation ended. Codes are those of `MissionResult`.
 #[derive(Drop)]
 pub enum Outcome {
     /// The drone acknowledged the last item of the upload.
     Installed,
     /// The upload was refused with this code or cancelled, and the plan is not installed.
     NotInstalled(u8),
-    /// The drone can't tell any more whether the plan was installed, since it started again.
+    /// The drone can no longer report whether the plan was installed, since it started again.
     Unknown,
     Cleared,
     /// The plan that was downloaded.

@@ -1,4 +1,4 @@
-// The last upload result of each stream that a drone keeps one of.
+// The last upload result of each stream of which a drone keeps one.
 ghost use Rattle.std.specs.Prelude.{◌≡◌, [], length, IsTrue, IfOk, position};
 ghost use Rattle.plan_upload.specs.Addresses.{same_stream};
 ghost use Rattle.plan_upload.specs.Drone.{result_of, with_result};
@@ -20,7 +20,7 @@ pub struct StreamResult {
     pub installed: bool,
 }
 
-/// The results in the order in which their streams came. A stream's is found by one pass over at
+/// The results in the order in which their streams came. A stream's result is found by one pass over at
 /// most 256 small entries.
 #[derive(Drop)]
 pub struct Results {

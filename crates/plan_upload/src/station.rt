@@ -50,7 +50,7 @@ impl Model for Station {
 
 impl Station {
     /// A station with this name and boot time in microseconds. The PING numbers up to `pings` count as
-    /// used. Its memory is all taken here, but for the buffers of downloads.
+    /// used. All its memory is allocated here, but for the buffers of downloads.
     pub fn new(alloc: Global, sys: u8, comp: u8, boot: u64, pings: u32) -> Result<Station, NoMemory>
         ensures { IfOk result (λ s. s ≡ fresh_station sys comp boot pings) }
     {
@@ -66,7 +66,7 @@ impl Station {
         })
     }
 
-    // The operation goes on in this stage.
+    // The operation continues in this stage.
     fn stay(&mut self, drone: Stream, stage: Stage)
         ensures { self.new ≡ with_operation self.old (stage_view drone stage) }
     {
@@ -203,7 +203,7 @@ impl Station {
         None
     }
 
-    // A new operation starts, at once where the station is synchronised with the drone.
+    // A new operation starts, at once if the station is synchronised with the drone.
     fn accept(&mut self, drone: Stream, task: Task) -> PlanMsg
         requires { self.old.pings < 4294967295 }
         ensures station { self.new ≡ (begins self.old (task_view drone task)).station }
@@ -224,7 +224,7 @@ impl Station {
         self.me
     }
 
-    /// Starts an upload of the plan. A refusal hands it back.
+    /// Starts an upload of the plan. A refusal returns it.
     pub fn begin(
         &mut self,
         drone: Stream,
@@ -234,7 +234,7 @@ impl Station {
         ensures ok { OnOk result (self.new ≡ (begin_upload self.old drone (number_of kind) (items_of plan)).station) }
         ensures message { IfOk result (λ m. Some m ≡ (begin_upload self.old drone (number_of kind) (items_of plan)).answer) }
 
-        // It is refused exactly where there is a cause, for the first.
+        // It is refused exactly if there is a cause, with the first.
         ensures accepted { OnOk result (upload_refusal self.old (number_of kind) (items_of plan) ≡ None) }
         ensures refused { IfErr result (λ f. upload_refusal self.old (number_of kind) (items_of plan) ≡ Some f.why) }
         ensures plan { IfErr result (λ f. f.plan ≡ plan) }
@@ -267,7 +267,7 @@ impl Station {
         }
     }
 
-    /// Starts a download of the plan of a kind, for which it takes a buffer here.
+    /// Starts a download of the plan of a kind, for which it allocates a buffer here.
     pub fn get(&mut self, drone: Stream, kind: PlanKind) -> Result<PlanMsg, OpFault>
         ensures ok { OnOk result (self.new ≡ (begin_get self.old drone (number_of kind)).station) }
         ensures message { IfOk result (λ m. Some m ≡ (begin_get self.old drone (number_of kind)).answer) }
@@ -287,7 +287,7 @@ impl Station {
         Ok(self.accept(drone, Task::Get(GetTask { kind, items })))
     }
 
-    /// One plan message of a stream, and what is sent for it, if anything.
+    /// One plan message of a stream, and what is sent in reply, if anything.
     pub fn step(&mut self, from: Stream, msg: &PlanMsg) -> Option<PlanMsg>
         ensures station { self.new ≡ (station_step self.old from msg.now).station }
         ensures answer { result ≡ (station_step self.old from msg.now).answer }
@@ -317,7 +317,7 @@ impl Station {
         }
     }
 
-    /// Time passes: what is sent, if anything.
+    /// One tick: what is sent, if anything.
     pub fn tick(&mut self) -> Option<PlanMsg>
         ensures station { self.new ≡ (station_tick self.old).station }
         ensures answer { result ≡ (station_tick self.old).answer }
@@ -343,7 +343,7 @@ impl Station {
         }
     }
 
-    /// Gives the operation up: it ends with the next resynchronisation.
+    /// Gives up the operation, which ends with the next resynchronisation.
     pub fn cancel(&mut self) -> Option<PlanMsg>
         ensures station { self.new ≡ (station_cancel self.old).station }
         ensures answer { result ≡ (station_cancel self.old).answer }
@@ -383,7 +383,7 @@ impl Station {
         }
     }
 
-    /// The outcome that was reached, once.
+    /// The outcome that was reached. It is returned once.
     pub fn outcome(&mut self) -> Option<Outcome>
         ensures told { option_map told_of result ≡ self.old.outcome }
         ensures station { self.new ≡ untold self.old }

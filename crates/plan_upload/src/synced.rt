@@ -13,7 +13,7 @@ use std::marker::Model;
 // The most drones with which a station is synchronised.
 const MAX_SYNCED: usize = 256;
 
-/// The drones, the one that came last in front. A drone is found by one pass over at most 256
+/// The drones, the most recent one first. A drone is found by one pass over at most 256
 /// small entries.
 #[derive(Drop)]
 pub struct SyncedDrones {
@@ -52,7 +52,7 @@ impl SyncedDrones {
         contains(&self.drones, drone)
     }
 
-    /// Adds a drone, and drops the one that was kept longest where there are 256.
+    /// Adds a drone, and drops the one that was kept longest if there are 256.
     pub fn add(&mut self, drone: Stream)
         ensures { self.new ≡ synced_too self.old drone }
     {

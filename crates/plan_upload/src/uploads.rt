@@ -18,7 +18,7 @@ use plan_items::{
 use std::alloc::Global;
 use std::marker::Model;
 
-/// A transfer is given up at the fifth tick in a row without a message that carries it on.
+/// A transfer is given up at the fifth tick in a row without a message that advances it.
 pub const LAST_IDLE_TICK: u8 = 4;
 
 /// What was announced, and the ticks without an item.
@@ -50,7 +50,7 @@ impl Model for UploadSlot {
     ghost invariant = { λ u. IsGathering u.open u.items };
 }
 
-// What the last item does: only the whole can have a fault any more.
+// What the last item does: only the whole can have a fault now.
 #[tactic(auto, using(crate::proofs::Gathered::plan_fault_with))]
 fn judge_last(kind: PlanKind, items: &Plan, last: &Item) -> Verdict
     requires items { All (λ item. item_fault (number_of kind) item ≡ None) (items_of items.now) }
@@ -201,7 +201,7 @@ impl UploadSlot {
         }
     }
 
-    /// Counts a tick, and closes an upload that was idle for too long. False where none is open behind it.
+    /// Counts a tick, and closes an upload that was idle for too long. False if none is open afterwards.
     pub fn wait(&mut self) -> bool
         ensures upload { self.new ≡ upload_after self.old }
         ensures open { result ≡ is_some (upload_after self.old) }

@@ -1,4 +1,4 @@
--- Definitions of messages: which are accepted, and the first fault of those that are refused.
+-- Definitions of messages: which are accepted, and the first fault of those that are rejected.
 use Rattle.std.proofs.Common.{◌≡◌, ℕ, List, [], ◌∷◌, map, codes, refl, pos}
 use Rattle.std.specs.Prelude.{neg_ℤ, Some, None, Option, Ok, Err, replicate}
 use Rattle.std.specs.declared.result.Result.{Result}
@@ -9,7 +9,7 @@ use Rattle.dialect.specs.declared.faults.DialectFault.{DialectFault}
 use Rattle.dialect.specs.declared.faults.DialectFault.TheVariants.{NotJson, Shape, BadType, BadName, TwiceId, TwiceName, Layout, TooMany}
 use Rattle.dialect.specs.Grammar.{of_top}
 
--- the fault of a value, None where it is accepted
+-- the fault of a value, None if it is accepted
 abbrev fault_in : Result (List Definition) DialectFault → Option DialectFault
 fault_in (Ok defs) = None
 fault_in (Err fault) = Some fault
@@ -32,7 +32,7 @@ messages ds = with_messages (array (items ds))
 abbrev field : List ℕ → List ℕ → Data
 field ty name = object (member (codes "type") (string ty) (member (codes "name") (string name) no_members))
 
--- the member `fields`, and others behind it
+-- the member `fields`, and others after it
 abbrev fields : List Data → Members → Members
 fields ds others = member (codes "fields") (array (items ds)) others
 

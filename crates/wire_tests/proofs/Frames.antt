@@ -23,7 +23,7 @@ extras_found = refl
 abbrev pub node : ℕ → ℕ → Name
 node sys comp = record { sys = sys; comp = comp }
 
--- ---- HEARTBEAT and MISSION_CURRENT of node 1.1, as they stand in captures
+-- ---- HEARTBEAT and MISSION_CURRENT of node 1.1, as captures have them
 
 abbrev pub heartbeat_bytes : List ℕ
 heartbeat_bytes =
@@ -104,7 +104,7 @@ pub longest_length : length (encoding longest) ≡ 280
 unfolding after_byte
 longest_length = refl
 
--- ---- what stands at the start of bytes
+-- ---- what is at the start of bytes
 
 abbrev corrupt_bytes : List ℕ
 corrupt_bytes = take 12 heartbeat_bytes ++ 1 ∷ drop 13 heartbeat_bytes
@@ -123,7 +123,7 @@ pub others_seen :
 unfolding after_byte
 others_seen = refl
 
--- ---- the same HEARTBEAT as a frame of MAVLink 1, as it stands in captures, where such frames are read and where they aren't
+-- ---- the same HEARTBEAT as a frame of MAVLink 1, as captures have it, when such frames are read and when they aren't
 
 abbrev pub old_heartbeat_bytes : List ℕ
 old_heartbeat_bytes =

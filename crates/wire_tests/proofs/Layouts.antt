@@ -84,7 +84,7 @@ faults_found = refl
 pub full_length : full_len_of (message (array U8 255 (codes "payload") ∷ []) []) ≡ 255
 full_length = refl
 
--- the first name that stands twice
+-- the first repeated name
 abbrev twice : Definition
 twice = message
     (single U8 (codes "seq") ∷ single U8 (codes "kind") ∷ [])

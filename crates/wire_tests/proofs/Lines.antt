@@ -14,14 +14,15 @@ use Rattle.mav_text.specs.FrameText.{frame_text, skip_line, skip_lines}
 use Rattle.mav_text.specs.TemplateText.{line_of, has_short_names}
 use Rattle.wire_tests.proofs.Frames.{node, old_heartbeat_bytes}
 
--- the line of the frame that stands at the start of some bytes, at a large offset and with an ending
+-- the line of the frame at the start of some bytes, at a large offset and with an ending
 abbrev line_at : Definition → List ℕ → List ℕ
 line_at def bytes = line_of (Some def) 12345678901 (packet_at (is_old_at true bytes) bytes) (codes " end\n")
 
 abbrev definition : ℕ → List ℕ → List Field → List Field → Definition
 definition id name fields extensions = record { id = id; name = name; fields = fields; extensions = extensions }
 
--- ---- a HEARTBEAT of 1.1, link 2, timestamp 0x060504030201; the same without a signature block; one with a payload of five bytes
+-- ---- a HEARTBEAT of 1.1, link 2, timestamp 0x060504030201; the same without a signature block; one with a payload of
+-- five bytes
 
 abbrev signed_bytes : List ℕ
 signed_bytes =
@@ -44,8 +45,9 @@ pub heartbeat_lines : flat_map (line_at heartbeat_definition) (signed_bytes ∷ 
 unfolding digits
 heartbeat_lines = refl
 
--- ---- frames of MAVLink 1: a HEARTBEAT as it stands in captures; a frame whose length covers an extension field, which shows 0
--- all the same; one with a payload of one byte. The payload of the second in a frame of MAVLink 2 shows the extension field.
+-- ---- frames of MAVLink 1: a HEARTBEAT as captures have it; a frame whose length covers an extension field, which is
+-- still written as 0; one with a payload of one byte. The payload of the second in a frame of MAVLink 2 gives the
+-- extension field.
 
 pub old_heartbeat_line : line_at heartbeat_definition old_heartbeat_bytes ≡ codes
     "12345678901 HEARTBEAT 1.1 #0 v1 type=2 autopilot=3 base_mode=81 custom_mode=0 system_status=4 mavlink_version=3 end\n"

@@ -1,4 +1,5 @@
--- Payloads of messages, computed from the definitions alone: each field under its name, in its place of the published layout.
+-- Payloads of messages, computed from the definitions alone: each field under its name, at its offset in the published
+-- layout.
 -- What is read of such a payload is the message again, by the law `packed_values_come_back`.
 use Rattle.std.proofs.Common.{◌≡◌, ℕ, pos, List, [], ◌∷◌, ◌++◌, length, replicate, codes, refl}
 use Rattle.std.specs.Prelude.{◌-◌, neg_ℤ, None}
@@ -16,7 +17,7 @@ use Rattle.mav_messages.specs.declared.messages.Message.TheVariants.{Heartbeat, 
 abbrev written : Message → ℕ × List ℕ
 written message = ((definition_of message).id, truncated (serialised (definition_of message) (values_of message)))
 
--- a text with zeros behind it
+-- a text with zeros after it
 abbrev filled : ℕ → List ℕ → List ℕ
 filled count bytes = bytes ++ replicate (count - length bytes) 0
 

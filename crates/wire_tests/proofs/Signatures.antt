@@ -1,4 +1,4 @@
--- Frames signed by an outside program, and answers to timestamps, computed from the definitions alone.
+-- Frames signed by an outside program, and verdicts on timestamps, computed from the definitions alone.
 use Rattle.std.proofs.Common.{◌≡◌, ℕ, List, [], ◌∷◌, ◌++◌, map, take, false, refl}
 use Rattle.std.specs.Prelude.{Some, None, Ok, Err}
 use Rattle.std.specs.List.{range_with_len}
@@ -16,8 +16,8 @@ use Rattle.wire_tests.proofs.Frames.{node, signed_heartbeat_bytes}
 abbrev key : List ℕ
 key = range_with_len 0 32
 
--- ---- frames signed by Python's hashlib under that key: HEARTBEAT of 1.1 with link 0 and timestamp 1, and MISSION_CURRENT of
--- 1.1 with link 7 and timestamp 0x010203040506
+-- ---- frames signed by Python's hashlib under that key: HEARTBEAT of 1.1 with link 0 and timestamp 1, and
+-- MISSION_CURRENT of 1.1 with link 7 and timestamp 0x010203040506
 
 abbrev signed_current_bytes : List ℕ
 signed_current_bytes =
@@ -31,7 +31,7 @@ wrong_bytes = take 33 signed_heartbeat_bytes ++ 0xBA ∷ []
 abbrev unsigned_bytes : List ℕ
 unsigned_bytes = 0xFD ∷ 0x01 ∷ 0x00 ∷ 0x00 ∷ 0x03 ∷ 0x01 ∷ 0x01 ∷ 0x2A ∷ 0x00 ∷ 0x00 ∷ 0x04 ∷ 0x20 ∷ 0x25 ∷ []
 
--- the answer to a frame, where a right signature is admitted
+-- the verdict on a frame, if a right signature is admitted
 abbrev answer_by_signature : List ℕ → Admit
 answer_by_signature bytes = block_answer key (λ stream stamp. Admitted) (packet_at false bytes) (packet_at false bytes).block
 
@@ -65,7 +65,7 @@ rising = refl
 pub last_stamps : map (λ sys. last_of (stream sys) one_admitted) (1 ∷ 2 ∷ []) ≡ Some 10000000 ∷ None ∷ []
 last_stamps = refl
 
--- a new stream may be a minute behind
+-- a new stream may be a minute late
 pub a_minute_behind : map (λ stamp. stamp_answer (stream 2) stamp one_admitted) (4000000 ∷ 3999999 ∷ []) ≡ Admitted ∷ TooOld 10000000 ∷ []
 a_minute_behind = refl
 

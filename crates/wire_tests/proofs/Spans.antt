@@ -1,4 +1,4 @@
--- What stands at the start of the bytes that a scanner holds, computed from the definitions alone.
+-- What is at the start of the bytes that a scanner holds, computed from the definitions alone.
 use Rattle.std.proofs.Common.{◌≡◌, ℕ, zero, suc, List, [], ◌∷◌, ◌++◌, take, drop, replicate, false, true, refl, Bool}
 use Rattle.x25_check.specs.Check.{after_byte}
 use Rattle.mav_frame.specs.declared.looks.Why.TheVariants.{NotStx, UnknownFlag, UnknownId, BadCheck, Short}
@@ -15,13 +15,13 @@ extras = (0, 50) ∷ (70000, 7) ∷ []
 abbrev holding : Bool → List ℕ → Held
 holding ended bytes = record { extras = extras; reads_old = false; bytes = bytes; ended = ended }
 
--- so many answers, each of which is taken off
+-- so many results, each of which is removed
 abbrev answers : ℕ → Held → List NextSpan
 answers zero held = []
 answers (suc count) held = next_span held ∷ answers count (held_after held (next_span held))
 
--- garbage, an STX with an unknown flag and what is left of its frame, a frame, the same with another byte in its payload,
--- and the header of an unknown id
+-- garbage, an STX with an unknown flag and what is left of its frame, a frame, the same with another byte in its
+-- payload, and the header of an unknown id
 abbrev corrupt_bytes : List ℕ
 corrupt_bytes = take 14 heartbeat_bytes ++ 1 ∷ drop 15 heartbeat_bytes
 
@@ -34,7 +34,7 @@ pub each_answer : answers 9 (holding false mixed) ≡
 unfolding after_byte
 each_answer = refl
 
--- an incomplete frame is skipped after the end alone
+-- an incomplete frame is skipped after the end only
 pub before_end : answers 1 (holding false (take 20 heartbeat_bytes)) ≡ Need ∷ []
 before_end = refl
 
@@ -60,7 +60,7 @@ pub corrupt_old_frame : answers 3 (reading_old false (take 16 old_heartbeat_byte
 unfolding after_byte
 corrupt_old_frame = refl
 
--- long runs are answered in parts
+-- long runs are returned in parts
 pub garbage_in_parts : answers 3 (holding false (replicate 1030 7 ++ heartbeat_bytes)) ≡ Skipped NotStx 1024 ∷ Skipped NotStx 6 ∷ Frame 21 ∷ []
 unfolding after_byte
 garbage_in_parts = refl

@@ -1,4 +1,4 @@
-// What an endpoint hears of a datagram.
+// What an endpoint receives in a datagram.
 ghost use Rattle.std.specs.Prelude.{IfOk};
 ghost use Rattle.mav_sign.specs.Endpoints.{HasProfile};
 
@@ -15,8 +15,8 @@ const KEY: [u8; 32] = [
 ];
 
 // Garbage; a HEARTBEAT of 1.1 with link 0 and timestamp 1, signed by Python's hashlib under KEY; the same with a wrong
-// signature; an unsigned MISSION_CURRENT of 1.1; the first again; and a MISSION_CURRENT of 1.1 with link 7 and timestamp
-// 0x010203040506, signed likewise.
+// signature; an unsigned MISSION_CURRENT of 1.1; the first again; and a MISSION_CURRENT of 1.1 with link 7 and
+// timestamp 0x010203040506, signed likewise.
 const DATAGRAM: [u8; 143] = [
     0xFD, 0x09, 0xFD, 0x09, 0x01, 0x00, 0x00, 0x01, 0x01, 0x00, 0x00, 0x00, 0x00, 0x00, 0x00, 0x00,
     0x02, 0x03, 0x51, 0x04, 0x03, 0x00, 0xE6, 0x00, 0x01, 0x00, 0x00, 0x00, 0x00, 0x00, 0x1C, 0x44,
@@ -55,7 +55,7 @@ fn code(heard: &Heard) -> u32 {
     }
 }
 
-// The digits of all, with a 1 in front.
+// The digits of all, after a leading 1.
 fn digits(heard: &[Heard]) -> u64 {
     let mut number = 1u64;
     for one in heard {

@@ -1,4 +1,4 @@
-// What stands at the start of a stream that a scanner holds.
+// What is at the start of a stream that a scanner holds.
 
 use mav_frame::NoMemory;
 use mav_scan::{NextSpan, Scanner};
@@ -6,7 +6,7 @@ use std::alloc::Global;
 use std::test::Fail;
 use x25_check::Extras;
 
-// Garbage, an STX with an unknown flag and what is left of its frame, a HEARTBEAT of node 1.1 as it stands in captures,
+// Garbage, an STX with an unknown flag and what is left of its frame, a HEARTBEAT of node 1.1 as captures have it,
 // and the header of an unknown id.
 const MIXED: [u8; 37] = [
     7, 8, 0xFD, 0, 2, 1, 0xFD, 9, 0, 0, 0, 1, 1, 0, 0, 0, 0, 0, 0, 0, 2, 3, 81, 4, 3, 0xE7, 0x1E,
@@ -30,7 +30,7 @@ fn code(span: NextSpan) -> (u16, usize) {
     }
 }
 
-// How many spans are as wanted, each of which is taken off.
+// How many spans are as wanted, each of which is removed.
 fn as_wanted(scanner: &mut Scanner, wanted: &[(u16, usize)]) -> usize {
     for (index, want) in wanted.iter().enumerate() {
         let span = scanner.next_span();

@@ -9,7 +9,8 @@ use std::alloc::Global;
 use std::test::Fail;
 use x25_check::Extras;
 
-// Garbage, a HEARTBEAT of node 1.1 as frames of MAVLink 2 and of MAVLink 1, and a MISSION_CURRENT, as they stand in captures.
+// Garbage, a HEARTBEAT of node 1.1 as frames of MAVLink 2 and of MAVLink 1, and a MISSION_CURRENT, as captures have
+// them.
 const CAPTURE: [u8; 52] = [
     0, 0xFD, 9, 0, 0, 0, 1, 1, 0, 0, 0, 0, 0, 0, 0, 2, 3, 81, 4, 3, 0xE7, 0x1E, 0xFE, 9, 0, 1, 1,
     0, 0, 0, 0, 0, 2, 3, 81, 4, 3, 0x7D, 0xDD, 0xFD, 1, 0, 0, 1, 1, 1, 42, 0, 0, 0, 0x2F, 0x49,

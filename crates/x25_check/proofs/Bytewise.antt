@@ -38,7 +38,7 @@ bits_first (suc k) u n h = bits_first k (after_bit u (n % 2)) (n / 2) (omega ari
 bit_first_zero : (u n : ℕ) → n % 2 ≡ 0 → after_bit (bit_xor u n) 0 ≡ bit_xor (after_bit u 0) (n / 2)
 bit_first_zero u n e = bit_first u n ∙ ap (λ z. bit_xor (after_bit u z) (n / 2)) e
 
--- what lies above the k lowest bits comes down unchanged
+-- what is above the k lowest bits is shifted down unchanged
 pub zeros_above : (k u w : ℕ) → fold after_bit (bit_xor u (w * 2 ^ k)) (replicate k 0) ≡ bit_xor (fold after_bit u (replicate k 0)) w
 zeros_above zero u w = ap (λ (m : ℕ). bit_xor u m) (omega arith)
 zeros_above (suc k) u w =

@@ -1,4 +1,4 @@
--- The bytes from a place on, eight at a time.
+-- The bytes from an index on, eight at a time.
 use Rattle.std.proofs.Common.{◌≡◌, ℕ, suc, ◌+◌, ◌-◌, ◌<◌, ◌≤◌, List, ◌∷◌, ◌++◌, length, take, drop, get_or, ap, ◌∙◌, arith, drop-cons, take-append-drop}
 use Rattle.std.proofs.lemmas.List.{take_all, length-drop}
 use Rattle.std.proofs.Math.Seq.{take-add}
@@ -30,7 +30,7 @@ eight_more xs at inside =
     ∙ ap (λ (t : List ℕ). x 6 ∷ t) (
     step xs (at + 7) (at + 8) 0 (omega arith) (omega arith)))))))))
 
--- a front, and all behind it
+-- a prefix, and all after it
 pub all_parted : (xs : List ℕ) (at : ℕ) → take at xs ++ take (length xs - at) (drop at xs) ≡ xs
 all_parted xs at =
     ap (λ (ys : List ℕ). take at xs ++ ys) (take_all (length xs - at) (drop at xs) (omega (arith, length-drop at xs)))

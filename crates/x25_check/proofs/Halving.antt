@@ -1,4 +1,4 @@
--- What a search by halving finds among ascending ids.
+-- What a binary search finds among ascending ids.
 use Rattle.std.proofs.Common.{◌≡◌, inl, inr, ℕ, ◌+◌, ◌<◌, ◌≤◌, Bool, true, false, List, length, get_or, Some, None, Ok, Err, Result, sym, ap, ◌∙◌, refl, cond, eqb, ltb, arith}
 use Rattle.std.specs.Prelude.{position, slice_get, option_map}
 use Rattle.std.specs.List.{position_or_len}
@@ -92,9 +92,9 @@ place_found pairs id (Err i) up range found =
     let beyond : ltb (length pairs) (length pairs) ≡ false = grind (arith, nat_tests) in
     rw (is, beyond) refl
 
--- ---- the byte at a place
+-- ---- the byte at an index
 
--- the byte of the id that stands at a place
+-- the byte of the id at an index
 pub extra_there : (pairs : List (ℕ × ℕ)) (id i : ℕ) (d : ℕ × ℕ) → position (λ (p : ℕ × ℕ). eqb p.0 id) pairs ≡ Some i → extra_of id pairs ≡ Some (get_or pairs i d).1
 extra_there pairs id i d found =
     let test : ℕ × ℕ → Bool = λ p. eqb p.0 id in
@@ -102,7 +102,7 @@ extra_there pairs id i d found =
     let is : position_or_len test pairs ≡ i = position_or_len_is test pairs i d (omega (arith, facts.0)) facts.2 (λ _. facts.1) in
     ap (option_map (λ (p : ℕ × ℕ). p.1)) (find_at test pairs ∙ (ap (slice_get pairs) is ∙ slice_get-get_or pairs i d facts.0))
 
--- an id that stands nowhere has none
+-- an id that is at no index has none
 pub extra_nowhere : (pairs : List (ℕ × ℕ)) (id : ℕ) → position (λ (p : ℕ × ℕ). eqb p.0 id) pairs ≡ None → extra_of id pairs ≡ None
 extra_nowhere pairs id none =
     let test : ℕ × ℕ → Bool = λ p. eqb p.0 id in

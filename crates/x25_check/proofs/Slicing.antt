@@ -46,7 +46,7 @@ by_zeros : (r n : ℕ) → n < 256 → after_byte r n ≡ zero_byte (bit_xor r n
 unfolding after_byte zero_byte
 by_zeros r n h = bits_first 8 r n h
 
--- the high byte of a register comes down
+-- the high byte of a register is shifted down
 comes_down : (w : ℕ) → zero_byte (w * 2 ^ 8) ≡ w
 unfolding zero_byte
 comes_down w = ap (λ z. fold after_bit z (replicate 8 0)) (sym (xor_zero_l (w * 2 ^ 8))) ∙ (zeros_above 8 0 w ∙ xor_zero_l w)

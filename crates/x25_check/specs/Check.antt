@@ -2,7 +2,7 @@
 -- (MAVLink guide, Packet Serialization: Checksum).
 use Rattle.std.specs.Prelude.{ℕ, zero, suc, ◌/◌, ◌%◌, List, [], ◌∷◌, ◌==◌, bit_xor, fold, if◌then◌else◌}
 
--- the register after one more bit: it is halved, and takes the polynomial where its lowest bit and that bit differ
+-- the register after one more bit: it is halved, and takes the polynomial if its lowest bit and that bit differ
 abbrev pub after_bit : ℕ → ℕ → ℕ
 after_bit register bit =
     if bit_xor register bit % 2 == 1 then bit_xor (register / 2) 0x8408 else register / 2

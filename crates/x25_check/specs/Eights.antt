@@ -11,7 +11,7 @@ abbrev pub zeros : ℕ → ℕ → ℕ
 zeros zero register = register
 zeros (suc count) register = zeros count (zero_byte register)
 
--- the eight bytes from a place on
+-- the eight bytes from an index on
 abbrev pub eight_at : ℕ → List ℕ → List ℕ
 eight_at at bytes =
     slice_index bytes at ∷ slice_index bytes (at + 1) ∷ slice_index bytes (at + 2) ∷ slice_index bytes (at + 3) ∷

@@ -29,8 +29,8 @@ fn after(register: u16, byte: u8) -> u16
     (register >> 8) ^ (wide << 8) ^ (wide << 3) ^ (wide >> 4)
 }
 
-// The register after the eight bytes from a place on: what each of them makes of a register that was 0, with the
-// register's own two bytes in the first two. Those two, which wait for the register, are looked up last.
+// The register after the eight bytes from an index on: what each of them makes of a register that was 0, with the
+// register's own two bytes in the first two. Those two, which depend on the register, are looked up last.
 #[inline(always)]
 fn after_eight(register: u16, bytes: &[u8], at: usize) -> u16
     requires { at + 8 ≤ length bytes.now }

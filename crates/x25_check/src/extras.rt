@@ -21,7 +21,7 @@ impl Model for Extras {
     ghost invariant = { λ x. IsStrictlyIncreasing (ids x.pairs.items) };
 }
 
-// Where an id stands among ascending ids.
+// The index of an id among ascending ids.
 fn place_of(pairs: &[(u32, u8)], id: u32) -> Option<usize>
     requires { IsStrictlyIncreasing (ids pairs.now) }
     ensures { result ≡ position (λ pair. pair.0 == id) pairs.now }
@@ -37,7 +37,7 @@ impl Extras {
         Extras { pairs }
     }
 
-    /// The CRC_EXTRA of a message id, found by halving.
+    /// The CRC_EXTRA of a message id, found by a binary search.
     pub fn get(&self, id: u32) -> Option<u8>
         ensures { result ≡ extra_of id self.now }
     {
@@ -45,7 +45,7 @@ impl Extras {
         Some(self.pairs[at].1)
     }
 
-    /// The same pairs in memory of their own.
+    /// A copy of the same pairs.
     pub fn copy(&self) -> Result<Extras, NoMemory>
         ensures { IfOk result (λ copied. copied ≡ self.now) }
     {

@@ -214,7 +214,7 @@ static AFTER: [[u16; 256]; 8] = [
     ],
 ];
 
-/// What a byte makes of a register that was 0, with `count` zero bytes behind it.
+/// What a byte makes of a register that was 0, with `count` zero bytes after it.
 #[inline(always)]
 pub(crate) fn after_zeros(count: usize, byte: u8) -> u16
     requires { count < 8 }

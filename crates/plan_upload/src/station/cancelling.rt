@@ -1,4 +1,4 @@
-// Phase 2: a cancel was sent, and its answer is waited for.
+// Phase 2: a cancel was sent, and the station waits for the reply.
 ghost use Rattle.std.specs.Prelude.{◌≡◌};
 ghost use Rattle.plan_upload.specs.Operations.{cancelling_view};
 ghost use Rattle.plan_upload.specs.Station.{Cancelling, with_operation, phase_step, synchronises};
@@ -9,7 +9,7 @@ use mav_names::Stream;
 use plan_items::{MissionResult, PlanMsg};
 
 impl Station {
-    // The drone answered the cancel with this code.
+    // The drone replied to the cancel with this code.
     fn answer_came(
         &mut self,
         drone: Stream,

@@ -1,4 +1,4 @@
-// Phase 4: a clear was sent, and its acknowledgement is waited for.
+// Phase 4: a clear was sent, and the station waits for its acknowledgement.
 ghost use Rattle.std.specs.Prelude.{◌≡◌};
 ghost use Rattle.plan_upload.specs.Operations.{clearing_view};
 ghost use Rattle.plan_upload.specs.Station.{Clearing, with_operation, phase_step, phase_tick};

@@ -68,7 +68,7 @@ impl Station {
         }
     }
 
-    // The request again. After five idle ticks the two are synchronised again, and all starts anew.
+    // The request again. After five idle ticks the two are synchronised again, and the download starts again.
     pub(crate) fn getting_tick(&mut self, drone: Stream, mut get: Download) -> Option<PlanMsg>
         ensures station { let o = getting_view drone get in self.new ≡ (phase_tick (with_operation self.old o) o Getting).station }
         ensures answer { let o = getting_view drone get in result ≡ (phase_tick (with_operation self.old o) o Getting).answer }

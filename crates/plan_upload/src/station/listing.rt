@@ -1,4 +1,4 @@
-// Phase 5: a download whose count is waited for.
+// Phase 5: the station waits for the count of a download.
 ghost use Rattle.std.specs.Prelude.{◌≡◌};
 ghost use Rattle.plan_items.specs.Kinds.{number_of};
 ghost use Rattle.plan_upload.specs.Operations.{listing_view};

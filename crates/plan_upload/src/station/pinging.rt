@@ -1,4 +1,4 @@
-// Phase 1: a PING was sent, and its reply is waited for.
+// Phase 1: a PING was sent, and the station waits for its reply.
 ghost use Rattle.std.specs.Prelude.{◌≡◌};
 ghost use Rattle.plan_upload.specs.Operations.{pinging_view};
 ghost use Rattle.plan_upload.specs.Replies.{is_ping_reply};

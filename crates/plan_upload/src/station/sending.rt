@@ -12,7 +12,7 @@ use crate::uploads::LAST_IDLE_TICK;
 use mav_names::Stream;
 use plan_items::{MissionResult, PlanMsg};
 
-// A drone that refuses a count answers one of these codes before it asks for an item.
+// A drone that refuses a count replies with one of these codes before it asks for an item.
 fn refuses_count(code: u8) -> bool
     ensures { result ≡ is_count_refusal code }
 {

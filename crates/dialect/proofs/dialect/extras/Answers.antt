@@ -1,4 +1,4 @@
--- The ids of a sorted map ascend.
+-- The ids of a sorted map are in ascending order.
 use Rattle.std.proofs.Common.{◌≡◌, rules, subst, sym, ap, ◌∙◌}
 use Rattle.std.proofs.lemmas.Result.{err_from_is_err_and}
 use Rattle.std.specs.List.Sorted.{IsStrictlyIncreasing}

@@ -1,4 +1,4 @@
--- The names before a place are known, and the name there is tested against them.
+-- The names before an index are known, and the name there is tested against them.
 use Rattle.std.proofs.Common.{◌<◌, ◌++◌, [], ◌∷◌, take, length, sym, ap, ◌∙◌, below_more, arith}
 use Rattle.field_layout.specs.Definition.{all_fields}
 use Rattle.field_layout.specs.Faults.{names_of}

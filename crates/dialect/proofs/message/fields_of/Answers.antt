@@ -1,4 +1,4 @@
--- One more field is defined, where its type is one of the list.
+-- One more field is defined, if its type is one of the list.
 use Rattle.std.proofs.Common.{◌++◌, [], ◌∷◌, ap, sym, ◌∙◌}
 use Rattle.dialect.specs.Grammar.{field_of}
 use Rattle.dialect.proofs.Keys.{filter_map-more, filter_map-no_more}

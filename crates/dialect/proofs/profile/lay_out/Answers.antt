@@ -1,4 +1,4 @@
--- One more row is laid out behind the others.
+-- One more row is laid out after the others.
 use Rattle.dialect.proofs.Rows.{definitions-more, laid_out-more}
 use Rattle.dialect.proofs.profile.lay_out.Goals as goal
 

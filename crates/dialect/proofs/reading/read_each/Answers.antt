@@ -32,7 +32,7 @@ returns-in_err-add-clause-read c =
     let e = err_from_is_err_and c.from_residual-in_err-add.result c.from_residual-in_err-add.ensures.1 in
     rw e.1 tt
 
--- want of memory tells nothing
+-- want of memory says nothing of the messages
 pub returns-in_err-add-clause-fault : goal.returns-in_err-add-clause-fault
 returns-in_err-add-clause-fault c =
     let e = err_from_is_err_and c.from_residual-in_err-add.result c.from_residual-in_err-add.ensures.1 in

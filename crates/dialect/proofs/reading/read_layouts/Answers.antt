@@ -1,4 +1,4 @@
--- A text that is no JSON, a top without messages, too many messages, or what the messages are.
+-- A text that is no JSON, a top level without messages, too many messages, or what the messages are.
 use Rattle.std.proofs.Common.{sym}
 use Rattle.std.proofs.lemmas.Result.{err_from_is_err_and}
 use Rattle.serde_json.specs.View.{view}

@@ -1,4 +1,4 @@
--- Want of memory tells nothing of the message; each other result is what the message is behind the earlier ones.
+-- Want of memory says nothing of the message; each other result is what the message is after the earlier ones.
 use Rattle.std.proofs.Common.{refl, sym, ◌∙◌}
 use Rattle.std.proofs.lemmas.Result.{err_from_is_err_and}
 use Rattle.serde_json.specs.View.{view}

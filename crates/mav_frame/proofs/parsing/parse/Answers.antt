@@ -5,7 +5,7 @@ use Rattle.mav_frame.specs.declared.events.Event.{Event}
 use Rattle.mav_frame.proofs.LongerParse.{final_goes_on, final_ends}
 use Rattle.mav_frame.proofs.parsing.parse.Goals as goal
 
--- a beginning of the parse, one event and its bytes further
+-- a prefix of the parse, one event and its bytes further
 further : (extras : List (ℕ × ℕ)) (old : Bool) (events after : List Event) (event : Event) (b : List ℕ) (place size : ℕ) → BeginsFinal extras old events (drop place b) b → EventAt extras old event (slice_range b place (length b)) (drop size (slice_range b place (length b))) → after ≡ events ++ event ∷ [] → BeginsFinal extras old after (drop (place + size) b) b
 further extras old events after event b place size begun here is =
     let e : drop size (drop place b) ≡ drop (place + size) b = drop-drop size place b ∙ ap (λ (n : ℕ). drop n b) (omega arith) in
@@ -22,7 +22,7 @@ loop-place-preserved c =
       begun = further c.args.extras.now c.args.old c.loop-place.events.items c.push.new.self.items event.result.0 b place event.result.1 c.loop-place.invariant.begun event.ensures.event c.in_ok-push.ensures.items;
     }
 
--- nothing stands past the end
+-- there is nothing past the end
 nothing_past : (b : List ℕ) (place : ℕ) → length b ≤ place → drop place b ≡ []
 nothing_past b place h = empty (drop place b) (omega (arith, length-drop place b))
   where

@@ -1,4 +1,4 @@
--- What a word gives by its sort is what the reader takes of it.
+-- What a word gives by its sort is what the reader adds for it.
 use Rattle.std.proofs.Common.{◌∙◌, sym, ap, map, string_bytes}
 use Rattle.command_line.specs.declared.pieces.Place.TheVariants.{Anything}
 use Rattle.command_line.specs.declared.pieces.Sort.TheVariants.{Dashes, Alone, Joined, Apart, Unknown}

@@ -1,4 +1,4 @@
--- The new name stands nowhere yet, and is taken off again where the layout isn't kept.
+-- The new name is in no message yet, and is removed again if the layout isn't kept.
 use Rattle.std.proofs.Common.{◌≡◌, ◌++◌, ◌∷◌, [], OnOk, ap, subst, ◌∙◌}
 use Rattle.std.proofs.lemmas.Result.{err_from_is_err_and}
 use Rattle.std.specs.List.{list_any}

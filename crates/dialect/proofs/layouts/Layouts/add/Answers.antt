@@ -1,4 +1,4 @@
--- The new layout's id stands behind those of the others.
+-- The new layout's id comes after those of the others.
 use Rattle.std.proofs.Common.{◌==◌, ◌++◌, ◌∷◌, [], map, sym, ap, ◌∙◌}
 use Rattle.indexmap.specs.IndexSet.{insert_key}
 use Rattle.dialect.specs.Grammar.{has_id}

@@ -1,4 +1,4 @@
--- The layout at the place of its id.
+-- The layout at the index of its id.
 use Rattle.std.proofs.Common.{◌≡◌, ◌==◌, map, position, Some, None, slice_get, sym, ap, ◌∙◌}
 use Rattle.std.specs.Option.{option_copied}
 use Rattle.mav_profile.specs.Messages.{id_of, definition_with}

@@ -1,4 +1,4 @@
--- Each message is written as its own call says.
+-- Each message is written as its own call writes it.
 use Rattle.mav_messages.proofs.messages.Message.serialise.Goals as goal
 
 pub returns-in-Heartbeat-clause-bytes : goal.returns-in-Heartbeat-clause-bytes

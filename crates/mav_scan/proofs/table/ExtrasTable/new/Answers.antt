@@ -4,7 +4,7 @@ use Rattle.x25_check.specs.Extras.{extra_of}
 use Rattle.mav_scan.specs.Entries.{byte_of}
 use Rattle.mav_scan.proofs.table.ExtrasTable.new.Goals as goal
 
--- a list in front is what its length takes
+-- a prefix is what its length takes
 front : (n : ℕ) (xs ys : List ℕ) → length xs ≡ n → take n (xs ++ ys) ≡ xs
 front n xs ys e = take-append-le n xs ys (omega arith) ∙ take_all n xs (omega arith)
 
