@@ -25,7 +25,7 @@ station = record { sys = 255; comp = 190 }
 
 -- HEARTBEAT of a drone at rest, with sequence number 7, without a signature
 abbrev frame : Packet
-frame = sealed_packet ((0, 50) ∷ []) (record { compat = 0; seq = 7; from = drone; id = 0; payload = 0 ∷ 0 ∷ 0 ∷ 0 ∷ 2 ∷ 0 ∷ 0 ∷ 4 ∷ 3 ∷ []; check = 0; block = None })
+frame = sealed_packet ((0, 50) ∷ []) (record { old = false; compat = 0; seq = 7; from = drone; id = 0; payload = 0 ∷ 0 ∷ 0 ∷ 0 ∷ 2 ∷ 0 ∷ 0 ∷ 4 ∷ 3 ∷ []; check = 0; block = None })
 
 abbrev heartbeat : Message
 heartbeat = Heartbeat (record { ty = 2; autopilot = 0; base_mode = 0; custom_mode = 0; system_status = 4; mavlink_version = 3 })
