@@ -12,7 +12,7 @@ use Rattle.decode_command.proofs.Parses.{final_begins, incremental_begins}
 use Rattle.decode_command.proofs.Lines.{lines_append}
 use Rattle.decode_command.proofs.Steps.{longer_front}
 
--- before the end a front of the lines of any longer input was sent
+-- before the end a prefix of the lines of any longer input was sent
 pub halted_front : (known : Known) (taken more : List ℕ) (decoder : Decoder) (before now : Option (List ℕ)) → decoder.reader.ended ≡ false → Halted known taken decoder before now → Front known (taken ++ more) before now
 halted_front known taken more decoder before now still h =
     let extras = extras_of known.dialect in let left = decoder.reader.bytes in
@@ -21,7 +21,7 @@ halted_front known taken more decoder before now still h =
     longer_front before now (event_lines known h.given) (lines_from known (0 + bytes_in h.given) (incremental_events extras (left ++ more))) (event_lines known (incremental_events extras (taken ++ more)))
     (ap (event_lines known) events ∙ lines_append known 0 h.given (incremental_events extras (left ++ more))) h.front
 
--- behind the end a front of the whole text was sent
+-- after the end a prefix of the whole text was sent
 pub halted_unfinished : (known : Known) (taken : List ℕ) (decoder : Decoder) (before now : Option (List ℕ)) → Halted known taken decoder before now → Unfinished known taken before now
 halted_unfinished known taken decoder before now h =
     let extras = extras_of known.dialect in let left = decoder.reader.bytes in

@@ -73,7 +73,7 @@ drained_written known taken decoder sent before middle after d moved is =
       whole = d.whole;
     })
 
--- or a front of them was
+-- or a prefix of them was
 pub drained_front : (known : Known) (taken : List ℕ) (decoder : Decoder) (before middle after : Option (List ℕ)) → decoder.reader.ended ≡ false → Drained known taken decoder before middle → ((before : Option (List ℕ)) (whole : List ℕ) → Sent before middle whole decoder.text.items → SentFront before after whole) → Front known taken before after
 drained_front known taken decoder before middle after still d front =
     let given = d.decoding.given in

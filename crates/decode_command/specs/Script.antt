@@ -12,7 +12,7 @@ use Rattle.decode_command.specs.DecodeText.{event_lines, last_line}
 abbrev pub most_input_bytes : ℕ
 most_input_bytes = 268435456
 
--- the lines of all events: of the final parse where the input ended, else of the incremental parse
+-- the lines of all events: of the final parse if the input ended, else of the incremental parse
 abbrev pub lines_at : Known → Bool → List ℕ → List ℕ
 lines_at known true bytes = event_lines known (final_events (extras_of known.dialect) bytes)
 lines_at known false bytes = event_lines known (incremental_events (extras_of known.dialect) bytes)

@@ -97,7 +97,7 @@ fn decode_all<S: Source, K: Sink>(
     }
 }
 
-/// Decodes an input by the built-in profile, and by a key where there is one.
+/// Decodes an input by the built-in profile, and by a key if there is one.
 pub fn decode<S: Source, K: Sink>(
     alloc: Global,
     key: Option<Key>,

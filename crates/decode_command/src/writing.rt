@@ -28,7 +28,7 @@ pub(crate) fn write<K: Sink>(text: &mut Vec<u8>, out: &mut K) -> Result<(), Halt
     Ok(())
 }
 
-/// Writes them where they are enough.
+/// Writes them if they are enough.
 pub(crate) fn write_enough<K: Sink>(text: &mut Vec<u8>, out: &mut K) -> Result<(), Halt>
     ensures moved { OnOk result ((before : Option (List ℕ)) (whole : List ℕ)
         → Sent before (K.sent out.old) whole text.old.items
