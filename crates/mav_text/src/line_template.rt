@@ -322,6 +322,7 @@ impl LineTemplate {
     }
 
     /// Appends the line of the frame that stands at the start of some bytes, or a part of it.
+    #[inline(always)]
     pub(crate) fn append_line(
         &self,
         is_old: bool,

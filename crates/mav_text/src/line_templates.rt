@@ -1,5 +1,5 @@
 // The lines of frames of a dialect's messages.
-ghost use Rattle.std.specs.Prelude.{◌≡◌, ◌≤◌, ◌<◌, ◌++◌, ℕ, None, length, slice_index_or, take, vec_len, option_map, Some, OnOk, OnErr, IfOk, IfSome};
+ghost use Rattle.std.specs.Prelude.{◌≡◌, ◌≤◌, ◌<◌, ◌++◌, ℕ, None, length, slice_index_or, take, vec_len, option_map, true, false, Some, OnOk, OnErr, IfOk, IfSome};
 ghost use Rattle.mav_profile.specs.Messages.{definition_with};
 ghost use Rattle.mav_frame.specs.Looks.{id_at, is_old_at, frame_size_at, header_size, packet_at};
 ghost use Rattle.mav_text.specs.TemplateText.{HasIndices, line_of, line_template_of};
@@ -115,7 +115,8 @@ fn line_templates_of(
 #[inline(always)]
 fn is_old_frame(old: bool, frame: &[u8]) -> bool
     requires { 0 < length frame.now }
-    ensures { result ≡ is_old_at old frame.now }
+    ensures same { result ≡ is_old_at old frame.now }
+    ensures version { is_old_at result frame.now ≡ result }
 {
     old && frame[0] == OLD_STX
 }
@@ -135,20 +136,21 @@ fn read_id(is_old: bool, frame: &[u8]) -> u32
 // Appends the line of a frame by its message's layout, or a part of it.
 fn append_by_layout(
     layout: &Layout,
-    old: bool,
+    is_old: bool,
     offset: u64,
     frame: &[u8],
     ending: &[u8],
     chunk: &mut [u8; 2048],
     out: &mut Vec<u8>,
 ) -> Result<(), NoMemory>
-    requires { frame_size_at (is_old_at old frame.now) frame.now ≤ length frame.now }
-    ensures ok { OnOk result (out.new.items ≡ out.old.items ++ line_of (Some layout.now) offset (packet_at (is_old_at old frame.now) frame.now) ending.now) }
+    requires version { is_old_at is_old frame.now ≡ is_old }
+    requires whole { frame_size_at is_old frame.now ≤ length frame.now }
+    ensures ok { OnOk result (out.new.items ≡ out.old.items ++ line_of (Some layout.now) offset (packet_at is_old frame.now) ending.now) }
     ensures err { OnErr result (take (vec_len out.old) out.new.items ≡ out.old.items) }
 {
     let end = put_offset(offset, chunk);
     out.extend_from_slice(&chunk[..end])?;
-    put_fields(layout, &frame_at(old, frame), out)?;
+    put_fields(layout, &frame_at(is_old, frame), out)?;
     out.extend_from_slice(ending)?;
     Ok(())
 }
@@ -190,6 +192,52 @@ impl LineTemplates {
     #[inline(always)]
     fn append_line(
         &self,
+        is_old: bool,
+        offset: u64,
+        frame: &[u8],
+        ending: &[u8],
+        chunk: &mut [u8; 2048],
+        out: &mut Vec<u8>,
+    ) -> Result<(), NoMemory>
+        requires version { is_old_at is_old frame.now ≡ is_old }
+        requires whole { frame_size_at is_old frame.now ≤ length frame.now }
+        requires short { length ending.now ≤ 16 }
+        ensures ok { OnOk result (out.new.items ≡ out.old.items ++ line_of (definition_with (id_at is_old frame.now) self.now) offset (packet_at is_old frame.now) ending.now) }
+        ensures err { OnErr result (take (vec_len out.old) out.new.items ≡ out.old.items) }
+    {
+        let id = read_id(is_old, frame);
+        if let Some(line_template) = self.line_template(id) {
+            return line_template.append_line(is_old, offset, frame, ending, chunk, out);
+        }
+        match self.dialect.get(id) {
+            Some(layout) => append_by_layout(layout, is_old, offset, frame, ending, chunk, out),
+            None => Ok(()),
+        }
+    }
+
+    // The same for a frame of MAVLink 1. It is a call of its own, so that the code for MAVLink 2 asks for the version once.
+    #[inline(never)]
+    fn append_old_line(
+        &self,
+        offset: u64,
+        frame: &[u8],
+        ending: &[u8],
+        chunk: &mut [u8; 2048],
+        out: &mut Vec<u8>,
+    ) -> Result<(), NoMemory>
+        requires version { is_old_at true frame.now ≡ true }
+        requires whole { frame_size_at true frame.now ≤ length frame.now }
+        requires short { length ending.now ≤ 16 }
+        ensures ok { OnOk result (out.new.items ≡ out.old.items ++ line_of (definition_with (id_at true frame.now) self.now) offset (packet_at true frame.now) ending.now) }
+        ensures err { OnErr result (take (vec_len out.old) out.new.items ≡ out.old.items) }
+    {
+        self.append_line(true, offset, frame, ending, chunk, out)
+    }
+
+    // Appends the line of a frame of either version, or a part of it.
+    #[inline(always)]
+    fn append_either(
+        &self,
         old: bool,
         offset: u64,
         frame: &[u8],
@@ -202,14 +250,10 @@ impl LineTemplates {
         ensures ok { OnOk result (out.new.items ≡ out.old.items ++ line_of (definition_with (id_at (is_old_at old frame.now) frame.now) self.now) offset (packet_at (is_old_at old frame.now) frame.now) ending.now) }
         ensures err { OnErr result (take (vec_len out.old) out.new.items ≡ out.old.items) }
     {
-        let is_old = is_old_frame(old, frame);
-        let id = read_id(is_old, frame);
-        if let Some(line_template) = self.line_template(id) {
-            return line_template.append_line(is_old, offset, frame, ending, chunk, out);
-        }
-        match self.dialect.get(id) {
-            Some(layout) => append_by_layout(layout, old, offset, frame, ending, chunk, out),
-            None => Ok(()),
+        if is_old_frame(old, frame) {
+            self.append_old_line(offset, frame, ending, chunk, out)
+        } else {
+            self.append_line(false, offset, frame, ending, chunk, out)
         }
     }
 
@@ -231,7 +275,7 @@ impl LineTemplates {
         ensures err { OnErr result (out.new.items ≡ out.old.items) }
     {
         let before = out.len();
-        let put = self.append_line(old, offset, frame, ending, &mut chunk.bytes, out);
+        let put = self.append_either(old, offset, frame, ending, &mut chunk.bytes, out);
         if put.is_err() {
             out.truncate(before);
         }

@@ -1,7 +1,8 @@
-use Rattle.std.proofs.Common.{◌≡◌, ℕ, List, [], ◌∷◌, ◌++◌, take, ap, ◌∙◌, append_assoc}
+use Rattle.std.proofs.Common.{◌≡◌, ℕ, Bool, List, [], ◌∷◌, ◌++◌, take, ap, ◌∙◌, append_assoc}
 use Rattle.std.proofs.lemmas.Result.{err_from_is_err_and}
 use Rattle.std.specs.Fmt.{decimal}
 use Rattle.mav_frame.specs.Packet.{Packet}
+use Rattle.mav_frame.specs.Looks.{packet_at}
 use Rattle.mav_text.specs.FrameText.{frame_text}
 use Rattle.mav_text.proofs.SkipSteps.{kept_same, kept_prefix}
 use Rattle.mav_text.proofs.line_templates.append_by_layout.Goals as goal
@@ -49,5 +50,5 @@ returns-clause-ok c =
     let out = c.args.out.now.items in
     pieces out c.extend_from_slice.new.self.items c.put_fields.new.out.items c.extend_from_slice-2.new.self.items (decimal c.args.offset) _ c.args.ending.now
     (c.in_ok-extend_from_slice.ensures.items ∙ ap (λ (t : List ℕ). out ++ t) c.put_offset-end.ensures.text)
-    (c.in_ok-put_fields.ensures.ok ∙ ap (λ (p : Packet). c.extend_from_slice.new.self.items ++ frame_text c.args.layout.now p) c.frame_at.ensures)
+    (c.in_ok-put_fields.ensures.ok ∙ ap (λ (p : Packet). c.extend_from_slice.new.self.items ++ frame_text c.args.layout.now p) (c.frame_at.ensures ∙ ap (λ (v : Bool). packet_at v c.args.frame.now) c.requires.version))
     c.in_ok-extend_from_slice-2.ensures.items
