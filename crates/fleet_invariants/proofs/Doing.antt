@@ -57,7 +57,7 @@ module _ (s : WorldState) (k : ℕ) (g : Steady s) where
 
     drone_receiving : (bytes : List ℕ) → Known s bytes → NodeDoes s k (as_drone (drone_receives s.clock bytes n))
     drone_receiving bytes known =
-        a_drone (drone_receives s.clock bytes n) (drone_hears_all (frames_of (final_parse n.link.extras false bytes)) s k n g found (known_frames s bytes n.link.extras (g.links k (Drone n) found).extras known) false)
+        a_drone (drone_receives s.clock bytes n) (drone_hears_all (frames_of (final_parse n.link.extras false bytes)) s k n g found (known_frames s bytes n.link.extras (g.links k (Drone n) found).extras known))
 
     drone_ticking : NodeDoes s k (as_drone (drone_ticks s.clock n))
     drone_ticking =
@@ -79,7 +79,7 @@ module _ (s : WorldState) (k : ℕ) (g : Steady s) where
 
     station_receiving : (bytes : List ℕ) → Known s bytes → NodeDoes s k (as_station (station_receives s.clock bytes n))
     station_receiving bytes known =
-        a_station (station_receives s.clock bytes n) (station_hears_all (frames_of (final_parse n.link.extras false bytes)) s k n g found (known_frames s bytes n.link.extras (g.links k (Station n) found).extras known) false)
+        a_station (station_receives s.clock bytes n) (station_hears_all (frames_of (final_parse n.link.extras false bytes)) s k n g found (known_frames s bytes n.link.extras (g.links k (Station n) found).extras known))
 
     station_ticking : NodeDoes s k (as_station (station_ticks s.clock n))
     station_ticking =
