@@ -233,7 +233,7 @@ module _ (number : ℕ) where
       hears_then_gives k s a p me h (frames_heard number k ps) (λ t b same. frames_give k ps me t b same) (node_hears s.clock p a) (node_keeps s.clock p a me h)
 
   datagram_gives : (bytes : List ℕ) (s : WorldState) (k : ℕ) (a : Node) → EachEvent (Gives (link_of a).me) (main (datagram_heard number bytes s k a))
-  datagram_gives bytes s k a = frames_give k (frames_of (final_parse (link_of a) false.extras bytes)) (link_of a).me s a refl
+  datagram_gives bytes s k a = frames_give k (frames_of (final_parse (link_of a).extras false bytes)) (link_of a).me s a refl
 
   datagram_of : (bytes : List ℕ) (s : WorldState) (name : Name) (k : ℕ) (a : Node) → node_of (link_of a).me ≡ name → EachEvent (Of name Gives) (main (datagram_heard number bytes s k a))
   datagram_of bytes s name k a is =
@@ -376,7 +376,7 @@ module _ (number : ℕ) where
     delivered_one which name i (Some p) e =
         at_placed_node (AtMostOne (Of name Gives)) s name (datagram_heard number (encoding p)) (inl refl)
         (λ k a there is.
-        let alone : frames_of (final_parse (link_of a) false.extras (encoding p)) ≡ p ∷ [] =
+        let alone : frames_of (final_parse (link_of a).extras false (encoding p)) ≡ p ∷ [] =
         ap (λ extras. frames_of (final_parse extras false (encoding p))) (sound.links k a there).extras ∙ (heard_is s sound p (sound.sent i p e)).frames in
         subst (λ ps. AtMostOne (Of name Gives) (main (frames_heard number k ps s a))) (sym alone) (one_heard k s a p name is (node_hears s.clock p a)))
 

@@ -82,7 +82,7 @@ station_all : (clock : ℕ) (ps : List Packet) (a : Side StationState) → as_st
 station_all clock [] a = refl
 station_all clock (p ∷ ps) a = station_then (hears station_core clock p a) (hears_all station_core clock ps) (node_hears_all clock ps) (station_all clock ps)
 
-pub receives_is : (clock : ℕ) (bytes : List ℕ) (a : Node) → node_receives clock bytes a ≡ node_hears_all clock (frames_of (final_parse (link_of a) false.extras bytes)) a
+pub receives_is : (clock : ℕ) (bytes : List ℕ) (a : Node) → node_receives clock bytes a ≡ node_hears_all clock (frames_of (final_parse (link_of a).extras false bytes)) a
 receives_is clock bytes (Drone a) = drone_all clock (frames_of (final_parse a.link.extras false bytes)) a
 receives_is clock bytes (Station a) = station_all clock (frames_of (final_parse a.link.extras false bytes)) a
 

@@ -127,10 +127,10 @@ module _ (number : ℕ) (n : Nodes) (distinct : Distinct n) (every_call : EveryC
       let keeps = (every_call s sound).receives bytes known k a (node_name a) there in
       hears_lead n s w k a (datagram_heard number bytes s k a) there (node_receives s.clock bytes a)
       (subst (HearsAll n s w k a (datagram_heard number bytes s k a)) (sym (receives_is s.clock bytes a))
-      (frames_hear number n distinct k (frames_of (final_parse (link_of a) false.extras bytes)) s w a fits there (each_of link.key link.extras)))
+      (frames_hear number n distinct k (frames_of (final_parse (link_of a).extras false bytes)) s w a fits there (each_of link.key link.extras)))
       keeps.1 keeps.0
     where
-      each_of : (link_of a).key ≡ s.key → (link_of a).extras ≡ extras_of profile_definitions → EachKnown (link_of a).key s.sent (frames_of (final_parse (link_of a) false.extras bytes))
+      each_of : (link_of a).key ≡ s.key → (link_of a).extras ≡ extras_of profile_definitions → EachKnown (link_of a).key s.sent (frames_of (final_parse (link_of a).extras false bytes))
       each_of key extras =
           subst (λ x. EachKnown (link_of a).key s.sent (frames_of (final_parse x false bytes))) (sym extras)
           (each_known (link_of a).key s.sent (frames_of (final_parse (extras_of profile_definitions) false bytes))

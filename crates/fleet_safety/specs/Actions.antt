@@ -181,7 +181,7 @@ module _ (number : ℕ) where
 
   -- a datagram: the frames of its final parse
   abbrev pub datagram_heard : List ℕ → WorldState → ℕ → Node → List Action
-  datagram_heard bytes s k a = frames_heard k (frames_of (final_parse (link_of a) false.extras bytes)) s a
+  datagram_heard bytes s k a = frames_heard k (frames_of (final_parse (link_of a).extras false bytes)) s a
 
   -- a tick, and a HEARTBEAT
   abbrev pub ticked : WorldState → ℕ → Node → List Action
