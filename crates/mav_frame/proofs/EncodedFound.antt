@@ -9,8 +9,8 @@ use Rattle.x25_check.specs.Check.{check}
 use Rattle.x25_check.specs.Extras.{extra_of}
 use Rattle.mav_frame.specs.Numbers.{little_endian, number_at}
 use Rattle.mav_frame.specs.Packet.{SignatureBlock, Packet, FitsFrame, FitsBlock, FitsOld}
-use Rattle.mav_frame.specs.Encoding.{stx_of, incompat_flags, block_bytes, header_of, checked_bytes, encoding, IsSealed}
-use Rattle.mav_frame.specs.Looks.{header_size, id_at, check_offset, frame_size_at, block_at, packet_at, look_id, look_known, look_header, look_as, look_of}
+use Rattle.mav_frame.specs.Encoding.{stx_of, incompat_flags, block_bytes, header_of, encoding, IsSealed}
+use Rattle.mav_frame.specs.Looks.{header_size, id_at, check_offset, frame_size_at, block_at, packet_at, look_id, look_header, look_as, look_of}
 use Rattle.mav_frame.specs.declared.looks.Look.TheVariants.{Frame as Found}
 
 pub skip : {A : Type 0} (t : Bool) (x y : A) → t ≡ false → (if t then x else y) ≡ y

@@ -9,8 +9,8 @@ use native.Mathlib.Decide.{ℕ_discrete}
 use Rattle.x25_check.specs.Check.{check}
 use Rattle.x25_check.specs.Extras.{extra_of}
 use Rattle.mav_frame.specs.Numbers.{little_endian, number_at}
-use Rattle.mav_frame.specs.Packet.{Packet, FitsFrame, FitsBlock, FitsOld}
-use Rattle.mav_frame.specs.Encoding.{stx_of, incompat_flags, block_bytes, header, header_of, checked_bytes, encoding, IsSealed, Encodes}
+use Rattle.mav_frame.specs.Packet.{Packet, FitsFrame, FitsBlock}
+use Rattle.mav_frame.specs.Encoding.{stx_of, incompat_flags, block_bytes, header, checked_bytes, encoding, IsSealed, Encodes}
 use Rattle.mav_frame.specs.Looks.{is_old_at, header_size, id_at, check_offset, frame_size_at, block_at, packet_at, look_known, look_id, look_header, look_as, look_of, IfFrame}
 use Rattle.mav_frame.specs.declared.looks.Look.{Look}
 use Rattle.mav_frame.specs.declared.looks.Look.TheVariants.{Frame as Found, NotHere, More}

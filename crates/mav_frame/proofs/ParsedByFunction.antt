@@ -1,9 +1,7 @@
 -- The function of the final parse gives the final parse.
-use Rattle.std.proofs.Common.{◌≡◌, Bool, ℕ, zero, suc, ◌+◌, ◌<◌, ◌≤◌, List, [], ◌∷◌, ◌++◌, length, take, drop, get_or, refl, sym, arith, length-drop}
+use Rattle.std.proofs.Common.{◌≡◌, Bool, ℕ, zero, suc, ◌<◌, ◌≤◌, List, [], ◌∷◌, length, drop, refl, arith, length-drop}
 use Rattle.std.specs.Prelude.{All}
-use Rattle.std.proofs.lemmas.List.Elements.{All-nil, All-cons, All-head, All-tail, All-drop}
-use Rattle.mav_frame.specs.Packet.{Packet, FitsFrame}
-use Rattle.mav_frame.specs.Encoding.{encoding, Encodes}
+use Rattle.std.proofs.lemmas.List.Elements.{All-head, All-tail, All-drop}
 use Rattle.mav_frame.specs.Looks.{look_of}
 use Rattle.mav_frame.specs.Parse.{EventAt, Final}
 use Rattle.mav_frame.specs.FinalParse.{events_by, first_events, final_parse}

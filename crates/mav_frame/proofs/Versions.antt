@@ -1,12 +1,12 @@
 -- Frames of both versions in one parse.
-use Rattle.std.proofs.Common.{◌≡◌, ◌≢◌, ℕ, zero, suc, ◌==◌, ◌&&◌, Bool, true, false, List, [], ◌∷◌, ◌++◌, length, drop, slice_index, refl, sym, ap, ◌∙◌, subst, arith, append-nil}
+use Rattle.std.proofs.Common.{◌≡◌, ◌≢◌, ℕ, zero, suc, ◌==◌, ◌&&◌, Bool, true, false, List, [], ◌∷◌, ◌++◌, length, drop, slice_index, refl, sym, ap, ◌∙◌, arith, append-nil}
 use Rattle.std.specs.Prelude.{All}
 use Rattle.std.proofs.lemmas.List.Elements.{All-nil, All-cons, All-drop, All-head}
 use Rattle.std.proofs.lemmas.Bool.Decides.{nat_tests}
-use Rattle.mav_frame.specs.Packet.{Packet, FitsFrame}
-use Rattle.mav_frame.specs.Encoding.{encoding, IsSealed}
+use Rattle.mav_frame.specs.Packet.{Packet}
+use Rattle.mav_frame.specs.Encoding.{encoding}
 use Rattle.mav_frame.specs.Looks.{look_as, look_of}
-use Rattle.mav_frame.specs.Parse.{EventAt, Final}
+use Rattle.mav_frame.specs.Parse.{EventAt}
 use Rattle.mav_frame.specs.FinalParse.{events_by, first_events}
 use Rattle.mav_frame.specs.ParseLaws.{EncodingsArePrefixFree, IsNew, OldFramesUnread, SameWithoutOldStx}
 use Rattle.mav_frame.specs.declared.looks.Look.{Look}

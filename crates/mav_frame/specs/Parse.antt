@@ -1,5 +1,5 @@
 -- The parse of a whole stream into frames and skipped bytes. The Bool says that frames of MAVLink 1 are read too.
-use Rattle.std.specs.Prelude.{ℕ, ◌≡◌, ◌≢◌, ◌<◌, ◌≤◌, Bool, true, false, List, [], ◌∷◌, ◌++◌, length, slice_index, Some, None, IsSome}
+use Rattle.std.specs.Prelude.{ℕ, ◌≡◌, ◌≢◌, ◌<◌, ◌≤◌, Bool, false, List, [], ◌∷◌, ◌++◌, length, slice_index, Some, None, IsSome}
 use Rattle.x25_check.specs.Extras.{extra_of}
 use Rattle.mav_frame.specs.Numbers.{number_at}
 use Rattle.mav_frame.specs.Packet.{Packet, FitsFrame}

@@ -1,13 +1,12 @@
 -- What is at the start continues the parse.
-use Rattle.std.proofs.Common.{◌≡◌, ℕ, ◌-◌, ◌<◌, ◌≤◌, ◌==◌, ◌&&◌, Bool, true, false, not, nat_lt, slice_index, List, [], ◌∷◌, ◌++◌, length, take, drop, Option, Some, None, if◌then◌else◌, refl, sym, ap, ◌∙◌, subst, arith, length-take, append-nil}
+use Rattle.std.proofs.Common.{◌≡◌, ℕ, ◌<◌, ◌≤◌, ◌&&◌, Bool, true, false, nat_lt, List, [], ◌∷◌, ◌++◌, length, take, drop, if◌then◌else◌, refl, sym, ap, ◌∙◌, subst, arith, length-take, append-nil}
 use Rattle.std.proofs.lemmas.Bool.Decides.{nat_tests}
 use Rattle.mav_frame.specs.Packet.{Packet}
 use Rattle.mav_frame.specs.Encoding.{encoding}
 use Rattle.mav_frame.specs.Looks.{frame_size_at, is_old_at, look_of}
 use Rattle.mav_frame.specs.declared.looks.Look.{Look}
 use Rattle.mav_frame.specs.declared.looks.Look.TheVariants.{Frame as Found, NotHere, More}
-use Rattle.mav_frame.specs.declared.looks.Why.{Why}
-use Rattle.mav_frame.specs.declared.looks.Why.TheVariants.{NotStx, UnknownFlag, UnknownId, BadCheck, Short}
+use Rattle.mav_frame.specs.declared.looks.Why.TheVariants.{Short}
 use Rattle.mav_frame.specs.declared.events.Event.{Event}
 use Rattle.mav_frame.specs.declared.events.Event.TheVariants.{Frame as FrameEvent}
 use Rattle.mav_frame.proofs.FoundEncoded.{IsBytes, once, found_is}

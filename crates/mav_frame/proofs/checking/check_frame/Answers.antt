@@ -1,10 +1,10 @@
-use Rattle.std.proofs.Common.{◌≡◌, ℕ, ◌≤◌, ◌<◌, Bool, List, length, take, arith}
-use Rattle.mav_frame.specs.Packet.{Packet, FitsFrame}
+use Rattle.std.proofs.Common.{ℕ, ◌≤◌, Bool, List, length, take, arith}
+use Rattle.mav_frame.specs.Packet.{FitsFrame}
 use Rattle.mav_frame.specs.Encoding.{Encodes}
-use Rattle.mav_frame.specs.Looks.{IfFrame, IfWhole, is_old_at, look_by, look_of, packet_at}
+use Rattle.mav_frame.specs.Looks.{IfFrame, IfWhole, is_old_at, look_by, packet_at}
 use Rattle.mav_frame.specs.declared.looks.FrameCheck.{FrameCheck}
 use Rattle.mav_frame.specs.declared.looks.FrameCheck.TheVariants.{Whole, NotHere, More}
-use Rattle.mav_frame.proofs.FoundEncoded.{IsBytes, once_look}
+use Rattle.mav_frame.proofs.FoundEncoded.{once_look}
 use Rattle.mav_frame.proofs.checking.check_frame.Goals as goal
 
 found_by : (extras : List (ℕ × ℕ)) (old v : Bool) (b : List ℕ) (s : FrameCheck) → IfFrame (look_by s v b) (λ p n. (n ≤ length b) × Encodes extras old p (take n b) × FitsFrame p) → IfWhole s (λ n. (n ≤ length b) × Encodes extras old (packet_at v b) (take n b) × FitsFrame (packet_at v b))

@@ -1,7 +1,7 @@
-use Rattle.std.proofs.Common.{◌≡◌, ℕ, ◌+◌, ◌-◌, Bool, true, List, [], length, take, drop, slice_range, refl, sym, ap, ◌∙◌, subst, arith, length-take, length-drop}
+use Rattle.std.proofs.Common.{◌≡◌, ℕ, ◌+◌, ◌-◌, Bool, true, List, length, take, drop, slice_range, refl, sym, subst, arith, length-take, length-drop}
 use Rattle.mav_frame.specs.declared.looks.Why.{Why}
 use Rattle.mav_frame.specs.declared.looks.Why.TheVariants.{UnknownFlag, UnknownId}
-use Rattle.mav_scan.specs.Skips.{skips_at, skipped_length}
+use Rattle.mav_scan.specs.Skips.{skipped_length}
 use Rattle.mav_scan.proofs.Lengths.{length_by, length_searched}
 use Rattle.mav_scan.proofs.skips.skipped_length.Goals as goal
 
