@@ -14,11 +14,15 @@ count_while test (suc count) = if test 0 then suc (count_while (λ k. test (suc 
 abbrev pub is_stx : Bool → ℕ → Bool
 is_stx reads_old byte = byte == 0xFD || (reads_old && (byte == 0xFE))
 
+-- whether a byte has this value, and one so many bytes after it a higher one than that
+abbrev pub is_marked : ℕ → ℕ → ℕ → List ℕ → ℕ → Bool
+is_marked byte gap high b at = slice_index b at == byte && nat_lt high (slice_index b (at + gap))
+
 -- whether the bytes at an offset show that a byte is skipped for this reason: it is no STX; an unknown flag is two
 -- bytes after an STX of MAVLink 2, or an unknown id five bytes after one of MAVLink 1
 abbrev pub skips_at : Why → List (ℕ × ℕ) → Bool → List ℕ → ℕ → Bool
 skips_at NotStx extras reads_old b at = not (is_stx reads_old (slice_index b at))
-skips_at UnknownFlag extras reads_old b at = slice_index b at == 0xFD && nat_lt 1 (slice_index b (at + 2))
+skips_at UnknownFlag extras reads_old b at = is_marked 0xFD 2 1 b at
 skips_at UnknownId extras reads_old b at =
     reads_old && (slice_index b at == 0xFE && (nat_le (at + 6) (length b) && is_none (extra_of (slice_index b (at + 5)) extras)))
 skips_at BadCheck extras reads_old b at = false

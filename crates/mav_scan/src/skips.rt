@@ -48,52 +48,56 @@ fn before_stx(reads_old: bool, bytes: &[u8]) -> usize
     }
 }
 
-// Whether STX of MAVLink 2 and unknown flags are at an offset; both bytes are read, which a loop can do for several
-// offsets at once.
+// Whether a byte is at an offset, and a higher one than `high` so many bytes after it; both are read, which a loop can do
+// for several offsets at once.
 #[inline(always)]
-fn is_flagged(bytes: &[u8], at: usize) -> bool
-    requires { at + 2 < length bytes.now }
-    ensures { result ≡ skips_at UnknownFlag [] false bytes.now at }
+fn is_marked(bytes: &[u8], at: usize, byte: u8, gap: usize, high: u8) -> bool
+    requires { at + gap < length bytes.now }
+    ensures { result ≡ spec.is_marked byte gap high bytes.now at }
 {
-    (bytes[at] == STX) & (bytes[at + 2] > 1)
+    (bytes[at] == byte) & (bytes[at + gap] > high)
 }
 
 // Whether they are at eight offsets from one on.
 #[inline(always)]
-fn are_flagged(bytes: &[u8], at: usize) -> bool
-    requires { at + 10 ≤ length bytes.now }
-    ensures { result ≡ true → (k : ℕ) → k < 8 → skips_at UnknownFlag [] false bytes.now (at + k) ≡ true }
+fn are_marked(bytes: &[u8], at: usize, byte: u8, gap: usize, high: u8) -> bool
+    requires { at + gap + 8 ≤ length bytes.now }
+    ensures { result ≡ true → (k : ℕ) → k < 8 → spec.is_marked byte gap high bytes.now (at + k) ≡ true }
 {
     let mut all = true;
     for step in 0..8 {
-        all &= is_flagged(bytes, at + step);
+        all &= is_marked(bytes, at + step, byte, gap, high);
     }
     all
 }
 
 // At how many of the first offsets they are, eight by eight.
-fn flagged_eights(bytes: &[u8], most: usize) -> usize
-    requires { most ≤ length bytes.now - 2 }
+#[inline(always)]
+fn marked_eights(bytes: &[u8], most: usize, byte: u8, gap: usize, high: u8) -> usize
+    requires { most + gap ≤ length bytes.now }
     ensures within { result ≤ most }
-    ensures each { (k : ℕ) → k < result → skips_at UnknownFlag [] false bytes.now k ≡ true }
+    ensures each { (k : ℕ) → k < result → spec.is_marked byte gap high bytes.now k ≡ true }
 {
     let mut at = 0;
-    while at + 8 <= most && are_flagged(bytes, at) {
+    while at + 8 <= most && are_marked(bytes, at, byte, gap, high) {
         at += 8;
     }
     at
 }
 
-// At how many of the first offsets they are, one after another.
+// At how many of the first offsets STX of MAVLink 2 and unknown flags are, one after another.
 fn flagged_length(bytes: &[u8], most: usize) -> usize
     requires { most ≤ length bytes.now }
     ensures within { result ≤ most }
     ensures each { (k : ℕ) → k < result → skips_at UnknownFlag [] false bytes.now k ≡ true }
     ensures ends { result < most → skips_at UnknownFlag [] false bytes.now result ≡ false }
 {
-    let end = bytes.len().saturating_sub(2).min(most);
-    for at in flagged_eights(bytes, end)..end {
-        if !is_flagged(bytes, at) {
+    if bytes.len() < 2 {
+        return 0;
+    }
+    let end = (bytes.len() - 2).min(most);
+    for at in marked_eights(bytes, end, STX, 2, 1)..end {
+        if !is_marked(bytes, at, STX, 2, 1) {
             return at;
         }
     }
@@ -109,6 +113,18 @@ fn is_unknown(table: &ExtrasTable, bytes: &[u8], at: usize) -> bool
     bytes[at] == OLD_STX && table.extra(u32::from(bytes[at + 5])).is_none()
 }
 
+// At how many of the first offsets they are, eight by eight, if 254 and 255 are the ids of no message.
+fn unknown_eights(table: &ExtrasTable, bytes: &[u8], most: usize) -> usize
+    requires { most + 5 ≤ length bytes.now }
+    ensures within { result ≤ most }
+    ensures each { (k : ℕ) → k < result → skips_at UnknownId table.now true bytes.now k ≡ true }
+{
+    if table.extra(254).is_some() || table.extra(255).is_some() {
+        return 0;
+    }
+    marked_eights(bytes, most, OLD_STX, 5, 253)
+}
+
 // At how many of the first offsets they are, one after another.
 fn unknown_length(table: &ExtrasTable, bytes: &[u8], most: usize) -> usize
     requires { most ≤ length bytes.now }
@@ -116,8 +132,11 @@ fn unknown_length(table: &ExtrasTable, bytes: &[u8], most: usize) -> usize
     ensures each { (k : ℕ) → k < result → skips_at UnknownId table.now true bytes.now k ≡ true }
     ensures ends { result < most → skips_at UnknownId table.now true bytes.now result ≡ false }
 {
-    let end = bytes.len().saturating_sub(5).min(most);
-    for at in 0..end {
+    if bytes.len() < 5 {
+        return 0;
+    }
+    let end = (bytes.len() - 5).min(most);
+    for at in unknown_eights(table, bytes, end)..end {
         if !is_unknown(table, bytes, at) {
             return at;
         }
