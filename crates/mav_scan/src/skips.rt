@@ -135,6 +135,9 @@ fn unknown_length(table: &ExtrasTable, bytes: &[u8], most: usize) -> usize
     if bytes.len() < 5 {
         return 0;
     }
+    if bytes[0] != OLD_STX {
+        return 0;
+    }
     let end = (bytes.len() - 5).min(most);
     for at in unknown_eights(table, bytes, end)..end {
         if !is_unknown(table, bytes, at) {
