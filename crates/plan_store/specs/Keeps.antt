@@ -15,11 +15,15 @@ replace_known (Some kept) bytes = Some bytes
 abbrev pub KeptOrReplaced : Option (List ℕ) → Option (List ℕ) → List ℕ → Type 0
 KeptOrReplaced before now bytes = (now ≡ before) ⊎ (now ≡ replace_known before bytes)
 
--- the count of faults rises at `Store`, and stays at any other result
+-- the count of faults rises at the fault `Store` alone
+abbrev pub CountsFault : KeepFault → ℕ → ℕ → Type 0
+CountsFault Store before now = Rose before now
+CountsFault NoMemory before now = now ≡ before
+
+-- the same of a call's result
 abbrev pub CountsStoreFault : {A : Type 0} → Result A KeepFault → ℕ → ℕ → Type 0
 CountsStoreFault (Ok value) before now = now ≡ before
-CountsStoreFault (Err Store) before now = Rose before now
-CountsStoreFault (Err NoMemory) before now = now ≡ before
+CountsStoreFault (Err fault) before now = CountsFault fault before now
 
 -- the result isn't `Store`
 abbrev pub IsNotStoreFault : {A : Type 0} → Result A KeepFault → Type 0

@@ -1,5 +1,5 @@
 -- What a store in memory holds, what its next call returns, and what it holds then.
-use Rattle.std.specs.Prelude.{◌≡◌, ◌==◌, ◌%◌, ℕ, Bool, false, List, Some, None, Ok, Err, if◌then◌else◌}
+use Rattle.std.specs.Prelude.{◌==◌, ◌%◌, ℕ, Bool, false, List, Some, None, Ok, Err, if◌then◌else◌}
 use Rattle.std.specs.declared.option.Option.{Option}
 use Rattle.std.specs.declared.result.Result.{Result}
 use Rattle.mav_ports.specs.Calls.{is_listed, call_after}
@@ -47,8 +47,8 @@ save_answer s = if fails_next s then Err Store else Ok tt
 abbrev pub after_save : MemStore → List ℕ → Result (Unit {0}) KeepFault → MemStore
 after_save s bytes (Ok done) = record s { contents = bytes; call = call_after s.call }
 after_save s bytes (Err Store) = record s {
-      contents = if is_odd_call s.call then bytes else s.contents;
-      call = call_after s.call;
-      faults = next_count s.faults;
-    }
+  contents = if is_odd_call s.call then bytes else s.contents;
+  call = call_after s.call;
+  faults = next_count s.faults;
+}
 after_save s bytes (Err NoMemory) = record s { call = call_after s.call }

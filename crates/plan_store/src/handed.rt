@@ -3,33 +3,52 @@ ghost use Rattle.std.specs.Prelude.{◌≡◌};
 
 use crate::{KeepFault, Keeper};
 
-/// A boxed store as a store: it passes each call on.
-#[derive(Drop)]
-pub struct Handed {
-    keeper: Box<dyn Keeper>,
+/// A box is the store in it.
+impl Keeper for Box<dyn Keeper> {
+    ghost contents = { λ b. (Keeper-box b).contents b.value };
+
+    ghost faults = { λ b. (Keeper-box b).faults b.value };
+
+    ghost is_infallible = { λ b. (Keeper-box b).is_infallible b.value };
+
+    fn load(&mut self) -> Result<Vec<u8>, KeepFault> {
+        (**self).load()
+    }
+
+    fn save(&mut self, bytes: &[u8]) -> Result<(), KeepFault> {
+        (**self).save(bytes)
+    }
 }
 
-impl Handed {
-    pub fn new(keeper: Box<dyn Keeper>) -> Handed
+/// A boxed store that was taken out of its caller's hands: it passes each call on. It is generic,
+/// since the check doesn't let a function call another crate's function over boxes and hand the
+/// box back to its caller.
+#[derive(Drop)]
+pub struct Handed<B: Keeper = Box<dyn Keeper>> {
+    keeper: B,
+}
+
+impl<B: Keeper> Handed<B> {
+    pub fn new(keeper: B) -> Handed<B>
         ensures { result.keeper ≡ keeper }
     {
         Handed { keeper }
     }
 
     /// Gives the store back.
-    pub fn back(self) -> Box<dyn Keeper>
+    pub fn back(self) -> B
         ensures { result ≡ self.keeper }
     {
         self.keeper
     }
 }
 
-impl Keeper for Handed {
-    ghost contents = { λ h. (Keeper-box h.keeper).contents h.keeper.value };
+impl<B: Keeper> Keeper for Handed<B> {
+    ghost contents = { λ h. B.contents h.keeper };
 
-    ghost faults = { λ h. (Keeper-box h.keeper).faults h.keeper.value };
+    ghost faults = { λ h. B.faults h.keeper };
 
-    ghost is_infallible = { λ h. (Keeper-box h.keeper).is_infallible h.keeper.value };
+    ghost is_infallible = { λ h. B.is_infallible h.keeper };
 
     fn load(&mut self) -> Result<Vec<u8>, KeepFault> {
         self.keeper.load()

@@ -7,13 +7,19 @@
 #![tactic(auto)]
 
 mod fail_keeper;
+mod file_keeper;
 mod handed;
 mod keepers;
 mod mem_keeper;
 mod saves;
 
 pub use fail_keeper::FailKeeper;
+pub use file_keeper::FileKeeper;
 pub use handed::Handed;
 pub use keepers::{KeepFault, Keeper, MAX_SAVED_BYTES};
 pub use mem_keeper::MemKeeper;
 pub use saves::{Stored, save_or_load};
+use std::alloc::AllocError;
+
+/// There was no memory.
+pub type NoMemory = AllocError;

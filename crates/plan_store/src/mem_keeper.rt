@@ -139,6 +139,10 @@ impl Keeper for MemKeeper {
         if !fails || is_odd {
             self.replace(bytes)?;
         }
-        if fails { Err(self.count_fault()) } else { Ok(()) }
+        if fails {
+            Err(self.count_fault())
+        } else {
+            Ok(())
+        }
     }
 }

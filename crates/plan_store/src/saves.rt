@@ -16,11 +16,7 @@ pub enum Stored {
 
 /// Saves the new bytes in place of the old ones. If the save fails by `Store` it loads, and what
 /// the load gives decides: other contents than the two are a fault of the store.
-pub fn save_or_load<K: Keeper>(
-    keeper: &mut K,
-    old: &[u8],
-    new: &[u8],
-) -> Result<Stored, KeepFault>
+pub fn save_or_load<K: Keeper>(keeper: &mut K, old: &[u8], new: &[u8]) -> Result<Stored, KeepFault>
     requires { length new.now ≤ MAX_SAVED_BYTES }
     ensures new { result ≡ Ok Stored.New → K.contents keeper.new ≡ replace_known (K.contents keeper.old) new.now }
     ensures old { result ≡ Ok Stored.Old → K.contents keeper.new ≡ replace_known (K.contents keeper.old) old.now }

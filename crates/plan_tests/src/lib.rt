@@ -1,6 +1,9 @@
 //! What no contract of the plan crates states: worked examples of the protocol's tables, computed from the definitions
-//! alone by the lemmas of proofs/, and that a plan may move to another thread.
+//! alone by the lemmas of proofs/, that a plan may move to another thread, and that a store over memory or over a real
+//! file gives back what it was given.
 #![tactic(auto)]
 
 #[cfg(test)]
 mod plans;
+#[cfg(test)]
+mod stores;
