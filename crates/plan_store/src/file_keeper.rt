@@ -1,5 +1,5 @@
 // A store in a file of the system.
-ghost use Rattle.std.specs.Prelude.{◌≡◌, None, IfOk};
+ghost use Rattle.std.specs.Prelude.{◌≡◌, ◌++◌, None, IfOk, codes, string_bytes};
 ghost use Rattle.plan_store.specs.Keeps.{CountsFault};
 
 use crate::{KeepFault, Keeper, MAX_SAVED_BYTES, NoMemory};
@@ -23,7 +23,9 @@ pub struct FileKeeper<R: Files + Drop> {
 impl<R: Files + Drop> FileKeeper<R> {
     /// The file needn't exist yet. A save writes to `path` with `.new` after it first.
     pub fn new(files: R, alloc: Global, path: &str) -> Result<FileKeeper<R>, NoMemory>
-        ensures { IfOk result (λ keeper. keeper.faults ≡ 0) }
+        ensures path { IfOk result (λ keeper. string_bytes keeper.path ≡ path.now) }
+        ensures beside { IfOk result (λ keeper. string_bytes keeper.beside ≡ path.now ++ codes ".new") }
+        ensures faults { IfOk result (λ keeper. keeper.faults ≡ 0) }
     {
         let mut beside = path.to_string(alloc)?;
         beside.push_str(".new")?;
