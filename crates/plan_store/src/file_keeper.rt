@@ -9,8 +9,9 @@ use std::io::{ErrorKind, Read, Write};
 use std::rt::Files;
 use std::{fs, io};
 
-/// A store in a file, which it opens at each call. It says nothing of its contents, and counts
-/// each error of the system as a fault, but for want of memory.
+/// A store in a file, which it opens at each call; a file that doesn't exist is empty, and one of
+/// more than [`MAX_SAVED_BYTES`](crate::MAX_SAVED_BYTES) bytes is a fault. It says nothing of its
+/// contents, and counts each error of the system as a fault, but for want of memory.
 #[derive(Drop)]
 pub struct FileKeeper<R: Files + Drop> {
     files: R,

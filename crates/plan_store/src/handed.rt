@@ -20,9 +20,7 @@ impl Keeper for Box<dyn Keeper> {
     }
 }
 
-/// A boxed store that was taken out of its caller's hands: it passes each call on. It is generic,
-/// since the check doesn't let a function call another crate's function over boxes and hand the
-/// box back to its caller.
+/// A store that was handed over, by default in a box: it passes each call on.
 #[derive(Drop)]
 pub struct Handed<B: Keeper = Box<dyn Keeper>> {
     keeper: B,

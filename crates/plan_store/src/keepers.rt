@@ -26,7 +26,7 @@ impl From<AllocError> for KeepFault {
     }
 }
 
-/// A store of one sequence of bytes, its contents. A new store has none.
+/// A store of one sequence of bytes: its contents.
 pub trait Keeper: Send + Drop {
     ghost use Rattle.std.specs.Prelude.{IfSome, IfOk, OnOk, OnErr};
     ghost use Rattle.plan_store.specs.Keeps.{replace_known, KeptOrReplaced, CountsStoreFault, IsNotStoreFault};

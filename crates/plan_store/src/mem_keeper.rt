@@ -70,7 +70,7 @@ impl MemKeeper {
         }
     }
 
-    // A call was made.
+    // Goes on to the next call's number.
     fn count_call(&mut self)
         ensures { self.new ≡ record self.old { call = call_after self.old.call } }
     {
