@@ -1,3 +1,4 @@
 pub mod Gathered
 pub mod ResultLists
 pub mod SyncedLists
+pub mod Unkept

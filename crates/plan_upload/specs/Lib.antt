@@ -1,3 +1,5 @@
+pub use Rattle.plan_image.specs.Image
+pub use Rattle.plan_image.specs.Kept
 pub mod Addresses
 pub mod Plans
 pub mod Kinds
@@ -10,6 +12,7 @@ pub mod Copying
 pub mod OpenDownload
 pub mod Heard
 pub mod Changes
+pub mod Keeping
 pub mod DroneView
 pub mod Station
 pub mod Refusals

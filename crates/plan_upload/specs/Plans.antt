@@ -1,15 +1,7 @@
 -- A drone's three plans, by the number of their kind.
-use Rattle.std.specs.Prelude.{ℕ, ◌==◌, ◌≡◌, ◌⊎◌, List, [], if◌then◌else◌}
+use Rattle.std.specs.Prelude.{ℕ, ◌==◌, List, [], if◌then◌else◌}
 use Rattle.plan_items.specs.declared.items.Item.{Item}
-use Rattle.plan_items.specs.Validation.{IsValid}
-
-pub record Plans : Type 0 where
-  pub mission : List Item
-  pub fence : List Item
-  pub rally : List Item
-
-abbrev pub no_plans : Plans
-no_plans = record { mission = []; fence = []; rally = [] }
+pub use Rattle.plan_image.specs.Plans.{Plans, no_plans, IsHoldable}
 
 -- the plan of a kind: 0 mission, 1 fence, 2 rally
 abbrev pub plan_at : Plans → ℕ → List Item
@@ -29,7 +21,3 @@ every_kind = 255
 -- the plans after a clear of one kind, or of all
 abbrev pub without_plan : Plans → ℕ → Plans
 without_plan p kind = if kind == every_kind then no_plans else with_plan p kind []
-
--- a plan that a drone may hold
-abbrev pub IsHoldable : ℕ → List Item → Type 0
-IsHoldable kind items = (items ≡ []) ⊎ IsValid kind items

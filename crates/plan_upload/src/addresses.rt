@@ -2,10 +2,11 @@
 ghost use Rattle.std.specs.Prelude.{◌≡◌};
 ghost use Rattle.plan_upload.specs.Addresses.{same_stream, same_name, node_of, everyone, is_for_drone};
 ghost use Rattle.plan_upload.specs.Drone.{ack, ask};
+ghost use Rattle.plan_upload.specs.Keeping.{carried};
 ghost use Rattle.plan_upload.specs.Station.{addressee};
 
 use mav_names::{Name, Stream};
-use plan_items::PlanMsg;
+use plan_items::{Item, PlanMsg};
 
 // A drone is this component of its system (MAVLink common messages, MAV_COMP_ID_AUTOPILOT1).
 pub const AUTOPILOT: u8 = 1;
@@ -74,5 +75,14 @@ pub fn request(stream: Stream, kind: u8, seq: u16) -> PlanMsg
         to: node(stream),
         seq,
         kind,
+    }
+}
+
+pub fn item_in(msg: &PlanMsg) -> Option<Item>
+    ensures { result ≡ carried msg.now }
+{
+    match *msg {
+        PlanMsg::Item { item, .. } => Some(item),
+        _ => None,
     }
 }

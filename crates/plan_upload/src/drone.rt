@@ -2,17 +2,16 @@
 ghost use Rattle.std.specs.Prelude.{◌≡◌, Some, IfOk, true};
 ghost use Rattle.plan_items.specs.Kinds.{number_of};
 ghost use Rattle.plan_items.specs.Plans.{items_of};
-ghost use Rattle.plan_upload.specs.Changes.{change_of};
 ghost use Rattle.plan_upload.specs.Drone.{fresh_drone, closed, drone_step, drone_tick};
 ghost use Rattle.plan_upload.specs.Gathering.{stream_of};
 ghost use Rattle.plan_upload.specs.Heard.{is_heard};
 ghost use Rattle.plan_upload.specs.Plans.{no_plans, plan_at, IsHoldable};
 
+mod keeping;
 mod transfers;
 
 use crate::NoMemory;
 use crate::addresses::{broadcast, is_for_autopilot, is_same_name, node, receiver};
-use crate::changes::Change;
 use crate::downloads::DownloadSlot;
 use crate::held::HeldPlans;
 use crate::results::Results;
@@ -96,7 +95,7 @@ impl Drone {
         self.installs
     }
 
-    fn hears(&self, msg: &PlanMsg) -> bool
+    pub(crate) fn hears(&self, msg: &PlanMsg) -> bool
         ensures { result ≡ is_heard self.now.sys msg.now }
     {
         match *msg {
@@ -144,24 +143,5 @@ impl Drone {
             self.results.set(sent.0, false);
         }
         Some(sent)
-    }
-
-    /// What `step` would do to the plans. It changes nothing, and doesn't allocate.
-    pub fn change(&self, from: Stream, msg: &PlanMsg) -> Change
-        ensures { result ≡ change_of self.now from msg.now }
-    {
-        if !self.hears(msg) {
-            return Change::Same;
-        }
-        match *msg {
-            PlanMsg::Item {
-                seq,
-                kind,
-                item,
-                ..
-            } => self.change_by_item(from, seq, kind, &item),
-            PlanMsg::Clear { kind, .. } => self.change_by_clear(from, kind),
-            _ => Change::Same,
-        }
     }
 }

@@ -1,13 +1,15 @@
 // The three plans that a drone holds.
-ghost use Rattle.std.specs.Prelude.{◌≡◌, ◌≤◌, [], length, IfOk};
+ghost use Rattle.std.specs.Prelude.{◌≡◌, ◌≤◌, ◌<◌, ◌^◌, [], length, vec_len, IfOk};
 ghost use Rattle.plan_items.specs.Kinds.{number_of};
 ghost use Rattle.plan_items.specs.Plans.{items_of};
 ghost use Rattle.plan_items.specs.Validation.{IsValid};
+ghost use Rattle.plan_image.specs.Image.{IsImageOf, most_bytes};
 ghost use Rattle.plan_upload.specs.Plans.{no_plans, plan_at, with_plan, without_plan, IsHoldable};
 ghost use Rattle.plan_upload.specs.Kinds.{clear_number};
 
 use crate::NoMemory;
 use crate::buffers::Buffer;
+use plan_image::{Kept, PlanItems, write_image};
 use plan_items::{Plan, PlanKind};
 use std::alloc::Global;
 use std::marker::Model;
@@ -84,6 +86,83 @@ impl HeldPlans {
                 self.fence.clear();
                 self.rally.clear();
             }
+        }
+    }
+
+    /// Becomes a copy of the plans that were kept.
+    pub fn fill(&mut self, kept: &Kept)
+        ensures { self.new ≡ kept.now.plans }
+    {
+        self.mission.fill(&kept.mission);
+        self.fence.fill(&kept.fence);
+        self.rally.fill(&kept.rally);
+    }
+
+    fn items(&self, kind: PlanKind) -> PlanItems<'_>
+        ensures items { result ≡ plan_at self.now (number_of kind) }
+        ensures holdable { IsHoldable (number_of kind) result }
+    {
+        PlanItems {
+            items: self.of(kind).as_slice(),
+            last: None,
+        }
+    }
+
+    /// The stored image of these plans.
+    pub fn write(&self, alloc: Global, sys: u8, floor: u64) -> Result<Vec<u8>, NoMemory>
+        requires { floor < 2 ^ 48 }
+        ensures image { IfOk result (λ bytes. IsImageOf sys floor self.now bytes.items) }
+        ensures short { IfOk result (λ bytes. vec_len bytes ≤ most_bytes) }
+    {
+        let mission = self.items(PlanKind::Mission);
+        let fence = self.items(PlanKind::Fence);
+        let rally = self.items(PlanKind::Rally);
+        write_image(alloc, sys, floor, &mission, &fence, &rally)
+    }
+
+    /// The stored image of these plans with that of one kind replaced.
+    pub fn write_with(
+        &self,
+        alloc: Global,
+        sys: u8,
+        floor: u64,
+        kind: PlanKind,
+        items: &PlanItems<'_>,
+    ) -> Result<Vec<u8>, NoMemory>
+        requires below { floor < 2 ^ 48 }
+        requires holdable { IsHoldable (number_of kind) items.now }
+        ensures image { IfOk result (λ bytes. IsImageOf sys floor (with_plan self.now (number_of kind) items.now) bytes.items) }
+        ensures short { IfOk result (λ bytes. vec_len bytes ≤ most_bytes) }
+    {
+        let mission = self.items(PlanKind::Mission);
+        let fence = self.items(PlanKind::Fence);
+        let rally = self.items(PlanKind::Rally);
+        match kind {
+            PlanKind::Mission => write_image(alloc, sys, floor, items, &fence, &rally),
+            PlanKind::Fence => write_image(alloc, sys, floor, &mission, items, &rally),
+            PlanKind::Rally => write_image(alloc, sys, floor, &mission, &fence, items),
+        }
+    }
+
+    /// The stored image of these plans after that of the kind, or with None all three, was emptied.
+    pub fn write_without(
+        &self,
+        alloc: Global,
+        sys: u8,
+        floor: u64,
+        kind: Option<PlanKind>,
+    ) -> Result<Vec<u8>, NoMemory>
+        requires { floor < 2 ^ 48 }
+        ensures image { IfOk result (λ bytes. IsImageOf sys floor (without_plan self.now (clear_number kind)) bytes.items) }
+        ensures short { IfOk result (λ bytes. vec_len bytes ≤ most_bytes) }
+    {
+        let none = PlanItems {
+            items: &[],
+            last: None,
+        };
+        match kind {
+            None => write_image(alloc, sys, floor, &none, &none, &none),
+            Some(kind) => self.write_with(alloc, sys, floor, kind, &none),
         }
     }
 }

@@ -1,9 +1,10 @@
 // The upload that is open at a drone.
-ghost use Rattle.std.specs.Prelude.{◌≡◌, ◌<◌, ◌≤◌, [], ◌∷◌, ◌++◌, Some, None, IfOk, IsTrue, is_some, All};
+ghost use Rattle.std.specs.Prelude.{option_to_list, ◌≡◌, ◌<◌, ◌≤◌, [], ◌∷◌, ◌++◌, Some, None, IfOk, IsTrue, is_some, All};
 ghost use Rattle.plan_items.specs.Kinds.{number_of, limit_of};
 ghost use Rattle.plan_items.specs.Plans.{items_of};
 ghost use Rattle.plan_items.specs.Validation.{item_fault, plan_fault};
 ghost use Rattle.plan_upload.specs.Drone.{is_own, is_other};
+ghost use Rattle.plan_upload.specs.Keeping.{HasKind, gathered_in, IsValidIn};
 ghost use Rattle.plan_upload.specs.Gathering.{last_verdict, verdict_of, asked_of, acked_of, with_item, plans_with, can_gather, is_sound_with, stream_of, kind_in, upload_after, sent_at_tick};
 
 use crate::NoMemory;
@@ -12,6 +13,7 @@ use crate::buffers::Buffer;
 use crate::held::HeldPlans;
 use crate::verdicts::Verdict;
 use mav_names::Stream;
+use plan_image::PlanItems;
 use plan_items::{
     Item, MissionResult, Plan, PlanKind, PlanMsg, check_item, check_whole_with, code,
 };
@@ -180,6 +182,34 @@ impl UploadSlot {
     {
         let open = self.open?;
         Some(open.kind)
+    }
+
+    /// The kind of an open upload is a kind.
+    pub fn see_kind(&self)
+        ensures { HasKind self.now }
+    {
+        let _open = &self.open;
+    }
+
+    fn gathered(&self) -> &[Item]
+        ensures { result.now ≡ gathered_in self.now }
+    {
+        match self.open {
+            None => &[],
+            Some(_) => self.items.plan().as_slice(),
+        }
+    }
+
+    /// The items that were gathered, and one more after them, if there is one.
+    pub fn items_with(&self, last: Option<Item>) -> PlanItems<'_>
+        ensures items { result ≡ gathered_in self.now ++ option_to_list last }
+        ensures valid { (item : Item) → last ≡ Some item → IsTrue (is_sound_with self.now item) → IsValidIn self.now result }
+    {
+        let _open = &self.open;
+        PlanItems {
+            items: self.gathered(),
+            last,
+        }
     }
 
     /// What is sent at a tick, and to which stream.

@@ -15,7 +15,7 @@ use plan_items::{Item, MissionResult, PlanKind, PlanMsg};
 
 impl Drone {
     // Drops what the stream's own upload gathered.
-    fn close(&mut self, from: Stream)
+    pub(super) fn close(&mut self, from: Stream)
         ensures { self.new ≡ closed self.old from }
     {
         if self.upload.is_of(from) {

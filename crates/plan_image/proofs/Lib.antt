@@ -1,0 +1,4 @@
+pub mod Cuts
+pub mod Items
+pub mod Readings
+pub mod Carrying
