@@ -60,6 +60,14 @@ least_frame extras packet bytes size within encodes =
     let checked : length (checked_bytes packet) ≡ length (header_of packet.old packet) + length packet.payload = length-append (header_of packet.old packet) packet.payload in
     omega (arith, long, header, rest, front, checked, length-take size bytes)
 
+-- nothing was received yet
+pub heard_at_first : (extras : List (ℕ × ℕ)) (key : List ℕ) (history : List Entry) (bytes : List ℕ) (before : List Heard) (stamps : Kept) → Represents stamps history → HeardTo extras key history bytes 0 before before stamps
+heard_at_first extras key history bytes before stamps of = record {
+  events = [];
+  begun = refl;
+  told = told_none key history before stamps of;
+}
+
 -- the parse continues after the bytes that were received at the start
 pub heard_on : (extras : List (ℕ × ℕ)) (key : List ℕ) (history : List Entry) (bytes : List ℕ) (place size : ℕ) (before between after : List Heard) (middle stamps : Kept) → (to : HeardTo extras key history bytes place before between middle) → FrontHeard extras key (after_frames key history (frames_of to.events)) (slice_range bytes place (length bytes)) size between after stamps → HeardTo extras key history bytes (place + size) before after stamps
 heard_on extras key history bytes place size before between after middle stamps to front =

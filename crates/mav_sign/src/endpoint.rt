@@ -2,7 +2,7 @@
 ghost use Rattle.std.specs.Prelude.{◌≡◌, ℕ, ◌+◌, ◌*◌, ◌%◌, ◌^◌, ◌<◌, ◌≤◌, None, false, take, length, vec_len, vec_capacity, ◌++◌, ◌∷◌, [], List, Some, IfOk, OnOk, OnErr};
 ghost use Rattle.x25_check.specs.Extras.{extra_of};
 ghost use Rattle.mav_messages.specs.Messages.{definition_of};
-ghost use Rattle.mav_sign.specs.History.{Entry, sent, next_in, greatest_stamp};
+ghost use Rattle.mav_sign.specs.History.{Entry, sent, started, answer_to, stamp_given, next_in, greatest_stamp};
 ghost use Rattle.mav_sign.specs.Kept.{Represents, kept_next};
 ghost use Rattle.mav_frame.specs.declared.events.Event.{Event};
 ghost use Rattle.mav_stream.specs.Progress.{Progress};
@@ -66,8 +66,41 @@ impl Endpoint {
         ensures history { IfOk result (λ endpoint. Represents endpoint.stamps []) }
         ensures stream { IfOk result (λ endpoint. Progress extras false [] [] (reader_of endpoint)) }
     {
-        let reader = Reader::new(extras.copy()?, false);
         let stamps = Stamps::new(alloc)?;
+        Endpoint::over(key, me, extras, stamps)
+    }
+
+    /// The same with a persisted low bound of timestamps: no frame whose timestamp isn't greater is admitted, and what is
+    /// sent is later.
+    pub fn start(
+        alloc: Global,
+        key: Key,
+        me: Stream,
+        extras: Extras,
+        floor: u64,
+    ) -> Result<Endpoint, NoMemory>
+        requires profile { HasProfile extras }
+        requires floor { floor < 2 ^ 48 }
+        ensures state { IfOk result (λ endpoint. endpoint ≡ new_endpoint key me extras endpoint.stamps) }
+        ensures history { IfOk result (λ endpoint. Represents endpoint.stamps (started floor ∷ [])) }
+        ensures stream { IfOk result (λ endpoint. Progress extras false [] [] (reader_of endpoint)) }
+    {
+        let stamps = Stamps::start(alloc, floor)?;
+        Endpoint::over(key, me, extras, stamps)
+    }
+
+    // With what its verifier keeps.
+    fn over(
+        key: Key,
+        me: Stream,
+        extras: Extras,
+        stamps: Stamps,
+    ) -> Result<Endpoint, NoMemory>
+        requires { HasProfile extras }
+        ensures state { IfOk result (λ endpoint. endpoint ≡ new_endpoint key me extras stamps) }
+        ensures stream { IfOk result (λ endpoint. Progress extras false [] [] (reader_of endpoint)) }
+    {
+        let reader = Reader::new(extras.copy()?, false);
         Ok(Endpoint {
             key,
             me,
@@ -76,6 +109,23 @@ impl Endpoint {
             seq: 0,
             reader,
         })
+    }
+
+    /// The verdict that `take` would give. Changes nothing.
+    pub fn test(&self, frame: &Frame) -> Admit
+        ensures answer { (history : List Entry) → Represents self.now.stamps history → result ≡ answer_to self.now.key history frame.now }
+    {
+        self.stamps.test(&self.key, frame)
+    }
+
+    /// The timestamp of the next frame that is sent. Changes nothing.
+    pub fn ahead(&self, clock: u64) -> Result<u64, StampsSpent>
+        ensures kept { result ≡ stamp_given (kept_next self.now.stamps clock) }
+        ensures some { IfOk result (λ stamp. 1 ≤ stamp) }
+        ensures small { IfOk result (λ stamp. stamp < 2 ^ 48) }
+        ensures answer { (history : List Entry) → Represents self.now.stamps history → result ≡ stamp_given (next_in history clock) }
+    {
+        self.stamps.ahead(clock)
     }
 
     /// Tries one frame, and keeps its timestamp if it is admitted; `receive` and `receive_part` do so with each frame
