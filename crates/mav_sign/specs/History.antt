@@ -10,8 +10,9 @@ use Rattle.mav_sign.specs.declared.admission.StampsSpent.{StampsSpent}
 use Rattle.mav_sign.specs.declared.admission.Admit.{Admit}
 use Rattle.mav_sign.specs.declared.admission.Admit.TheVariants.{Admitted, Unsigned, BadSignature, BelowFloor, NotLater, TooOld, TooManyStreams}
 
--- a frame that was tried, with its verdict; a timestamp that was given to a frame sent; or the persisted low bound of
--- timestamps that the verifier was started with. A history is the list of its entries, the earliest first
+-- a frame that was tried, with its verdict; a timestamp that was given to a frame sent; or the persisted timestamp low
+-- bound that the verifier was started with. A history is the list of its entries, the earliest first, and begins with
+-- its low bound if there is one
 pub data Entry : Type 0 where
   tried : Packet → Admit → Entry
   sent : ℕ → Entry
@@ -64,7 +65,7 @@ abbrev pub greatest_of : List ℕ → Option ℕ
 greatest_of [] = None
 greatest_of (number ∷ numbers) = Some (greatest (number ∷ numbers))
 
--- the low bound that the verifier was started with, if it was
+-- the persisted timestamp low bound, if the verifier was started with one
 abbrev pub low_of : List Entry → Option ℕ
 low_of history = greatest_of (filter_map started_by history)
 

@@ -2,11 +2,12 @@
 use Rattle.std.specs.Prelude.{ℕ, ◌≡◌, ◌+◌, ◌*◌, ◌<◌, ◌==◌, nat_eq, max, is_some, if◌then◌else◌, List, length, Option, Some}
 use Rattle.std.specs.Map.{lookup}
 use Rattle.mav_names.specs.declared.names.Stream.{Stream}
+use Rattle.mav_frame.specs.Packet.{Packet}
 use Rattle.mav_sign.specs.declared.admission.Admit.{Admit}
 use Rattle.mav_sign.specs.declared.admission.Admit.TheVariants.{Admitted}
-use Rattle.mav_sign.specs.History.{Entry, answer_after, unless_below, low_of, last_of, streams_of, accepted_in, previous_in, sent_in, greatest}
+use Rattle.mav_sign.specs.History.{Entry, block_answer, answer_after, unless_below, low_of, last_of, streams_of, accepted_in, previous_in, sent_in, greatest}
 
--- the low bound that it was started with, the pairs of a stream's number and its last admitted timestamp, the greatest
+-- the persisted timestamp low bound that it was started with, the pairs of a stream's number and its last admitted timestamp, the greatest
 -- timestamp admitted, and the previous one sent
 pub record Kept : Type 0 where
   pub low : Option ℕ
@@ -45,6 +46,10 @@ local_kept kept = max kept.accepted kept.previous
 abbrev pub kept_answer : Kept → Stream → ℕ → Admit
 kept_answer kept stream stamp =
     unless_below kept.low stamp (answer_after (stamp_at (stream_number stream) kept.last) (length kept.last) (local_kept kept) stamp)
+
+-- the verdict on a frame by what is kept
+abbrev pub kept_answer_to : List ℕ → Kept → Packet → Admit
+kept_answer_to key kept packet = block_answer key (kept_answer kept) packet packet.block
 
 -- the next timestamp by what is kept
 abbrev pub kept_next : Kept → ℕ → ℕ

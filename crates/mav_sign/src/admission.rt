@@ -9,7 +9,8 @@ pub enum Admit {
     Unsigned,
     /// The signature isn't that of the key.
     BadSignature,
-    /// Its timestamp isn't greater than the persisted low bound (the floor) that the verifier was started with.
+    /// Its timestamp isn't greater than the persisted timestamp low bound, the floor, that the verifier was started
+    /// with.
     BelowFloor { floor: u64 },
     /// Its timestamp isn't greater than the last admitted one of its stream.
     NotLater { last: u64 },

@@ -1,7 +1,7 @@
 // What a verifier keeps: the timestamps that it admitted and sent.
 ghost use Rattle.std.specs.Prelude.{◌≡◌, ◌+◌, ◌<◌, ◌^◌, ◌++◌, ◌∷◌, [], List, max, false, Some, IfOk, OnErr};
-ghost use Rattle.mav_sign.specs.History.{Entry, tried, sent, started, stream_of as stream_in, stamp_answer, answer_to, block_answer, is_admitted, last_of, local_of, next_in, stamp_given};
-ghost use Rattle.mav_sign.specs.Kept.{IsStream, Represents, KeptAfter, stream_number, stamp_at, local_kept, kept_answer, kept_next};
+ghost use Rattle.mav_sign.specs.History.{Entry, tried, sent, started, stream_of as stream_in, stamp_answer, answer_to, is_admitted, last_of, local_of, next_in, stamp_given};
+ghost use Rattle.mav_sign.specs.Kept.{IsStream, Represents, KeptAfter, stream_number, stamp_at, local_kept, kept_answer, kept_answer_to, kept_next};
 
 use crate::signing::is_right;
 use crate::table::{STREAM_LIMIT, Table};
@@ -69,8 +69,8 @@ impl Stamps {
         })
     }
 
-    /// Starts with a persisted low bound: no frame whose timestamp isn't greater is admitted, and what is sent is later.
-    /// Allocates the memory for all that is kept later.
+    /// Starts with a persisted timestamp low bound, the floor: a frame is admitted only if its timestamp is greater, and
+    /// it counts as the previous timestamp sent. Allocates the memory for all that is kept later.
     pub fn start(alloc: Global, floor: u64) -> Result<Stamps, NoMemory>
         requires { floor < 2 ^ 48 }
         ensures { IfOk result (λ stamps. Represents stamps (started floor ∷ [])) }
@@ -92,7 +92,7 @@ impl Stamps {
         self.last.get(stream)
     }
 
-    /// The greatest timestamp that was admitted or sent, 0 at first.
+    /// The greatest timestamp that was admitted or sent; at first the persisted timestamp low bound, or 0 without one.
     pub fn local(&self) -> u64
         ensures kept { result ≡ local_kept self.now }
         ensures history { (history : List Entry) → Represents self.now history → result ≡ local_of history }
@@ -140,9 +140,9 @@ impl Stamps {
         answer
     }
 
-    /// The verdict that `admit` would give. Changes nothing.
+    /// The verdict that `admit` would give. Nothing changes.
     pub fn test(&self, key: &Key, frame: &Frame) -> Admit
-        ensures kept { result ≡ block_answer key.now (kept_answer self.now) frame.now frame.now.block }
+        ensures kept { result ≡ kept_answer_to key.now self.now frame.now }
         ensures answer { (history : List Entry) → Represents self.now history → result ≡ answer_to key.now history frame.now }
     {
         let Some(block) = &frame.block else {
@@ -156,7 +156,7 @@ impl Stamps {
 
     /// Tries a frame, and keeps its timestamp if it is admitted.
     pub fn admit(&mut self, key: &Key, frame: &Frame) -> Admit
-        ensures kept { result ≡ block_answer key.now (kept_answer self.old) frame.now frame.now.block }
+        ensures kept { result ≡ kept_answer_to key.now self.old frame.now }
         ensures unchanged { is_admitted result ≡ false → self.new ≡ self.old }
         ensures answer { (history : List Entry) → Represents self.old history
             → result ≡ answer_to key.now history frame.now }
@@ -172,7 +172,7 @@ impl Stamps {
         self.admit_stamp(stream_of(frame, block), block.stamp)
     }
 
-    /// The timestamp that `next_stamp` would return. Changes nothing.
+    /// The timestamp that `next_stamp` would return at that clock. Nothing changes.
     pub fn ahead(&self, clock: u64) -> Result<u64, StampsSpent>
         ensures kept { result ≡ stamp_given (kept_next self.now clock) }
         ensures later { IfOk result (λ stamp. self.now.previous < stamp) }

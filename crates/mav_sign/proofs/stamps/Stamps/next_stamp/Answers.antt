@@ -1,4 +1,4 @@
-use Rattle.std.proofs.Common.{◌<◌, ◌++◌, ◌∷◌, [], ap, sym, subst, arith}
+use Rattle.std.proofs.Common.{◌<◌, ◌++◌, ◌∷◌, [], ap, sym, subst}
 use Rattle.mav_sign.specs.History.{sent}
 use Rattle.mav_sign.specs.Kept.{Kept, Represents}
 use Rattle.mav_sign.proofs.Keeping.{after_sent}
