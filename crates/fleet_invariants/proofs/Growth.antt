@@ -114,4 +114,5 @@ link_kept s t k link h = record {
   previous = h.previous;
   lasts = λ stream stamp e. stamped_kept s t k stream stamp (h.lasts stream stamp e);
   streams = at_most_on _ _ _ h.streams k.many;
+  low = h.low;
 }

@@ -12,7 +12,7 @@ use Rattle.plan_upload.specs.Station.{StationState, StationStep, Told, station_s
 use Rattle.mav_frame.specs.Packet.{Packet, SignatureBlock}
 use Rattle.mav_messages.specs.Plans.{plan_of}
 use Rattle.mav_sign.specs.declared.admission.Admit.{Admit}
-use Rattle.mav_sign.specs.declared.admission.Admit.TheVariants.{Admitted, Unsigned, BadSignature, NotLater, TooOld, TooManyStreams}
+use Rattle.mav_sign.specs.declared.admission.Admit.TheVariants.{Admitted, Unsigned, BadSignature, BelowFloor, NotLater, TooOld, TooManyStreams}
 use Rattle.mav_sign.specs.History.{tried, last_of, answer_to, stream_of}
 use Rattle.mav_sign.specs.Signing.{Verifies}
 use Rattle.mav_nodes.specs.News.{Drops}
@@ -108,6 +108,7 @@ module _ (s : WorldState) (k : ℕ) (packet : Packet) (g : Steady s) (known : Ve
         drone_takes q (stream_of packet block) from (heard refl block refl) (plan_in packet.id packet.payload) (message_in_range s packet q)
     drone_admits Unsigned block sent heard = dropped (Drone drone_tried) Unsigned (drone_tries s k n g found packet known)
     drone_admits BadSignature block sent heard = dropped (Drone drone_tried) BadSignature (drone_tries s k n g found packet known)
+    drone_admits (BelowFloor floor) block sent heard = dropped (Drone drone_tried) (BelowFloor floor) (drone_tries s k n g found packet known)
     drone_admits (NotLater last) block sent heard = dropped (Drone drone_tried) (NotLater last) (drone_tries s k n g found packet known)
     drone_admits (TooOld local) block sent heard = dropped (Drone drone_tried) (TooOld local) (drone_tries s k n g found packet known)
     drone_admits TooManyStreams block sent heard = dropped (Drone drone_tried) TooManyStreams (drone_tries s k n g found packet known)
@@ -140,6 +141,7 @@ module _ (s : WorldState) (k : ℕ) (packet : Packet) (g : Steady s) (known : Ve
         station_takes q (stream_of packet block) (plan_in packet.id packet.payload) (message_in_range s packet q)
     station_admits Unsigned block sent = dropped (Station station_tried) Unsigned (station_tries s k n g found packet known)
     station_admits BadSignature block sent = dropped (Station station_tried) BadSignature (station_tries s k n g found packet known)
+    station_admits (BelowFloor floor) block sent = dropped (Station station_tried) (BelowFloor floor) (station_tries s k n g found packet known)
     station_admits (NotLater last) block sent = dropped (Station station_tried) (NotLater last) (station_tries s k n g found packet known)
     station_admits (TooOld local) block sent = dropped (Station station_tried) (TooOld local) (station_tries s k n g found packet known)
     station_admits TooManyStreams block sent = dropped (Station station_tried) TooManyStreams (station_tries s k n g found packet known)
@@ -186,6 +188,7 @@ rests s k a g found =
         local = (let h = l.local in omega arith);
         rises = omega arith;
         lasts = l.lasts;
+        low = l.low;
         heard = λ q h. h;
         sends = λ p e. absurd (nowhere e.index p e.found);
       };

@@ -5,7 +5,7 @@ use Rattle.std.proofs.lemmas.List.{map-append}
 use Rattle.mav_names.specs.declared.names.Stream.{Stream}
 use Rattle.mav_frame.specs.Packet.{Packet, SignatureBlock}
 use Rattle.mav_sign.specs.declared.admission.Admit.{Admit}
-use Rattle.mav_sign.specs.declared.admission.Admit.TheVariants.{Admitted, Unsigned, BadSignature, NotLater, TooOld, TooManyStreams}
+use Rattle.mav_sign.specs.declared.admission.Admit.TheVariants.{Admitted, Unsigned, BadSignature, BelowFloor, NotLater, TooOld, TooManyStreams}
 use Rattle.mav_sign.specs.History.{Entry, tried, sent, Stamped, stream_of, stamped, admitted_by, admitted_in, sent_in, same_stream, greatest, greatest_of, latest, stamps_of, last_of, accepted_in, previous_in, local_of, next_in}
 use Rattle.mav_sign.proofs.Histories.{admitted_more, admitted_same, sent_more, sent_same, greatest_more, greatest_of_more, latest_more, same_is, stamps_more, stamps_same}
 use Rattle.fleet_invariants.proofs.Lists.{some_is}
@@ -131,6 +131,7 @@ leaves history packet Admitted None signed = Nothing (nothing_admitted history (
 leaves history packet Admitted (Some block) signed = admitting history packet block signed
 leaves history packet Unsigned block signed = Nothing (nothing_admitted history (tried packet Unsigned) refl)
 leaves history packet BadSignature block signed = Nothing (nothing_admitted history (tried packet BadSignature) refl)
+leaves history packet (BelowFloor floor) block signed = Nothing (nothing_admitted history (tried packet (BelowFloor floor)) refl)
 leaves history packet (NotLater last) block signed = Nothing (nothing_admitted history (tried packet (NotLater last)) refl)
 leaves history packet (TooOld local) block signed = Nothing (nothing_admitted history (tried packet (TooOld local)) refl)
 leaves history packet TooManyStreams block signed = Nothing (nothing_admitted history (tried packet TooManyStreams) refl)

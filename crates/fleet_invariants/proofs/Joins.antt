@@ -116,6 +116,7 @@ fresh_link s me h = record {
   previous = omega arith;
   lasts = λ stream stamp e. absurd (no_stamp stamp e);
   streams = omega arith;
+  low = refl;
 }
 
 pub drone_joins : (s : WorldState) (sys : ℕ) → Sound s → 1 ≤ sys → sys < 256 → has_name (names_of s.nodes) (record { sys = sys; comp = 1 }) ≡ false → drones_in s.nodes < most_drones → Sound (joined s (Drone (new_drone s.key sys)))

@@ -12,6 +12,7 @@ use Rattle.mav_sign.specs.declared.admission.Admit.{Admit}
 use Rattle.mav_sign.specs.declared.admission.Admit.TheVariants.{Admitted, Unsigned}
 use Rattle.mav_sign.specs.History.{Entry, tried, sent, last_of, local_of, next_in, block_answer, answer_to, stamp_answer, greatest_stamp}
 use Rattle.mav_sign.specs.Signing.{Verifies, signature_of}
+use Rattle.mav_sign.proofs.Histories.{low_same}
 use Rattle.mav_nodes.specs.Links.{Link, Done, Outcome, tries, sent_at, sends}
 use Rattle.mav_nodes.specs.Steps.{answers}
 use Rattle.mav_nodes.specs.Signed.{signed_packet}
@@ -77,6 +78,7 @@ module _ (s : WorldState) (g : Steady s) (link : Link) (l : SoundLink s link) (p
     local = omega (arith, near);
     rises = (let e = trying_previous link.history packet answer in omega arith);
     lasts = lasts;
+    low = low_same link.history (tried packet answer) refl ∙ l.low;
     heard = λ q e. heard_more link.history (tried packet answer) q e;
     sends = λ p e. absurd (nowhere e.index p e.found);
   }
@@ -158,6 +160,7 @@ module _ (s : WorldState) (link : Link) (l : SoundLink s link) where
           local = sending_near link.history s.clock (length s.sent) l.local;
           rises = (let later = next_later link.history s.clock in let is = sending_is link.history stamp in omega (arith, later, is));
           lasts = λ stream t h. l.lasts stream t (sym ((sending_admits link.history stamp).lasts stream) ∙ h);
+          low = low_same link.history (sent stamp) refl ∙ l.low;
           heard = λ q h. heard_more link.history (sent stamp) q h;
           sends = λ p h. subst (Sending s (sent_at stamp link)) (one_of packet p h.index h.found) (sending message fits (not_less _ _ e));
         };
@@ -174,6 +177,7 @@ module _ (s : WorldState) (link : Link) (l : SoundLink s link) where
       local = (let h = l.local in omega arith);
       rises = omega arith;
       lasts = l.lasts;
+      low = l.low;
       heard = λ q h. h;
       sends = λ p e. absurd (nowhere e.index p e.found);
     };

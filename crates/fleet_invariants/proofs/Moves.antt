@@ -1,5 +1,5 @@
 -- One node moves, and sends frames: the state stays steady.
-use Rattle.std.proofs.Common.{◌≡◌, ℕ, ◌+◌, ◌<◌, ◌≤◌, ◌^◌, inl, inr, true, List, [], ◌∷◌, ◌++◌, length, map, slice_get, slice_set, Some, refl, sym, ap, subst, arith, ◌∙◌}
+use Rattle.std.proofs.Common.{◌≡◌, ℕ, ◌+◌, ◌<◌, ◌≤◌, ◌^◌, inl, inr, true, List, [], ◌∷◌, ◌++◌, length, map, slice_get, slice_set, Some, None, refl, sym, ap, subst, arith, ◌∙◌}
 use Rattle.std.specs.Prelude.{All, option_map}
 use Rattle.std.proofs.lemmas.Option.{slice_get-map}
 use Rattle.std.proofs.lemmas.List.{length-append, length-map}
@@ -12,7 +12,7 @@ use Rattle.mav_frame.specs.Packet.{Packet}
 use Rattle.mav_messages.specs.declared.messages.Message.{Message}
 use Rattle.mav_messages.specs.Messages.{definition_of, values_of}
 use Rattle.mav_messages.specs.Plans.{plan_of}
-use Rattle.mav_sign.specs.History.{Entry, last_of, local_of, previous_in, streams_of}
+use Rattle.mav_sign.specs.History.{Entry, last_of, low_of, local_of, previous_in, streams_of}
 use Rattle.mav_nodes.specs.Links.{Link}
 use Rattle.mav_nodes.specs.Payloads.{ItemFits}
 use Rattle.mav_nodes.specs.Signed.{signed_packet}
@@ -69,6 +69,7 @@ pub record LinkMoves (s : WorldState) (a b : Link) (packets : List Packet) : Typ
   pub local : local_of b.history ≤ s.clock + (length s.sent + length packets)
   pub rises : previous_in a.history ≤ previous_in b.history
   pub lasts : (stream : Stream) (stamp : ℕ) → last_of stream b.history ≡ Some stamp → WasStamped s stream stamp
+  pub low : low_of b.history ≡ None
   pub heard : (stream : Stream) → has_heard a stream ≡ true → has_heard b stream ≡ true
   pub sends : (p : Packet) → IsAt packets p → Sending s b p
 
@@ -190,6 +191,7 @@ module _ (s : WorldState) (k : ℕ) (a b : Node) (packets : List Packet) (found 
     previous = previous_local (link_of b).history;
     lasts = lasts;
     streams = streams_few after (link_of b).history lasts;
+    low = m.link.low;
   }
 
   new_sent : Steady s → (p : Packet) → Sending s (link_of b) p → slice_get after.nodes k ≡ Some b → IsSent after p

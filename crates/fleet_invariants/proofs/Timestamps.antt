@@ -7,7 +7,7 @@ use Rattle.mav_frame.specs.Packet.{Packet, SignatureBlock}
 use Rattle.mav_messages.specs.declared.messages.Message.{Message}
 use Rattle.mav_messages.specs.Plans.{message_of_plan}
 use Rattle.mav_sign.specs.declared.admission.Admit.{Admit}
-use Rattle.mav_sign.specs.declared.admission.Admit.TheVariants.{Admitted, Unsigned, BadSignature, NotLater, TooOld, TooManyStreams}
+use Rattle.mav_sign.specs.declared.admission.Admit.TheVariants.{Admitted, Unsigned, BadSignature, BelowFloor, NotLater, TooOld, TooManyStreams}
 use Rattle.mav_sign.specs.Signing.{Verifies}
 use Rattle.mav_sign.specs.History.{Entry, tried, sent, local_of, next_in, answer_to, greatest_stamp, stream_of}
 use Rattle.mav_nodes.specs.News.{NodeEvent}
@@ -117,6 +117,7 @@ module _ {Core : Type 0} (step : Core → Stream → PlanMsg → CoreStep Core) 
   admits_near n node p Admitted (Some block) h room = takes_near n node (stream_of p block) (plan_in p.id p.payload) h room
   admits_near n node p Unsigned block h room = later clock key n node.link h
   admits_near n node p BadSignature block h room = later clock key n node.link h
+  admits_near n node p (BelowFloor floor) block h room = later clock key n node.link h
   admits_near n node p (NotLater last) block h room = later clock key n node.link h
   admits_near n node p (TooOld local) block h room = later clock key n node.link h
   admits_near n node p TooManyStreams block h room = later clock key n node.link h

@@ -11,7 +11,7 @@ use Rattle.mav_frame.specs.Packet.{Packet}
 use Rattle.mav_messages.specs.declared.messages.Message.{Message}
 use Rattle.mav_messages.specs.Messages.{definition_of, values_of}
 use Rattle.mav_messages.specs.Plans.{plan_of}
-use Rattle.mav_sign.specs.History.{same_stream, last_of, local_of, previous_in, streams_of}
+use Rattle.mav_sign.specs.History.{same_stream, last_of, low_of, local_of, previous_in, streams_of}
 use Rattle.plan_upload.specs.Addresses.{node_of}
 use Rattle.plan_upload.specs.Drone.{UploadResult, DroneState}
 use Rattle.plan_ranges.specs.Ranges.{ItemInRange, DroneInRange, StationInRange}
@@ -68,6 +68,8 @@ pub record SoundLink (s : WorldState) (link : Link) : Type 0 where
   pub lasts : (stream : Stream) (stamp : ℕ) → last_of stream link.history ≡ Some stamp → WasStamped s stream stamp
   -- so no more streams are kept than there are nodes
   pub streams : length (streams_of link.history) ≤ length s.nodes
+  -- no node was started with a persisted timestamp low bound
+  pub low : low_of link.history ≡ None
 
 -- a drone keeps results, and an open upload, of streams that it has heard alone, and one result of each
 pub record Roomy (known : Stream → Bool) (d : DroneState) : Type 0 where

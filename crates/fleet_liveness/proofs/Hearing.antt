@@ -12,10 +12,10 @@ use Rattle.mav_frame.specs.FinalParse.{final_parse}
 use Rattle.plan_items.specs.declared.messages.PlanMsg.{PlanMsg}
 use Rattle.mav_messages.specs.Plans.{message_of_plan}
 use Rattle.mav_sign.specs.declared.admission.Admit.{Admit}
-use Rattle.mav_sign.specs.declared.admission.Admit.TheVariants.{Admitted, Unsigned, BadSignature, NotLater, TooOld, TooManyStreams}
+use Rattle.mav_sign.specs.declared.admission.Admit.TheVariants.{Admitted, Unsigned, BadSignature, BelowFloor, NotLater, TooOld, TooManyStreams}
 use Rattle.mav_sign.specs.Signing.{signature_of}
 use Rattle.mav_sign.specs.Endpoints.{frames_of}
-use Rattle.mav_sign.specs.History.{Entry, answer_to, block_answer, stamp_answer, answer_after, one_minute, stream_limit, last_of, local_of, streams_of, next_in, greatest_stamp}
+use Rattle.mav_sign.specs.History.{Entry, answer_to, block_answer, stamp_answer, answer_after, unless_below, low_of, one_minute, stream_limit, last_of, local_of, streams_of, next_in, greatest_stamp}
 use Rattle.mav_nodes.specs.News.{NodeEvent, Sends, Installs, Empties, Drops, Ends}
 use Rattle.mav_nodes.specs.Payloads.{plan_in}
 use Rattle.mav_nodes.specs.Links.{Link, Outcome, done, behind, and_then, tries, sent_at, sends}
@@ -50,6 +50,14 @@ fresh_answer (Some l) streams local stamp later room recent =
     not_lt : (a b : ℕ) → b ≤ a → nat_lt a b ≡ false
     not_lt a b h = grind arith
 
+-- above the low bound the other tests decide
+above_low : (low : Option ℕ) (stamp : ℕ) (answer : Admit) → ((l : ℕ) → low ≡ Some l → l < stamp) → unless_below low stamp answer ≡ answer
+above_low None stamp answer above = refl
+above_low (Some l) stamp answer above = cond-true (nat_lt l stamp) _ _ (lt _ _ (above l refl))
+  where
+    lt : (a b : ℕ) → a < b → nat_lt a b ≡ true
+    lt a b h = grind arith
+
 bytes_same : (xs : List ℕ) → bytes_eq xs xs ≡ true
 bytes_same [] = refl
 bytes_same (x ∷ xs) = rw (number_same x) (bytes_same xs)
@@ -73,8 +81,8 @@ module _ (key : List ℕ) (p : Packet) (stamp : ℕ) (m : PlanMsg) (c : Carries 
       ap (block_answer key (λ stream t. stamp_answer stream t history) p) c.block
       ∙ cond-true (bytes_eq (signature_of key p 0 stamp) (signature_of key p 0 stamp)) _ _ (bytes_same (signature_of key p 0 stamp))
 
-  pub admitted : (history : List Entry) → ((l : ℕ) → last_of (stream_of p.from) history ≡ Some l → l < stamp) → length (streams_of history) < stream_limit → local_of history ≤ stamp + one_minute → answer_to key history p ≡ Admitted
-  admitted history later room recent = answer_is history ∙ fresh_answer (last_of (stream_of p.from) history) (length (streams_of history)) (local_of history) stamp later room recent
+  pub admitted : (history : List Entry) → ((low : ℕ) → low_of history ≡ Some low → low < stamp) → ((l : ℕ) → last_of (stream_of p.from) history ≡ Some l → l < stamp) → length (streams_of history) < stream_limit → local_of history ≤ stamp + one_minute → answer_to key history p ≡ Admitted
+  admitted history above later room recent = answer_is history ∙ above_low (low_of history) stamp _ above ∙ fresh_answer (last_of (stream_of p.from) history) (length (streams_of history)) (local_of history) stamp later room recent
 
   module _ {Core : Type 0} (step : Core → Stream → PlanMsg → CoreStep Core) (clock : ℕ) (y : Side Core) (same_key : y.link.key ≡ key) (extras : y.link.extras ≡ extras_of profile_definitions) where
     abbrev after : Link
@@ -135,6 +143,7 @@ module _ (key : List ℕ) (p : Packet) (stamp : ℕ) (m : PlanMsg) (c : Carries 
         by_answer Admitted e = inl e
         by_answer Unsigned e = inr (dropped Unsigned e (heard Unsigned e))
         by_answer BadSignature e = inr (dropped BadSignature e (heard BadSignature e))
+        by_answer (BelowFloor floor) e = inr (dropped (BelowFloor floor) e (heard (BelowFloor floor) e))
         by_answer (NotLater l) e = inr (dropped (NotLater l) e (heard (NotLater l) e))
         by_answer (TooOld l) e = inr (dropped (TooOld l) e (heard (TooOld l) e))
         by_answer TooManyStreams e = inr (dropped TooManyStreams e (heard TooManyStreams e))

@@ -19,7 +19,7 @@ use Rattle.plan_upload.specs.declared.changes.Change.TheVariants.{Same, Install,
 use Rattle.mav_messages.specs.declared.messages.Message.{Message}
 use Rattle.mav_messages.specs.Plans.{message_of_plan}
 use Rattle.mav_sign.specs.declared.admission.Admit.{Admit}
-use Rattle.mav_sign.specs.declared.admission.Admit.TheVariants.{Admitted, Unsigned, BadSignature, NotLater, TooOld, TooManyStreams}
+use Rattle.mav_sign.specs.declared.admission.Admit.TheVariants.{Admitted, Unsigned, BadSignature, BelowFloor, NotLater, TooOld, TooManyStreams}
 use Rattle.mav_sign.specs.Endpoints.{frames_of}
 use Rattle.mav_sign.specs.History.{Entry, answer_to, stream_of as stream_in, local_of, previous_in, accepted_in, next_in, greatest_stamp}
 use Rattle.mav_nodes.specs.News.{NodeEvent, Sends, Drops}
@@ -118,6 +118,7 @@ module _ {Core : Type 0} (step : Core → Stream → PlanMsg → CoreStep Core) 
   short_admits y p Admitted (Some block) left = short_takes y (stream_in p block) (plan_in p.id p.payload) left
   short_admits y p Unsigned block left = short_at y (Drops Unsigned ∷ []) (omega arith)
   short_admits y p BadSignature block left = short_at y (Drops BadSignature ∷ []) (omega arith)
+  short_admits y p (BelowFloor floor) block left = short_at y (Drops (BelowFloor floor) ∷ []) (omega arith)
   short_admits y p (NotLater l) block left = short_at y (Drops (NotLater l) ∷ []) (omega arith)
   short_admits y p (TooOld l) block left = short_at y (Drops (TooOld l) ∷ []) (omega arith)
   short_admits y p TooManyStreams block left = short_at y (Drops TooManyStreams ∷ []) (omega arith)

@@ -1,5 +1,5 @@
 -- What a sound state gives: who is at an index, which timestamps are fresh, and that they are admitted.
-use Rattle.std.proofs.Common.{◌≡◌, ◌≢◌, ◌∙◌, ℕ, ◌+◌, ◌<◌, ◌≤◌, max, true, List, [], ◌∷◌, length, slice_get, Some, refl, sym, ap, subst, arith}
+use Rattle.std.proofs.Common.{◌≡◌, ◌≢◌, ◌∙◌, ℕ, ◌+◌, ◌<◌, ◌≤◌, max, true, List, [], ◌∷◌, length, slice_get, Option, Some, None, refl, sym, ap, subst, arith}
 use Rattle.mav_names.specs.declared.names.Name.{Name}
 use Rattle.mav_names.specs.declared.names.Stream.{Stream}
 use Rattle.mav_frame.specs.Packet.{Packet}
@@ -92,7 +92,7 @@ module _ (s : WorldState) (g : Sound s) where
       let local = link.local in
       let frames = g.frames in
       ap (λ k. answer_to k (link_of a).history p) link.key
-      ∙ admitted s.key p stamp m c (link_of a).history fresh (omega arith) (omega arith)
+      ∙ admitted s.key p stamp m c (link_of a).history (λ low is. absurd (let bound : ◌≡◌ {A = Option ℕ} None (Some low) = sym link.low ∙ is in cc)) fresh (omega arith) (omega arith)
 
 -- the timestamp of the next frame is above what was sent, and not below the clock
 pub next_fresh : (key : List ℕ) (link : Link) (p : Packet) (clock : ℕ) → previous_in link.history < next_in (tries p link).history clock

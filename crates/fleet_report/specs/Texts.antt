@@ -18,7 +18,7 @@ use Rattle.mav_messages.specs.Messages.{definition_of, values_of}
 use Rattle.mav_messages.specs.Plans.{plan_of}
 use Rattle.mav_messages.specs.Targets.{target_in}
 use Rattle.mav_sign.specs.declared.admission.Admit.{Admit}
-use Rattle.mav_sign.specs.declared.admission.Admit.TheVariants.{Admitted, Unsigned, BadSignature, NotLater, TooOld, TooManyStreams}
+use Rattle.mav_sign.specs.declared.admission.Admit.TheVariants.{Admitted, Unsigned, BadSignature, BelowFloor, NotLater, TooOld, TooManyStreams}
 
 abbrev pub space : List ℕ
 space = 32 ∷ []
@@ -121,6 +121,7 @@ abbrev pub code_of : Admit → ℕ
 code_of Admitted = 0
 code_of Unsigned = 1
 code_of BadSignature = 2
+code_of (BelowFloor floor) = 6
 code_of (NotLater last) = 3
 code_of (TooOld local) = 4
 code_of TooManyStreams = 5

@@ -64,6 +64,7 @@ pub(crate) fn code(answer: Admit) -> u8
         Admit::Admitted => 0,
         Admit::Unsigned => 1,
         Admit::BadSignature => 2,
+        Admit::BelowFloor { .. } => 6,
         Admit::NotLater { .. } => 3,
         Admit::TooOld { .. } => 4,
         Admit::TooManyStreams => 5,

@@ -9,7 +9,7 @@ use Rattle.mav_frame.specs.Packet.{Packet, SignatureBlock}
 use Rattle.mav_frame.specs.Encoding.{encoding}
 use Rattle.mav_frame.specs.FinalParse.{final_parse}
 use Rattle.mav_sign.specs.declared.admission.Admit.{Admit}
-use Rattle.mav_sign.specs.declared.admission.Admit.TheVariants.{Admitted, Unsigned, BadSignature, NotLater, TooOld, TooManyStreams}
+use Rattle.mav_sign.specs.declared.admission.Admit.TheVariants.{Admitted, Unsigned, BadSignature, BelowFloor, NotLater, TooOld, TooManyStreams}
 use Rattle.mav_sign.specs.History.{next_in, answer_to, stream_of as signed_stream, greatest_stamp}
 use Rattle.mav_sign.specs.Endpoints.{frames_of}
 use Rattle.plan_items.specs.declared.messages.PlanMsg.{PlanMsg}
@@ -172,6 +172,7 @@ module _ (Core : Type 0) (me : Stream) where
     admits_keep a p Admitted (Some block) h = takes_keep a (signed_stream p block) (plan_in p.id p.payload) h
     admits_keep a p Unsigned block h = h
     admits_keep a p BadSignature block h = h
+    admits_keep a p (BelowFloor floor) block h = h
     admits_keep a p (NotLater last) block h = h
     admits_keep a p (TooOld local) block h = h
     admits_keep a p TooManyStreams block h = h
@@ -216,6 +217,7 @@ hearing_gives clock sent a p me h = by_answer (answer_to (link_of a).key (link_o
     by_answer Admitted = by_plan (plan_in p.id p.payload)
     by_answer Unsigned = tt
     by_answer BadSignature = tt
+    by_answer (BelowFloor floor) = tt
     by_answer (NotLater last) = tt
     by_answer (TooOld local) = tt
     by_answer TooManyStreams = tt
@@ -362,6 +364,7 @@ module _ (number : ℕ) where
       by_answer Admitted = by_plan (plan_in p.id p.payload)
       by_answer Unsigned = inl refl
       by_answer BadSignature = inl refl
+      by_answer (BelowFloor floor) = inl refl
       by_answer (NotLater last) = inl refl
       by_answer (TooOld local) = inl refl
       by_answer TooManyStreams = inl refl

@@ -28,7 +28,7 @@ use Rattle.mav_frame.specs.Encoding.{encoding}
 use Rattle.mav_messages.specs.declared.messages.Message.{Message}
 use Rattle.mav_messages.specs.Plans.{message_of_plan, plan_of}
 use Rattle.mav_sign.specs.declared.admission.Admit.{Admit}
-use Rattle.mav_sign.specs.declared.admission.Admit.TheVariants.{Admitted, Unsigned, BadSignature, NotLater, TooOld, TooManyStreams}
+use Rattle.mav_sign.specs.declared.admission.Admit.TheVariants.{Admitted, Unsigned, BadSignature, BelowFloor, NotLater, TooOld, TooManyStreams}
 use Rattle.mav_sign.specs.Signing.{Verifies}
 use Rattle.mav_sign.specs.History.{Entry, Stamped, tried, stamped, next_in, answer_to, block_answer, stamp_answer, greatest_stamp}
 use Rattle.mav_sign.specs.History as signed
@@ -310,6 +310,7 @@ module _ (n : Nodes) (sound : Distinct n) (clock : ℕ) (nodes : List Node) (sen
         takes_lead p block signs later (known (subst (Verifies a.link.key p) (sym signs) later.verifies)) (plan_in p.id p.payload) refl
     by_answer Unsigned block e signs = dropped p Unsigned refl
     by_answer BadSignature block e signs = dropped p BadSignature refl
+    by_answer (BelowFloor floor) block e signs = dropped p (BelowFloor floor) refl
     by_answer (NotLater last) block e signs = dropped p (NotLater last) refl
     by_answer (TooOld local) block e signs = dropped p (TooOld local) refl
     by_answer TooManyStreams block e signs = dropped p TooManyStreams refl

@@ -6,9 +6,9 @@ use Rattle.std.proofs.lemmas.Slice.Eq.{bytes_eq-Decides}
 use Rattle.mav_names.specs.declared.names.Stream.{Stream}
 use Rattle.mav_frame.specs.Packet.{Packet, SignatureBlock}
 use Rattle.mav_sign.specs.declared.admission.Admit.{Admit}
-use Rattle.mav_sign.specs.declared.admission.Admit.TheVariants.{Admitted, BadSignature, NotLater}
+use Rattle.mav_sign.specs.declared.admission.Admit.TheVariants.{Admitted, BadSignature, BelowFloor, NotLater}
 use Rattle.mav_sign.specs.Signing.{signature_of, Verifies}
-use Rattle.mav_sign.specs.History.{Entry, sent, Stamped, stream_of, admitted_by, sent_by, admitted_in, sent_in, greatest, greatest_of, latest, stamps_of, last_of, accepted_in, previous_in, next_in, unless_old, answer_after, stamp_answer, block_answer}
+use Rattle.mav_sign.specs.History.{Entry, sent, Stamped, stream_of, admitted_by, sent_by, admitted_in, sent_in, greatest, greatest_of, latest, stamps_of, last_of, accepted_in, previous_in, next_in, unless_old, unless_below, low_of, answer_after, stamp_answer, block_answer}
 use Rattle.mav_sign.proofs.Histories.{admitted_more, admitted_same, sent_more, sent_same, greatest_more, greatest_of_more, latest_more, same_self, same_is, stamps_more, stamps_same}
 use Rattle.plan_safety.specs.Store.{at}
 use Rattle.plan_safety.proofs.Keys.{by_test, not_true, split, less, at_same, at_apart}
@@ -163,6 +163,12 @@ after_later (Some last) streams local stamp k e u one =
     by_test (λ (a : Admit). a ≡ Admitted → k < stamp) (nat_lt last stamp) (unless_old local stamp Admitted) (NotLater last)
     (λ t _. let z = less last stamp t in omega arith) (λ _ is. absurd (cc)) e
 
+-- what is admitted would be without a low bound
+without_low : (low : Option ℕ) (stamp : ℕ) (answer : Admit) → unless_below low stamp answer ≡ Admitted → answer ≡ Admitted
+without_low None stamp answer e = e
+without_low (Some low) stamp answer e =
+    by_test (λ (a : Admit). a ≡ Admitted → answer ≡ Admitted) (nat_lt low stamp) answer (BelowFloor low) (λ _ is. is) (λ _ is. absurd (cc)) e
+
 -- an admitted frame is later than all that its stream had admitted before, and it verifies
 pub record Later (key : List ℕ) (h : List Entry) (p : Packet) (block : SignatureBlock) : Type 0 where
   pub above : (k : ℕ) → Under k (last_of (stream_of p block) h) → 1 ≤ block.stamp → k < block.stamp
@@ -172,7 +178,7 @@ pub admitted_later : (key : List ℕ) (h : List Entry) (p : Packet) (block : Sig
 admitted_later key h p block e =
     by_test (λ (a : Admit). a ≡ Admitted → Later key h p block) (bytes_eq block.sig (signature_of key p block.link block.stamp)) (stamp_answer (stream_of p block) block.stamp h) BadSignature
     (λ t is. record {
-      above = λ k u one. after_later (last_of (stream_of p block) h) _ _ block.stamp k is u one;
+      above = λ k u one. after_later (last_of (stream_of p block) h) _ _ block.stamp k (without_low (low_of h) block.stamp _ is) u one;
       verifies = (bytes_eq-Decides block.sig (signature_of key p block.link block.stamp)).0 t;
     })
     (λ _ is. absurd (cc)) e

@@ -9,7 +9,7 @@ use Rattle.mav_frame.specs.Packet.{Packet}
 use Rattle.mav_frame.specs.Encoding.{encoding}
 use Rattle.mav_frame.specs.FinalParse.{final_parse}
 use Rattle.mav_sign.specs.declared.admission.Admit.{Admit}
-use Rattle.mav_sign.specs.declared.admission.Admit.TheVariants.{Admitted, Unsigned, BadSignature, NotLater, TooOld, TooManyStreams}
+use Rattle.mav_sign.specs.declared.admission.Admit.TheVariants.{Admitted, Unsigned, BadSignature, BelowFloor, NotLater, TooOld, TooManyStreams}
 use Rattle.mav_sign.specs.History.{next_in, answer_to}
 use Rattle.mav_sign.specs.Endpoints.{frames_of}
 use Rattle.plan_items.specs.declared.items.Item.{Item}
@@ -78,6 +78,7 @@ abbrev pub if_admitted : Admit → List world.Event → List world.Event
 if_admitted Admitted events = events
 if_admitted Unsigned events = []
 if_admitted BadSignature events = []
+if_admitted (BelowFloor floor) events = []
 if_admitted (NotLater last) events = []
 if_admitted (TooOld local) events = []
 if_admitted TooManyStreams events = []

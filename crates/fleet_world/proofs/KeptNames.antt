@@ -7,7 +7,7 @@ use Rattle.mav_frame.specs.FinalParse.{final_parse}
 use Rattle.mav_messages.specs.declared.messages.Message.{Message}
 use Rattle.mav_messages.specs.Plans.{message_of_plan}
 use Rattle.mav_sign.specs.declared.admission.Admit.{Admit}
-use Rattle.mav_sign.specs.declared.admission.Admit.TheVariants.{Admitted, Unsigned, BadSignature, NotLater, TooOld, TooManyStreams}
+use Rattle.mav_sign.specs.declared.admission.Admit.TheVariants.{Admitted, Unsigned, BadSignature, BelowFloor, NotLater, TooOld, TooManyStreams}
 use Rattle.mav_sign.specs.History.{stream_of, answer_to}
 use Rattle.mav_sign.specs.Endpoints.{frames_of}
 use Rattle.mav_nodes.specs.Payloads.{plan_in}
@@ -69,6 +69,7 @@ module _ {Core : Type 0} (step : Core → Stream → PlanMsg → CoreStep Core) 
   admits-keep node packet Admitted None = refl
   admits-keep node packet Unsigned block = refl
   admits-keep node packet BadSignature block = refl
+  admits-keep node packet (BelowFloor floor) block = refl
   admits-keep node packet (NotLater last) block = refl
   admits-keep node packet (TooOld local) block = refl
   admits-keep node packet TooManyStreams block = refl

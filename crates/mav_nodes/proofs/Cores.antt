@@ -8,7 +8,7 @@ use Rattle.mav_frame.specs.Packet.{Packet, SignatureBlock}
 use Rattle.mav_messages.specs.declared.messages.Message.{Message}
 use Rattle.mav_messages.specs.Plans.{message_of_plan}
 use Rattle.mav_sign.specs.declared.admission.Admit.{Admit}
-use Rattle.mav_sign.specs.declared.admission.Admit.TheVariants.{Admitted, Unsigned, BadSignature, NotLater, TooOld, TooManyStreams}
+use Rattle.mav_sign.specs.declared.admission.Admit.TheVariants.{Admitted, Unsigned, BadSignature, BelowFloor, NotLater, TooOld, TooManyStreams}
 use Rattle.mav_sign.specs.History.{answer_to, stream_of, next_in, greatest_stamp}
 use Rattle.mav_sign.specs.Endpoints.{EndpointState, AnswerIs, HeardIs}
 use Rattle.mav_sign.specs.declared.heard.Heard.TheVariants.{Message as HeardMessage, Other as HeardOther, Dropped as HeardDropped}
@@ -89,6 +89,7 @@ module _ {Core : Type 0} (step : Core → Stream → PlanMsg → CoreStep Core) 
   answered node packet from message Admitted None h = absurd h
   answered node packet from message Unsigned block h = absurd (let t : Plan from message ≡ Dropped Unsigned = h in cc)
   answered node packet from message BadSignature block h = absurd (let t : Plan from message ≡ Dropped BadSignature = h in cc)
+  answered node packet from message (BelowFloor floor) block h = absurd (let t : Plan from message ≡ Dropped (BelowFloor floor) = h in cc)
   answered node packet from message (NotLater last) block h = absurd (let t : Plan from message ≡ Dropped (NotLater last) = h in cc)
   answered node packet from message (TooOld local) block h = absurd (let t : Plan from message ≡ Dropped (TooOld local) = h in cc)
   answered node packet from message TooManyStreams block h = absurd (let t : Plan from message ≡ Dropped TooManyStreams = h in cc)
@@ -108,6 +109,7 @@ module _ {Core : Type 0} (step : Core → Stream → PlanMsg → CoreStep Core) 
   nothing_taken node packet Admitted None h = absurd h
   nothing_taken node packet Unsigned block h = absurd (let t : Other ≡ Dropped Unsigned = h in cc)
   nothing_taken node packet BadSignature block h = absurd (let t : Other ≡ Dropped BadSignature = h in cc)
+  nothing_taken node packet (BelowFloor floor) block h = absurd (let t : Other ≡ Dropped (BelowFloor floor) = h in cc)
   nothing_taken node packet (NotLater last) block h = absurd (let t : Other ≡ Dropped (NotLater last) = h in cc)
   nothing_taken node packet (TooOld local) block h = absurd (let t : Other ≡ Dropped (TooOld local) = h in cc)
   nothing_taken node packet TooManyStreams block h = absurd (let t : Other ≡ Dropped TooManyStreams = h in cc)
@@ -125,6 +127,7 @@ module _ {Core : Type 0} (step : Core → Stream → PlanMsg → CoreStep Core) 
   refused node packet why Admitted None h = absurd h
   refused node packet why Unsigned block h = ap (λ (a : Admit). done node (Drops a ∷ [])) (dropped why Unsigned h)
   refused node packet why BadSignature block h = ap (λ (a : Admit). done node (Drops a ∷ [])) (dropped why BadSignature h)
+  refused node packet why (BelowFloor floor) block h = ap (λ (a : Admit). done node (Drops a ∷ [])) (dropped why (BelowFloor floor) h)
   refused node packet why (NotLater last) block h = ap (λ (a : Admit). done node (Drops a ∷ [])) (dropped why (NotLater last) h)
   refused node packet why (TooOld local) block h = ap (λ (a : Admit). done node (Drops a ∷ [])) (dropped why (TooOld local) h)
   refused node packet why TooManyStreams block h = ap (λ (a : Admit). done node (Drops a ∷ [])) (dropped why TooManyStreams h)
@@ -173,6 +176,7 @@ module _ {Core : Type 0} (step : Core → Stream → PlanMsg → CoreStep Core) 
   admits_keep node packet Admitted None = refl
   admits_keep node packet Unsigned block = refl
   admits_keep node packet BadSignature block = refl
+  admits_keep node packet (BelowFloor floor) block = refl
   admits_keep node packet (NotLater last) block = refl
   admits_keep node packet (TooOld local) block = refl
   admits_keep node packet TooManyStreams block = refl
@@ -187,6 +191,7 @@ heard_plan packet from message Admitted (Some block) plan h f = (h.0, f h.1 h.2)
 heard_plan packet from message Admitted None plan h f = h
 heard_plan packet from message Unsigned block plan h f = absurd (let t : HeardMessage from message ≡ HeardDropped Unsigned = h in cc)
 heard_plan packet from message BadSignature block plan h f = absurd (let t : HeardMessage from message ≡ HeardDropped BadSignature = h in cc)
+heard_plan packet from message (BelowFloor floor) block plan h f = absurd (let t : HeardMessage from message ≡ HeardDropped (BelowFloor floor) = h in cc)
 heard_plan packet from message (NotLater last) block plan h f = absurd (let t : HeardMessage from message ≡ HeardDropped (NotLater last) = h in cc)
 heard_plan packet from message (TooOld local) block plan h f = absurd (let t : HeardMessage from message ≡ HeardDropped (TooOld local) = h in cc)
 heard_plan packet from message TooManyStreams block plan h f = absurd (let t : HeardMessage from message ≡ HeardDropped TooManyStreams = h in cc)
@@ -196,6 +201,7 @@ heard_none packet from message Admitted (Some block) h f = f h.1 h.2
 heard_none packet from message Admitted None h f = h
 heard_none packet from message Unsigned block h f = absurd (let t : HeardMessage from message ≡ HeardDropped Unsigned = h in cc)
 heard_none packet from message BadSignature block h f = absurd (let t : HeardMessage from message ≡ HeardDropped BadSignature = h in cc)
+heard_none packet from message (BelowFloor floor) block h f = absurd (let t : HeardMessage from message ≡ HeardDropped (BelowFloor floor) = h in cc)
 heard_none packet from message (NotLater last) block h f = absurd (let t : HeardMessage from message ≡ HeardDropped (NotLater last) = h in cc)
 heard_none packet from message (TooOld local) block h f = absurd (let t : HeardMessage from message ≡ HeardDropped (TooOld local) = h in cc)
 heard_none packet from message TooManyStreams block h f = absurd (let t : HeardMessage from message ≡ HeardDropped TooManyStreams = h in cc)
@@ -205,6 +211,7 @@ heard_other packet from id Admitted (Some block) h = none_carried packet.id pack
 heard_other packet from id Admitted None h = h
 heard_other packet from id Unsigned block h = absurd (let t : HeardOther from id ≡ HeardDropped Unsigned = h in cc)
 heard_other packet from id BadSignature block h = absurd (let t : HeardOther from id ≡ HeardDropped BadSignature = h in cc)
+heard_other packet from id (BelowFloor floor) block h = absurd (let t : HeardOther from id ≡ HeardDropped (BelowFloor floor) = h in cc)
 heard_other packet from id (NotLater last) block h = absurd (let t : HeardOther from id ≡ HeardDropped (NotLater last) = h in cc)
 heard_other packet from id (TooOld local) block h = absurd (let t : HeardOther from id ≡ HeardDropped (TooOld local) = h in cc)
 heard_other packet from id TooManyStreams block h = absurd (let t : HeardOther from id ≡ HeardDropped TooManyStreams = h in cc)

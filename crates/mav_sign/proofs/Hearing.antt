@@ -8,11 +8,12 @@ use Rattle.mav_frame.specs.Encoding.{encoding, Encodes, block_bytes, checked_byt
 use Rattle.mav_frame.specs.Numbers.{little_endian}
 use Rattle.mav_frame.specs.Parse.{EventAt, BeginsFinal}
 use Rattle.mav_frame.specs.declared.events.Event.{Event}
+use Rattle.mav_frame.specs.declared.events.Event.TheVariants.{Frame as FrameEvent}
 use Rattle.mav_frame.proofs.LongerParse.{final_goes_on, final_ends}
 use Rattle.mav_sign.specs.declared.heard.Heard.{Heard}
 use Rattle.mav_sign.specs.History.{Entry}
 use Rattle.mav_sign.specs.Kept.{Kept, Represents}
-use Rattle.mav_sign.specs.Endpoints.{HeardIs, HeardAll, after_frame, after_frames, frame_in, frames_of, Told, FrontHeard, HeardTo, Received}
+use Rattle.mav_sign.specs.Endpoints.{HeardIs, HeardAll, after_frame, after_frames, frame_in, frames_of, Told, FrontHeard, HeardTo, Received, FrontFrames, FramesTo, FramesOf}
 
 -- nothing was tried
 pub told_none : (key : List ℕ) (history : List Entry) (before : List Heard) (stamps : Kept) → Represents stamps history → Told key history [] before before stamps
@@ -51,14 +52,23 @@ header_is : (packet : Packet) (old : Bool) → (old ≡ true → false ≡ true)
 header_is packet true never = absurd (let bad : false ≡ true = never refl in cc)
 header_is packet false never = omega arith
 
-pub least_frame : (extras : List (ℕ × ℕ)) (packet : Packet) (bytes : List ℕ) (size : ℕ) → size ≤ length bytes → Encodes extras false packet (take size bytes) → 12 ≤ size
-least_frame extras packet bytes size within encodes =
-    let long : length (take size bytes) ≡ length (encoding packet) = ap length encodes.bytes in
-    let header = header_is packet packet.old encodes.sealed.version in
+least_encoding : (packet : Packet) → (packet.old ≡ true → false ≡ true) → 12 ≤ length (encoding packet)
+least_encoding packet version =
+    let header = header_is packet packet.old version in
     let rest : length (checked_bytes packet ++ little_endian 2 packet.check ++ block_bytes packet.block) ≡ length (checked_bytes packet ++ little_endian 2 packet.check) + length (block_bytes packet.block) = length-append (checked_bytes packet ++ little_endian 2 packet.check) (block_bytes packet.block) in
     let front : length (checked_bytes packet ++ little_endian 2 packet.check) ≡ length (checked_bytes packet) + 2 = length-append (checked_bytes packet) (little_endian 2 packet.check) in
     let checked : length (checked_bytes packet) ≡ length (header_of packet.old packet) + length packet.payload = length-append (header_of packet.old packet) packet.payload in
-    omega (arith, long, header, rest, front, checked, length-take size bytes)
+    omega (arith, header, rest, front, checked)
+
+pub least_frame : (extras : List (ℕ × ℕ)) (packet : Packet) (bytes : List ℕ) (size : ℕ) → size ≤ length bytes → Encodes extras false packet (take size bytes) → 12 ≤ size
+least_frame extras packet bytes size within encodes =
+    let long : length (take size bytes) ≡ length (encoding packet) = ap length encodes.bytes in
+    omega (arith, long, least_encoding packet encodes.sealed.version, length-take size bytes)
+
+pub least_event : (extras : List (ℕ × ℕ)) (packet : Packet) (bytes : List ℕ) (size : ℕ) → size ≤ length bytes → EventAt extras false (FrameEvent packet) bytes (drop size bytes) → 12 ≤ size
+least_event extras packet bytes size within event =
+    let long : length bytes ≡ length (encoding packet) + length (drop size bytes) = ap length event.2 ∙ length-append (encoding packet) (drop size bytes) in
+    omega (arith, long, least_encoding packet event.1.version, length-drop size bytes)
 
 -- the parse continues after the bytes that were received at the start
 pub heard_on : (extras : List (ℕ × ℕ)) (key : List ℕ) (history : List Entry) (bytes : List ℕ) (place size : ℕ) (before between after : List Heard) (middle stamps : Kept) → (to : HeardTo extras key history bytes place before between middle) → FrontHeard extras key (after_frames key history (frames_of to.events)) (slice_range bytes place (length bytes)) size between after stamps → HeardTo extras key history bytes (place + size) before after stamps
@@ -75,15 +85,40 @@ heard_on extras key history bytes place size before between after middle stamps 
 pub heard_at_start : (extras : List (ℕ × ℕ)) (key : List ℕ) (history : List Entry) (bytes : List ℕ) (before : List Heard) (stamps : Kept) → Represents stamps history → HeardTo extras key history bytes 0 before before stamps
 heard_at_start extras key history bytes before stamps of = record { events = []; begun = refl; told = told_none key history before stamps of }
 
-pub heard_whole : (extras : List (ℕ × ℕ)) (key : List ℕ) (history : List Entry) (bytes : List ℕ) (place : ℕ) (before after : List Heard) (stamps : Kept) → length bytes ≤ place → HeardTo extras key history bytes place before after stamps → Received extras key history bytes before after stamps
-heard_whole extras key history bytes place before after stamps past to =
-    let none : drop place bytes ≡ [] = nothing (drop place bytes) (omega (arith, length-drop place bytes)) in
-    record {
-      events = to.events;
-      parse = final_ends extras false to.events bytes (subst (λ (z : List ℕ). BeginsFinal extras false to.events z bytes) none to.begun);
-      told = to.told;
-    }
+nothing_left : (bytes : List ℕ) (place : ℕ) → length bytes ≤ place → drop place bytes ≡ []
+nothing_left bytes place past = nothing (drop place bytes) (omega (arith, length-drop place bytes))
   where
     nothing : (xs : List ℕ) → length xs ≡ 0 → xs ≡ []
     nothing [] e = refl
     nothing (x ∷ xs) e = absurd (omega arith)
+
+pub heard_whole : (extras : List (ℕ × ℕ)) (key : List ℕ) (history : List Entry) (bytes : List ℕ) (place : ℕ) (before after : List Heard) (stamps : Kept) → length bytes ≤ place → HeardTo extras key history bytes place before after stamps → Received extras key history bytes before after stamps
+heard_whole extras key history bytes place before after stamps past to =
+    record {
+      events = to.events;
+      parse = final_ends extras false to.events bytes (subst (λ (z : List ℕ). BeginsFinal extras false to.events z bytes) (nothing_left bytes place past) to.begun);
+      told = to.told;
+    }
+
+-- ---- frames that aren't tried
+
+pub frames_at_start : (extras : List (ℕ × ℕ)) (bytes : List ℕ) (before : List Packet) → FramesTo extras bytes 0 before before
+frames_at_start extras bytes before = record { events = []; begun = refl; appended = sym (append-nil before) }
+
+pub frames_on : (extras : List (ℕ × ℕ)) (bytes : List ℕ) (index size : ℕ) (before between after : List Packet) → FramesTo extras bytes index before between → FrontFrames extras (slice_range bytes index (length bytes)) size between after → FramesTo extras bytes (index + size) before after
+frames_on extras bytes index size before between after to front =
+    let all : slice_range bytes index (length bytes) ≡ drop index bytes = take_all (length bytes - index) (drop index bytes) (omega (arith, length-drop index bytes)) in
+    let there : EventAt extras false front.event (drop index bytes) (drop size (drop index bytes)) = subst (λ (z : List ℕ). EventAt extras false front.event z (drop size z)) all front.stands in
+    let e : drop size (drop index bytes) ≡ drop (index + size) bytes = drop-drop size index bytes in
+    record {
+      events = to.events ++ front.event ∷ [];
+      begun = subst (λ (z : List ℕ). BeginsFinal extras false (to.events ++ front.event ∷ []) z bytes) e (final_goes_on extras false to.events front.event (drop index bytes) (drop size (drop index bytes)) bytes to.begun there);
+      appended = front.appended ∙ (ap (λ (l : List Packet). l ++ frames_of (front.event ∷ [])) to.appended ∙ (append_assoc before (frames_of to.events) (frames_of (front.event ∷ [])) ∙ ap (λ (l : List Packet). before ++ l) (sym (frames_more to.events front.event))));
+    }
+
+pub frames_whole : (extras : List (ℕ × ℕ)) (bytes : List ℕ) (index : ℕ) (before after : List Packet) → length bytes ≤ index → FramesTo extras bytes index before after → FramesOf extras bytes before after
+frames_whole extras bytes index before after past to = record {
+  events = to.events;
+  parse = final_ends extras false to.events bytes (subst (λ (z : List ℕ). BeginsFinal extras false to.events z bytes) (nothing_left bytes index past) to.begun);
+  appended = to.appended;
+}

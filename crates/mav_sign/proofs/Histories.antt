@@ -10,7 +10,7 @@ use Rattle.std.proofs.lemmas.List.Elements.{filter_map-append, filter-append}
 use Rattle.std.proofs.lemmas.List.Folds.{list_any-append}
 use Rattle.std.proofs.lemmas.List.Sums.{fold_push}
 use Rattle.mav_names.specs.declared.names.Stream.{Stream}
-use Rattle.mav_sign.specs.History.{Entry, Stamped, admitted_by, sent_by, admitted_in, sent_in, same_stream, greatest, greatest_of, latest, stamps_of, last_of, with_stream, streams_of}
+use Rattle.mav_sign.specs.History.{Entry, Stamped, admitted_by, sent_by, started_by, low_of, admitted_in, sent_in, same_stream, greatest, greatest_of, latest, stamps_of, last_of, with_stream, streams_of}
 
 -- ---- entries
 
@@ -29,6 +29,10 @@ sent_more history entry stamp is =
 pub sent_same : (history : List Entry) (entry : Entry) → sent_by entry ≡ None → sent_in (history ++ entry ∷ []) ≡ sent_in history
 sent_same history entry is =
     filter_map-append sent_by history (entry ∷ []) ∙ (ap (λ (o : Option ℕ). sent_in history ++ filter_map {X = Option ℕ} (λ p. p) (o ∷ [])) is ∙ append-nil (sent_in history))
+
+pub low_same : (history : List Entry) (entry : Entry) → started_by entry ≡ None → low_of (history ++ entry ∷ []) ≡ low_of history
+low_same history entry is =
+    ap greatest_of (filter_map-append started_by history (entry ∷ []) ∙ (ap (λ (o : Option ℕ). filter_map started_by history ++ filter_map {X = Option ℕ} (λ p. p) (o ∷ [])) is ∙ append-nil (filter_map started_by history)))
 
 -- ---- the greatest number
 

@@ -6,10 +6,10 @@ use Rattle.std.proofs.lemmas.List.{map-append}
 use Rattle.mav_names.specs.declared.names.Stream.{Stream}
 use Rattle.mav_frame.specs.Packet.{Packet, SignatureBlock}
 use Rattle.mav_sign.specs.declared.admission.Admit.{Admit}
-use Rattle.mav_sign.specs.declared.admission.Admit.TheVariants.{Admitted, Unsigned, BadSignature, NotLater, TooOld, TooManyStreams}
-use Rattle.mav_sign.specs.History.{Entry, tried, sent, Stamped, stream_of, stamped, admitted_by, admitted_in, sent_in, same_stream, greatest, greatest_of, latest, stamps_of, last_of, accepted_in, streams_of, answer_after, unless_old, stamp_answer, local_of, is_admitted}
+use Rattle.mav_sign.specs.declared.admission.Admit.TheVariants.{Admitted, Unsigned, BadSignature, BelowFloor, NotLater, TooOld, TooManyStreams}
+use Rattle.mav_sign.specs.History.{Entry, tried, sent, Stamped, stream_of, stamped, admitted_by, admitted_in, sent_in, low_of, unless_below, same_stream, greatest, greatest_of, latest, stamps_of, last_of, accepted_in, streams_of, answer_after, unless_old, stamp_answer, local_of, is_admitted}
 use Rattle.mav_sign.specs.Kept.{Kept, IsStream, Represents, Admits, KeptAfter, stream_number, stamp_at, kept_answer, local_kept}
-use Rattle.mav_sign.proofs.Histories.{admitted_more, admitted_same, sent_more, sent_same, greatest_more, greatest_of_more, latest_more, same_self, same_is, stamps_more, stamps_same, streams_more, streams_unchanged}
+use Rattle.mav_sign.proofs.Histories.{low_same, admitted_more, admitted_same, sent_more, sent_same, greatest_more, greatest_of_more, latest_more, same_self, same_is, stamps_more, stamps_same, streams_more, streams_unchanged}
 
 -- ---- a stream and its number
 
@@ -47,7 +47,18 @@ local_same kept history of =
 -- the verdict by what is kept is that by the history
 pub answer_same : (kept : Kept) (history : List Entry) (stream : Stream) (stamp : ℕ) → IsStream stream → Represents kept history → kept_answer kept stream stamp ≡ stamp_answer stream stamp history
 answer_same kept history stream stamp bytes of =
-    ap (λ (o : Option ℕ). answer_after o (length kept.last) (local_kept kept) stamp) (of.last stream bytes) ∙ (ap (λ (n : ℕ). answer_after (last_of stream history) n (local_kept kept) stamp) of.streams ∙ ap (λ (n : ℕ). answer_after (last_of stream history) (length (streams_of history)) n stamp) (local_same kept history of))
+    let answer = ap (λ (o : Option ℕ). answer_after o (length kept.last) (local_kept kept) stamp) (of.last stream bytes) ∙ (ap (λ (n : ℕ). answer_after (last_of stream history) n (local_kept kept) stamp) of.streams ∙ ap (λ (n : ℕ). answer_after (last_of stream history) (length (streams_of history)) n stamp) (local_same kept history of)) in
+    ap (λ (o : Option ℕ). unless_below o stamp (answer_after (stamp_at (stream_number stream) kept.last) (length kept.last) (local_kept kept) stamp)) of.low
+    ∙ ap (unless_below (low_of history) stamp) answer
+
+-- what is admitted is above the low bound, and would be admitted without one
+pub above_low : (low : Option ℕ) (stamp : ℕ) (answer : Admit) → unless_below low stamp answer ≡ Admitted → answer ≡ Admitted
+above_low None stamp answer admitted = admitted
+above_low (Some low) stamp answer admitted =
+    elim (nat_lt low stamp) as (λ t. (if t then answer else BelowFloor low) ≡ Admitted → answer ≡ Admitted) [
+      | true ↦ λ is. is
+      | false ↦ λ wrong. absurd (cc)
+    ] admitted
 
 -- an admitted timestamp is greater than those of its stream
 later : (xs : List ℕ) (streams local stamp : ℕ) → answer_after (greatest_of xs) streams local stamp ≡ Admitted → max (greatest xs) stamp ≡ stamp
@@ -79,7 +90,7 @@ after_admitted old new history packet block signed bytes answer admits of =
     let entry : Entry = tried packet Admitted in
     let s : Stamped = stamped packet block in
     let is : admitted_by entry ≡ Some s = ap (option_map (stamped packet)) signed in
-    let most : max (greatest (stamps_of stream (admitted_in history))) block.stamp ≡ block.stamp = later (stamps_of stream (admitted_in history)) (length (streams_of history)) (local_of history) block.stamp (sym (answer_same old history stream block.stamp bytes of) ∙ answer) in
+    let most : max (greatest (stamps_of stream (admitted_in history))) block.stamp ≡ block.stamp = later (stamps_of stream (admitted_in history)) (length (streams_of history)) (local_of history) block.stamp (above_low (low_of history) block.stamp _ (sym (answer_same old history stream block.stamp bytes of) ∙ answer)) in
     let more : accepted_in (history ++ entry ∷ []) ≡ max (accepted_in history) block.stamp =
     ap (λ (l : List Stamped). greatest (map (λ (t : Stamped). t.stamp) l)) (admitted_more history entry s is) ∙ (ap greatest (map-append (λ (t : Stamped). t.stamp) (admitted_in history) (s ∷ [])) ∙ greatest_more (map (λ (t : Stamped). t.stamp) (admitted_in history)) block.stamp) in
     let sent_before : sent_in (history ++ entry ∷ []) ≡ sent_in history = sent_same history entry refl in
@@ -92,12 +103,14 @@ after_admitted old new history packet block signed bytes answer admits of =
       accepted = admits.accepted ∙ (ap (λ (n : ℕ). max n block.stamp) of.accepted ∙ sym more);
       previous = admits.previous ∙ (of.previous ∙ sym (ap latest sent_before));
       sent = admits.previous ∙ (of.sent ∙ sym (ap greatest sent_before));
+      low = admits.low ∙ (of.low ∙ sym (low_same history entry refl));
     }
 
 refused_none : (packet : Packet) (answer : Admit) → is_admitted answer ≡ false → admitted_by (tried packet answer) ≡ None
 refused_none packet Admitted refused = absurd (let wrong : true ≡ false = refused in cc)
 refused_none packet Unsigned refused = refl
 refused_none packet BadSignature refused = refl
+refused_none packet (BelowFloor floor) refused = refl
 refused_none packet (NotLater last) refused = refl
 refused_none packet (TooOld local) refused = refl
 refused_none packet TooManyStreams refused = refl
@@ -114,6 +127,7 @@ after_refused kept history packet answer refused of =
       accepted = of.accepted ∙ sym (ap (λ (l : List Stamped). greatest (map (λ (t : Stamped). t.stamp) l)) same);
       previous = of.previous ∙ sym (ap latest sent_before);
       sent = of.sent ∙ sym (ap greatest sent_before);
+      low = of.low ∙ sym (low_same history entry refl);
     }
 
 pub after_sent : (kept : Kept) (history : List Entry) (stamp : ℕ) → kept.previous < stamp → Represents kept history → Represents (record kept { previous = stamp }) (history ++ sent stamp ∷ [])
@@ -128,6 +142,7 @@ after_sent kept history stamp above of =
       accepted = of.accepted ∙ sym (ap (λ (l : List Stamped). greatest (map (λ (t : Stamped). t.stamp) l)) same);
       previous = sym (ap latest more ∙ latest_more (sent_in history) stamp);
       sent = sym (ap greatest more ∙ (greatest_more (sent_in history) stamp ∙ most));
+      low = of.low ∙ sym (low_same history entry refl);
     }
 
 -- ---- a tried frame
@@ -136,6 +151,7 @@ pub after_tried : (old new : Kept) (history : List Entry) (packet : Packet) (blo
 after_tried old new history packet block Admitted signed bytes answer kept of = after_admitted old new history packet block signed bytes (sym answer) kept of
 after_tried old new history packet block Unsigned signed bytes answer kept of = subst (λ k. Represents k (history ++ tried packet Unsigned ∷ [])) (sym kept) (after_refused old history packet Unsigned refl of)
 after_tried old new history packet block BadSignature signed bytes answer kept of = subst (λ k. Represents k (history ++ tried packet BadSignature ∷ [])) (sym kept) (after_refused old history packet BadSignature refl of)
+after_tried old new history packet block (BelowFloor floor) signed bytes answer kept of = subst (λ k. Represents k (history ++ tried packet (BelowFloor floor) ∷ [])) (sym kept) (after_refused old history packet (BelowFloor floor) refl of)
 after_tried old new history packet block (NotLater last) signed bytes answer kept of = subst (λ k. Represents k (history ++ tried packet (NotLater last) ∷ [])) (sym kept) (after_refused old history packet (NotLater last) refl of)
 after_tried old new history packet block (TooOld local) signed bytes answer kept of = subst (λ k. Represents k (history ++ tried packet (TooOld local) ∷ [])) (sym kept) (after_refused old history packet (TooOld local) refl of)
 after_tried old new history packet block TooManyStreams signed bytes answer kept of = subst (λ k. Represents k (history ++ tried packet TooManyStreams ∷ [])) (sym kept) (after_refused old history packet TooManyStreams refl of)

@@ -107,6 +107,24 @@ pub record Received (extras : List (ℕ × ℕ)) (key : List ℕ) (history : Lis
   pub parse : Final extras false events datagram
   pub told : Told key history (frames_of events) before after stamps
 
+-- the frame at the start of some bytes, if there is one, was appended
+pub record FrontFrames (extras : List (ℕ × ℕ)) (bytes : List ℕ) (size : ℕ) (before after : List Packet) : Type 0 where
+  pub event : Event
+  pub stands : EventAt extras false event bytes (drop size bytes)
+  pub appended : after ≡ before ++ frames_of (event ∷ [])
+
+-- the bytes from an index on are left
+pub record FramesTo (extras : List (ℕ × ℕ)) (bytes : List ℕ) (index : ℕ) (before after : List Packet) : Type 0 where
+  pub events : List Event
+  pub begun : BeginsFinal extras false events (drop index bytes) bytes
+  pub appended : after ≡ before ++ frames_of events
+
+-- the frames of the final parse of a datagram were appended, in order
+pub record FramesOf (extras : List (ℕ × ℕ)) (datagram : List ℕ) (before after : List Packet) : Type 0 where
+  pub events : List Event
+  pub parse : Final extras false events datagram
+  pub appended : after ≡ before ++ frames_of events
+
 -- a frame that carries a message from a stream, at a timestamp
 pub record FrameOf (me : Stream) (extras : List (ℕ × ℕ)) (seq stamp : ℕ) (message : Message) (packet : Packet) : Type 0 where
   pub version : packet.old ≡ false

@@ -8,13 +8,15 @@ use Rattle.mav_frame.specs.Packet.{Packet, SignatureBlock}
 use Rattle.mav_sign.specs.Signing.{signature_of}
 use Rattle.mav_sign.specs.declared.admission.StampsSpent.{StampsSpent}
 use Rattle.mav_sign.specs.declared.admission.Admit.{Admit}
-use Rattle.mav_sign.specs.declared.admission.Admit.TheVariants.{Admitted, Unsigned, BadSignature, NotLater, TooOld, TooManyStreams}
+use Rattle.mav_sign.specs.declared.admission.Admit.TheVariants.{Admitted, Unsigned, BadSignature, BelowFloor, NotLater, TooOld, TooManyStreams}
 
--- a frame that was tried, with its verdict, or a timestamp that was given to a frame sent; a history is the list of its
--- entries, the earliest first
+-- a frame that was tried, with its verdict; a timestamp that was given to a frame sent; or the persisted timestamp low
+-- bound that the verifier was started with. A history is the list of its entries, the earliest first, and begins with
+-- its low bound if there is one
 pub data Entry : Type 0 where
   tried : Packet → Admit → Entry
   sent : ℕ → Entry
+  started : ℕ → Entry
 
 -- a timestamp of a stream
 pub record Stamped : Type 0 where
@@ -32,10 +34,18 @@ abbrev pub admitted_by : Entry → Option Stamped
 admitted_by (tried packet Admitted) = option_map (stamped packet) packet.block
 admitted_by (tried packet _) = None
 admitted_by (sent stamp) = None
+admitted_by (started low) = None
 
+-- what was sent before a start counts as at most the low bound
 abbrev pub sent_by : Entry → Option ℕ
 sent_by (tried packet answer) = None
 sent_by (sent stamp) = Some stamp
+sent_by (started low) = Some low
+
+abbrev pub started_by : Entry → Option ℕ
+started_by (tried packet answer) = None
+started_by (sent stamp) = None
+started_by (started low) = Some low
 
 abbrev pub admitted_in : List Entry → List Stamped
 admitted_in history = filter_map admitted_by history
@@ -55,6 +65,10 @@ abbrev pub greatest_of : List ℕ → Option ℕ
 greatest_of [] = None
 greatest_of (number ∷ numbers) = Some (greatest (number ∷ numbers))
 
+-- the persisted timestamp low bound, if the verifier was started with one
+abbrev pub low_of : List Entry → Option ℕ
+low_of history = greatest_of (filter_map started_by history)
+
 -- the last of some numbers, 0 if there is none
 abbrev pub latest : List ℕ → ℕ
 latest numbers = fold (λ _ number. number) 0 numbers
@@ -72,7 +86,7 @@ last_of stream history = greatest_of (stamps_of stream (admitted_in history))
 abbrev pub accepted_in : List Entry → ℕ
 accepted_in history = greatest (map (λ (s : Stamped). s.stamp) (admitted_in history))
 
--- the greatest timestamp admitted or sent
+-- the greatest timestamp admitted or sent, and the low bound
 abbrev pub local_of : List Entry → ℕ
 local_of history = max (accepted_in history) (greatest (sent_in history))
 
@@ -96,6 +110,11 @@ stream_limit = 256
 abbrev pub unless_old : ℕ → ℕ → Admit → Admit
 unless_old local stamp answer = if nat_lt (stamp + one_minute) local then TooOld local else answer
 
+-- BelowFloor: not greater than the low bound
+abbrev pub unless_below : Option ℕ → ℕ → Admit → Admit
+unless_below None stamp answer = answer
+unless_below (Some low) stamp answer = if nat_lt low stamp then answer else BelowFloor low
+
 -- the verdict on a right signature, by the last timestamp of its stream, the number of streams and the local timestamp
 abbrev pub answer_after : Option ℕ → ℕ → ℕ → ℕ → Admit
 answer_after (Some last) streams local stamp = if nat_lt last stamp then unless_old local stamp Admitted else NotLater last
@@ -104,7 +123,7 @@ answer_after None streams local stamp =
 
 abbrev pub stamp_answer : Stream → ℕ → List Entry → Admit
 stamp_answer stream stamp history =
-    answer_after (last_of stream history) (length (streams_of history)) (local_of history) stamp
+    unless_below (low_of history) stamp (answer_after (last_of stream history) (length (streams_of history)) (local_of history) stamp)
 
 -- the verdict by the frame's signature block, in which a right signature is judged by its stream and timestamp
 abbrev pub block_answer : List ℕ → (Stream → ℕ → Admit) → Packet → Option SignatureBlock → Admit
@@ -122,7 +141,7 @@ abbrev pub is_admitted : Admit → Bool
 is_admitted Admitted = true
 is_admitted _ = false
 
--- the previous timestamp sent
+-- the previous timestamp sent, at the start the low bound
 abbrev pub previous_in : List Entry → ℕ
 previous_in history = latest (sent_in history)
 

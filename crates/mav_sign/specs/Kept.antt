@@ -2,13 +2,15 @@
 use Rattle.std.specs.Prelude.{ℕ, ◌≡◌, ◌+◌, ◌*◌, ◌<◌, ◌==◌, nat_eq, max, is_some, if◌then◌else◌, List, length, Option, Some}
 use Rattle.std.specs.Map.{lookup}
 use Rattle.mav_names.specs.declared.names.Stream.{Stream}
+use Rattle.mav_frame.specs.Packet.{Packet}
 use Rattle.mav_sign.specs.declared.admission.Admit.{Admit}
 use Rattle.mav_sign.specs.declared.admission.Admit.TheVariants.{Admitted}
-use Rattle.mav_sign.specs.History.{Entry, answer_after, last_of, streams_of, accepted_in, previous_in, sent_in, greatest}
+use Rattle.mav_sign.specs.History.{Entry, block_answer, answer_after, unless_below, low_of, last_of, streams_of, accepted_in, previous_in, sent_in, greatest}
 
--- the pairs of a stream's number and its last admitted timestamp, the greatest timestamp admitted, and the previous one
--- sent
+-- the persisted timestamp low bound that it was started with, the pairs of a stream's number and its last admitted timestamp, the greatest
+-- timestamp admitted, and the previous one sent
 pub record Kept : Type 0 where
+  pub low : Option ℕ
   pub last : List (ℕ × ℕ)
   pub accepted : ℕ
   pub previous : ℕ
@@ -34,6 +36,7 @@ pub record Represents (kept : Kept) (history : List Entry) : Type 0 where
   pub accepted : kept.accepted ≡ accepted_in history
   pub previous : kept.previous ≡ previous_in history
   pub sent : kept.previous ≡ greatest (sent_in history)
+  pub low : kept.low ≡ low_of history
 
 -- the greatest timestamp admitted or sent
 abbrev pub local_kept : Kept → ℕ
@@ -42,7 +45,11 @@ local_kept kept = max kept.accepted kept.previous
 -- the verdict by what is kept
 abbrev pub kept_answer : Kept → Stream → ℕ → Admit
 kept_answer kept stream stamp =
-    answer_after (stamp_at (stream_number stream) kept.last) (length kept.last) (local_kept kept) stamp
+    unless_below kept.low stamp (answer_after (stamp_at (stream_number stream) kept.last) (length kept.last) (local_kept kept) stamp)
+
+-- the verdict on a frame by what is kept
+abbrev pub kept_answer_to : List ℕ → Kept → Packet → Admit
+kept_answer_to key kept packet = block_answer key (kept_answer kept) packet packet.block
 
 -- the next timestamp by what is kept
 abbrev pub kept_next : Kept → ℕ → ℕ
@@ -54,6 +61,7 @@ pub record Admits (stream : Stream) (stamp : ℕ) (old new : Kept) : Type 0 wher
   pub streams : length new.last ≡ (if is_some (stamp_at (stream_number stream) old.last) then length old.last else length old.last + 1)
   pub accepted : new.accepted ≡ max old.accepted stamp
   pub previous : new.previous ≡ old.previous
+  pub low : new.low ≡ old.low
 
 -- and nothing else changes anything
 abbrev pub KeptAfter : Admit → Stream → ℕ → Kept → Kept → Type 0

@@ -9,6 +9,9 @@ pub enum Admit {
     Unsigned,
     /// The signature isn't that of the key.
     BadSignature,
+    /// Its timestamp isn't greater than the persisted timestamp low bound, the floor, that the verifier was started
+    /// with.
+    BelowFloor { floor: u64 },
     /// Its timestamp isn't greater than the last admitted one of its stream.
     NotLater { last: u64 },
     /// It is more than a minute older than the greatest timestamp that was admitted or sent.

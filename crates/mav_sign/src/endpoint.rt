@@ -2,14 +2,14 @@
 ghost use Rattle.std.specs.Prelude.{◌≡◌, ℕ, ◌+◌, ◌*◌, ◌%◌, ◌^◌, ◌<◌, ◌≤◌, None, false, take, length, vec_len, vec_capacity, ◌++◌, ◌∷◌, [], List, Some, IfOk, OnOk, OnErr};
 ghost use Rattle.x25_check.specs.Extras.{extra_of};
 ghost use Rattle.mav_messages.specs.Messages.{definition_of};
-ghost use Rattle.mav_sign.specs.History.{Entry, sent, next_in, greatest_stamp};
-ghost use Rattle.mav_sign.specs.Kept.{Represents, kept_next};
+ghost use Rattle.mav_sign.specs.History.{Entry, sent, started, answer_to, stamp_given, next_in, greatest_stamp};
+ghost use Rattle.mav_sign.specs.Kept.{Represents, kept_answer_to, kept_next};
 ghost use Rattle.mav_frame.specs.declared.events.Event.{Event};
 ghost use Rattle.mav_stream.specs.Progress.{Progress};
 ghost use Rattle.mav_sign.specs.Streams.{reader_of, ReadTo, PartHeard};
-ghost use Rattle.mav_sign.specs.Endpoints.{HasProfile, AdmittedIs, new_endpoint, HeardIs, after_frame, Told, FrontHeard, Received, FrameOf, SentFrame};
+ghost use Rattle.mav_sign.specs.Endpoints.{HasProfile, AdmittedIs, AnswerIs, new_endpoint, HeardIs, after_frame, Told, FrontHeard, Received, FramesOf, FrameOf, SentFrame};
 
-use crate::reading::read_frame;
+use crate::reading::{LEAST_FRAME_BYTES, append_frames, read_frame};
 use crate::stamps::stream_of;
 use crate::{Admit, Heard, Key, NoMemory, Stamps, StampsSpent, sign};
 use mav_frame::{Block, Frame, Look, look};
@@ -19,9 +19,6 @@ use mav_stream::Reader;
 use std::alloc::Global;
 use std::marker::Model;
 use x25_check::Extras;
-
-// The bytes of a frame with no payload and no signature block.
-const LEAST_FRAME_BYTES: usize = 12;
 
 /// A node's end of signed links: it admits what comes in, and signs what goes out. Contracts see its key, its stream,
 /// the CRC_EXTRA bytes of the messages it knows, what its verifier keeps, the sequence number of its next frame, and
@@ -66,8 +63,36 @@ impl Endpoint {
         ensures history { IfOk result (λ endpoint. Represents endpoint.stamps []) }
         ensures stream { IfOk result (λ endpoint. Progress extras false [] [] (reader_of endpoint)) }
     {
-        let reader = Reader::new(extras.copy()?, false);
         let stamps = Stamps::new(alloc)?;
+        Endpoint::over(key, me, extras, stamps)
+    }
+
+    /// The same with a persisted timestamp low bound, the floor: a frame is admitted only if its timestamp is greater,
+    /// and it counts as the previous timestamp sent.
+    pub fn start(
+        alloc: Global,
+        key: Key,
+        me: Stream,
+        extras: Extras,
+        floor: u64,
+    ) -> Result<Endpoint, NoMemory>
+        requires profile { HasProfile extras }
+        requires floor { floor < 2 ^ 48 }
+        ensures state { IfOk result (λ endpoint. endpoint ≡ new_endpoint key me extras endpoint.stamps) }
+        ensures history { IfOk result (λ endpoint. Represents endpoint.stamps (started floor ∷ [])) }
+        ensures stream { IfOk result (λ endpoint. Progress extras false [] [] (reader_of endpoint)) }
+    {
+        let stamps = Stamps::start(alloc, floor)?;
+        Endpoint::over(key, me, extras, stamps)
+    }
+
+    // With what its verifier keeps.
+    fn over(key: Key, me: Stream, extras: Extras, stamps: Stamps) -> Result<Endpoint, NoMemory>
+        requires { HasProfile extras }
+        ensures state { IfOk result (λ endpoint. endpoint ≡ new_endpoint key me extras stamps) }
+        ensures stream { IfOk result (λ endpoint. Progress extras false [] [] (reader_of endpoint)) }
+    {
+        let reader = Reader::new(extras.copy()?, false);
         Ok(Endpoint {
             key,
             me,
@@ -78,9 +103,30 @@ impl Endpoint {
         })
     }
 
+    /// The verdict by which `take` would report of the frame. Nothing changes. Doesn't allocate.
+    pub fn test(&self, frame: &Frame) -> Admit
+        ensures kept { result ≡ kept_answer_to self.now.key self.now.stamps frame.now }
+        ensures answer { (history : List Entry) → Represents self.now.stamps history
+            → result ≡ answer_to self.now.key history frame.now }
+    {
+        self.stamps.test(&self.key, frame)
+    }
+
+    /// The timestamp that `send` would give its frame at that clock. Nothing changes. Doesn't allocate.
+    pub fn ahead(&self, clock: u64) -> Result<u64, StampsSpent>
+        ensures kept { result ≡ stamp_given (kept_next self.now.stamps clock) }
+        ensures some { IfOk result (λ stamp. 1 ≤ stamp) }
+        ensures small { IfOk result (λ stamp. stamp < 2 ^ 48) }
+        ensures answer { (history : List Entry) → Represents self.now.stamps history
+            → result ≡ stamp_given (next_in history clock) }
+    {
+        self.stamps.ahead(clock)
+    }
+
     /// Tries one frame, and keeps its timestamp if it is admitted; `receive` and `receive_part` do so with each frame
     /// of a parse. Doesn't allocate.
     pub fn take(&mut self, frame: &Frame) -> Heard
+        ensures kept { AnswerIs (kept_answer_to self.old.key self.old.stamps frame.now) frame.now frame.now.block result }
         ensures heard { (history : List Entry) → Represents self.old.stamps history
             → HeardIs self.old.key history frame.now result }
         ensures history { (history : List Entry) → Represents self.old.stamps history
@@ -145,8 +191,19 @@ impl Endpoint {
         Ok(())
     }
 
-    // Reads on to the next frame of the incoming stream.
-    fn read(&mut self, piece: &[u8]) -> (usize, Option<Frame>)
+    /// Appends the frames of a datagram as a whole input by itself, in order, and tries none. Allocates the memory for
+    /// that first, and without it nothing is appended.
+    pub fn frames(&self, datagram: &[u8], out: &mut Vec<Frame>) -> Result<(), NoMemory>
+        ensures frames { OnOk result (FramesOf self.now.extras datagram.now out.old.items out.new.items) }
+        ensures kept { OnErr result (out.new.items ≡ out.old.items) }
+    {
+        append_frames(&self.extras, datagram, out)
+    }
+
+    /// Takes bytes of a stream that comes in pieces, and returns how many it took and the next frame of the stream, which
+    /// isn't tried. Without a frame it took the whole piece, and every frame of the bytes taken was returned. Doesn't
+    /// allocate.
+    pub fn read(&mut self, piece: &[u8]) -> (usize, Option<Frame>)
         ensures count { result.0 ≤ length piece.now }
         ensures read { (taken : List ℕ) (given : List Event) → Progress self.old.extras false taken given (reader_of self.old)
             → ReadTo self.old.extras (taken ++ take result.0 piece.now) given result.1 (reader_of self.new) }

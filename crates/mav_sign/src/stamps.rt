@@ -1,7 +1,7 @@
 // What a verifier keeps: the timestamps that it admitted and sent.
 ghost use Rattle.std.specs.Prelude.{◌≡◌, ◌+◌, ◌<◌, ◌^◌, ◌++◌, ◌∷◌, [], List, max, false, Some, IfOk, OnErr};
-ghost use Rattle.mav_sign.specs.History.{Entry, tried, sent, stream_of as stream_in, stamp_answer, answer_to, block_answer, is_admitted, last_of, local_of, next_in, stamp_given};
-ghost use Rattle.mav_sign.specs.Kept.{IsStream, Represents, KeptAfter, stream_number, stamp_at, local_kept, kept_answer, kept_next};
+ghost use Rattle.mav_sign.specs.History.{Entry, tried, sent, started, stream_of as stream_in, stamp_answer, answer_to, is_admitted, last_of, local_of, next_in, stamp_given};
+ghost use Rattle.mav_sign.specs.Kept.{IsStream, Represents, KeptAfter, stream_number, stamp_at, local_kept, kept_answer, kept_answer_to, kept_next};
 
 use crate::signing::is_right;
 use crate::table::{STREAM_LIMIT, Table};
@@ -21,6 +21,7 @@ const GREATEST_STAMP: u64 = 0xFFFF_FFFF_FFFF;
 /// of the timestamps that it gave (MAVLink guide, Message Signing: Timestamp Handling).
 #[derive(Drop)]
 pub struct Stamps {
+    low: Option<u64>,
     last: Table,
     accepted: u64,
     previous: u64,
@@ -32,7 +33,7 @@ impl Model for Stamps {
 
     ghost Value = { Kept };
 
-    ghost view = { λ s. record { last = s.last; accepted = s.accepted; previous = s.previous } };
+    ghost view = { λ s. record { low = s.low; last = s.last; accepted = s.accepted; previous = s.previous } };
 
     ghost invariant = { λ s. (s.accepted < 2 ^ 48) × (s.previous < 2 ^ 48) };
 }
@@ -61,9 +62,25 @@ impl Stamps {
     {
         let last = Table::new(alloc)?;
         Ok(Stamps {
+            low: None,
             last,
             accepted: 0,
             previous: 0,
+        })
+    }
+
+    /// Starts with a persisted timestamp low bound, the floor: a frame is admitted only if its timestamp is greater, and
+    /// it counts as the previous timestamp sent. Allocates the memory for all that is kept later.
+    pub fn start(alloc: Global, floor: u64) -> Result<Stamps, NoMemory>
+        requires { floor < 2 ^ 48 }
+        ensures { IfOk result (λ stamps. Represents stamps (started floor ∷ [])) }
+    {
+        let last = Table::new(alloc)?;
+        Ok(Stamps {
+            low: Some(floor),
+            last,
+            accepted: 0,
+            previous: floor,
         })
     }
 
@@ -75,7 +92,7 @@ impl Stamps {
         self.last.get(stream)
     }
 
-    /// The greatest timestamp that was admitted or sent, 0 at first.
+    /// The greatest timestamp that was admitted or sent; at first the persisted timestamp low bound, or 0 without one.
     pub fn local(&self) -> u64
         ensures kept { result ≡ local_kept self.now }
         ensures history { (history : List Entry) → Represents self.now history → result ≡ local_of history }
@@ -88,6 +105,11 @@ impl Stamps {
         requires { stamp < 2 ^ 48 }
         ensures { result ≡ kept_answer self.now stream stamp }
     {
+        if let Some(floor) = self.low {
+            if stamp <= floor {
+                return Admit::BelowFloor { floor };
+            }
+        }
         let last = self.last.get(stream);
         if let Some(last) = last {
             if stamp <= last {
@@ -118,9 +140,23 @@ impl Stamps {
         answer
     }
 
+    /// The verdict that `admit` would give. Nothing changes.
+    pub fn test(&self, key: &Key, frame: &Frame) -> Admit
+        ensures kept { result ≡ kept_answer_to key.now self.now frame.now }
+        ensures answer { (history : List Entry) → Represents self.now history → result ≡ answer_to key.now history frame.now }
+    {
+        let Some(block) = &frame.block else {
+            return Admit::Unsigned;
+        };
+        if !is_right(key, frame, block) {
+            return Admit::BadSignature;
+        }
+        self.answer(stream_of(frame, block), block.stamp)
+    }
+
     /// Tries a frame, and keeps its timestamp if it is admitted.
     pub fn admit(&mut self, key: &Key, frame: &Frame) -> Admit
-        ensures kept { result ≡ block_answer key.now (kept_answer self.old) frame.now frame.now.block }
+        ensures kept { result ≡ kept_answer_to key.now self.old frame.now }
         ensures unchanged { is_admitted result ≡ false → self.new ≡ self.old }
         ensures answer { (history : List Entry) → Represents self.old history
             → result ≡ answer_to key.now history frame.now }
@@ -136,6 +172,20 @@ impl Stamps {
         self.admit_stamp(stream_of(frame, block), block.stamp)
     }
 
+    /// The timestamp that `next_stamp` would return at that clock. Nothing changes.
+    pub fn ahead(&self, clock: u64) -> Result<u64, StampsSpent>
+        ensures kept { result ≡ stamp_given (kept_next self.now clock) }
+        ensures later { IfOk result (λ stamp. self.now.previous < stamp) }
+        ensures small { IfOk result (λ stamp. stamp < 2 ^ 48) }
+        ensures answer { (history : List Entry) → Represents self.now history → result ≡ stamp_given (next_in history clock) }
+    {
+        let next = (self.previous + 1).max(clock.max(self.accepted));
+        if next > GREATEST_STAMP {
+            return Err(StampsSpent);
+        }
+        Ok(next)
+    }
+
     /// Returns the next timestamp: above the previous one, and not below the clock, which counts units of 10
     /// microseconds since 1 January 2015, and each admitted one.
     pub fn next_stamp(&mut self, clock: u64) -> Result<u64, StampsSpent>
@@ -147,10 +197,7 @@ impl Stamps {
         ensures history { IfOk result (λ stamp. (history : List Entry) → Represents self.old history
             → Represents self.new (history ++ sent stamp ∷ [])) }
     {
-        let next = (self.previous + 1).max(clock.max(self.accepted));
-        if next > GREATEST_STAMP {
-            return Err(StampsSpent);
-        }
+        let next = self.ahead(clock)?;
         self.previous = next;
         Ok(next)
     }

@@ -5,11 +5,11 @@ use Rattle.std.specs.List.{range_with_len}
 use Rattle.sha2.specs.Sha256.{first_words, schedule, rounds, compress, hash_after, digest_bytes, sha256}
 use Rattle.mav_names.specs.declared.names.Stream.{Stream}
 use Rattle.mav_frame.specs.Looks.{packet_at}
-use Rattle.mav_sign.specs.History.{Entry, tried, sent, stamp_answer, last_of, local_of, next_in, stamp_given, block_answer}
+use Rattle.mav_sign.specs.History.{Entry, started, tried, sent, stamp_answer, last_of, local_of, next_in, stamp_given, block_answer}
 use Rattle.std.specs.declared.result.Result.{Result}
 use Rattle.mav_sign.specs.declared.admission.StampsSpent.{StampsSpent}
 use Rattle.mav_sign.specs.declared.admission.Admit.{Admit}
-use Rattle.mav_sign.specs.declared.admission.Admit.TheVariants.{Admitted, Unsigned, BadSignature, NotLater, TooOld, TooManyStreams}
+use Rattle.mav_sign.specs.declared.admission.Admit.TheVariants.{Admitted, Unsigned, BadSignature, BelowFloor, NotLater, TooOld, TooManyStreams}
 use Rattle.wire_tests.proofs.Frames.{node, signed_heartbeat_bytes}
 
 -- the key of the bytes 0 to 31
@@ -104,3 +104,42 @@ one_more = record { sys = 0; comp = 1; link = 1 }
 
 pub streams_kept : map (λ count. stamp_answer one_more 1000 (many_streams count)) (255 ∷ 256 ∷ []) ≡ Admitted ∷ TooManyStreams ∷ []
 streams_kept = refl
+
+-- ---- a verifier that was started with a persisted timestamp low bound
+
+abbrev restarted : List Entry
+restarted = started 10000000 ∷ []
+
+-- nothing at or below the bound is admitted, and a minute below it is BelowFloor, too
+pub above_the_bound : map (λ stamp. stamp_answer (stream 1) stamp restarted) (3999999 ∷ 10000000 ∷ 10000001 ∷ []) ≡
+    BelowFloor 10000000 ∷ BelowFloor 10000000 ∷ Admitted ∷ []
+above_the_bound = refl
+
+-- the bound counts as sent
+pub after_the_bound : next_after restarted ≡ Ok 10000001
+after_the_bound = refl
+
+pub local_is_the_bound : local_of restarted ≡ 10000000
+local_is_the_bound = refl
+
+-- the bound is tested before the last timestamp of the stream and before the local one
+abbrev restarted_and_admitted : List Entry
+restarted_and_admitted = started 1000 ∷ admitted 1 10000000 ∷ []
+
+pub bound_before_last : map (λ stamp. stamp_answer (stream 1) stamp restarted_and_admitted) (1000 ∷ 1001 ∷ 10000001 ∷ []) ≡
+    BelowFloor 1000 ∷ NotLater 10000000 ∷ Admitted ∷ []
+bound_before_last = refl
+
+pub bound_before_local : map (λ stamp. stamp_answer (stream 2) stamp restarted_and_admitted) (1000 ∷ 1001 ∷ 4000000 ∷ []) ≡
+    BelowFloor 1000 ∷ TooOld 10000000 ∷ Admitted ∷ []
+bound_before_local = refl
+
+-- and after the signature: HEARTBEAT has timestamp 1
+abbrev answer_after_start : List ℕ → Admit
+answer_after_start bytes = block_answer key (λ stream stamp. stamp_answer stream stamp (started 1 ∷ [])) (packet_at false bytes) (packet_at false bytes).block
+
+pub signature_before_bound :
+    map answer_after_start (signed_heartbeat_bytes ∷ signed_current_bytes ∷ wrong_bytes ∷ unsigned_bytes ∷ []) ≡
+    BelowFloor 1 ∷ Admitted ∷ BadSignature ∷ Unsigned ∷ []
+unfolding first_words schedule rounds compress hash_after digest_bytes sha256
+signature_before_bound = refl

@@ -1,8 +1,16 @@
-use Rattle.std.proofs.Common.{◌≡◌, ◌-◌, List, length, drop, slice_range, ap, ◌∙◌, subst, arith, length-take, length-drop}
+use Rattle.std.proofs.Common.{◌≡◌, ◌-◌, List, length, drop, slice_range, refl, ap, ◌∙◌, subst, arith, length-take, length-drop}
 use Rattle.mav_sign.specs.declared.heard.Heard.{Heard}
 use Rattle.mav_sign.specs.Endpoints.{EndpointState, after_frames, frames_of, FrontHeard, Received}
-use Rattle.mav_sign.proofs.Hearing.{heard_on, heard_whole}
+use Rattle.mav_sign.proofs.Hearing.{heard_at_start, heard_on, heard_whole}
 use Rattle.mav_sign.proofs.endpoint.Endpoint.receive.Goals as goal
+
+pub loop-place-init : goal.loop-place-init
+loop-place-init c = record {
+  within = omega arith;
+  same = refl;
+  room = omega (arith, c.in_ok-reserve.ensures.ok, c.in_ok-reserve.ensures.capacity, c.in_ok-reserve.ensures.len);
+  heard = λ history of. heard_at_start c.args.self.now.extras c.args.self.now.key history c.args.datagram.now c.reserve.new.self.items c.args.self.now.stamps of;
+}
 
 pub loop-place-preserved : goal.loop-place-preserved
 loop-place-preserved c =
