@@ -1,6 +1,9 @@
 //! What no contract of the plan crates states: worked examples of the protocol's tables, computed from the definitions
-//! alone by the lemmas of proofs/, and that a plan may move to another thread.
+//! alone by the lemmas of proofs/, that a plan may move to another thread, and a stored image that is written, read and
+//! restored.
 #![tactic(auto)]
 
+#[cfg(test)]
+mod images;
 #[cfg(test)]
 mod plans;
