@@ -1,3 +1,4 @@
 pub mod Drones
 pub mod Stations
 pub mod Items
+pub mod StoredBytes

@@ -1,8 +1,10 @@
 //! What no contract of the plan crates states: worked examples of the protocol's tables, computed from the definitions
-//! alone by the lemmas of proofs/, that a plan may move to another thread, and that a store over memory or over a real
-//! file gives back what it was given.
+//! alone by the lemmas of proofs/, that a plan may move to another thread, that a store over memory or over a real file
+//! gives back what it was given, and a stored image that is written, read and restored.
 #![tactic(auto)]
 
+#[cfg(test)]
+mod images;
 #[cfg(test)]
 mod plans;
 #[cfg(test)]

@@ -1,0 +1,98 @@
+// A stored image with its bytes written out by hand.
+use mav_names::{Name, Stream};
+use plan_items::{Item, PlanMsg};
+use plan_upload::{Drone, Kept, KeptFault, NoMemory, read_kept};
+use std::alloc::Global;
+use std::test::Fail;
+
+// System id 1, the low bound 5001, a mission of one item, no fence and no rally points.
+static MISSION_OF_ONE: [u8; 48] = [
+    1, // system id
+    0x89, 0x13, 0, 0, 0, 0, 0, 0, // 5001
+    1, 0, // one item
+    3, // GLOBAL_RELATIVE_ALT
+    16, 0, // NAV_WAYPOINT
+    0, 1, // current, autocontinue
+    0, 0, 0, 0, 0, 0, 0, 0, 0, 0, 0, 0, 0, 0, 0, 0, // params
+    0x4c, 0x52, 0x40, 0x1c, // latitude 47.3977420
+    0x44, 0xf4, 0x17, 0x05, // longitude 8.5455940
+    0, 0, 0x20, 0x42, // 40 metres
+    0, 0, // no fence
+    0, 0, // no rally point
+];
+
+// A drone to which a mission of one item was uploaded.
+fn uploaded(alloc: Global) -> Result<Drone, NoMemory> {
+    let ground = Stream {
+        sys: 255,
+        comp: 190,
+        link: 0,
+    };
+    let to = Name { sys: 1, comp: 1 };
+    let item = Item {
+        frame: 3,
+        command: 16,
+        current: 0,
+        autocontinue: 1,
+        p: [0; 4],
+        x: 473_977_420,
+        y: 85_455_940,
+        z: 0x4220_0000,
+    };
+    let mut drone = Drone::new(alloc, 1)?;
+    let _asked = drone.step(
+        ground,
+        &PlanMsg::Count {
+            to,
+            count: 1,
+            kind: 0,
+        },
+    );
+    let _accepted = drone.step(
+        ground,
+        &PlanMsg::Item {
+            to,
+            seq: 0,
+            kind: 0,
+            item,
+        },
+    );
+    Ok(drone)
+}
+
+fn is_as_written(bytes: &[u8]) -> bool {
+    bytes == MISSION_OF_ONE.as_slice()
+}
+
+// Whether a drone that starts again with these plans keeps the same bytes.
+fn keeps_the_same(alloc: Global, kept: &Kept) -> Result<bool, NoMemory> {
+    let drone = Drone::restore(alloc, 1, kept)?;
+    let bytes = drone.kept(alloc, kept.floor)?;
+    Ok(is_as_written(bytes.as_slice()))
+}
+
+// A mission is uploaded and kept, its image read, and a drone restored from it.
+fn is_kept(alloc: Global) -> Result<bool, NoMemory> {
+    let drone = uploaded(alloc)?;
+    let bytes = drone.kept(alloc, 5001)?;
+    if !is_as_written(bytes.as_slice()) {
+        return Ok(false);
+    }
+    match read_kept(alloc, 1, bytes.as_slice()) {
+        Ok(kept) => keeps_the_same(alloc, &kept),
+        Err(_) => Ok(false),
+    }
+}
+
+#[test]
+fn one_byte_is_no_image(rt: HostRuntime) {
+    let is_bad = matches!(read_kept(rt.alloc(), 1, &[1]), Err(KeptFault::BadKept));
+    assert!(rt; is_bad);
+}
+
+#[test]
+fn an_uploaded_mission_is_kept(rt: HostRuntime) -> Result<(), Fail> {
+    let kept = is_kept(rt.alloc())?;
+    assert!(rt; kept);
+    Ok(())
+}
