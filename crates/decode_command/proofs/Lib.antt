@@ -9,3 +9,4 @@ pub mod Ends
 pub mod Starts
 pub mod Stays
 pub mod Worked
+pub mod Verdicts
