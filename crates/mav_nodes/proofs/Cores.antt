@@ -10,7 +10,7 @@ use Rattle.mav_messages.specs.Plans.{message_of_plan}
 use Rattle.mav_sign.specs.declared.admission.Admit.{Admit}
 use Rattle.mav_sign.specs.declared.admission.Admit.TheVariants.{Admitted, Unsigned, BadSignature, BelowFloor, NotLater, TooOld, TooManyStreams}
 use Rattle.mav_sign.specs.History.{answer_to, stream_of, next_in, greatest_stamp}
-use Rattle.mav_sign.specs.Endpoints.{EndpointState, AnswerIs, HeardIs}
+use Rattle.mav_sign.specs.Endpoints.{AnswerIs, HeardIs}
 use Rattle.mav_sign.specs.declared.heard.Heard.TheVariants.{Message as HeardMessage, Other as HeardOther, Dropped as HeardDropped}
 use Rattle.field_layout.specs.Payload.{Represents}
 use Rattle.mav_messages.specs.Messages.{profile_definition, definition_of, values_of}
@@ -21,11 +21,11 @@ use Rattle.mav_nodes.specs.declared.faults.NodeFault.{NodeFault}
 use Rattle.mav_nodes.specs.declared.faults.NodeFault.TheVariants.{StampsSpent, NoMemory}
 use Rattle.mav_nodes.specs.News.{NodeEvent, Drops, Shown, shown, events_of}
 use Rattle.mav_nodes.specs.Payloads.{plan_in}
-use Rattle.mav_nodes.specs.Links.{Link, IsLink, Done, Outcome, done, behind, tries, sends}
+use Rattle.mav_nodes.specs.Links.{LinkView, Link, IsLink, Done, Outcome, done, behind, tries, sends}
 use Rattle.mav_nodes.specs.Steps.{Side, CoreStep, answers, with_core, steps, takes, admits, hears}
 use Rattle.mav_nodes.specs.declared.steps.Step.{Step}
 use Rattle.mav_nodes.specs.Cores.{IsStep, IsNode, NodeDid, ends, says}
-use Rattle.mav_nodes.specs.Promises.{Did, LinkDid, IsAnswer, IsTried}
+use Rattle.mav_nodes.specs.Promises.{Fails, Did, LinkDid, IsAnswer, IsTried}
 
 pub if_ok : {A E : Type 0} {P Q : A → Type 0} (r : Result A E) → ((a : A) → P a → Q a) → IfOk r P → IfOk r Q
 if_ok (Ok a) f h = f a h
@@ -39,14 +39,18 @@ if_err (Err e) f h = f e h
 pub not_spent : (fault : NodeFault) → fault ≡ NoMemory → fault ≡ StampsSpent → ⊥
 not_spent fault is other = cc
 
+-- how a call that only adds news fails
+pub fails_for_memory : {A B : Type 0} (fault : NodeFault) (Is : A → Type 0) (does : A → Outcome B) (failed : Type 0) → fault ≡ NoMemory → Fails fault Is does failed
+fails_for_memory fault Is does failed is = subst (λ (f : NodeFault). Fails f Is does failed) (sym is) tt
+
 -- a link's part was done, and nothing follows it
-pub core_did : {Core : Type 0} (core : Core) (outcome : Outcome Link) (endpoint : EndpointState) (Is : Side Core → Type 0) (before after : List News) → LinkDid outcome endpoint before after → ((link : Link) → IsLink link endpoint → Is (record { link = link; core = core })) → Did (with_core core [] outcome) Is before after
+pub core_did : {Core : Type 0} (core : Core) (outcome : Outcome Link) (endpoint : LinkView) (Is : Side Core → Type 0) (before after : List News) → LinkDid outcome endpoint before after → ((link : Link) → IsLink link endpoint → Is (record { link = link; core = core })) → Did (with_core core [] outcome) Is before after
 core_did core None endpoint Is before after h f = h
 core_did core (Some d) endpoint Is before after h f =
     (f d.node h.0, h.1 ∙ ap (λ (l : List NodeEvent). events_of before ++ map shown l) (sym (append-nil d.events)))
 
 -- news, a reply and news again
-pub said_in_turn : (clock : ℕ) (link : Link) (first last : List NodeEvent) (answer : Option PlanMsg) (endpoint : EndpointState) (one two three four : List News) → events_of two ≡ events_of one ++ map shown first → LinkDid (answers clock answer link) endpoint two three → events_of four ≡ events_of three ++ map shown last → LinkDid (says clock first answer last link) endpoint one four
+pub said_in_turn : (clock : ℕ) (link : Link) (first last : List NodeEvent) (answer : Option PlanMsg) (endpoint : LinkView) (one two three four : List News) → events_of two ≡ events_of one ++ map shown first → LinkDid (answers clock answer link) endpoint two three → events_of four ≡ events_of three ++ map shown last → LinkDid (says clock first answer last link) endpoint one four
 said_in_turn clock link first last answer endpoint one two three four e h f =
     joined (answers clock answer link) h
   where
@@ -60,7 +64,7 @@ said_in_turn clock link first last answer endpoint one two three four e h f =
         (h.0, f ∙ (ap (λ (l : List Shown). l ++ L) (h.1 ∙ ap (λ (l : List Shown). l ++ D) e) ∙ (append_assoc (A ++ F) D L ∙ (append_assoc A F (D ++ L) ∙ ap (λ (l : List Shown). A ++ l) (ap (λ (l : List Shown). F ++ l) (sym (map-append shown d.events last)) ∙ sym (map-append shown first (d.events ++ last)))))))
 
 -- a core did a step, and the link did what it asks for
-pub stepped : {Core : Type 0} (clock : ℕ) (link : Link) (did : CoreStep Core) (view : Core) (given : Step) (endpoint : EndpointState) (before after : List News) → IsStep did view given → LinkDid (says clock did.first given.answer did.last link) endpoint before after → NodeDid (steps clock link did) endpoint view before after
+pub stepped : {Core : Type 0} (clock : ℕ) (link : Link) (did : CoreStep Core) (view : Core) (given : Step) (endpoint : LinkView) (before after : List News) → IsStep did view given → LinkDid (says clock did.first given.answer did.last link) endpoint before after → NodeDid (steps clock link did) endpoint view before after
 stepped {Core} clock link did view given endpoint before after is h =
     with_view did.core did.first did.last (answers clock did.answer link) is.core (subst (λ (a : Option PlanMsg). LinkDid (says clock did.first a did.last link) endpoint before after) is.answer h)
   where
@@ -95,7 +99,7 @@ module _ {Core : Type 0} (step : Core → Stream → PlanMsg → CoreStep Core) 
   answered node packet from message TooManyStreams block h = absurd (let t : Plan from message ≡ Dropped TooManyStreams = h in cc)
 
   -- a frame whose plan message was returned
-  hears_plan : (node : Side Core) (packet : Packet) (from : Stream) (message : PlanMsg) → IsTried node.link packet (Plan from message) → hears step clock packet node ≡ takes step clock (record node { link = tries packet node.link }) from (Some message)
+  pub hears_plan : (node : Side Core) (packet : Packet) (from : Stream) (message : PlanMsg) → IsTried node.link packet (Plan from message) → hears step clock packet node ≡ takes step clock (record node { link = tries packet node.link }) from (Some message)
   hears_plan node packet from message h =
       answered (record node { link = tries packet node.link }) packet from message (answer_to node.link.key node.link.history packet) packet.block h
 

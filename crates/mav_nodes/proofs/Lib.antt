@@ -1,8 +1,11 @@
 mod PlanPayloads
 mod Tables
 mod Cores
+mod Lows
 mod Changes
 mod Ends
+mod Starting
+mod Keeping
 mod Leads
 pub mod Bounds
 pub mod Sendings

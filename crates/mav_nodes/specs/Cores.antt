@@ -9,13 +9,12 @@ use Rattle.plan_upload.specs.declared.changes.Change.TheVariants.{Same as Unchan
 use Rattle.plan_upload.specs.Changes.{install_of}
 use Rattle.plan_upload.specs.declared.outcomes.Outcome.{Outcome as Ended}
 use Rattle.plan_upload.specs.Outcomes.{told_of}
-use Rattle.mav_sign.specs.Endpoints.{EndpointState}
 use Rattle.mav_nodes.specs.declared.news.News.{News}
 use Rattle.mav_nodes.specs.declared.steps.PlanNews.{PlanNews}
 use Rattle.mav_nodes.specs.declared.steps.PlanNews.TheVariants.{Same, Installed, Emptied}
 use Rattle.mav_nodes.specs.declared.steps.Step.{Step}
 use Rattle.mav_nodes.specs.News.{NodeEvent, Shown, Shows_installed, Shows_emptied, Shows_ended, shown}
-use Rattle.mav_nodes.specs.Links.{Link, IsLink, Outcome, done, behind}
+use Rattle.mav_nodes.specs.Links.{Link, LinkView, IsLink, Outcome, done, behind}
 use Rattle.mav_nodes.specs.Steps.{Side, CoreStep, answers}
 use Rattle.mav_nodes.specs.Promises.{Did}
 
@@ -47,12 +46,18 @@ abbrev pub says : ℕ → List NodeEvent → Option PlanMsg → List NodeEvent �
 says clock first answer last link = behind first (ends last (answers clock answer link))
 
 -- a node with a core at that end of the links
-pub record IsNode {Core : Type 0} (node : Side Core) (endpoint : EndpointState) (view : Core) : Type 0 where
-  pub link : IsLink node.link endpoint
+pub record IsNode {Core : Type 0} (node : Side Core) (end : LinkView) (view : Core) : Type 0 where
+  pub link : IsLink node.link end
   pub core : view ≡ node.core
 
-abbrev pub NodeDid : {Core : Type 0} → Outcome (Side Core) → EndpointState → Core → List News → List News → Type 0
-NodeDid outcome endpoint view before after = Did outcome (λ node. IsNode node endpoint view) before after
+abbrev pub NodeDid : {Core : Type 0} → Outcome (Side Core) → LinkView → Core → List News → List News → Type 0
+NodeDid outcome end view before after = Did outcome (λ node. IsNode node end view) before after
+
+-- the same with a store that may not keep what is saved
+pub record NodeDidKeeping {I Core : Type 0} (does : I → Outcome (Side Core)) (kept : I → Type 0) (end : LinkView) (view : Core) (news : List News) : Type 0 where
+  pub keeps : I
+  pub is_kept : kept keeps
+  pub did : NodeDid (does keeps) end view [] news
 
 -- a reply says that what was asked is done: MISSION_ACK with ACCEPTED
 abbrev pub accepts : Option PlanMsg → Bool

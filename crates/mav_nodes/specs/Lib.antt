@@ -1,9 +1,14 @@
 pub mod News
 pub mod Payloads
 pub mod Signed
+pub mod LowBounds
+pub mod Stores
 pub mod Links
 pub mod Steps
 pub mod Nodes
+pub mod Restarts
+pub mod Images
+pub mod Starts
 pub mod Promises
 pub mod Cores
 pub mod Laws

@@ -3,10 +3,11 @@ use Rattle.std.specs.Prelude.{ℕ, ◌≡◌, ◌+◌, ◌%◌, nat_lt, if◌the
 use Rattle.mav_names.specs.declared.names.Stream.{Stream}
 use Rattle.mav_frame.specs.Packet.{Packet}
 use Rattle.mav_messages.specs.declared.messages.Message.{Message}
-use Rattle.mav_sign.specs.History.{Entry, sent, next_in, greatest_stamp}
+use Rattle.mav_sign.specs.History.{Entry, sent, started, next_in, greatest_stamp}
 use Rattle.mav_sign.specs.Kept.{Represents}
 use Rattle.mav_sign.specs.Endpoints.{EndpointState, after_frame}
 use Rattle.mav_nodes.specs.News.{NodeEvent, Sends}
+use Rattle.mav_nodes.specs.LowBounds.{stored_low}
 use Rattle.mav_nodes.specs.Signed.{signed_packet}
 
 -- its key, its stream, the CRC_EXTRA bytes of the messages that it knows, the history of the frames that it tried and
@@ -22,13 +23,32 @@ pub record Link : Type 0 where
 abbrev pub new_link : List ℕ → Stream → List (ℕ × ℕ) → Link
 new_link key me extras = record { key = key; me = me; extras = extras; history = []; seq = 0 }
 
+-- the history of a verifier that starts with a low bound, or without one
+abbrev pub started_with : Option ℕ → List Entry
+started_with None = []
+started_with (Some low) = started low ∷ []
+
+-- it starts, with a stored low bound or without one
+abbrev pub started_link : List ℕ → Stream → List (ℕ × ℕ) → Option ℕ → Link
+started_link key me extras low = record (new_link key me extras) { history = started_with low }
+
+-- what contracts see of it: an endpoint, and the low bound that a store has
+pub record LinkView : Type 0 where
+  pub endpoint : EndpointState
+  pub low : Option ℕ
+
 -- an endpoint in this state
-pub record IsLink (link : Link) (endpoint : EndpointState) : Type 0 where
+pub record IsEnd (link : Link) (endpoint : EndpointState) : Type 0 where
   pub key : endpoint.key ≡ link.key
   pub me : endpoint.me ≡ link.me
   pub extras : endpoint.extras ≡ link.extras
   pub seq : endpoint.seq ≡ link.seq
   pub history : Represents endpoint.stamps link.history
+
+-- a link in this state
+pub record IsLink (link : Link) (view : LinkView) : Type 0 where
+  pub end : IsEnd link view.endpoint
+  pub low : view.low ≡ stored_low link.history
 
 -- the node after a call, and what happened in it
 pub record Done (A : Type 0) : Type 0 where

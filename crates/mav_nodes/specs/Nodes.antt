@@ -1,5 +1,5 @@
 -- Drones and stations as nodes.
-use Rattle.std.specs.Prelude.{ℕ, ◌≡◌, List, [], ◌∷◌, true, Option, Some, None}
+use Rattle.std.specs.Prelude.{ℕ, ◌≡◌, Bool, List, [], ◌∷◌, true, Option, Some, None}
 use Rattle.mav_names.specs.declared.names.Stream.{Stream}
 use Rattle.plan_items.specs.declared.items.Item.{Item}
 use Rattle.plan_items.specs.declared.kinds.PlanKind.TheVariants.{Mission, Fence, Rally}
@@ -15,7 +15,6 @@ use Rattle.mav_profile.specs.Messages.{extras_of}
 use Rattle.mav_profile.specs.Profile.{profile_definitions}
 use Rattle.mav_messages.specs.declared.messages.Message.{Message}
 use Rattle.mav_messages.specs.declared.messages.Message.TheVariants.{Heartbeat}
-use Rattle.mav_sign.specs.Endpoints.{EndpointState}
 use Rattle.plan_items.specs.Plans.{items_of}
 use Rattle.plan_items.specs.declared.plans.Plan.{Plan}
 use Rattle.plan_upload.specs.declared.faults.OpFault.{OpFault}
@@ -25,8 +24,8 @@ use Rattle.plan_upload.specs.Refusals.{upload_refusal, refusal, first_of}
 use Rattle.mav_nodes.specs.declared.orders.Order.{Order}
 use Rattle.mav_nodes.specs.declared.orders.Order.TheVariants.{Begin, Cancel, Clear, Get}
 use Rattle.mav_nodes.specs.News.{NodeEvent, Installs, Empties, Ends}
-use Rattle.mav_nodes.specs.Links.{IsLink, Outcome, new_link, sends}
-use Rattle.mav_nodes.specs.Steps.{Side, CoreStep, with_core, steps, receives}
+use Rattle.mav_nodes.specs.Links.{LinkView, IsLink, Outcome, new_link, sends}
+use Rattle.mav_nodes.specs.Steps.{Side, CoreStep, with_core, steps, receives, receives_keeping}
 
 -- ---- a drone
 
@@ -37,16 +36,20 @@ change_events by plans (Install kind) = Installs kind (plan_at plans (number_of 
 change_events by plans (Empty None) = Empties Mission ∷ Empties Fence ∷ Empties Rally ∷ []
 change_events by plans (Empty (Some kind)) = Empties kind ∷ []
 
--- its core receives a plan message
-abbrev pub drone_core : DroneState → Stream → PlanMsg → CoreStep DroneState
-drone_core drone from message =
-    let step = drone_step true drone from message in
+-- its core receives a plan message; `kept` says whether its store keeps what it changes
+abbrev pub drone_core_keeping : Bool → DroneState → Stream → PlanMsg → CoreStep DroneState
+drone_core_keeping kept drone from message =
+    let step = drone_step kept drone from message in
     record {
       core = step.drone;
       first = change_events from step.drone.plans (change_by step.event);
       answer = step.answer;
       last = [];
     }
+
+-- a store keeps what it changes
+abbrev pub drone_core : DroneState → Stream → PlanMsg → CoreStep DroneState
+drone_core drone from message = drone_core_keeping true drone from message
 
 -- a drone of that system, with empty plans, on link 0
 abbrev pub new_drone : List ℕ → ℕ → Side DroneState
@@ -57,6 +60,10 @@ new_drone key sys = record {
 
 abbrev pub drone_receives : ℕ → List ℕ → Side DroneState → Outcome (Side DroneState)
 drone_receives clock datagram node = receives drone_core clock datagram node
+
+-- the same with a store that may not keep what a step changes
+abbrev pub drone_receives_keeping : ℕ → List Bool → List ℕ → Side DroneState → Outcome (Side DroneState)
+drone_receives_keeping clock keeps datagram node = receives_keeping drone_core_keeping clock keeps datagram node
 
 -- what a tick sends, without the stream that it is for, which the message names too
 abbrev pub tick_answer : Option (Stream × PlanMsg) → Option PlanMsg
@@ -80,7 +87,7 @@ drone_beats clock node = with_core node.core [] (sends clock drone_heartbeat nod
 
 -- what contracts see of a drone's node
 pub record DroneView : Type 0 where
-  pub link : EndpointState
+  pub link : LinkView
   pub drone : DroneState
 
 pub record IsDrone (node : Side DroneState) (view : DroneView) : Type 0 where
@@ -145,7 +152,7 @@ abbrev pub station_gets : ℕ → Stream → ℕ → Side StationState → Outco
 station_gets clock drone kind node = steps clock node.link (station_does (begin_get node.core drone kind))
 
 pub record StationView : Type 0 where
-  pub link : EndpointState
+  pub link : LinkView
   pub station : StationState
 
 pub record IsStation (node : Side StationState) (view : StationView) : Type 0 where

@@ -1,8 +1,7 @@
 -- What calls promise of a node: its state after them, and the news that they append.
-use Rattle.std.specs.Prelude.{ℕ, ◌≡◌, List, ◌++◌, map, Option, Some, None}
+use Rattle.std.specs.Prelude.{ℕ, ◌≡◌, List, [], ◌++◌, map, Option, Some, None}
 use Rattle.plan_upload.specs.Drone.{DroneState}
 use Rattle.plan_upload.specs.Station.{StationState}
-use Rattle.mav_sign.specs.Endpoints.{EndpointState}
 use Rattle.mav_frame.specs.Packet.{Packet, SignatureBlock}
 use Rattle.mav_sign.specs.declared.admission.Admit.{Admit}
 use Rattle.mav_sign.specs.declared.admission.Admit.TheVariants.{Admitted}
@@ -12,22 +11,41 @@ use Rattle.mav_nodes.specs.declared.link.Tried.{Tried}
 use Rattle.mav_nodes.specs.declared.link.Tried.TheVariants.{Plan, Other, Dropped}
 use Rattle.mav_nodes.specs.Payloads.{plan_in}
 use Rattle.mav_nodes.specs.News.{shown, events_of}
-use Rattle.mav_nodes.specs.Links.{Link, IsLink, Outcome}
+use Rattle.mav_nodes.specs.Links.{Link, LinkView, IsLink, Outcome}
 use Rattle.mav_nodes.specs.Steps.{Side}
 use Rattle.mav_nodes.specs.Nodes.{DroneView, IsDrone, StationView, IsStation, station_obeys, order_refusal, order_plan, order_fault}
 use Rattle.mav_nodes.specs.declared.orders.Order.{Order}
 use Rattle.mav_nodes.specs.declared.faults.OrderFault.{OrderFault}
 use Rattle.mav_nodes.specs.declared.faults.OrderFault.TheVariants.{Begin, Op, Node}
-use Rattle.mav_nodes.specs.declared.faults.NodeFault.TheVariants.{StampsSpent}
+use Rattle.mav_nodes.specs.declared.faults.NodeFault.{NodeFault}
+use Rattle.mav_nodes.specs.declared.faults.NodeFault.TheVariants.{StampsSpent, Store, NoMemory}
 
 -- this was done: this is the node now, and these news came after the earlier ones
 abbrev pub Did : {A : Type 0} → Outcome A → (A → Type 0) → List News → List News → Type 0
 Did None Is before after = ⊥
 Did (Some d) Is before after = Is d.node × (events_of after ≡ events_of before ++ map shown d.events)
 
+-- a call fails: for want of a timestamp if what it does needs one that isn't there, and by the store if a call of the
+-- store has failed
+abbrev pub Fails : {A B : Type 0} → NodeFault → (A → Type 0) → (A → Outcome B) → Type 0 → Type 0
+Fails {A} StampsSpent Is does failed = (a : A) → Is a → does a ≡ None
+Fails Store Is does failed = failed
+Fails NoMemory Is does failed = Unit {0}
+
+-- the same of what is done with a store that may not keep what is saved: some of it was done
+pub record SpentKeeping {I B : Type 0} (kept : I → Type 0) (does : I → Outcome B) : Type 0 where
+  pub keeps : I
+  pub is_kept : kept keeps
+  pub none : does keeps ≡ None
+
+abbrev pub FailsKeeping : {I A B : Type 0} → NodeFault → (A → Type 0) → (I → A → Outcome B) → (I → Type 0) → Type 0 → Type 0
+FailsKeeping {I} {A} StampsSpent Is does kept failed = (a : A) → Is a → SpentKeeping kept (λ keeps. does keeps a)
+FailsKeeping Store Is does kept failed = failed
+FailsKeeping NoMemory Is does kept failed = Unit {0}
+
 -- the same of a link
-abbrev pub LinkDid : Outcome Link → EndpointState → List News → List News → Type 0
-LinkDid outcome endpoint before after = Did outcome (λ link. IsLink link endpoint) before after
+abbrev pub LinkDid : Outcome Link → LinkView → List News → List News → Type 0
+LinkDid outcome view before after = Did outcome (λ link. IsLink link view) before after
 
 -- the result of a frame that carries that plan message, or none
 abbrev pub IsAnswer : Admit → Packet → Option SignatureBlock → Tried → Type 0
@@ -48,6 +66,12 @@ DroneDid outcome view before after = Did outcome (λ node. IsDrone node view) be
 abbrev pub StationDid : Outcome (Side StationState) → StationView → List News → List News → Type 0
 StationDid outcome view before after = Did outcome (λ node. IsStation node view) before after
 
+-- the same of a drone with a store that may not keep what is saved
+pub record DroneDidKeeping {I : Type 0} (does : I → Outcome (Side DroneState)) (kept : I → Type 0) (view : DroneView) (news : List News) : Type 0 where
+  pub keeps : I
+  pub is_kept : kept keeps
+  pub did : DroneDid (does keeps) view [] news
+
 -- an order was refused, for the first cause; an upload's plan is returned
 abbrev pub IsRefusal : StationState → Order → OrderFault → Type 0
 IsRefusal station order (Begin fault) = (order_refusal station order ≡ Some fault.why) × (order_plan order ≡ Some fault.plan)
@@ -58,7 +82,7 @@ IsRefusal station order (Node fault) = ⊥
 abbrev pub OrderFails : ℕ → Order → StationView → OrderFault → Type 0
 OrderFails clock order station (Node fault) =
     (order_refusal station.station order ≡ None)
-    × ((node : Side StationState) → IsStation node station → fault ≡ StampsSpent → station_obeys clock order node ≡ None)
+    × Fails fault (λ (node : Side StationState). IsStation node station) (λ (node : Side StationState). station_obeys clock order node) ⊥
 OrderFails clock order station refusal = IsRefusal station.station order refusal
 
 -- a refused order changes nothing

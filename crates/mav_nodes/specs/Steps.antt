@@ -1,6 +1,6 @@
 -- What a node does at frames, whatever its core is: each is tried, the core takes the plan message of an admitted one,
 -- and its reply is sent before the next frame is tried.
-use Rattle.std.specs.Prelude.{false, ℕ, List, [], ◌∷◌, ◌++◌, Option, Some, None}
+use Rattle.std.specs.Prelude.{false, true, Bool, ℕ, List, [], ◌∷◌, ◌++◌, Option, Some, None}
 use Rattle.mav_names.specs.declared.names.Stream.{Stream}
 use Rattle.plan_items.specs.declared.messages.PlanMsg.{PlanMsg}
 use Rattle.mav_frame.specs.Packet.{Packet, SignatureBlock}
@@ -60,6 +60,19 @@ hears step clock packet node =
 abbrev pub hears_all : {Core : Type 0} → (Core → Stream → PlanMsg → CoreStep Core) → ℕ → List Packet → Side Core → Outcome (Side Core)
 hears_all step clock [] node = done node []
 hears_all step clock (packet ∷ packets) node = and_then (hears step clock packet node) (hears_all step clock packets)
+
+-- the same with a store that may not keep what a step saves: `keeps` says for each frame whether it does, and it does
+-- for those that are left
+abbrev pub hears_keeping : {Core : Type 0} → (Bool → Core → Stream → PlanMsg → CoreStep Core) → ℕ → List Bool → List Packet → Side Core → Outcome (Side Core)
+hears_keeping step clock keeps [] node = done node []
+hears_keeping step clock [] (packet ∷ packets) node =
+    and_then (hears (step true) clock packet node) (hears_keeping step clock [] packets)
+hears_keeping step clock (kept ∷ keeps) (packet ∷ packets) node =
+    and_then (hears (step kept) clock packet node) (hears_keeping step clock keeps packets)
+
+abbrev pub receives_keeping : {Core : Type 0} → (Bool → Core → Stream → PlanMsg → CoreStep Core) → ℕ → List Bool → List ℕ → Side Core → Outcome (Side Core)
+receives_keeping step clock keeps datagram node =
+    hears_keeping step clock keeps (frames_of (final_parse node.link.extras false datagram)) node
 
 -- a datagram: the frames of its final parse
 abbrev pub receives : {Core : Type 0} → (Core → Stream → PlanMsg → CoreStep Core) → ℕ → List ℕ → Side Core → Outcome (Side Core)

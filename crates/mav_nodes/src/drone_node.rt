@@ -1,21 +1,21 @@
 // A drone as a node.
-ghost use Rattle.std.specs.Prelude.{◌≡◌, map, None, [], IfOk, IfErr};
-ghost use Rattle.plan_upload.specs.Changes.{install_of};
+ghost use Rattle.std.specs.Prelude.{◌≡◌, ◌≢◌, ◌≤◌, ℕ, List, Bool, None, Some, [], IfOk, IfErr, OnOk, IfSome};
 ghost use Rattle.plan_upload.specs.Drone.{DroneState};
-ghost use Rattle.mav_nodes.specs.News.{shown};
 ghost use Rattle.mav_nodes.specs.Steps.{Side};
-ghost use Rattle.mav_nodes.specs.Cores.{said_of_plans, accepts, change_told};
-ghost use Rattle.mav_nodes.specs.Nodes.{IsDrone, new_drone, drone_receives, drone_ticks, drone_beats, change_events};
-ghost use Rattle.mav_nodes.specs.Promises.{DroneDid};
+ghost use Rattle.mav_nodes.specs.Stores.{Holds, Serves, HasFailed, AllKept};
+ghost use Rattle.mav_nodes.specs.Images.{StoreHolds};
+ghost use Rattle.mav_nodes.specs.Nodes.{IsDrone, new_drone, drone_receives, drone_receives_keeping, drone_ticks, drone_beats};
+ghost use Rattle.mav_nodes.specs.Promises.{DroneDid, DroneDidKeeping, Fails, FailsKeeping};
+ghost use Rattle.mav_nodes.specs.Restarts.{stored_drone};
+ghost use Rattle.mav_nodes.specs.Starts.{IsStarted, StartedFrom, StartFails};
 
 use crate::heartbeats::drone_heartbeat;
 use crate::link::Link;
-use crate::steps::{Core, PlanNews, Step};
-use crate::{News, NoMemory, NodeFault, node};
+use crate::{News, NoMemory, NodeFault, StartFault, node};
 use mav_names::Stream;
 use mav_sign::Key;
-use plan_items::{MissionResult, PlanKind, PlanMsg};
-use plan_upload::Drone;
+use plan_store::Keeper;
+use plan_upload::{Drone, Kept, read_kept};
 use std::alloc::Global;
 use std::marker::Model;
 
@@ -24,7 +24,12 @@ const AUTOPILOT: u8 = 1;
 
 const LINK: u8 = 0;
 
-/// A drone over datagrams. Contracts see its end of the links and its plan core.
+/// A drone over datagrams, which keeps its plans in a store: the one that it was started with is handed to each call.
+/// Contracts see its end of the links and its plan core.
+///
+/// It saves before a timestamp above the stored low bound is admitted or sent, and before its plans change. If a save
+/// fails it loads, and what the store then has decides: a change of plans that isn't stored is refused, and a bound that
+/// isn't stored is a fault, after which the node isn't used again.
 #[derive(Drop)]
 pub struct DroneNode {
     alloc: Global,
@@ -40,83 +45,60 @@ impl Model for DroneNode {
     ghost view = { λ n. record { link = n.link; drone = n.drone } };
 }
 
-impl Core for Drone {
-    ghost use Rattle.mav_nodes.specs.Nodes.{drone_core, drone_waits};
-    ghost use Rattle.plan_upload.specs.Drone.{drone_tick};
-
-    ghost taken = { drone_core };
-
-    ghost waited = { λ d. drone_waits (drone_tick d) };
-
-    fn take(&mut self, from: Stream, message: &PlanMsg) -> Step {
-        let answer = self.step(from, message);
-        Step {
-            plans: plan_news(self, from, message, is_accepted(&answer)),
-            answer,
-            outcome: None,
-        }
-    }
-
-    fn wait(&mut self) -> Step {
-        let answer = match self.tick() {
-            Some((_, message)) => Some(message),
-            None => None,
-        };
-        Step {
-            plans: PlanNews::Same,
-            answer,
-            outcome: None,
-        }
-    }
-}
-
-// Whether a reply acknowledges what was done.
-fn is_accepted(answer: &Option<PlanMsg>) -> bool
-    ensures { result ≡ accepts answer.now }
+// The stream of the drone of a system.
+fn stream_of(sys: u8) -> Stream
+    ensures { result ≡ record { sys = sys; comp = 1; link = 0 } }
 {
-    match *answer {
-        Some(PlanMsg::Ack { code, .. }) => code == MissionResult::ACCEPTED,
-        _ => false,
-    }
-}
-
-// What a message did to the drone's plans: an item or a clear is accepted exactly if it changed them.
-fn plan_news(drone: &Drone, by: Stream, message: &PlanMsg, accepted: bool) -> PlanNews
-    ensures { said_of_plans result ≡ map shown (change_events by drone.now.plans (change_told message.now accepted)) }
-{
-    if !accepted {
-        return PlanNews::Same;
-    }
-    match *message {
-        PlanMsg::Item { kind, .. } => installed(drone, by, PlanKind::of(kind)),
-        PlanMsg::Clear { kind, .. } => PlanNews::Emptied(PlanKind::of(kind)),
-        _ => PlanNews::Same,
-    }
-}
-
-// The drone's plan of a kind was installed.
-fn installed(drone: &Drone, by: Stream, kind: Option<PlanKind>) -> PlanNews
-    ensures { said_of_plans result ≡ map shown (change_events by drone.now.plans (install_of kind)) }
-{
-    match kind {
-        Some(kind) => PlanNews::Installed(kind, drone.plan(kind).len() as u16, by),
-        None => PlanNews::Same,
+    Stream {
+        sys,
+        comp: AUTOPILOT,
+        link: LINK,
     }
 }
 
 impl DroneNode {
-    /// A drone of this system with empty plans, disarmed at that location, in units of 1e-7 degrees. It knows the
-    /// messages of the profile. All its memory is allocated here, but for the news.
-    pub fn new(alloc: Global, key: Key, sys: u8, _x: i32, _y: i32) -> Result<DroneNode, NoMemory>
+    /// The drone of this system, disarmed at that location, in units of 1e-7 degrees, with the plans that the store has
+    /// and with its low bound of timestamps; with empty plans if the store is empty. It knows the messages of the
+    /// profile. All its memory is allocated here, but for the news and what is stored.
+    pub fn start<K: Keeper>(
+        alloc: Global,
+        key: Key,
+        sys: u8,
+        _x: i32,
+        _y: i32,
+        keeper: &mut K,
+    ) -> Result<DroneNode, StartFault>
+        ensures started { IfOk result (IsStarted key sys) }
+        ensures from { IfSome (K.contents keeper.old) (λ bytes. IfOk result (StartedFrom key sys bytes)) }
+        ensures stays { K.contents keeper.new ≡ K.contents keeper.old }
+        ensures serves { Serves K.faults K.is_infallible keeper.old keeper.new }
+        ensures fault { IfErr result (λ fault. StartFails fault sys (K.contents keeper.old) (HasFailed K.faults K.is_infallible keeper.old keeper.new)) }
+    {
+        let bytes = keeper.load()?;
+        if bytes.is_empty() {
+            return Ok(DroneNode::fresh(alloc, key, sys)?);
+        }
+        let kept = read_kept(alloc, sys, &bytes)?;
+        Ok(DroneNode::restored(alloc, key, sys, &kept)?)
+    }
+
+    // A drone that nothing was stored of.
+    fn fresh(alloc: Global, key: Key, sys: u8) -> Result<DroneNode, NoMemory>
         ensures { IfOk result (λ node. IsDrone (new_drone key sys) node) }
     {
-        let me = Stream {
-            sys,
-            comp: AUTOPILOT,
-            link: LINK,
-        };
-        let link = Link::new(alloc, key, me)?;
+        let link = Link::new(alloc, key, stream_of(sys))?;
         match Drone::new(alloc, sys) {
+            Ok(drone) => Ok(DroneNode { alloc, link, drone }),
+            Err(refused) => Err(refused),
+        }
+    }
+
+    // A drone with what was stored of it.
+    fn restored(alloc: Global, key: Key, sys: u8, kept: &Kept) -> Result<DroneNode, NoMemory>
+        ensures { IfOk result (λ node. IsDrone (stored_drone key sys kept.now.low kept.now.plans) node) }
+    {
+        let link = Link::start(alloc, key, stream_of(sys), kept.floor)?;
+        match Drone::restore(alloc, sys, kept) {
             Ok(drone) => Ok(DroneNode { alloc, link, drone }),
             Err(refused) => Err(refused),
         }
@@ -131,32 +113,67 @@ impl DroneNode {
 
     /// Takes a datagram as a whole input by itself: each of its frames in order, and each reply is sent before the next
     /// frame is tried.
-    pub fn receive(&mut self, datagram: &[u8], clock: u64) -> Result<Vec<News>, NodeFault>
+    pub fn receive<K: Keeper>(
+        &mut self,
+        datagram: &[u8],
+        clock: u64,
+        keeper: &mut K,
+    ) -> Result<Vec<News>, NodeFault>
         ensures done { IfOk result (λ news. (node : Side DroneState) → IsDrone node self.old
+            → DroneDidKeeping (λ (keeps : List Bool). drone_receives_keeping clock keeps datagram.now node) (AllKept (HasFailed K.faults K.is_infallible keeper.old keeper.new)) self.new news.items) }
+        ensures infallible { IfOk result (λ news. (node : Side DroneState) → IsDrone node self.old → K.is_infallible keeper.old
             → DroneDid (drone_receives clock datagram.now node) self.new [] news.items) }
-        ensures spent { IfErr result (λ fault. (node : Side DroneState) → IsDrone node self.old
-            → fault ≡ NodeFault.StampsSpent → drone_receives clock datagram.now node ≡ None) }
+        ensures stored { OnOk result (StoreHolds (K.contents keeper.old) self.old → StoreHolds (K.contents keeper.new) self.new) }
+        ensures serves { Serves K.faults K.is_infallible keeper.old keeper.new }
+        ensures fault { IfErr result (λ fault. FailsKeeping fault (λ (node : Side DroneState). IsDrone node self.old)
+            (λ (keeps : List Bool) (node : Side DroneState). drone_receives_keeping clock keeps datagram.now node)
+            (AllKept (HasFailed K.faults K.is_infallible keeper.old keeper.new)) (HasFailed K.faults K.is_infallible keeper.old keeper.new)) }
+        ensures infallible_fault { IfErr result (λ fault. K.is_infallible keeper.old
+            → Fails fault (λ (node : Side DroneState). IsDrone node self.old) (λ (node : Side DroneState). drone_receives clock datagram.now node) ⊥) }
     {
-        node::receive(self.alloc, &mut self.link, &mut self.drone, datagram, clock)
+        node::receive(
+            self.alloc,
+            &mut self.link,
+            &mut self.drone,
+            keeper,
+            datagram,
+            clock,
+        )
     }
 
     /// One tick: an open upload asks again or is closed, and an idle download is closed.
-    pub fn tick(&mut self, clock: u64) -> Result<Vec<News>, NodeFault>
+    pub fn tick<K: Keeper>(&mut self, clock: u64, keeper: &mut K) -> Result<Vec<News>, NodeFault>
         ensures done { IfOk result (λ news. (node : Side DroneState) → IsDrone node self.old
             → DroneDid (drone_ticks clock node) self.new [] news.items) }
-        ensures spent { IfErr result (λ fault. (node : Side DroneState) → IsDrone node self.old
-            → fault ≡ NodeFault.StampsSpent → drone_ticks clock node ≡ None) }
+        ensures stored { OnOk result (StoreHolds (K.contents keeper.old) self.old → StoreHolds (K.contents keeper.new) self.new) }
+        ensures serves { Serves K.faults K.is_infallible keeper.old keeper.new }
+        ensures fault { IfErr result (λ fault. Fails fault (λ (node : Side DroneState). IsDrone node self.old) (λ (node : Side DroneState). drone_ticks clock node)
+            (HasFailed K.faults K.is_infallible keeper.old keeper.new)) }
     {
-        node::tick(self.alloc, &mut self.link, &mut self.drone, clock)
+        node::tick(self.alloc, &mut self.link, &mut self.drone, keeper, clock)
     }
 
     /// Sends HEARTBEAT.
-    pub fn heartbeat(&mut self, clock: u64) -> Result<Vec<News>, NodeFault>
+    pub fn heartbeat<K: Keeper>(
+        &mut self,
+        clock: u64,
+        keeper: &mut K,
+    ) -> Result<Vec<News>, NodeFault>
         ensures done { IfOk result (λ news. (node : Side DroneState) → IsDrone node self.old
             → DroneDid (drone_beats clock node) self.new [] news.items) }
-        ensures spent { IfErr result (λ fault. (node : Side DroneState) → IsDrone node self.old
-            → fault ≡ NodeFault.StampsSpent → drone_beats clock node ≡ None) }
+        ensures stored { OnOk result (StoreHolds (K.contents keeper.old) self.old → StoreHolds (K.contents keeper.new) self.new) }
+        ensures serves { Serves K.faults K.is_infallible keeper.old keeper.new }
+        ensures fault { IfErr result (λ fault. Fails fault (λ (node : Side DroneState). IsDrone node self.old) (λ (node : Side DroneState). drone_beats clock node)
+            (HasFailed K.faults K.is_infallible keeper.old keeper.new)) }
     {
-        node::send(self.alloc, &mut self.link, &drone_heartbeat(), clock)
+        let message = drone_heartbeat();
+        node::send(
+            self.alloc,
+            &mut self.link,
+            &self.drone,
+            keeper,
+            &message,
+            clock,
+        )
     }
 }

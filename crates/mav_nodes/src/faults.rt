@@ -1,6 +1,7 @@
 // Why a call of a node fails.
 use mav_sign::StampsSpent as SpentStamps;
-use plan_upload::{BeginFault, OpFault};
+use plan_store::KeepFault;
+use plan_upload::{BeginFault, KeptFault, OpFault};
 use std::alloc::{AllocError, AllocFailed};
 
 /// Why a node is given up: after it, the node isn't used again.
@@ -8,7 +9,9 @@ use std::alloc::{AllocError, AllocFailed};
 pub enum NodeFault {
     /// No timestamp was left for a frame to send.
     StampsSpent,
-    /// There was no memory for the news.
+    /// The store failed, and the node doesn't know what it holds, or it doesn't hold the low bound of timestamps.
+    Store,
+    /// There was no memory for the news, or for what is stored.
     NoMemory,
 }
 
@@ -45,6 +48,69 @@ impl From<SpentStamps> for NodeFault {
 
     fn from(_spent: SpentStamps) -> NodeFault {
         NodeFault::StampsSpent
+    }
+}
+
+impl From<KeepFault> for NodeFault {
+    ghost use Rattle.std.specs.Prelude.{◌≡◌};
+    ghost use Rattle.mav_nodes.specs.Stores.{fault_of};
+
+    ghost from_gives = { λ fault given. given ≡ fault_of fault };
+
+    fn from(fault: KeepFault) -> NodeFault {
+        match fault {
+            KeepFault::Store => NodeFault::Store,
+            KeepFault::NoMemory => NodeFault::NoMemory,
+        }
+    }
+}
+
+/// Why a drone doesn't start.
+#[derive(Clone, Copy, Debug, PartialEq, Eq)]
+pub enum StartFault {
+    /// The store failed.
+    Store,
+    /// The store isn't empty, and its contents aren't what a drone of this system stores.
+    BadKept,
+    NoMemory,
+}
+
+impl From<AllocError> for StartFault {
+    ghost use Rattle.std.specs.Prelude.{◌≡◌};
+    ghost use Rattle.mav_nodes.specs.declared.faults.StartFault.TheVariants.{NoMemory};
+
+    ghost from_gives = { λ _ fault. fault ≡ NoMemory };
+
+    fn from(_refused: AllocError) -> StartFault {
+        StartFault::NoMemory
+    }
+}
+
+impl From<KeepFault> for StartFault {
+    ghost use Rattle.std.specs.Prelude.{◌≡◌};
+    ghost use Rattle.mav_nodes.specs.Starts.{start_fault_of};
+
+    ghost from_gives = { λ fault given. given ≡ start_fault_of fault };
+
+    fn from(fault: KeepFault) -> StartFault {
+        match fault {
+            KeepFault::Store => StartFault::Store,
+            KeepFault::NoMemory => StartFault::NoMemory,
+        }
+    }
+}
+
+impl From<KeptFault> for StartFault {
+    ghost use Rattle.std.specs.Prelude.{◌≡◌};
+    ghost use Rattle.mav_nodes.specs.Starts.{start_fault_by};
+
+    ghost from_gives = { λ fault given. given ≡ start_fault_by fault };
+
+    fn from(fault: KeptFault) -> StartFault {
+        match fault {
+            KeptFault::BadKept => StartFault::BadKept,
+            KeptFault::NoMemory => StartFault::NoMemory,
+        }
     }
 }
 

@@ -5,19 +5,22 @@
 //! total function of its state, the datagram and the clock. It has no link of its own, and no clock.
 #![tactic(auto)]
 
+mod drone_core;
 mod drone_node;
 mod faults;
 mod heartbeats;
 pub mod laws;
 mod link;
 mod news;
+mod no_store;
 mod node;
 mod orders;
 mod station_node;
 mod steps;
+mod stores;
 
 pub use drone_node::DroneNode;
-pub use faults::{NodeFault, OrderFault};
+pub use faults::{NodeFault, OrderFault, StartFault};
 pub use news::News;
 pub use orders::Order;
 pub use station_node::StationNode;

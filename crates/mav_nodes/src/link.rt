@@ -1,5 +1,5 @@
 // A node's end of its links.
-ghost use Rattle.std.specs.Prelude.{◌≡◌, List, map, Some, None, IfOk, IfErr};
+ghost use Rattle.std.specs.Prelude.{◌≡◌, ◌≤◌, ◌<◌, ◌^◌, ℕ, List, Option, map, Some, None, IfOk, IfErr, OnOk, IfSome};
 ghost use Rattle.mav_profile.specs.Messages.{extras_of};
 ghost use Rattle.mav_profile.specs.Profile.{profile_definitions};
 ghost use Rattle.field_layout.specs.Payload.{Represents};
@@ -7,29 +7,43 @@ ghost use Rattle.mav_messages.specs.Plans.{plan_of as plan_carried};
 ghost use Rattle.mav_messages.specs.Messages.{definition_of, values_of, profile_definition};
 ghost use Rattle.mav_nodes.specs.Payloads.{plan_in, ItemFits};
 ghost use Rattle.mav_sign.specs.Endpoints.{HasProfile, HeardIs};
-ghost use Rattle.mav_nodes.specs.Links.{Link as LinkState, IsLink, new_link, tries, sends};
+ghost use Rattle.mav_sign.specs.History.{answer_to};
+ghost use Rattle.mav_nodes.specs.LowBounds.{bound_for, raised, raised_for, raised_if};
+ghost use Rattle.mav_nodes.specs.Stores.{Holds, HoldsNearly, StoredBefore, Serves, HasFailed, HasFailedAt};
+ghost use Rattle.mav_nodes.specs.Links.{Link as LinkState, IsEnd, IsLink, new_link, started_link, tries, sends};
 ghost use Rattle.mav_nodes.specs.News.{NodeEvent, shown};
 ghost use Rattle.mav_nodes.specs.Steps.{answers};
 ghost use Rattle.mav_nodes.specs.Cores.{said_of_plans, said_of_outcome, says};
-ghost use Rattle.mav_nodes.specs.Promises.{LinkDid, IsTried};
+ghost use Rattle.mav_nodes.specs.Promises.{Did, LinkDid, IsTried, Fails};
 
 use crate::news::tell;
-use crate::steps::{Step, tell_outcome, tell_plans};
+use crate::steps::{Core, Step, tell_outcome, tell_plans};
+use crate::stores::save_bound;
 use crate::{News, NoMemory, NodeFault};
 use mav_frame::Frame;
 use mav_messages::Message;
 use mav_names::Stream;
 use mav_sign::{Admit, Endpoint, Heard, Key};
 use plan_items::PlanMsg;
+use plan_store::Keeper;
 use std::alloc::Global;
 use std::marker::Model;
 use x25_check::Extras;
 
-/// An endpoint, with the CRC_EXTRA bytes of the messages that it knows. Contracts see the endpoint.
+// A stored low bound is so far above the timestamp for which it was raised, in units of 10 microseconds.
+const HEADROOM: u64 = 5_000;
+
+// The greatest timestamp of 6 bytes.
+const GREATEST_STAMP: u64 = 0xFFFF_FFFF_FFFF;
+
+/// An endpoint, with the CRC_EXTRA bytes of the messages that it knows, and the low bound of timestamps that the node's
+/// store has, if it has one. Contracts see the endpoint and the bound.
 #[derive(Drop)]
 pub(crate) struct Link {
+    alloc: Global,
     extras: Extras,
     endpoint: Endpoint,
+    low: Option<u64>,
 }
 
 /// The result of a frame.
@@ -44,14 +58,14 @@ pub(crate) enum Tried {
 }
 
 impl Model for Link {
-    ghost use Rattle.std.specs.Prelude.{◌≡◌};
-    ghost use Rattle.mav_sign.specs.Endpoints.{EndpointState};
+    ghost use Rattle.std.specs.Prelude.{◌≡◌, ◌<◌, ◌^◌, IfSome};
+    ghost use Rattle.mav_nodes.specs.Links.{LinkView};
 
-    ghost Value = { EndpointState };
+    ghost Value = { LinkView };
 
-    ghost view = { λ l. l.endpoint };
+    ghost view = { λ l. record { endpoint = l.endpoint; low = l.low } };
 
-    ghost invariant = { λ l. l.extras ≡ l.endpoint.extras };
+    ghost invariant = { λ l. (l.extras ≡ l.endpoint.extras) × IfSome l.low (λ low. low < 2 ^ 48) };
 }
 
 // The CRC_EXTRA bytes of the profile.
@@ -82,6 +96,26 @@ fn signed_fit(message: &Message)
     }
 }
 
+// The greatest timestamp that an admitted frame brings, if it is admitted.
+fn admitted_stamp(answer: Admit, frame: &Frame) -> Option<u64>
+    ensures small { IfSome result (λ stamp. stamp < 2 ^ 48) }
+    ensures raises { (low : Option ℕ) → raised_if low answer frame.now.block ≡ raised_for low result }
+{
+    match (answer, &frame.block) {
+        (Admit::Admitted, Some(block)) => Some(block.stamp),
+        _ => None,
+    }
+}
+
+// The low bound that is stored for a timestamp.
+fn bound_for(stamp: u64) -> u64
+    requires { stamp < 2 ^ 48 }
+    ensures bound { result ≡ bound_for stamp }
+    ensures small { result < 2 ^ 48 }
+{
+    (stamp + HEADROOM).min(GREATEST_STAMP)
+}
+
 impl Link {
     /// A link that has received and sent nothing, and knows the messages of the profile.
     pub(crate) fn new(alloc: Global, key: Key, me: Stream) -> Result<Link, NoMemory>
@@ -89,90 +123,223 @@ impl Link {
     {
         let extras = profile_extras(alloc)?;
         let endpoint = Endpoint::new(alloc, key, me, extras.copy()?)?;
-        Ok(Link { extras, endpoint })
+        Ok(Link {
+            alloc,
+            extras,
+            endpoint,
+            low: None,
+        })
+    }
+
+    /// A link that starts again with the low bound that was stored.
+    pub(crate) fn start(alloc: Global, key: Key, me: Stream, low: u64) -> Result<Link, NoMemory>
+        requires { low < 2 ^ 48 }
+        ensures { IfOk result (λ link. IsLink (started_link key me (extras_of profile_definitions) (Some low)) link) }
+    {
+        let extras = profile_extras(alloc)?;
+        let endpoint = Endpoint::start(alloc, key, me, extras.copy()?, low)?;
+        Ok(Link {
+            alloc,
+            extras,
+            endpoint,
+            low: Some(low),
+        })
     }
 
     pub(crate) fn extras(&self) -> &Extras
-        ensures { result.now ≡ self.now.extras }
+        ensures { result.now ≡ self.now.endpoint.extras }
     {
         &self.extras
     }
 
-    // Tries one frame.
-    fn take(&mut self, frame: &Frame) -> Heard
-        ensures heard { (link : LinkState) → IsLink link self.old → HeardIs link.key link.history frame.now result }
-        ensures link { (link : LinkState) → IsLink link self.old → IsLink (tries frame.now link) self.new }
-    {
-        self.endpoint.take(frame)
+    pub(crate) fn alloc(&self) -> Global {
+        self.alloc
     }
 
-    /// Tries one frame, and returns the plan message that it carries.
-    pub(crate) fn hear(&mut self, frame: &Frame) -> Tried
-        ensures tried { (link : LinkState) → IsLink link self.old → IsTried link frame.now result }
-        ensures link { (link : LinkState) → IsLink link self.old → IsLink (tries frame.now link) self.new }
+    /// The low bound that the store has, if it has one.
+    pub(crate) fn low(&self) -> Option<u64>
+        ensures low { result ≡ self.now.low }
+        ensures small { IfSome result (λ low. low < 2 ^ 48) }
     {
-        match self.take(frame) {
-            Heard::Message(from, message) => {
-                let len = usize::from(frame.len);
-                match plan_of(frame.id, &frame.payload[..len], &message) {
-                    Some(plan) => Tried::Plan(from, plan),
-                    None => Tried::Other,
-                }
-            }
-            Heard::Other(_, _) => Tried::Other,
-            Heard::Dropped(answer) => Tried::Dropped(answer),
+        self.low
+    }
+
+    // Before a timestamp is admitted or sent, the store has a bound that isn't below it.
+    fn raise<K: Keeper, C: Core>(
+        &mut self,
+        stamp: u64,
+        core: &C,
+        keeper: &mut K,
+    ) -> Result<(), NodeFault>
+        requires { stamp < 2 ^ 48 }
+        ensures low { OnOk result (self.new ≡ record self.old { low = raised self.old.low stamp }) }
+        ensures stored { OnOk result (Holds (K.contents keeper.old) (C.stored core.now) self.old.low → Holds (K.contents keeper.new) (C.stored core.now) self.new.low) }
+        ensures settled { OnOk result (1 ≤ stamp → HoldsNearly (K.contents keeper.old) (C.stored core.now) self.old.low → Holds (K.contents keeper.new) (C.stored core.now) self.new.low) }
+        ensures serves { Serves K.faults K.is_infallible keeper.old keeper.new }
+        ensures fault { IfErr result (λ fault. HasFailedAt fault K.faults K.is_infallible keeper.old keeper.new) }
+    {
+        if stamp <= self.low.unwrap_or(0) {
+            return Ok(());
+        }
+        let bound = bound_for(stamp);
+        save_bound(core, keeper, self.alloc, self.low, bound)?;
+        self.low = Some(bound);
+        Ok(())
+    }
+
+    // Stores a bound for the frame's timestamp, if the frame will be admitted.
+    fn raise_for<K: Keeper, C: Core>(
+        &mut self,
+        frame: &Frame,
+        core: &C,
+        keeper: &mut K,
+    ) -> Result<(), NodeFault>
+        ensures low { OnOk result ((link : LinkState) → IsLink link self.old
+            → self.new ≡ record self.old { low = raised_if self.old.low (answer_to link.key link.history frame.now) frame.now.block }) }
+        ensures stored { OnOk result (Holds (K.contents keeper.old) (C.stored core.now) self.old.low → Holds (K.contents keeper.new) (C.stored core.now) self.new.low) }
+        ensures serves { Serves K.faults K.is_infallible keeper.old keeper.new }
+        ensures fault { IfErr result (λ fault. HasFailedAt fault K.faults K.is_infallible keeper.old keeper.new) }
+    {
+        match admitted_stamp(self.endpoint.test(frame), frame) {
+            Some(stamp) => self.raise(stamp, core, keeper),
+            None => Ok(()),
         }
     }
 
-    /// Sends a message, and reports it.
-    pub(crate) fn send(
+    // Tries one frame.
+    fn take<K: Keeper, C: Core>(
+        &mut self,
+        frame: &Frame,
+        core: &C,
+        keeper: &mut K,
+    ) -> Result<Heard, NodeFault>
+        ensures heard { IfOk result (λ heard. (link : LinkState) → IsLink link self.old → HeardIs link.key link.history frame.now heard) }
+        ensures link { OnOk result ((link : LinkState) → IsLink link self.old → IsLink (tries frame.now link) self.new) }
+        ensures stored { OnOk result (Holds (K.contents keeper.old) (C.stored core.now) self.old.low → Holds (K.contents keeper.new) (C.stored core.now) self.new.low) }
+        ensures serves { Serves K.faults K.is_infallible keeper.old keeper.new }
+        ensures fault { IfErr result (λ fault. HasFailedAt fault K.faults K.is_infallible keeper.old keeper.new) }
+    {
+        self.raise_for(frame, core, keeper)?;
+        Ok(self.endpoint.take(frame))
+    }
+
+    /// Tries one frame, and returns the plan message that it carries. The store has a bound for its timestamp before it is
+    /// admitted.
+    pub(crate) fn hear<K: Keeper, C: Core>(
+        &mut self,
+        frame: &Frame,
+        core: &C,
+        keeper: &mut K,
+    ) -> Result<Tried, NodeFault>
+        ensures tried { IfOk result (λ tried. (link : LinkState) → IsLink link self.old → IsTried link frame.now tried) }
+        ensures link { OnOk result ((link : LinkState) → IsLink link self.old → IsLink (tries frame.now link) self.new) }
+        ensures stored { OnOk result (Holds (K.contents keeper.old) (C.stored core.now) self.old.low → Holds (K.contents keeper.new) (C.stored core.now) self.new.low) }
+        ensures serves { Serves K.faults K.is_infallible keeper.old keeper.new }
+        ensures fault { IfErr result (λ fault. HasFailedAt fault K.faults K.is_infallible keeper.old keeper.new) }
+    {
+        let heard = self.take(frame, core, keeper)?;
+        Ok(result_of(frame, &heard))
+    }
+
+    /// Sends a message, and reports it. The store has a bound for its timestamp before.
+    pub(crate) fn send<K: Keeper, C: Core>(
+        &mut self,
+        message: &Message,
+        clock: u64,
+        core: &C,
+        keeper: &mut K,
+        news: &mut Vec<News>,
+    ) -> Result<(), NodeFault>
+        ensures sent { OnOk result ((link : LinkState) → IsLink link self.old
+            → LinkDid (sends clock message.now link) self.new news.old.items news.new.items) }
+        ensures stored { OnOk result (HoldsNearly (K.contents keeper.old) (C.stored core.now) self.old.low → Holds (K.contents keeper.new) (C.stored core.now) self.new.low) }
+        ensures serves { Serves K.faults K.is_infallible keeper.old keeper.new }
+        ensures fault { IfErr result (λ fault. Fails fault (λ (link : LinkState). IsLink link self.old) (λ (link : LinkState). sends clock message.now link)
+            (HasFailed K.faults K.is_infallible keeper.old keeper.new)) }
+    {
+        let stamp = self.endpoint.ahead(clock)?;
+        self.raise(stamp, core, keeper)?;
+        self.transmit(message, clock, news)
+    }
+
+    // Sends a message, and reports it.
+    fn transmit(
         &mut self,
         message: &Message,
         clock: u64,
         news: &mut Vec<News>,
     ) -> Result<(), NodeFault>
-        ensures sent { IfOk result (λ done. (link : LinkState) → IsLink link self.old
-            → LinkDid (sends clock message.now link) self.new news.old.items news.new.items) }
-        ensures spent { IfErr result (λ fault. (link : LinkState) → IsLink link self.old
-            → fault ≡ NodeFault.StampsSpent → sends clock message.now link ≡ None) }
+        ensures sent { OnOk result ((link : LinkState) → IsEnd link self.old.endpoint
+            → Did (sends clock message.now link) (λ end. IsEnd end self.new.endpoint) news.old.items news.new.items) }
+        ensures low { self.new.low ≡ self.old.low }
+        ensures fault { IfErr result (λ fault. Fails fault (λ (link : LinkState). IsEnd link self.old.endpoint) (λ (link : LinkState). sends clock message.now link) ⊥) }
     {
         let frame = self.endpoint.send(message, clock)?;
         tell(news, News::Sent(frame, *message))
     }
 
     /// Sends a reply, if there is one.
-    pub(crate) fn answer(
+    pub(crate) fn answer<K: Keeper, C: Core>(
         &mut self,
         answer: Option<PlanMsg>,
         clock: u64,
+        core: &C,
+        keeper: &mut K,
         news: &mut Vec<News>,
     ) -> Result<(), NodeFault>
-        ensures sent { IfOk result (λ done. (link : LinkState) → IsLink link self.old
+        ensures sent { OnOk result ((link : LinkState) → IsLink link self.old
             → LinkDid (answers clock answer link) self.new news.old.items news.new.items) }
-        ensures spent { IfErr result (λ fault. (link : LinkState) → IsLink link self.old
-            → fault ≡ NodeFault.StampsSpent → answers clock answer link ≡ None) }
+        ensures stored { OnOk result (StoredBefore answer (K.contents keeper.old) (C.stored core.now) self.old.low → Holds (K.contents keeper.new) (C.stored core.now) self.new.low) }
+        ensures serves { Serves K.faults K.is_infallible keeper.old keeper.new }
+        ensures fault { IfErr result (λ fault. Fails fault (λ (link : LinkState). IsLink link self.old) (λ (link : LinkState). answers clock answer link)
+            (HasFailed K.faults K.is_infallible keeper.old keeper.new)) }
     {
         match answer {
-            Some(message) => self.send(&Message::of_plan(&message), clock, news),
+            Some(message) => {
+                let message = Message::of_plan(&message);
+                self.send(&message, clock, core, keeper, news)
+            }
             None => Ok(()),
         }
     }
 
     /// Does what a core's step asks for: reports its first news, sends its reply, and reports its outcome.
-    pub(crate) fn say(
+    pub(crate) fn say<K: Keeper, C: Core>(
         &mut self,
         step: Step,
         clock: u64,
+        core: &C,
+        keeper: &mut K,
         news: &mut Vec<News>,
     ) -> Result<(), NodeFault>
-        ensures said { IfOk result (λ done. (link : LinkState) (first last : List NodeEvent) → IsLink link self.old
+        ensures said { OnOk result ((link : LinkState) (first last : List NodeEvent) → IsLink link self.old
             → said_of_plans step.plans ≡ map shown first → said_of_outcome step.outcome ≡ map shown last
             → LinkDid (says clock first step.answer last link) self.new news.old.items news.new.items) }
-        ensures spent { IfErr result (λ fault. (link : LinkState) (first last : List NodeEvent) → IsLink link self.old
-            → fault ≡ NodeFault.StampsSpent → says clock first step.answer last link ≡ None) }
+        ensures stored { OnOk result (StoredBefore step.answer (K.contents keeper.old) (C.stored core.now) self.old.low → Holds (K.contents keeper.new) (C.stored core.now) self.new.low) }
+        ensures serves { Serves K.faults K.is_infallible keeper.old keeper.new }
+        ensures fault { IfErr result (λ fault. (first last : List NodeEvent)
+            → Fails fault (λ (link : LinkState). IsLink link self.old) (λ (link : LinkState). says clock first step.answer last link)
+            (HasFailed K.faults K.is_infallible keeper.old keeper.new)) }
     {
         tell_plans(news, step.plans)?;
-        self.answer(step.answer, clock, news)?;
+        self.answer(step.answer, clock, core, keeper, news)?;
         tell_outcome(news, step.outcome)
+    }
+}
+
+// The result of a frame, by what was received in it.
+fn result_of(frame: &Frame, heard: &Heard) -> Tried
+    ensures { (link : LinkState) → HeardIs link.key link.history frame.now heard.now → IsTried link frame.now result }
+{
+    match heard {
+        Heard::Message(from, message) => {
+            let len = usize::from(frame.len);
+            match plan_of(frame.id, &frame.payload[..len], message) {
+                Some(plan) => Tried::Plan(*from, plan),
+                None => Tried::Other,
+            }
+        }
+        Heard::Other(_, _) => Tried::Other,
+        Heard::Dropped(answer) => Tried::Dropped(*answer),
     }
 }

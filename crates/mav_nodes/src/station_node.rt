@@ -1,13 +1,14 @@
 // A ground station as a node.
-ghost use Rattle.std.specs.Prelude.{◌≡◌, None, [], IfOk, IfErr, OnOk, OnErr};
+ghost use Rattle.std.specs.Prelude.{◌≡◌, [], IfOk, IfErr, OnOk, OnErr};
 ghost use Rattle.plan_upload.specs.Station.{StationState, StationStep};
 ghost use Rattle.mav_nodes.specs.Steps.{Side};
 ghost use Rattle.mav_nodes.specs.Cores.{IsStep};
 ghost use Rattle.mav_nodes.specs.Nodes.{IsStation, new_station, station_receives, station_ticks, station_beats, station_does, station_obeys, order_step, order_refusal};
-ghost use Rattle.mav_nodes.specs.Promises.{StationDid, IsRefusal, OrderFails, OrderKeeps};
+ghost use Rattle.mav_nodes.specs.Promises.{StationDid, Fails, IsRefusal, OrderFails, OrderKeeps};
 
 use crate::heartbeats::station_heartbeat;
 use crate::link::Link;
+use crate::no_store::NoStore;
 use crate::steps::{Core, PlanNews, Step};
 use crate::{News, NoMemory, NodeFault, Order, OrderFault, node};
 use mav_names::Stream;
@@ -33,15 +34,33 @@ impl Model for StationNode {
     ghost view = { λ n. record { link = n.link; station = n.station } };
 }
 
+// A station stores nothing.
 impl Core for Station {
+    ghost use Rattle.std.specs.Prelude.{⊤};
     ghost use Rattle.mav_nodes.specs.Nodes.{station_core, station_does};
     ghost use Rattle.plan_upload.specs.Station.{station_tick};
 
-    ghost taken = { station_core };
+    ghost taken = { λ kept. station_core };
 
     ghost waited = { λ s. station_does (station_tick s) };
 
-    fn take(&mut self, from: Stream, message: &PlanMsg) -> Step {
+    ghost stored = { λ s low bytes. ⊤ };
+
+    fn image(&self, _alloc: Global, _low: u64) -> Result<Option<Vec<u8>>, NoMemory> {
+        Ok(None)
+    }
+
+    fn image_after(
+        &self,
+        _alloc: Global,
+        _low: u64,
+        _from: Stream,
+        _message: &PlanMsg,
+    ) -> Result<Option<Vec<u8>>, NoMemory> {
+        Ok(None)
+    }
+
+    fn take(&mut self, _kept: bool, from: Stream, message: &PlanMsg) -> Step {
         let answer = self.step(from, message);
         step_of(self, answer)
     }
@@ -108,13 +127,13 @@ impl StationNode {
     pub fn receive(&mut self, datagram: &[u8], clock: u64) -> Result<Vec<News>, NodeFault>
         ensures done { IfOk result (λ news. (node : Side StationState) → IsStation node self.old
             → StationDid (station_receives clock datagram.now node) self.new [] news.items) }
-        ensures spent { IfErr result (λ fault. (node : Side StationState) → IsStation node self.old
-            → fault ≡ NodeFault.StampsSpent → station_receives clock datagram.now node ≡ None) }
+        ensures fault { IfErr result (λ fault. Fails fault (λ (node : Side StationState). IsStation node self.old) (λ (node : Side StationState). station_receives clock datagram.now node) ⊥) }
     {
         node::receive(
             self.alloc,
             &mut self.link,
             &mut self.station,
+            &mut NoStore::new(self.alloc),
             datagram,
             clock,
         )
@@ -131,7 +150,11 @@ impl StationNode {
         let answer = obey(&mut self.station, order)?;
         let step = step_of(&mut self.station, answer);
         let mut news = Vec::new(self.alloc);
-        match self.link.say(step, clock, &mut news) {
+        let mut store = NoStore::new(self.alloc);
+        match self
+            .link
+            .say(step, clock, &self.station, &mut store, &mut news)
+        {
             Ok(()) => Ok(news),
             Err(fault) => Err(OrderFault::Node(fault)),
         }
@@ -141,19 +164,31 @@ impl StationNode {
     pub fn tick(&mut self, clock: u64) -> Result<Vec<News>, NodeFault>
         ensures done { IfOk result (λ news. (node : Side StationState) → IsStation node self.old
             → StationDid (station_ticks clock node) self.new [] news.items) }
-        ensures spent { IfErr result (λ fault. (node : Side StationState) → IsStation node self.old
-            → fault ≡ NodeFault.StampsSpent → station_ticks clock node ≡ None) }
+        ensures fault { IfErr result (λ fault. Fails fault (λ (node : Side StationState). IsStation node self.old) (λ (node : Side StationState). station_ticks clock node) ⊥) }
     {
-        node::tick(self.alloc, &mut self.link, &mut self.station, clock)
+        node::tick(
+            self.alloc,
+            &mut self.link,
+            &mut self.station,
+            &mut NoStore::new(self.alloc),
+            clock,
+        )
     }
 
     /// Sends HEARTBEAT.
     pub fn heartbeat(&mut self, clock: u64) -> Result<Vec<News>, NodeFault>
         ensures done { IfOk result (λ news. (node : Side StationState) → IsStation node self.old
             → StationDid (station_beats clock node) self.new [] news.items) }
-        ensures spent { IfErr result (λ fault. (node : Side StationState) → IsStation node self.old
-            → fault ≡ NodeFault.StampsSpent → station_beats clock node ≡ None) }
+        ensures fault { IfErr result (λ fault. Fails fault (λ (node : Side StationState). IsStation node self.old) (λ (node : Side StationState). station_beats clock node) ⊥) }
     {
-        node::send(self.alloc, &mut self.link, &station_heartbeat(), clock)
+        let message = station_heartbeat();
+        node::send(
+            self.alloc,
+            &mut self.link,
+            &self.station,
+            &mut NoStore::new(self.alloc),
+            &message,
+            clock,
+        )
     }
 }

@@ -4,10 +4,11 @@ ghost use Rattle.mav_nodes.specs.News.{Shows_emptied, events_of};
 ghost use Rattle.mav_nodes.specs.Cores.{said_of_plans, said_of_outcome};
 
 use crate::news::tell;
-use crate::{News, NodeFault};
+use crate::{News, NoMemory, NodeFault};
 use mav_names::Stream;
 use plan_items::{PlanKind, PlanMsg};
 use plan_upload::Outcome;
+use std::alloc::Global;
 
 /// What was done to a drone's plans.
 #[derive(Drop)]
@@ -27,24 +28,53 @@ pub(crate) struct Step {
     pub(crate) outcome: Option<Outcome>,
 }
 
-/// The core of a node. It has no link and no clock, and doesn't allocate.
+/// The core of a node. It has no link, no clock and no store, and allocates only what is to be stored.
 pub(crate) trait Core {
+    ghost use Rattle.std.specs.Prelude.{◌≡◌, ◌≢◌, ◌≤◌, ◌<◌, ◌^◌, Bool, ℕ, List, None, true, false, vec_len, IfOk, IfSome};
     ghost use Rattle.mav_names.specs.declared.names.Stream.{Stream};
     ghost use Rattle.plan_items.specs.declared.messages.PlanMsg.{PlanMsg};
     ghost use Rattle.mav_nodes.specs.Steps.{CoreStep};
     ghost use Rattle.mav_nodes.specs.Cores.{IsStep};
 
-    /// Its step at a plan message of a stream.
-    ghost taken: { Self → Stream → PlanMsg → CoreStep Self };
+    /// Its step at a plan message of a stream, if the store keeps what the step changes, or doesn't.
+    ghost taken: { Bool → Self → Stream → PlanMsg → CoreStep Self };
 
     /// Its step at a tick.
     ghost waited: { Self → CoreStep Self };
 
-    fn take(&mut self, from: Stream, message: &PlanMsg) -> Step
-        ensures { IsStep (taken self.old from message.now) self.new result };
+    /// Which bytes a store may have of it with a low bound of timestamps.
+    ghost stored: { Self → ℕ → List ℕ → Type 0 };
+
+    /// What is to be stored, with this low bound; None if it stores nothing.
+    fn image(&self, alloc: Global, low: u64) -> Result<Option<Vec<u8>>, NoMemory>
+        requires { low < 2 ^ 48 }
+        ensures bytes { IfOk result (λ bytes. IfSome bytes (λ b. stored self.now low b.items)) }
+        ensures short { IfOk result (λ bytes. IfSome bytes (λ b. vec_len b ≤ 65536)) }
+        ensures none { IfOk result (λ bytes. bytes ≡ None → (low : ℕ) → (b : List ℕ) → stored self.now low b) };
+
+    /// What is to be stored before a step at a message, with this low bound; None if the step changes nothing that is
+    /// stored.
+    fn image_after(
+        &self,
+        alloc: Global,
+        low: u64,
+        from: Stream,
+        message: &PlanMsg,
+    ) -> Result<Option<Vec<u8>>, NoMemory>
+        requires { low < 2 ^ 48 }
+        ensures bytes { IfOk result (λ bytes. IfSome bytes (λ b. stored (taken true self.now from message.now).core low b.items)) }
+        ensures short { IfOk result (λ bytes. IfSome bytes (λ b. vec_len b ≤ 65536)) }
+        ensures changed { IfOk result (λ bytes. bytes ≢ None → (kept : Bool) → (taken kept self.now from message.now).answer ≢ None) }
+        ensures same { IfOk result (λ bytes. bytes ≡ None → (low : ℕ) → (b : List ℕ) → stored self.now low b → stored (taken true self.now from message.now).core low b) }
+        ensures unkept { (low : ℕ) → (b : List ℕ) → stored self.now low b → stored (taken false self.now from message.now).core low b };
+
+    /// Does its step; `kept` says whether the store has what it changes.
+    fn take(&mut self, kept: bool, from: Stream, message: &PlanMsg) -> Step
+        ensures { IsStep (taken kept self.old from message.now) self.new result };
 
     fn wait(&mut self) -> Step
-        ensures { IsStep (waited self.old) self.new result };
+        ensures step { IsStep (waited self.old) self.new result }
+        ensures stored { (low : ℕ) → (b : List ℕ) → stored self.old low b → stored self.new low b };
 }
 
 /// Reports what was done to the plans.

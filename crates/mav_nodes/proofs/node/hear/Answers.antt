@@ -1,48 +1,51 @@
-use Rattle.std.proofs.Common.{◌∷◌, [], ap, ◌∙◌, sym, subst}
+use Rattle.std.proofs.Common.{Bool, true, ◌∷◌, [], ap, ◌∙◌, sym, subst}
 use Rattle.std.proofs.lemmas.List.{append-nil, map-append}
 use Rattle.mav_nodes.specs.declared.news.News.TheVariants.{Dropped as NewsDropped}
 use Rattle.mav_nodes.specs.News.{said_by, events_of}
 use Rattle.mav_nodes.specs.Links.{Outcome, tries}
-use Rattle.mav_nodes.specs.Steps.{Side}
-use Rattle.mav_nodes.specs.Cores.{NodeDid}
-use Rattle.mav_nodes.proofs.Cores.{if_ok, if_err, not_spent, took, hears_other, hears_dropped, stepped, steps_none}
+use Rattle.mav_nodes.specs.Stores.{HasFailed}
+use Rattle.mav_nodes.specs.Steps.{Side, steps, hears}
+use Rattle.mav_nodes.specs.Cores.{IsNode, NodeDid}
+use Rattle.mav_nodes.specs.Promises.{IsTried}
+use Rattle.mav_nodes.proofs.Cores.{if_ok, if_err, hears_plan, hears_other, hears_dropped}
+use Rattle.mav_nodes.proofs.Lows.{then_failed}
+use Rattle.mav_nodes.proofs.Keeping.{frame_fails}
 use Rattle.mav_nodes.proofs.node.hear.Goals as goal
 
 pub returns-in-Plan-clause-done : goal.returns-in-Plan-clause-done
 returns-in-Plan-clause-done g c =
-    if_ok c.say.result (λ a said node is.
-    let link = tries c.args.frame.now node.link in
-    let did = g.C.Core.taken node.core c.in-Plan.from c.in-Plan.message in
-    let before = c.args.news.now.items in
-    let after = c.say.new.news.items in
-    let t = took g.C.Core.taken c.args.clock node c.args.frame.now c.in-Plan.from c.in-Plan.message c.args.core.now c.take.new.self c.take.result (c.in-Plan.ensures.tried node.link is.link) is.core c.take.ensures in
-    subst (λ (o : Outcome (Side g.row.C.Denot)). NodeDid o c.say.new.self c.take.new.self before after) (sym t.0) (stepped c.args.clock link did c.take.new.self c.take.result c.say.new.self before after t.1 (said link did.first did.last (c.in-Plan.ensures.link node.link is.link) t.1.first t.1.last))) c.say.ensures.said
+    if_ok c.take.result (λ kept did node is.
+    let frame = c.args.frame.now in
+    let next : Side g.row.C.Denot = record { link = tries frame node.link; core = node.core } in
+    let same = hears_plan (g.C.Core.taken kept) c.args.clock node frame c.in-Plan.from c.in-Plan.message (subst (IsTried node.link c.args.frame.now) c.in-Plan.is (c.in_ok-from.ensures.tried node.link is.link)) in
+    subst (λ (o : Outcome (Side g.row.C.Denot)). NodeDid o c.take.new.link c.take.new.core c.args.news.now.items c.take.new.news.items) (sym same) (did next (record { link = c.in_ok-from.ensures.link node.link is.link; core = is.core }))) c.take.ensures.done
 
-pub returns-in-Plan-clause-spent : goal.returns-in-Plan-clause-spent
-returns-in-Plan-clause-spent g c =
-    if_err c.say.result (λ fault spent node is stamps.
-    let link = tries c.args.frame.now node.link in
-    let did = g.C.Core.taken node.core c.in-Plan.from c.in-Plan.message in
-    let t = took g.C.Core.taken c.args.clock node c.args.frame.now c.in-Plan.from c.in-Plan.message c.args.core.now c.take.new.self c.take.result (c.in-Plan.ensures.tried node.link is.link) is.core c.take.ensures in
-    t.0 ∙ steps_none c.args.clock link did c.take.new.self c.take.result t.1 (spent link did.first did.last (c.in-Plan.ensures.link node.link is.link) stamps)) c.say.ensures.spent
+pub returns-in-Plan-clause-fault : goal.returns-in-Plan-clause-fault
+returns-in-Plan-clause-fault g c =
+    let faults = g.K.Keeper.faults in
+    let sure = g.K.Keeper.is_infallible in
+    let frame = c.args.frame.now in
+    let from = c.in-Plan.from in
+    let message = c.in-Plan.message in
+    if_err c.take.result (λ fault. frame_fails (λ (kept : Bool) (node : Side g.row.C.Denot). steps c.args.clock node.link (g.C.Core.taken kept node.core from message)) (λ (kept : Bool) (node : Side g.row.C.Denot). hears (g.C.Core.taken kept) c.args.clock frame node)
+    (λ node. IsNode node c.args.link.now c.args.core.now) (λ node. IsNode node c.hear.new.self c.args.core.now) (HasFailed faults sure c.hear.new.keeper c.take.new.keeper) (HasFailed faults sure c.args.keeper.now c.take.new.keeper) fault
+    (then_failed faults sure c.args.keeper.now c.hear.new.keeper c.take.new.keeper c.hear.ensures.serves)
+    (λ node is. (record { link = tries frame node.link; core = node.core }, record { link = c.in_ok-from.ensures.link node.link is.link; core = is.core }, λ kept. hears_plan (g.C.Core.taken kept) c.args.clock node frame from message (subst (IsTried node.link c.args.frame.now) c.in-Plan.is (c.in_ok-from.ensures.tried node.link is.link))))) c.take.ensures.fault
 
 pub returns-in-Other-clause-done : goal.returns-in-Other-clause-done
 returns-in-Other-clause-done g c =
     λ node is.
     let frame = c.args.frame.now in
     let before = c.args.news.now.items in
-    let same = hears_other g.C.Core.taken c.args.clock node frame (c.in-Other.ensures.tried node.link is.link) in
-    subst (λ (o : Outcome (Side g.row.C.Denot)). NodeDid o c.hear.new.self c.args.core.now before before) (sym same) (record { link = c.in-Other.ensures.link node.link is.link; core = is.core }, sym (append-nil (events_of before)))
+    let same = hears_other (g.C.Core.taken true) c.args.clock node frame (subst (IsTried node.link c.args.frame.now) c.in-Other.is (c.in_ok-from.ensures.tried node.link is.link)) in
+    subst (λ (o : Outcome (Side g.row.C.Denot)). NodeDid o c.hear.new.self c.args.core.now before before) (sym same) (record { link = c.in_ok-from.ensures.link node.link is.link; core = is.core }, sym (append-nil (events_of before)))
 
-pub returns-in-Dropped-clause-done : goal.returns-in-Dropped-clause-done
-returns-in-Dropped-clause-done g c =
-    if_ok c.tell.result (λ a told node is.
+pub returns-in_ok-tell-in-Dropped-clause-done : goal.returns-in_ok-tell-in-Dropped-clause-done
+returns-in_ok-tell-in-Dropped-clause-done g c =
+    λ node is.
     let frame = c.args.frame.now in
     let before = c.args.news.now.items in
     let after = c.tell.new.news.items in
     let why = c.in-Dropped.answer in
-    let same = hears_dropped g.C.Core.taken c.args.clock node frame why (c.in-Dropped.ensures.tried node.link is.link) in
-    subst (λ (o : Outcome (Side g.row.C.Denot)). NodeDid o c.hear.new.self c.args.core.now before after) (sym same) (record { link = c.in-Dropped.ensures.link node.link is.link; core = is.core }, ap events_of told ∙ map-append said_by before (NewsDropped why ∷ []))) c.tell.ensures.told
-
-pub returns-in-Dropped-clause-spent : goal.returns-in-Dropped-clause-spent
-returns-in-Dropped-clause-spent g c = if_err c.tell.result (λ fault is node its stamps. absurd (not_spent fault is stamps)) c.tell.ensures.fault
+    let same = hears_dropped (g.C.Core.taken true) c.args.clock node frame why (subst (IsTried node.link c.args.frame.now) c.in-Dropped.is (c.in_ok-from.ensures.tried node.link is.link)) in
+    subst (λ (o : Outcome (Side g.row.C.Denot)). NodeDid o c.hear.new.self c.args.core.now before after) (sym same) (record { link = c.in_ok-from.ensures.link node.link is.link; core = is.core }, ap events_of c.in_ok-tell-in-Dropped.ensures.told ∙ map-append said_by before (NewsDropped why ∷ []))

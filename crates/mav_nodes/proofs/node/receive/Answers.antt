@@ -1,53 +1,89 @@
-use Rattle.std.proofs.Common.{ℕ, ◌+◌, drop, length-drop, sym, ◌∙◌, arith}
+use Rattle.std.proofs.Common.{ℕ, ◌+◌, ◌≤◌, length, drop, length-drop, sym, ◌∙◌, arith, Bool, List, subst}
 use Rattle.std.proofs.lemmas.Result.{err_from_is_err_and}
 use Rattle.mav_frame.specs.declared.events.Event.TheVariants.{Frame, Skipped}
-use Rattle.mav_nodes.specs.Steps.{receives}
+use Rattle.mav_nodes.specs.declared.faults.NodeFault.{NodeFault}
+use Rattle.mav_nodes.specs.Stores.{IsKept, HasFailed}
+use Rattle.mav_nodes.specs.Steps.{Side, hears, receives_keeping}
 use Rattle.mav_nodes.specs.Cores.{IsNode}
+use Rattle.mav_nodes.specs.Promises.{FailsKeeping}
+use Rattle.mav_nodes.proofs.Lows.{serves_same, serves_both, failed_then, then_failed}
+use Rattle.mav_nodes.proofs.Keeping.{kept_so, receive_fails}
 use Rattle.mav_nodes.proofs.Leads.{leads_at_first, leads_past, leads_on, leads_to_none, leads_whole, event_here, part_bytes, part_length}
 use Rattle.mav_nodes.proofs.node.receive.Goals.{in-Frame+in_ok-hear-in-Frame, in-Skipped}
 use Rattle.mav_nodes.proofs.node.receive.Goals as goal
 
-pub returns-in_err-hear-in-Frame-clause-spent : goal.returns-in_err-hear-in-Frame-clause-spent
-returns-in_err-hear-in-Frame-clause-spent g c =
+pub returns-in_err-hear-in-Frame-clause-fault : goal.returns-in_err-hear-in-Frame-clause-fault
+returns-in_err-hear-in-Frame-clause-fault g c =
     let p = err_from_is_err_and c.from_residual.result c.from_residual.ensures.1 in
-    rw p.1 (λ node is stamps.
-    let l = c.loop-place.invariant.leads node is in
+    let faults = g.K.Keeper.faults in
+    let sure = g.K.Keeper.is_infallible in
+    let old = c.args.keeper.now in
+    let then = c.loop-place.keeper in
+    let now = c.hear.new.keeper in
     let bytes = c.args.datagram.now in
     let place = c.loop-place.place in
     let size = c.event_at-event.result.1 in
+    let frame = c.in-Frame.frame in
     let small : (i : ℕ) → _ = λ i. (c.type_inv.datagram i).fits in
-    let same = c.extras.ensures ∙ l.is.link.extras in
-    let at = event_here c.extras.result.now l.node.link.extras bytes place size c.event_at-event.result.0 (Frame c.in-Frame.frame) same c.in-Frame.is c.event_at-event.ensures.event in
-    leads_to_none g.C.Core.taken c.args.clock (receives g.C.Core.taken c.args.clock bytes node) (drop place bytes) (drop (place + size) bytes) (λ n. IsNode n c.loop-place.link c.loop-place.core) c.loop-place.news.items c.in-Frame.frame l (part_bytes bytes place small) (part_bytes bytes (place + size) small) at (c.in_err-hear-in-Frame.ensures.spent l.node l.is (sym p.2 ∙ stamps)))
+    let F = HasFailed faults sure then now in
+    let G = HasFailed faults sure old now in
+    let f = then_failed faults sure old then now c.loop-place.invariant.serves in
+    let total : Side g.row.C.Denot → List Bool → _ = λ node keeps. receives_keeping g.C.Core.taken c.args.clock keeps bytes node in
+    rw p.1 (receive_fails (λ (kept : Bool) (node : Side g.row.C.Denot). hears (g.C.Core.taken kept) c.args.clock frame node) (λ (keeps : List Bool) (node : Side g.row.C.Denot). receives_keeping g.C.Core.taken c.args.clock keeps bytes node)
+    (λ node. IsNode node c.args.link.now c.args.core.now) (λ node. IsNode node c.loop-place.link c.loop-place.core) F G p.0 f
+    (λ node is.
+    let l = c.loop-place.invariant.leads node is in
+    let same = c.extras.ensures ∙ l.is.link.end.extras in
+    let at = event_here c.extras.result.now l.node.link.extras bytes place size c.event_at-event.result.0 (Frame frame) same c.in-Frame.is c.event_at-event.ensures.event in
+    (l.node, l.is, leads_to_none g.C.Core.taken c.args.clock (total node) (drop place bytes) (drop (place + size) bytes) (λ n. IsNode n c.loop-place.link c.loop-place.core) (HasFailed faults sure old then) F G c.loop-place.news.items frame l (part_bytes bytes place small) (part_bytes bytes (place + size) small) at (λ failed. failed_then faults sure old then now failed c.hear.ensures.serves) f))
+    (subst (λ (fault : NodeFault). FailsKeeping fault (λ (node : Side g.row.C.Denot). IsNode node c.loop-place.link c.loop-place.core) (λ (kept : Bool) (node : Side g.row.C.Denot). hears (g.C.Core.taken kept) c.args.clock frame node) (λ kept. IsKept kept F) F) (sym p.2) c.in_err-hear-in-Frame.ensures.fault))
 
 pub loop-place-preserved : goal.loop-place-preserved
 loop-place-preserved g c =
     let bytes = c.args.datagram.now in
     let place = c.loop-place.place in
     let size = c.event_at-event.result.1 in
+    let faults = g.K.Keeper.faults in
+    let sure = g.K.Keeper.is_infallible in
+    let old = c.args.keeper.now in
+    let then = c.loop-place.keeper in
     let small : (i : ℕ) → _ = λ i. (c.type_inv.datagram i).fits in
-    record {
-      within = omega (arith, c.event_at-event.ensures.size.1, part_length bytes place, c.loop-place.invariant.within);
-      leads = λ node is.
-          let total = receives g.C.Core.taken c.args.clock bytes node in
-          let l = c.loop-place.invariant.leads node is in
-          let same = c.extras.ensures ∙ l.is.link.extras in
-          elim c.match-event.branch [
-            | in-Frame+in_ok-hear-in-Frame w ↦
+    let within : place + size ≤ length bytes = omega (arith, c.event_at-event.ensures.size.1, part_length bytes place, c.loop-place.invariant.within) in
+    elim c.match-event.branch [
+      | in-Frame+in_ok-hear-in-Frame w ↦
+          let now = w.hear.new.keeper in
+          rw (w.link-is, w.core-is, w.keeper-is, w.news-is) (record {
+            within = within;
+            serves = serves_both faults sure old then now c.loop-place.invariant.serves w.hear.ensures.serves;
+            stored = λ held. w.in_ok-hear-in-Frame.ensures.stored (c.loop-place.invariant.stored held);
+            leads = λ node is.
+                let l = c.loop-place.invariant.leads node is in
+                let same = c.extras.ensures ∙ l.is.link.end.extras in
                 let at = event_here c.extras.result.now l.node.link.extras bytes place size c.event_at-event.result.0 (Frame w.in-Frame.frame) same w.in-Frame.is c.event_at-event.ensures.event in
-                let on = leads_on g.C.Core.taken c.args.clock total (drop place bytes) (drop (place + size) bytes) (λ n. IsNode n c.loop-place.link c.loop-place.core) (λ n. IsNode n w.hear.new.link w.hear.new.core) c.loop-place.news.items w.hear.new.news.items w.in-Frame.frame l (part_bytes bytes place small) (part_bytes bytes (place + size) small) at (w.in_ok-hear-in-Frame.ensures.done l.node l.is) in
-                rw (w.link-is, w.core-is, w.news-is) on
-            | in-Skipped w ↦
+                leads_on g.C.Core.taken c.args.clock (λ (keeps : List Bool). receives_keeping g.C.Core.taken c.args.clock keeps bytes node) (drop place bytes) (drop (place + size) bytes) (λ n. IsNode n c.loop-place.link c.loop-place.core) (λ n. IsNode n w.hear.new.link w.hear.new.core) (HasFailed faults sure old then) (HasFailed faults sure old now) c.loop-place.news.items w.hear.new.news.items w.in-Frame.frame w.in_ok-hear-in-Frame.field-0 l (part_bytes bytes place small) (part_bytes bytes (place + size) small) at
+                (λ failed. failed_then faults sure old then now failed w.hear.ensures.serves)
+                (kept_so w.in_ok-hear-in-Frame.field-0 (then_failed faults sure old then now c.loop-place.invariant.serves) w.in_ok-hear-in-Frame.ensures.unkept)
+                (w.in_ok-hear-in-Frame.ensures.done l.node l.is);
+          })
+      | in-Skipped w ↦
+          rw (w.link-is, w.core-is, w.keeper-is, w.news-is) (record {
+            within = within;
+            serves = c.loop-place.invariant.serves;
+            stored = c.loop-place.invariant.stored;
+            leads = λ node is.
+                let l = c.loop-place.invariant.leads node is in
+                let same = c.extras.ensures ∙ l.is.link.end.extras in
                 let at = event_here c.extras.result.now l.node.link.extras bytes place size c.event_at-event.result.0 (Skipped w.in-Skipped.field-0 w.in-Skipped.field-1) same w.in-Skipped.is c.event_at-event.ensures.event in
-                let on = leads_past g.C.Core.taken c.args.clock total (drop place bytes) (drop (place + size) bytes) (λ n. IsNode n c.loop-place.link c.loop-place.core) c.loop-place.news.items w.in-Skipped.field-0 w.in-Skipped.field-1 l (part_bytes bytes place small) (part_bytes bytes (place + size) small) at in
-                rw (w.link-is, w.core-is, w.news-is) on
-          ];
-    }
+                leads_past g.C.Core.taken c.args.clock (λ (keeps : List Bool). receives_keeping g.C.Core.taken c.args.clock keeps bytes node) (drop place bytes) (drop (place + size) bytes) (λ n. IsNode n c.loop-place.link c.loop-place.core) (HasFailed faults sure old then) c.loop-place.news.items w.in-Skipped.field-0 w.in-Skipped.field-1 l (part_bytes bytes place small) (part_bytes bytes (place + size) small) at;
+          })
+    ]
 
 pub loop-place-init : goal.loop-place-init
 loop-place-init g c = record {
   within = omega arith;
-  leads = λ node is. leads_at_first g.C.Core.taken c.args.clock node c.args.datagram.now (λ n. IsNode n c.args.link.now c.args.core.now) c.new-news.result.items c.new-news.ensures.items is;
+  serves = serves_same g.K.Keeper.faults g.K.Keeper.is_infallible c.args.keeper.now;
+  stored = λ held. held;
+  leads = λ node is. leads_at_first g.C.Core.taken c.args.clock node c.args.datagram.now (λ n. IsNode n c.args.link.now c.args.core.now) (HasFailed g.K.Keeper.faults g.K.Keeper.is_infallible c.args.keeper.now c.args.keeper.now) c.new-news.result.items c.new-news.ensures.items is;
 }
 
 pub returns-clause-done : goal.returns-clause-done
@@ -55,4 +91,4 @@ returns-clause-done g c =
     λ node is.
     let bytes = c.args.datagram.now in
     let place = c.loop-place.place in
-    leads_whole g.C.Core.taken c.args.clock (receives g.C.Core.taken c.args.clock bytes node) (drop place bytes) (λ n. IsNode n c.loop-place.link c.loop-place.core) c.loop-place.news.items (omega (arith, length-drop place bytes, c.loop-place-test.false)) (c.loop-place.invariant.leads node is)
+    leads_whole g.C.Core.taken c.args.clock (λ (keeps : List Bool). receives_keeping g.C.Core.taken c.args.clock keeps bytes node) (drop place bytes) c.loop-place.link c.loop-place.core (HasFailed g.K.Keeper.faults g.K.Keeper.is_infallible c.args.keeper.now c.loop-place.keeper) c.loop-place.news.items (omega (arith, length-drop place bytes, c.loop-place-test.false)) (c.loop-place.invariant.leads node is)

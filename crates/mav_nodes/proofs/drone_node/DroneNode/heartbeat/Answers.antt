@@ -9,8 +9,8 @@ use Rattle.mav_nodes.proofs.Cores.{if_ok, core_did}
 use Rattle.mav_nodes.proofs.drone_node.DroneNode.heartbeat.Goals as goal
 
 pub returns-clause-done : goal.returns-clause-done
-returns-clause-done c =
+returns-clause-done g c =
     if_ok c.send.result (λ news sent node is.
     let inside = subst (IsDrone node) (sym c.self.view_is) is in
-    let beat = subst (λ (m : Message). LinkDid (sends c.args.clock m node.link) c.send.new.link [] news.items) c.drone_heartbeat.ensures (sent node.link inside.link) in
+    let beat = subst (λ (m : Message). LinkDid (sends c.args.clock m node.link) c.send.new.link [] news.items) c.drone_heartbeat-message.ensures (sent node.link inside.link) in
     core_did node.core (sends c.args.clock drone_heartbeat node.link) c.send.new.link (λ (n : Side DroneState). IsDrone n (record { link = c.send.new.link; drone = c.self.inside.drone })) [] news.items beat (λ link l. record { link = l; drone = inside.drone })) c.send.ensures.sent

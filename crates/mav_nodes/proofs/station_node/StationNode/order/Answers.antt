@@ -2,10 +2,11 @@ use Rattle.std.proofs.Common.{List, [], ◌∙◌, ◌≡◌, None, sym, subst}
 use Rattle.plan_upload.specs.Station.{StationState}
 use Rattle.mav_nodes.specs.declared.news.News.{News}
 use Rattle.mav_nodes.specs.Nodes.{IsStation, StationView, order_refusal, order_step, station_does, station_obeys}
+use Rattle.mav_nodes.specs.Steps.{Side}
 use Rattle.mav_nodes.specs.Cores.{IsStep, NodeDid, says}
 use Rattle.mav_nodes.specs.Promises.{LinkDid}
 use Rattle.mav_nodes.proofs.Cores.{stepped, steps_none}
-use Rattle.mav_nodes.proofs.Ends.{station_did, obeys}
+use Rattle.mav_nodes.proofs.Ends.{station_did, obeys, order_fails}
 use Rattle.mav_nodes.proofs.station_node.StationNode.order.Goals.{in-Ok, in-Err}
 use Rattle.mav_nodes.proofs.station_node.StationNode.order.Goals as goal
 
@@ -31,10 +32,10 @@ returns-clause-fault c =
       | in-Err w ↦
           rw w.result-is (
             subst (λ (v : StationView). order_refusal v.station c.args.order ≡ None) c.self.view_is c.in_ok-answer.ensures.accepted,
-            λ node is stamps.
+            order_fails c.args.clock c.self.inside.link c.step_of-step.result.answer _ (λ (node : Side StationState). IsStation node c.args.self.now) (λ (node : Side StationState). station_obeys c.args.clock c.args.order node) w.in-Err.fault (λ failed. failed.fallible tt) (λ node is.
                 let inside = subst (IsStation node) (sym c.self.view_is) is in
                 let did = station_does (order_step node.core c.args.order) in
                 let step = subst (λ (core : StationState). IsStep (station_does (order_step core c.args.order)) c.step_of-step.new.station c.step_of-step.result) inside.station (c.step_of-step.ensures (order_step c.self.inside.station c.args.order) c.in_ok-answer.ensures.station c.in_ok-answer.ensures.answer) in
-                obeys c.args.clock c.args.order node ∙ steps_none c.args.clock node.link did c.step_of-step.new.station c.step_of-step.result step (w.in-Err.ensures.spent node.link did.first did.last inside.link stamps),
+                (node.link, inside.link, did.first, did.last, λ none. obeys c.args.clock c.args.order node ∙ steps_none c.args.clock node.link did c.step_of-step.new.station c.step_of-step.result step none)) w.in-Err.ensures.fault,
           )
     ]

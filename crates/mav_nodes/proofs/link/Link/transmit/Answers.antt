@@ -10,12 +10,13 @@ use Rattle.mav_sign.specs.Kept.{Represents}
 use Rattle.mav_sign.specs.Endpoints.{EndpointState, SentFrame}
 use Rattle.mav_nodes.specs.Signed.{signed_packet}
 use Rattle.mav_nodes.specs.News.{events_of, said_by, Shows_sent}
-use Rattle.mav_nodes.specs.Promises.{LinkDid}
+use Rattle.mav_nodes.specs.Promises.{Did, Fails}
+use Rattle.mav_nodes.specs.declared.faults.NodeFault.{NodeFault}
 use Rattle.mav_nodes.specs.declared.news.News.{News}
 use Rattle.mav_nodes.specs.declared.news.News.TheVariants.{Sent}
-use Rattle.mav_nodes.specs.Links.{Link, IsLink, sends}
-use Rattle.mav_nodes.proofs.Cores.{if_ok, if_err, not_spent}
-use Rattle.mav_nodes.proofs.link.Link.send.Goals as goal
+use Rattle.mav_nodes.specs.Links.{Link, LinkView, IsEnd, sends}
+use Rattle.mav_nodes.proofs.Cores.{if_ok, if_err, fails_for_memory}
+use Rattle.mav_nodes.proofs.link.Link.transmit.Goals as goal
 
 none_left : (clock kept : ℕ) (message : Message) (link : Link) → greatest_stamp < kept → kept ≡ next_in link.history clock → sends clock message link ≡ None
 none_left clock kept message link spent is = rw (lt-ltb greatest_stamp (next_in link.history clock) (omega (arith, is))) refl
@@ -23,7 +24,7 @@ none_left clock kept message link spent is = rw (lt-ltb greatest_stamp (next_in 
 packet_is : (key : List ℕ) (me : Stream) (extras : List (ℕ × ℕ)) (seq stamp : ℕ) (message : Message) (packet : Packet) → SentFrame key me extras seq stamp message packet → packet ≡ signed_packet key extras me seq stamp message
 packet_is key me extras seq stamp message packet frame = search rules
 
-sent_did : (clock kept : ℕ) (message : Message) (link : Link) (old new : EndpointState) (packet : Packet) (before after : List News) → IsLink link old → SentFrame old.key old.me old.extras old.seq kept message packet → kept ≤ greatest_stamp → kept ≡ next_in link.history clock → Represents new.stamps (link.history ++ sent (next_in link.history clock) ∷ []) → new ≡ record old { stamps = new.stamps; seq = (old.seq + 1) % 256 } → after ≡ before ++ Sent packet message ∷ [] → LinkDid (sends clock message link) new before after
+sent_did : (clock kept : ℕ) (message : Message) (link : Link) (old new : EndpointState) (packet : Packet) (before after : List News) → IsEnd link old → SentFrame old.key old.me old.extras old.seq kept message packet → kept ≤ greatest_stamp → kept ≡ next_in link.history clock → Represents new.stamps (link.history ++ sent (next_in link.history clock) ∷ []) → new ≡ record old { stamps = new.stamps; seq = (old.seq + 1) % 256 } → after ≡ before ++ Sent packet message ∷ [] → Did (sends clock message link) (λ end. IsEnd end new) before after
 sent_did clock kept message link old new packet before after is frame left stamp history same told =
     let packet_same = packet_is old.key old.me old.extras old.seq kept message packet frame in
     let whole : packet ≡ signed_packet link.key link.extras link.me link.seq (next_in link.history clock) message = packet_same ∙ rw (is.key, is.me, is.extras, is.seq, stamp) refl in
@@ -38,23 +39,19 @@ sent_did clock kept message link old new packet before after is frame left stamp
       ap events_of told ∙ map-append said_by before (Sent packet message ∷ []) ∙ ap (λ (p : Packet). events_of before ++ Shows_sent p message ∷ []) whole,
     )
 
-pub returns-in_err-frame-clause-sent : goal.returns-in_err-frame-clause-sent
-returns-in_err-frame-clause-sent c =
+pub returns-in_err-frame-clause-fault : goal.returns-in_err-frame-clause-fault
+returns-in_err-frame-clause-fault c =
     let e = err_from_is_err_and c.from_residual.result c.from_residual.ensures.1 in
-    rw e.1 tt
-
-pub returns-in_err-frame-clause-spent : goal.returns-in_err-frame-clause-spent
-returns-in_err-frame-clause-spent c =
-    let e = err_from_is_err_and c.from_residual.result c.from_residual.ensures.1 in
-    rw e.1 (λ link is stamps.
-    let inside = subst (IsLink link) (sym c.self.view_is) is in
-    none_left c.args.clock _ c.args.message.now link c.in_err-frame.ensures.spent (c.in_err-frame.ensures.stamp link.history inside.history))
+    let inside = ap (λ (v : LinkView). v.endpoint) c.self.view_is in
+    rw e.1 (subst (λ (f : NodeFault). Fails f (λ (link : Link). IsEnd link c.args.self.now.endpoint) (λ (link : Link). sends c.args.clock c.args.message.now link) ⊥) (sym e.2) (λ link is.
+    let is_inside = subst (IsEnd link) (sym inside) is in
+    none_left c.args.clock _ c.args.message.now link c.in_err-frame.ensures.spent (c.in_err-frame.ensures.stamp link.history is_inside.history)))
 
 pub returns-clause-sent : goal.returns-clause-sent
 returns-clause-sent c = if_ok c.tell.result (λ done told link is.
-    let inside = subst (IsLink link) (sym c.self.view_is) is in
+    let inside = subst (IsEnd link) (sym (ap (λ (v : LinkView). v.endpoint) c.self.view_is)) is in
     let sent = c.in_ok-frame.ensures in
     sent_did c.args.clock _ c.args.message.now link c.self.inside.endpoint c.send.new.self c.in_ok-frame.frame c.args.news.now.items c.tell.new.news.items inside sent.frame sent.left (sent.stamp link.history inside.history) (sent.history link.history inside.history) sent.same told) c.tell.ensures.told
 
-pub returns-clause-spent : goal.returns-clause-spent
-returns-clause-spent c = if_err c.tell.result (λ fault is link its stamps. absurd (not_spent fault is stamps)) c.tell.ensures.fault
+pub returns-clause-fault : goal.returns-clause-fault
+returns-clause-fault c = if_err c.tell.result (λ fault is. fails_for_memory fault _ _ _ is) c.tell.ensures.fault
