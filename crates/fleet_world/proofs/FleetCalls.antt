@@ -3,7 +3,7 @@ use Rattle.std.proofs.Common.{◌≡◌, ℕ, ◌<◌, ◌≤◌, List, [], ◌�
 use Rattle.std.specs.Prelude.{IfOk, IfErr, OnOk}
 use Rattle.std.proofs.lemmas.Option.{slice_get_read, slice_get_past}
 use Rattle.mav_nodes.specs.declared.faults.NodeFault.{NodeFault}
-use Rattle.mav_nodes.specs.declared.faults.NodeFault.TheVariants.{StampsSpent}
+use Rattle.mav_nodes.specs.declared.faults.NodeFault.TheVariants.{StampsSpent, Store, NoMemory}
 use Rattle.mav_nodes.specs.Links.{Outcome}
 use Rattle.mav_nodes.specs.declared.news.News.{News}
 use Rattle.fleet_world.specs.declared.nodes.Node.{Node as ViewNode}
@@ -17,7 +17,8 @@ use Rattle.plan_upload.specs.Station.{StationState}
 use Rattle.fleet_world.specs.WorldState.{Node, Station, named}
 use Rattle.fleet_world.specs.Steps.{as_station}
 use Rattle.fleet_world.specs.WorldView.{IsNode, Fleet, IsFleet}
-use Rattle.fleet_world.specs.Promises.{NodeOutcome, Moved, FleetOutcome, IsSpent, Refuses}
+use Rattle.fleet_world.specs.Promises.{NodeOutcome, Moved, FleetOutcome, CallFails, Refuses}
+use Rattle.fleet_world.specs.StoredDrones.{FailsBy}
 use Rattle.fleet_world.proofs.NodeLists.{AtPlace, none, one, at_index, fleet_set, fleet_push}
 use Rattle.fleet_world.proofs.KeptNames.{KeepsName, obeys_keeps}
 
@@ -37,15 +38,20 @@ module _ (nodes : List Node) (fleet after : Fleet) (k : ℕ) (call : Node → Ou
   pub fleet_outcome : ((node : Node) → KeepsName node (call node)) → IsFleet nodes fleet → slice_get fleet.nodes k ≡ Some view → after ≡ record fleet { nodes = slice_set fleet.nodes k new } → ((node : Node) → IsNode node view → NodeOutcome (call node) new news) → FleetOutcome nodes k (slice_get nodes k) call after news
   fleet_outcome keeps f found e did = did_at (at_index nodes fleet.nodes k f.are) keeps f found e did
 
-spent_at : (nodes : List Node) (seen : List ViewNode) (k : ℕ) (call : Node → Outcome Node) (view : ViewNode) → AtPlace nodes seen k → slice_get seen k ≡ Some view → ((node : Node) → IsNode node view → call node ≡ None) → IsSpent (slice_get nodes k) call
-spent_at nodes seen k call view (none a b) found spent = cc
-spent_at nodes seen k call view (one node v a b is) found spent =
-    let same : v ≡ view = cc in
-    subst (λ (o : Option Node). IsSpent o call) (sym a) (spent node (subst (IsNode node) same is))
+call_fails_by : (fault : NodeFault) (node : Node) (call : Node → Outcome Node) → FailsBy fault (call node) → CallFails fault (Some node) call
+call_fails_by StampsSpent node call h = h
+call_fails_by Store node call h = h
+call_fails_by NoMemory node call h = tt
 
--- it had no timestamp left
-pub fleet_spent : (nodes : List Node) (fleet : Fleet) (k : ℕ) (call : Node → Outcome Node) (view : ViewNode) → IsFleet nodes fleet → slice_get fleet.nodes k ≡ Some view → ((node : Node) → IsNode node view → call node ≡ None) → IsSpent (slice_get nodes k) call
-fleet_spent nodes fleet k call view f found spent = spent_at nodes fleet.nodes k call view (at_index nodes fleet.nodes k f.are) found spent
+fails_at : (fault : NodeFault) (nodes : List Node) (seen : List ViewNode) (k : ℕ) (call : Node → Outcome Node) (view : ViewNode) → AtPlace nodes seen k → slice_get seen k ≡ Some view → ((node : Node) → IsNode node view → FailsBy fault (call node)) → CallFails fault (slice_get nodes k) call
+fails_at fault nodes seen k call view (none a b) found fails = cc
+fails_at fault nodes seen k call view (one node v a b is) found fails =
+    let same : v ≡ view = cc in
+    subst (λ (o : Option Node). CallFails fault o call) (sym a) (call_fails_by fault node call (fails node (subst (IsNode node) same is)))
+
+-- it failed
+pub fleet_fails : (fault : NodeFault) (nodes : List Node) (fleet : Fleet) (k : ℕ) (call : Node → Outcome Node) (view : ViewNode) → IsFleet nodes fleet → slice_get fleet.nodes k ≡ Some view → ((node : Node) → IsNode node view → FailsBy fault (call node)) → CallFails fault (slice_get nodes k) call
+fleet_fails fault nodes fleet k call view f found fails = fails_at fault nodes fleet.nodes k call view (at_index nodes fleet.nodes k f.are) found fails
 
 rests_at : (nodes : List Node) (fleet : Fleet) (k : ℕ) (call : Node → Outcome Node) (news : List News) → AtPlace nodes fleet.nodes k → IsFleet nodes fleet → slice_get fleet.nodes k ≡ None → news ≡ [] → FleetOutcome nodes k (slice_get nodes k) call fleet news
 rests_at nodes fleet k call news (none a b) f found e = subst (λ (o : Option Node). FleetOutcome nodes k o call fleet news) (sym a) (f, e)
@@ -66,12 +72,12 @@ module _ (inside seen after : Fleet) (call : ℕ → Node → Outcome Node) (k n
       (λ node is. subst (λ (z : Fleet). NodeOutcome (call z.clock node) new news.items) same (did node is))
   call_done (Err fault) keeps e did = tt
 
-  pub call_spent : (result : Result (Vec News Global) NodeFault) → IfErr result (λ fault. (node : Node) → IsNode node view → fault ≡ StampsSpent → call inside.clock node ≡ None) → IfErr result (λ fault. (nodes : List Node) → IsFleet nodes seen → fault ≡ StampsSpent → IsSpent (slice_get nodes k) (call seen.clock))
-  call_spent (Ok news) spent = tt
-  call_spent (Err fault) spent = λ nodes f is.
-      fleet_spent nodes seen k (call seen.clock) view f
+  pub call_fails : (result : Result (Vec News Global) NodeFault) → IfErr result (λ fault. (node : Node) → IsNode node view → FailsBy fault (call inside.clock node)) → IfErr result (λ fault. (nodes : List Node) → IsFleet nodes seen → CallFails fault (slice_get nodes k) (call seen.clock))
+  call_fails (Ok news) fails = tt
+  call_fails (Err fault) fails = λ nodes f.
+      fleet_fails fault nodes seen k (call seen.clock) view f
       (ap (λ (z : Fleet). slice_get z.nodes k) (sym same) ∙ slice_get_read inside.nodes n k view size within read)
-      (λ node seen_is. subst (λ (z : Fleet). call z.clock node ≡ None) same (spent node seen_is is))
+      (λ node seen_is. subst (λ (z : Fleet). FailsBy fault (call z.clock node)) same (fails node seen_is))
 
 pub call_rests : (inside seen : Fleet) (call : Node → Outcome Node) (k n : ℕ) (news : List News) → inside ≡ seen → n ≡ length inside.nodes → n ≤ k → news ≡ [] → (nodes : List Node) → IsFleet nodes seen → FleetOutcome nodes k (slice_get nodes k) call seen news
 call_rests inside seen call k n news same size past e nodes f =
@@ -79,11 +85,14 @@ call_rests inside seen call k n news same size past e nodes f =
     fleet_rests nodes seen k call news f (ap (λ (z : Fleet). slice_get z.nodes k) (sym same) ∙ slice_get_past inside.nodes k beyond) e
 
 -- a node is added
-pub fleet_joined : {T E : Type 0} (inside seen after : Fleet) (node : Fleet → Node) (view : ViewNode) (result : Result T E) → inside ≡ seen → IsNode (node inside) view → after.nodes ≡ inside.nodes ++ view ∷ [] → OnOk result (after.roster ≡ inside.roster ++ named (node inside) ∷ []) → OnOk result ((nodes : List Node) → IsFleet nodes seen → IsFleet (nodes ++ node seen ∷ []) after)
-fleet_joined inside seen after node view (Err e) same is more names = tt
-fleet_joined inside seen after node view (Ok t) same is more names =
+pub fleet_added : (inside seen after : Fleet) (node : Fleet → Node) (view : ViewNode) → inside ≡ seen → IsNode (node inside) view → after.nodes ≡ inside.nodes ++ view ∷ [] → after.roster ≡ inside.roster ++ named (node inside) ∷ [] → (nodes : List Node) → IsFleet nodes seen → IsFleet (nodes ++ node seen ∷ []) after
+fleet_added inside seen after node view same is more names =
     subst (λ (z : Fleet). (nodes : List Node) → IsFleet nodes z → IsFleet (nodes ++ node z ∷ []) after) same
     (λ nodes f. fleet_push nodes inside after (node inside) view f is more names)
+
+pub fleet_joined : {T E : Type 0} (inside seen after : Fleet) (node : Fleet → Node) (view : ViewNode) (result : Result T E) → inside ≡ seen → IsNode (node inside) view → after.nodes ≡ inside.nodes ++ view ∷ [] → OnOk result (after.roster ≡ inside.roster ++ named (node inside) ∷ []) → OnOk result ((nodes : List Node) → IsFleet nodes seen → IsFleet (nodes ++ node seen ∷ []) after)
+fleet_joined inside seen after node view (Err e) same is more names = tt
+fleet_joined inside seen after node view (Ok t) same is more names = fleet_added inside seen after node view same is more names
 
 -- ---- an order to a station
 

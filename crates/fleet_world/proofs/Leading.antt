@@ -11,7 +11,7 @@ use Rattle.fleet_report.specs.Events.{Event}
 use Rattle.fleet_report.specs.Reports.{ReportState}
 use Rattle.fleet_world.specs.declared.faults.WorldFault.{WorldFault}
 use Rattle.fleet_world.specs.declared.faults.WorldFault.TheVariants.{Limit, Node as NodeFails, NoMemory}
-use Rattle.mav_nodes.specs.declared.faults.NodeFault.TheVariants.{StampsSpent, NoMemory as NoNodeMemory}
+use Rattle.mav_nodes.specs.declared.faults.NodeFault.TheVariants.{StampsSpent, Store as NodeStore, NoMemory as NoNodeMemory}
 use Rattle.fleet_world.specs.declared.faults.Bound.TheVariants.{Frames}
 use Rattle.fleet_world.specs.WorldState.{WorldState, Node, node_name}
 use Rattle.fleet_world.specs.WorldView.{WorldView, IsState}
@@ -69,6 +69,7 @@ module _ (frames : Bool) (whole : Result Step StepError) (P Q : WorldState → T
 error_behind : (r : Result Step StepError) (events : List Event) (rest : WorldState → Result Step StepError) (fault : WorldFault) → IsStepError r fault → IsStepError (behind events (and_then r rest)) fault
 error_behind r events rest (Limit bound) h = ap (λ (z : Result Step StepError). behind events (and_then z rest)) h
 error_behind r events rest (NodeFails StampsSpent) h = ap (λ (z : Result Step StepError). behind events (and_then z rest)) h
+error_behind r events rest (NodeFails NodeStore) h = h
 error_behind r events rest (NodeFails NoNodeMemory) h = tt
 error_behind r events rest NoMemory h = tt
 

@@ -11,3 +11,4 @@ pub mod Leading
 pub mod Ordering
 pub mod Closings
 pub mod Contexts
+mod NodeFaults

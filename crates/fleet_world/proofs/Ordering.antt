@@ -26,7 +26,8 @@ use Rattle.mav_nodes.specs.declared.orders.Order.TheVariants.{Begin, Cancel, Cle
 use Rattle.mav_nodes.specs.declared.faults.OrderFault.{OrderFault}
 use Rattle.mav_nodes.specs.declared.faults.OrderFault.TheVariants.{Begin as BeginFails, Op as OpFails, Node as StationFails}
 use Rattle.mav_nodes.specs.declared.faults.NodeFault.{NodeFault}
-use Rattle.mav_nodes.specs.declared.faults.NodeFault.TheVariants.{StampsSpent, NoMemory as NoNodeMemory}
+use Rattle.mav_nodes.specs.declared.faults.NodeFault.TheVariants.{StampsSpent, Store as NodeStore, NoMemory as NoNodeMemory}
+use Rattle.fleet_world.specs.StoredDrones.{FailsBy}
 use Rattle.fleet_report.specs.Events.{Refused}
 use Rattle.fleet_report.specs.Reports.{ReportState}
 use Rattle.fleet_world.specs.declared.faults.WorldFault.{WorldFault}
@@ -116,10 +117,11 @@ module _ (state : WorldState) (w after last : WorldView) (k : ℕ) (name : Name)
       (subst (IsState state w.frames) (sym reporting.0) (left_state state w after is refused.1 only), reporting.1 ∙ reports-one start (Refused name why))
   refuse_by (StationFails fault) refused reporting = absurd reporting
 
-  spent_error : (fault : NodeFault) → order_refusal node.core order ≡ None → (fault ≡ StampsSpent → station_obeys w.fleet.clock order node ≡ None) → IsStepError (obeys state k name node order) (NodeFails fault)
+  spent_error : (fault : NodeFault) → order_refusal node.core order ≡ None → FailsBy fault (station_obeys w.fleet.clock order node) → IsStepError (obeys state k name node order) (NodeFails fault)
   spent_error StampsSpent accepted spent =
       sym (obeyed state k name node order accepted)
-      ∙ ap (λ (o : Outcome (Side StationState)). node_does state k name (as_station o)) (ap (λ (clock : ℕ). station_obeys clock order node) (sym is.clock) ∙ spent refl)
+      ∙ ap (λ (o : Outcome (Side StationState)). node_does state k name (as_station o)) (ap (λ (clock : ℕ). station_obeys clock order node) (sym is.clock) ∙ spent)
+  spent_error NodeStore accepted spent = absurd spent
   spent_error NoNodeMemory accepted spent = tt
 
   give_up_by : (fault : OrderFault) (e : WorldFault) → Refuses w.fleet.clock node order (IsFleet state.nodes after.fleet) fault → IsGivenUp fault e → IsStepError (obeys state k name node order) e

@@ -1,3 +1,4 @@
+pub mod StoredDrones
 pub mod WorldState
 pub mod Steps
 pub mod Scenario

@@ -11,7 +11,10 @@ use Rattle.mav_nodes.specs.Nodes.{station_obeys, order_refusal, order_fault, ord
 use Rattle.mav_nodes.specs.declared.orders.Order.{Order}
 use Rattle.mav_nodes.specs.declared.faults.OrderFault.{OrderFault}
 use Rattle.mav_nodes.specs.declared.faults.OrderFault.TheVariants.{Begin as BeginFails, Op as OpFails, Node as StationFails}
-use Rattle.mav_nodes.specs.declared.faults.NodeFault.TheVariants.{StampsSpent, NoMemory as NoNodeMemory}
+use Rattle.mav_nodes.specs.declared.faults.NodeFault.{NodeFault}
+use Rattle.mav_nodes.specs.declared.faults.StartFault.{StartFault}
+use Rattle.mav_nodes.specs.declared.faults.StartFault.TheVariants.{Store as StartStore, BadKept, NoMemory as NoStartMemory}
+use Rattle.mav_nodes.specs.declared.faults.NodeFault.TheVariants.{StampsSpent, Store as NodeStore, NoMemory as NoNodeMemory}
 use Rattle.plan_upload.specs.Station.{StationState}
 use Rattle.plan_items.specs.Plans.{items_of}
 use Rattle.plan_upload.specs.declared.faults.OpFault.TheVariants.{NoMemory as NoOpMemory}
@@ -20,6 +23,7 @@ use Rattle.fleet_report.specs.Reports.{ReportState, reported}
 use Rattle.fleet_world.specs.declared.nodes.Node.{Node as ViewNode}
 use Rattle.fleet_world.specs.declared.faults.WorldFault.{WorldFault}
 use Rattle.fleet_world.specs.declared.faults.WorldFault.TheVariants.{Limit, Node as NodeFails, NoMemory}
+use Rattle.fleet_world.specs.StoredDrones.{FailsBy}
 use Rattle.fleet_world.specs.WorldState.{Node}
 use Rattle.fleet_world.specs.WorldView.{IsNode, Fleet, IsFleet, Kept, kept_as, WorldView, IsState}
 use Rattle.fleet_world.specs.Steps.{Step, StepError, At_limit, Stamps_spent, packets_in, reported_by}
@@ -40,16 +44,17 @@ abbrev pub FleetOutcome : List Node → ℕ → Option Node → (Node → Outcom
 FleetOutcome nodes index None call fleet news = IsFleet nodes fleet × (news ≡ [])
 FleetOutcome nodes index (Some node) call fleet news = Moved nodes index (call node) fleet news
 
--- no timestamp is left for what it sends
-abbrev pub IsSpent : Option Node → (Node → Outcome Node) → Type 0
-IsSpent None call = ⊥
-IsSpent (Some node) call = call node ≡ None
+-- it fails: no timestamp is left for what it sends, or there is no memory
+abbrev pub CallFails : NodeFault → Option Node → (Node → Outcome Node) → Type 0
+CallFails NoNodeMemory found call = Unit {0}
+CallFails fault None call = ⊥
+CallFails fault (Some node) call = FailsBy fault (call node)
 
 -- a station refused an order or had no timestamp left for it: `Left` is what holds if nothing changed
 abbrev pub Refuses : ℕ → Side StationState → Order → Type 0 → OrderFault → Type 0
 Refuses clock node order Left (BeginFails fault) = (order_refusal node.core order ≡ Some fault.why) × (order_plan order ≡ Some fault.plan) × Left
 Refuses clock node order Left (OpFails why) = (order_fault node.core order ≡ Some why) × Left
-Refuses clock node order Left (StationFails fault) = (order_refusal node.core order ≡ None) × (fault ≡ StampsSpent → station_obeys clock order node ≡ None)
+Refuses clock node order Left (StationFails fault) = (order_refusal node.core order ≡ None) × FailsBy fault (station_obeys clock order node)
 
 -- ---- of what a node did
 
@@ -69,6 +74,7 @@ WorldOutcome (Err error) frames world before after = ⊥
 abbrev pub IsStepError : Result Step StepError → WorldFault → Type 0
 IsStepError step (Limit bound) = step ≡ Err (At_limit bound)
 IsStepError step (NodeFails StampsSpent) = step ≡ Err Stamps_spent
+IsStepError step (NodeFails NodeStore) = ⊥
 IsStepError step (NodeFails NoNodeMemory) = Unit {0}
 IsStepError step NoMemory = Unit {0}
 
@@ -93,3 +99,9 @@ IsGivenUp (StationFails fault) e = e ≡ NodeFails fault
 abbrev pub Quietly : Result Step StepError → Bool → WorldView → Type 0
 Quietly (Ok t) frames world = IsState t.state frames world × (t.events ≡ [])
 Quietly (Err error) frames world = ⊥
+
+-- why a drone doesn't start, as the world's fault: its store can't be used, or there is no memory
+abbrev pub world_fault_of : StartFault → WorldFault
+world_fault_of StartStore = NodeFails NodeStore
+world_fault_of BadKept = NodeFails NodeStore
+world_fault_of NoStartMemory = NoMemory

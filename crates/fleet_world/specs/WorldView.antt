@@ -3,17 +3,18 @@ use Rattle.std.specs.Prelude.{ℕ, ◌≡◌, Bool, List, [], ◌∷◌, length,
 use Rattle.mav_names.specs.declared.names.Name.{Name}
 use Rattle.mav_frame.specs.Packet.{Packet}
 use Rattle.mav_frame.specs.Encoding.{encoding}
-use Rattle.mav_nodes.specs.Nodes.{IsDrone, IsStation}
+use Rattle.mav_nodes.specs.Nodes.{IsStation}
 use Rattle.plan_items.specs.declared.items.Item.{Item}
 use Rattle.scenario_lines.specs.declared.roster.Named.{Named}
 use Rattle.scenario_lines.specs.LineContext.{LineContext}
 use Rattle.fleet_world.specs.declared.nodes.Node.{Node as ViewNode}
 use Rattle.fleet_world.specs.declared.nodes.Node.TheVariants.{Drone as ViewDrone, Station as ViewStation}
+use Rattle.fleet_world.specs.StoredDrones.{IsStoredDrone}
 use Rattle.fleet_world.specs.WorldState.{WorldState, Node, Drone, Station, names_of}
 
 -- a node: its end of the links represents the history
 abbrev pub IsNode : Node → ViewNode → Type 0
-IsNode (Drone n) (ViewDrone v) = IsDrone n v
+IsNode (Drone n) (ViewDrone v) = IsStoredDrone n v
 IsNode (Station n) (ViewStation v) = IsStation n v
 IsNode node seen = ⊥
 

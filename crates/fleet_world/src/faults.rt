@@ -1,5 +1,5 @@
 // Why a line isn't done.
-use mav_nodes::NodeFault;
+use mav_nodes::{NodeFault, StartFault};
 use std::alloc::{AllocError, AllocFailed};
 
 /// The limits of a scenario.
@@ -21,6 +21,20 @@ pub enum WorldFault {
     /// A node has no timestamp left, or no memory.
     Node(NodeFault),
     NoMemory,
+}
+
+impl From<StartFault> for WorldFault {
+    ghost use Rattle.std.specs.Prelude.{◌≡◌};
+    ghost use Rattle.fleet_world.specs.Promises.{world_fault_of};
+
+    ghost from_gives = { λ fault e. e ≡ world_fault_of fault };
+
+    fn from(fault: StartFault) -> Self {
+        match fault {
+            StartFault::Store | StartFault::BadKept => WorldFault::Node(NodeFault::Store),
+            StartFault::NoMemory => WorldFault::NoMemory,
+        }
+    }
 }
 
 impl From<NodeFault> for WorldFault {

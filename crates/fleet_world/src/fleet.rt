@@ -7,14 +7,15 @@ ghost use Rattle.fleet_world.specs.WorldState.{Node as StateNode, Drone as State
 ghost use Rattle.fleet_world.specs.WorldView.{no_fleet, IsFleet};
 ghost use Rattle.fleet_world.specs.Steps.{as_station};
 ghost use Rattle.fleet_world.specs.NodeSteps.{node_called};
-ghost use Rattle.fleet_world.specs.Promises.{FleetOutcome, Moved, IsSpent, Refuses};
+ghost use Rattle.fleet_world.specs.Promises.{FleetOutcome, Moved, CallFails, Refuses};
 ghost use Rattle.fleet_world.specs.Counts.{is_drone_view, counted};
 
 use crate::NoMemory;
 use crate::calls::Call;
 use crate::nodes::Node;
 use mav_names::{Name, Stream};
-use mav_nodes::{DroneNode, News, NodeFault, Order, OrderFault, StationNode};
+use crate::stored_drone::StoredDrone;
+use mav_nodes::{News, NodeFault, Order, OrderFault, StartFault, StationNode};
 use mav_sign::Key;
 use scenario_lines::{Named, Role, Roster};
 use std::alloc::Global;
@@ -112,12 +113,13 @@ impl Fleet {
     }
 
     /// A drone of this system is added, at x and y in units of 1e-7 degrees.
-    pub(crate) fn add_drone(&mut self, sys: u8, x: i32, y: i32) -> Result<(), NoMemory>
+    pub(crate) fn add_drone(&mut self, sys: u8, x: i32, y: i32) -> Result<(), StartFault>
         ensures joins { OnOk result ((nodes : List StateNode) → IsFleet nodes self.old
             → IsFleet (nodes ++ StateDrone (new_drone self.old.key sys) ∷ []) self.new) }
         ensures kept { OnOk result (self.new ≡ record self.old { nodes = self.new.nodes; roster = self.new.roster }) }
+        ensures fault { IfErr result (λ fault. fault ≡ StartFault.NoMemory) }
     {
-        let drone = DroneNode::new(self.alloc, self.key, sys, x, y)?;
+        let drone = StoredDrone::start(self.alloc, self.key, sys, x, y)?;
         self.nodes.push(Node::Drone(drone))?;
         let name = Name {
             sys,
@@ -126,7 +128,8 @@ impl Fleet {
         self.roster.push(Named {
             role: Role::Drone,
             name,
-        })
+        })?;
+        Ok(())
     }
 
     /// A station of this name is added.
@@ -162,8 +165,8 @@ impl Fleet {
     ) -> Result<Vec<News>, NodeFault>
         ensures done { IfOk result (λ news. (nodes : List StateNode) → IsFleet nodes self.old
             → FleetOutcome nodes index (slice_get nodes index) (node_called call.now datagram.now self.old.clock) self.new news.items) }
-        ensures spent { IfErr result (λ fault. (nodes : List StateNode) → IsFleet nodes self.old
-            → fault ≡ NodeFault.StampsSpent → IsSpent (slice_get nodes index) (node_called call.now datagram.now self.old.clock)) }
+        ensures fault { IfErr result (λ fault. (nodes : List StateNode) → IsFleet nodes self.old
+            → CallFails fault (slice_get nodes index) (node_called call.now datagram.now self.old.clock)) }
         ensures kept { self.new ≡ record self.old { nodes = self.new.nodes } }
     {
         if index < self.nodes.len() {

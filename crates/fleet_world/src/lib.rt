@@ -17,6 +17,7 @@ mod node_calls;
 mod nodes;
 mod orders;
 mod sent;
+mod stored_drone;
 mod world;
 
 pub use faults::{Bound, WorldFault};

@@ -5,7 +5,7 @@ ghost use Rattle.fleet_world.specs.WorldState.{WorldState, Node as StateNode};
 ghost use Rattle.fleet_world.specs.WorldView.{IsFleet, IsState};
 ghost use Rattle.fleet_world.specs.Steps.{most_frames, calls, calls_at, delivers};
 ghost use Rattle.fleet_world.specs.NodeSteps.{called, datagram_of, reports_news};
-ghost use Rattle.fleet_world.specs.Promises.{FleetOutcome, IsSpent, WorldOutcome, IsStepError};
+ghost use Rattle.fleet_world.specs.Promises.{FleetOutcome, CallFails, WorldOutcome, IsStepError};
 
 use crate::calls::Call;
 use crate::events::{frames_in, report_all};
@@ -60,8 +60,8 @@ impl World {
     fn news_of(&mut self, index: usize, call: &Call) -> Result<Vec<News>, NodeFault>
         ensures done { IfOk result (λ news. (nodes : List StateNode) → IsFleet nodes self.old.fleet
             → FleetOutcome nodes index (slice_get nodes index) (called self.old call.now) self.new.fleet news.items) }
-        ensures spent { IfErr result (λ fault. (nodes : List StateNode) → IsFleet nodes self.old.fleet
-            → fault ≡ NodeFault.StampsSpent → IsSpent (slice_get nodes index) (called self.old call.now)) }
+        ensures fault { IfErr result (λ fault. (nodes : List StateNode) → IsFleet nodes self.old.fleet
+            → CallFails fault (slice_get nodes index) (called self.old call.now)) }
         ensures kept { self.new ≡ record self.old { fleet = record self.old.fleet { nodes = self.new.fleet.nodes } } }
     {
         let datagram = datagram_of(&self.sent, call);

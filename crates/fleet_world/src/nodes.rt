@@ -4,18 +4,20 @@ ghost use Rattle.mav_nodes.specs.Steps.{Side};
 ghost use Rattle.mav_nodes.specs.Nodes.{order_refusal, station_obeys};
 ghost use Rattle.plan_upload.specs.Station.{StationState};
 ghost use Rattle.fleet_world.specs.WorldState.{Node as StateNode, Station as StateStation};
+ghost use Rattle.fleet_world.specs.StoredDrones.{FailsBy};
 ghost use Rattle.fleet_world.specs.WorldView.{IsNode};
 ghost use Rattle.fleet_world.specs.Steps.{as_station};
 ghost use Rattle.fleet_world.specs.NodeSteps.{node_called};
 ghost use Rattle.fleet_world.specs.Promises.{NodeOutcome, Refuses};
 
 use crate::calls::Call;
-use mav_nodes::{DroneNode, News, NodeFault, Order, OrderFault, StationNode};
+use crate::stored_drone::StoredDrone;
+use mav_nodes::{News, NodeFault, Order, OrderFault, StationNode};
 use std::alloc::Global;
 
 #[derive(Drop)]
 pub enum Node {
-    Drone(DroneNode),
+    Drone(StoredDrone),
     Station(StationNode),
 }
 
@@ -29,16 +31,16 @@ impl Node {
     ) -> Result<Vec<News>, NodeFault>
         ensures done { IfOk result (λ news. (node : StateNode) → IsNode node self.old
             → NodeOutcome (node_called call.now datagram.now clock node) self.new news.items) }
-        ensures spent { IfErr result (λ fault. (node : StateNode) → IsNode node self.old
-            → fault ≡ NodeFault.StampsSpent → node_called call.now datagram.now clock node ≡ None) }
+        ensures fault { IfErr result (λ fault. (node : StateNode) → IsNode node self.old
+            → FailsBy fault (node_called call.now datagram.now clock node)) }
     {
         match (self, call) {
-            (Node::Drone(drone), Call::Take(_) | Call::Noise(_)) => drone.receive(datagram, clock),
+            (Node::Drone(drone), Call::Take(_)) => drone.receive(datagram, clock),
+            (Node::Drone(drone), Call::Noise(_)) => drone.receive(datagram, clock),
             (Node::Drone(drone), Call::Heartbeat) => drone.heartbeat(clock),
             (Node::Drone(drone), Call::Tick) => drone.tick(clock),
-            (Node::Station(station), Call::Take(_) | Call::Noise(_)) => {
-                station.receive(datagram, clock)
-            }
+            (Node::Station(station), Call::Take(_)) => station.receive(datagram, clock),
+            (Node::Station(station), Call::Noise(_)) => station.receive(datagram, clock),
             (Node::Station(station), Call::Heartbeat) => station.heartbeat(clock),
             (Node::Station(station), Call::Tick) => station.tick(clock),
         }

@@ -86,6 +86,20 @@ impl From<AllocError> for StartFault {
     }
 }
 
+impl<T> From<AllocFailed<T>> for StartFault
+where
+    T: Drop,
+{
+    ghost use Rattle.std.specs.Prelude.{◌≡◌};
+    ghost use Rattle.mav_nodes.specs.declared.faults.StartFault.TheVariants.{NoMemory};
+
+    ghost from_gives = { λ _ fault. fault ≡ NoMemory };
+
+    fn from(_refused: AllocFailed<T>) -> StartFault {
+        StartFault::NoMemory
+    }
+}
+
 impl From<KeepFault> for StartFault {
     ghost use Rattle.std.specs.Prelude.{◌≡◌};
     ghost use Rattle.mav_nodes.specs.Starts.{start_fault_of};

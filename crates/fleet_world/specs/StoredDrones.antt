@@ -1,0 +1,27 @@
+-- Drones of a scenario: each keeps its plans in a store in memory that never fails.
+use Rattle.std.specs.Prelude.{ℕ, ◌≡◌, List, [], Some, None}
+use Rattle.plan_upload.specs.Drone.{DroneState}
+use Rattle.plan_store.specs.MemStores.{MemStore}
+use Rattle.mav_nodes.specs.declared.faults.NodeFault.{NodeFault}
+use Rattle.mav_nodes.specs.declared.faults.NodeFault.TheVariants.{StampsSpent, Store, NoMemory}
+use Rattle.mav_nodes.specs.Links.{Outcome}
+use Rattle.mav_nodes.specs.Steps.{Side}
+use Rattle.mav_nodes.specs.Nodes.{DroneView, IsDrone}
+use Rattle.mav_nodes.specs.Images.{StoreHolds}
+
+-- what contracts see of a drone and its store
+pub record StoredView : Type 0 where
+  pub node : DroneView
+  pub store : MemStore
+
+-- it is this drone, the store has what the drone has stored, and no call of it fails
+pub record IsStoredDrone (node : Side DroneState) (view : StoredView) : Type 0 where
+  pub drone : IsDrone node view.node
+  pub holds : StoreHolds (Some view.store.contents) view.node
+  pub infallible : view.store.fails ≡ []
+
+-- a call of a node of a scenario fails: it has no timestamp left, or there is no memory
+abbrev pub FailsBy : {A : Type 0} → NodeFault → Outcome A → Type 0
+FailsBy StampsSpent outcome = outcome ≡ None
+FailsBy Store outcome = ⊥
+FailsBy NoMemory outcome = Unit {0}

@@ -1,0 +1,84 @@
+// A drone of a scenario, over a store in memory that never fails.
+ghost use Rattle.std.specs.Prelude.{◌≡◌, [], IfOk, IfErr};
+ghost use Rattle.plan_upload.specs.Drone.{DroneState};
+ghost use Rattle.mav_nodes.specs.Steps.{Side};
+ghost use Rattle.mav_nodes.specs.Nodes.{new_drone, drone_receives, drone_ticks, drone_beats};
+ghost use Rattle.mav_nodes.specs.Promises.{Did};
+ghost use Rattle.fleet_world.specs.StoredDrones.{IsStoredDrone, FailsBy};
+
+use mav_nodes::{DroneNode, News, NodeFault, StartFault};
+use mav_sign::Key;
+use plan_store::MemKeeper;
+use plan_upload::Drone;
+use std::alloc::Global;
+use std::marker::Model;
+
+/// A drone's node and the store that it was started with. Contracts see both.
+#[derive(Drop)]
+pub struct StoredDrone {
+    node: DroneNode,
+    store: MemKeeper,
+}
+
+impl Model for StoredDrone {
+    ghost use Rattle.fleet_world.specs.StoredDrones.{StoredView};
+
+    ghost Value = { StoredView };
+
+    ghost view = { λ d. record { node = d.node; store = d.store } };
+}
+
+impl StoredDrone {
+    /// A drone of this system, at x and y in units of 1e-7 degrees, over an empty store.
+    pub(crate) fn start(
+        alloc: Global,
+        key: Key,
+        sys: u8,
+        x: i32,
+        y: i32,
+    ) -> Result<StoredDrone, StartFault>
+        ensures started { IfOk result (λ drone. IsStoredDrone (new_drone key sys) drone) }
+        ensures fault { IfErr result (λ fault. fault ≡ StartFault.NoMemory) }
+    {
+        let mut store = MemKeeper::new(alloc, Vec::new(alloc), Vec::new(alloc));
+        let node = DroneNode::start(alloc, key, sys, x, y, &mut store)?;
+        Ok(StoredDrone { node, store })
+    }
+
+    /// The drone's plans.
+    pub(crate) fn plans(&self) -> &Drone
+        ensures { result.now ≡ self.now.node.drone }
+    {
+        self.node.plans()
+    }
+
+    /// Takes a datagram.
+    pub(crate) fn receive(&mut self, datagram: &[u8], clock: u64) -> Result<Vec<News>, NodeFault>
+        ensures done { IfOk result (λ news. (node : Side DroneState) → IsStoredDrone node self.old
+            → Did (drone_receives clock datagram.now node) (λ n. IsStoredDrone n self.new) [] news.items) }
+        ensures fault { IfErr result (λ fault. (node : Side DroneState) → IsStoredDrone node self.old
+            → FailsBy fault (drone_receives clock datagram.now node)) }
+    {
+        self.node.receive(datagram, clock, &mut self.store)
+    }
+
+    /// One tick.
+    pub(crate) fn tick(&mut self, clock: u64) -> Result<Vec<News>, NodeFault>
+        ensures done { IfOk result (λ news. (node : Side DroneState) → IsStoredDrone node self.old
+            → Did (drone_ticks clock node) (λ n. IsStoredDrone n self.new) [] news.items) }
+        ensures fault { IfErr result (λ fault. (node : Side DroneState) → IsStoredDrone node self.old
+            → FailsBy fault (drone_ticks clock node)) }
+    {
+        self.node.tick(clock, &mut self.store)
+    }
+
+    /// Sends HEARTBEAT.
+    pub(crate) fn heartbeat(&mut self, clock: u64) -> Result<Vec<News>, NodeFault>
+        ensures done { IfOk result (λ news. (node : Side DroneState) → IsStoredDrone node self.old
+            → Did (drone_beats clock node) (λ n. IsStoredDrone n self.new) [] news.items) }
+        ensures fault { IfErr result (λ fault. (node : Side DroneState) → IsStoredDrone node self.old
+            → FailsBy fault (drone_beats clock node)) }
+    {
+        self.node.heartbeat(clock, &mut self.store)
+    }
+}
