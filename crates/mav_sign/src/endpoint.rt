@@ -267,7 +267,8 @@ impl Endpoint {
     }
 
     /// Makes the frame that carries a message: with the next sequence number and timestamp, signed. The clock counts
-    /// units of 10 microseconds since 1 January 2015. If no timestamp is left nothing has changed.
+    /// units of 10 microseconds since 1 January 2015, and the timestamp is the one that `ahead` returns at it. If none is
+    /// left nothing has changed.
     pub fn send(&mut self, message: &Message, clock: u64) -> Result<Frame, StampsSpent>
         ensures frame { IfOk result
             (SentFrame self.old.key self.old.me self.old.extras self.old.seq (kept_next self.old.stamps clock) message.now) }
