@@ -12,7 +12,7 @@ use Rattle.plan_items.specs.declared.items.Item.{Item}
 use Rattle.fleet_report.specs.Reports.{ReportState}
 use Rattle.fleet_world.specs.WorldState.{WorldState, empty_state, context_of}
 use Rattle.fleet_world.specs.WorldView.{WorldView, IsState, context_in}
-use Rattle.mav_nodes.specs.declared.faults.NodeFault.TheVariants.{StampsSpent as NoTimestamp, NoMemory as NoNodeMemory}
+use Rattle.mav_nodes.specs.declared.faults.NodeFault.TheVariants.{StampsSpent as NoTimestamp, Store as NodeStore, NoMemory as NoNodeMemory}
 use Rattle.fleet_world.specs.declared.faults.WorldFault.{WorldFault}
 use Rattle.fleet_world.specs.declared.faults.WorldFault.TheVariants.{Limit, Node, NoMemory as NoWorldMemory}
 use Rattle.fleet_world.specs.Promises.{IsStep, IsStepError}
@@ -111,6 +111,7 @@ module _ (key : List ℕ) (frames : Bool) where
   line_fails p world number text line (Node NoTimestamp) run_end before now holds good said at is =
       subst (λ h. HaltedAt frames h (this p number text) (report_of frames (this p number text)) before now) (sym is)
       (line_halts p world number text line Stamps_spent before now holds good said (at p.state (own p.state frames world holds.here)))
+  line_fails p world number text line (Node NodeStore) run_end before now holds good said at is = absurd (at p.state (own p.state frames world holds.here))
   line_fails p world number text line (Node NoNodeMemory) run_end before now holds good said at is =
       subst (λ h. HaltedAt frames h (this p number text) (report_of frames (this p number text)) before now) (sym is)
       (line_no_memory p world number text before now holds)

@@ -10,7 +10,7 @@ use Rattle.fleet_world.specs.Scenario.{most_lines, whole_report, Played, Bad, To
 use Rattle.run_status.specs.declared.run_ends.RunEnd.{RunEnd}
 use Rattle.run_status.specs.declared.run_ends.RunEnd.TheVariants.{Usage, Stopped, ReadFault, WriteFault, NoMemory, TurnsSpent}
 use Rattle.run_status.specs.declared.input_errors.InputError.{InputError}
-use Rattle.mav_nodes.specs.declared.faults.NodeFault.TheVariants.{StampsSpent as NoTimestamp, NoMemory as NoNodeMemory}
+use Rattle.mav_nodes.specs.declared.faults.NodeFault.TheVariants.{StampsSpent as NoTimestamp, Store as NodeStore, NoMemory as NoNodeMemory}
 use Rattle.fleet_world.specs.declared.faults.WorldFault.{WorldFault}
 use Rattle.fleet_world.specs.declared.faults.WorldFault.TheVariants.{Limit, Node, NoMemory as NoWorldMemory}
 use Rattle.fleet_world.specs.Steps.{At_limit, Stamps_spent}
@@ -71,5 +71,6 @@ Finished frames q before now = (q.stop ≡ None) × (now ≡ append_known before
 abbrev pub FailsAs : WorldFault → RunEnd → Type 0
 FailsAs (Limit limit) run_end = run_end ≡ Stopped (reported_step_error (At_limit limit))
 FailsAs (Node NoTimestamp) run_end = run_end ≡ Stopped (reported_step_error Stamps_spent)
+FailsAs (Node NodeStore) run_end = run_end ≡ NoMemory  -- the stores of a scenario never fail
 FailsAs (Node NoNodeMemory) run_end = run_end ≡ NoMemory
 FailsAs NoWorldMemory run_end = run_end ≡ NoMemory

@@ -250,6 +250,9 @@ fn fails(fault: WorldFault) -> RunEnd
     match fault {
         WorldFault::Limit(limit) => RunEnd::Stopped(InputError::AtLimit(reported_bound(limit))),
         WorldFault::Node(NodeFault::StampsSpent) => RunEnd::Stopped(InputError::StampsSpent),
-        WorldFault::Node(NodeFault::NoMemory) | WorldFault::NoMemory => RunEnd::NoMemory,
+        // The stores of a scenario are in memory and never fail.
+        WorldFault::Node(NodeFault::Store | NodeFault::NoMemory) | WorldFault::NoMemory => {
+            RunEnd::NoMemory
+        }
     }
 }
