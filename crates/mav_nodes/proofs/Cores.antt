@@ -18,7 +18,7 @@ use Rattle.mav_nodes.proofs.PlanPayloads.{none_carried}
 use Rattle.mav_nodes.specs.declared.news.News.{News}
 use Rattle.mav_nodes.specs.declared.link.Tried.TheVariants.{Plan, Other, Dropped}
 use Rattle.mav_nodes.specs.declared.faults.NodeFault.{NodeFault}
-use Rattle.mav_nodes.specs.declared.faults.NodeFault.TheVariants.{StampsSpent, NoMemory}
+use Rattle.mav_nodes.specs.declared.faults.NodeFault.TheVariants.{NoMemory}
 use Rattle.mav_nodes.specs.News.{NodeEvent, Drops, Shown, shown, events_of}
 use Rattle.mav_nodes.specs.Payloads.{plan_in}
 use Rattle.mav_nodes.specs.Links.{LinkView, Link, IsLink, Done, Outcome, done, behind, tries, sends}
@@ -34,10 +34,6 @@ if_ok (Err e) f h = tt
 pub if_err : {A E : Type 0} {P Q : E → Type 0} (r : Result A E) → ((e : E) → P e → Q e) → IfErr r P → IfErr r Q
 if_err (Ok a) f h = tt
 if_err (Err e) f h = f e h
-
--- want of memory is no want of timestamps
-pub not_spent : (fault : NodeFault) → fault ≡ NoMemory → fault ≡ StampsSpent → ⊥
-not_spent fault is other = cc
 
 -- how a call that only adds news fails
 pub fails_for_memory : {A B : Type 0} (fault : NodeFault) (Is : A → Type 0) (does : A → Outcome B) (failed : Type 0) → fault ≡ NoMemory → Fails fault Is does failed

@@ -1,5 +1,5 @@
 -- Steps of a node whose store may not keep what is saved.
-use Rattle.std.proofs.Common.{◌≡◌, ℕ, Bool, true, false, List, [], ◌∷◌, ◌++◌, Some, None, inl, inr, refl, ap, ◌∙◌, subst}
+use Rattle.std.proofs.Common.{◌≡◌, ℕ, Bool, true, List, [], ◌∷◌, ◌++◌, Some, None, inl, inr, refl, ap, ◌∙◌, subst}
 use Rattle.std.specs.Prelude.{All}
 use Rattle.std.proofs.lemmas.List.Elements.{All-nil, All-push, All-head, All-tail}
 use Rattle.mav_names.specs.declared.names.Stream.{Stream}
@@ -17,10 +17,6 @@ use Rattle.mav_nodes.specs.Promises.{Fails, SpentKeeping, FailsKeeping}
 use Rattle.mav_nodes.proofs.Cores.{steps_none}
 
 -- a store keeps what is saved, or a call of it has failed
-pub kept_or : (kept : Bool) (failed : Type 0) → (kept ≡ false → failed) → IsKept kept failed
-kept_or true failed h = inl refl
-kept_or false failed h = inr (h refl)
-
 pub kept_so : {F G : Type 0} (kept : Bool) → (F → G) → IsKept kept F → IsKept kept G
 kept_so kept f (inl h) = inl h
 kept_so kept f (inr h) = inr (f h)

@@ -1,7 +1,7 @@
 mod PlanPayloads
 mod Tables
 mod Cores
-mod Lows
+mod StoreCalls
 mod Changes
 mod Ends
 mod Starting

@@ -1,12 +1,7 @@
 -- A node over any core: what the code of a core returns of its step, and what the calls of such a node promise.
-use Rattle.std.specs.Prelude.{ℕ, ◌≡◌, ◌==◌, ◌++◌, Bool, true, false, List, [], ◌∷◌, map, Option, Some, None}
+use Rattle.std.specs.Prelude.{ℕ, ◌≡◌, ◌++◌, List, [], ◌∷◌, map, Option, Some, None}
 use Rattle.plan_items.specs.declared.kinds.PlanKind.TheVariants.{Mission, Fence, Rally}
 use Rattle.plan_items.specs.declared.messages.PlanMsg.{PlanMsg}
-use Rattle.plan_items.specs.declared.messages.PlanMsg.TheVariants.{Item, Ack, Clear}
-use Rattle.plan_items.specs.Kinds.{kind_of}
-use Rattle.plan_upload.specs.declared.changes.Change.{Change}
-use Rattle.plan_upload.specs.declared.changes.Change.TheVariants.{Same as Unchanged, Empty}
-use Rattle.plan_upload.specs.Changes.{install_of}
 use Rattle.plan_upload.specs.declared.outcomes.Outcome.{Outcome as Ended}
 use Rattle.plan_upload.specs.Outcomes.{told_of}
 use Rattle.mav_nodes.specs.declared.news.News.{News}
@@ -58,14 +53,3 @@ pub record NodeDidKeeping {I Core : Type 0} (does : I → Outcome (Side Core)) (
   pub keeps : I
   pub is_kept : kept keeps
   pub did : NodeDid (does keeps) end view [] news
-
--- a reply says that what was asked is done: MISSION_ACK with ACCEPTED
-abbrev pub accepts : Option PlanMsg → Bool
-accepts (Some (Ack to code kind)) = code == 0
-accepts answer = false
-
--- what an item or a clear that was accepted did to the plans; no other message changes them
-abbrev pub change_told : PlanMsg → Bool → Change
-change_told (Item to seq kind item) true = install_of (kind_of kind)
-change_told (Clear to kind) true = Empty (kind_of kind)
-change_told message accepted = Unchanged

@@ -8,7 +8,7 @@ use Rattle.mav_nodes.specs.Steps.{Side, steps, hears}
 use Rattle.mav_nodes.specs.Cores.{IsNode, NodeDid}
 use Rattle.mav_nodes.specs.Promises.{IsTried}
 use Rattle.mav_nodes.proofs.Cores.{if_ok, if_err, hears_plan, hears_other, hears_dropped}
-use Rattle.mav_nodes.proofs.Lows.{then_failed}
+use Rattle.mav_nodes.proofs.StoreCalls.{then_failed}
 use Rattle.mav_nodes.proofs.Keeping.{frame_fails}
 use Rattle.mav_nodes.proofs.node.hear.Goals as goal
 

@@ -6,7 +6,7 @@ use Rattle.mav_nodes.specs.Stores.{IsKept, HasFailed}
 use Rattle.mav_nodes.specs.Steps.{Side, hears, receives_keeping}
 use Rattle.mav_nodes.specs.Cores.{IsNode}
 use Rattle.mav_nodes.specs.Promises.{FailsKeeping}
-use Rattle.mav_nodes.proofs.Lows.{serves_same, serves_both, failed_then, then_failed}
+use Rattle.mav_nodes.proofs.StoreCalls.{serves_same, serves_both, failed_then, then_failed}
 use Rattle.mav_nodes.proofs.Keeping.{kept_so, receive_fails}
 use Rattle.mav_nodes.proofs.Leads.{leads_at_first, leads_past, leads_on, leads_to_none, leads_whole, event_here, part_bytes, part_length}
 use Rattle.mav_nodes.proofs.node.receive.Goals.{in-Frame+in_ok-hear-in-Frame, in-Skipped}

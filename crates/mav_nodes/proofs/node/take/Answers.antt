@@ -6,7 +6,7 @@ use Rattle.mav_nodes.specs.Stores.{HasFailed}
 use Rattle.mav_nodes.specs.Cores.{IsStep, says}
 use Rattle.mav_nodes.specs.Promises.{Fails}
 use Rattle.mav_nodes.proofs.Cores.{stepped}
-use Rattle.mav_nodes.proofs.Lows.{failed_then, then_failed}
+use Rattle.mav_nodes.proofs.StoreCalls.{failed_then, then_failed}
 use Rattle.mav_nodes.proofs.Keeping.{kept_so, step_fails}
 use Rattle.mav_nodes.proofs.node.take.Goals as goal
 
