@@ -1,5 +1,5 @@
 -- Drones of a scenario: each keeps its plans in a store in memory that never fails.
-use Rattle.std.specs.Prelude.{ℕ, ◌≡◌, List, [], Some, None}
+use Rattle.std.specs.Prelude.{◌≡◌, [], Some, None}
 use Rattle.plan_upload.specs.Drone.{DroneState}
 use Rattle.plan_store.specs.MemStores.{MemStore}
 use Rattle.mav_nodes.specs.declared.faults.NodeFault.{NodeFault}
