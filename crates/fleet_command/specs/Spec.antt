@@ -3,14 +3,14 @@ use Rattle.std.specs.Prelude.{ℕ, Bool, true, List, option_map}
 use Rattle.scenario_lines.specs.declared.faults.Reason.{Reason}
 use Rattle.scenario_lines.specs.declared.faults.Reason.TheVariants.{Long, Word, Later, Count, Number, Node, Kind, Hex, Twice, Range, Draft, Clock}
 use Rattle.fleet_world.specs.declared.faults.Bound.{Bound}
-use Rattle.fleet_world.specs.declared.faults.Bound.TheVariants.{Frames as MostFrames, Drones as MostDrones, Stations as MostStations}
+use Rattle.fleet_world.specs.declared.faults.Bound.TheVariants.{Frames as MostFrames, Drones as MostDrones, Stations as MostStations, Restarts as MostRestarts}
 use Rattle.fleet_world.specs.Steps.{StepError, At_limit, Stamps_spent, closing_text}
 use Rattle.fleet_world.specs.Scenario.{ScenarioError, Bad as BadLine, Too_many_lines, Not_done, played, report_of}
 use Rattle.run_status.specs.declared.input_errors.Place.TheVariants.{Line}
 use Rattle.run_status.specs.declared.input_errors.Reason.{Reason as StatusReason}
 use Rattle.run_status.specs.declared.input_errors.Reason.TheVariants.{Long as IsLong, Word as IsWord, Later as IsLater, Count as IsCount, Number as IsNumber, Node as IsNode, Kind as IsKind, Hex as IsHex, Twice as IsTwice, Range as IsRange, Draft as IsDraft, Clock as IsClock}
 use Rattle.run_status.specs.declared.input_errors.Bound.{Bound as StatusBound}
-use Rattle.run_status.specs.declared.input_errors.Bound.TheVariants.{Lines, Frames, Drones, Stations}
+use Rattle.run_status.specs.declared.input_errors.Bound.TheVariants.{Lines, Frames, Drones, Stations, Restarts}
 use Rattle.run_status.specs.declared.input_errors.InputError.{InputError}
 use Rattle.run_status.specs.declared.input_errors.InputError.TheVariants.{Bad, AtLimit, StampsSpent}
 use Rattle.run_status.specs.Runs.{CommandSpec}
@@ -35,6 +35,7 @@ abbrev pub reported_bound : Bound → StatusBound
 reported_bound MostFrames = Frames
 reported_bound MostDrones = Drones
 reported_bound MostStations = Stations
+reported_bound MostRestarts = Restarts
 
 -- why a line isn't done
 abbrev pub reported_step_error : StepError → InputError

@@ -233,6 +233,7 @@ fn reported_bound(limit: Bound) -> StatusBound
         Bound::Frames => StatusBound::Frames,
         Bound::Drones => StatusBound::Drones,
         Bound::Stations => StatusBound::Stations,
+        Bound::Restarts => StatusBound::Restarts,
     }
 }
 

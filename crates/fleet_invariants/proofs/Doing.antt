@@ -1,5 +1,5 @@
 -- What a node does at a datagram, a tick, a heartbeat and an order.
-use Rattle.std.proofs.Common.{false, ◌≡◌, ℕ, ◌<◌, List, [], slice_get, Option, Some, None, IfSome, refl, sym, subst}
+use Rattle.std.proofs.Common.{false, ◌≡◌, ℕ, ◌<◌, List, [], slice_get, Option, Some, None, IfSome, refl, sym, subst, ◌∙◌}
 use Rattle.std.specs.Prelude.{All}
 use Rattle.mav_names.specs.declared.names.Name.{Name}
 use Rattle.mav_names.specs.declared.names.Stream.{Stream}
@@ -22,7 +22,8 @@ use Rattle.plan_ranges.proofs.StationRanges as stations
 use Rattle.fleet_world.specs.WorldState.{WorldState, Node, Drone, Station, stream_of}
 use Rattle.fleet_world.specs.Steps.{as_drone, as_station, node_receives, node_beats, node_ticks}
 use Rattle.fleet_invariants.specs.Kept.{Known}
-use Rattle.fleet_invariants.proofs.Roles.{drone_tick_stays, station_tick_stays, station_cancel_stays, begin_stays}
+use Rattle.fleet_world.proofs.Systems.{drone_tick_stays}
+use Rattle.fleet_invariants.proofs.Roles.{drone_tick_plans, station_tick_stays, station_cancel_stays, begin_stays}
 use Rattle.fleet_invariants.proofs.Moves.{Steady}
 use Rattle.fleet_invariants.specs.Sound.{has_heard}
 use Rattle.fleet_invariants.proofs.Rooms.{roomy_tick}
@@ -61,16 +62,18 @@ module _ (s : WorldState) (k : ℕ) (g : Steady s) where
 
     drone_ticking : NodeDoes s k (as_drone (drone_ticks s.clock n))
     drone_ticking =
+        let own = g.cores k (Drone n) found in
         let tick = drone_tick n.core in
-        let r = drones.ticks n.core (g.cores k (Drone n) found).0 in
-        a_drone (drone_ticks s.clock n) (drone_steps s k n g found (drone_waits tick) tt tt r.drone (drone_tick_stays n.core) (roomy_tick (has_heard n.link) n.core (g.cores k (Drone n) found).3) (ticks_say tick.answer r.answer))
+        let r = drones.ticks n.core own.range in
+        a_drone (drone_ticks s.clock n) (drone_steps s k n g found (drone_waits tick) tt tt r.drone (drone_tick_stays n.core) (roomy_tick (has_heard n.link) n.core own.roomy) (λ none. drone_tick_plans n.core ∙ own.unstored none) (ticks_say tick.answer r.answer))
 
     drone_beating : NodeDoes s k (as_drone (drone_beats s.clock n))
     drone_beating =
+        let own = g.cores k (Drone n) found in
         let step : CoreStep DroneState = record { core = n.core; first = []; answer = None; last = [] } in
         let said = sends s.clock drone_heartbeat n.link in
         a_drone (drone_beats s.clock n) (subst (λ (o : Outcome (Side DroneState)). NodeDoes s k (as_node Drone o)) (behind_none (with_core n.core [] said))
-        (drone_done s k n g found step tt tt (g.cores k (Drone n) found).0 refl (g.cores k (Drone n) found).3 said (link_sends s n.link (g.links k (Drone n) found) drone_heartbeat heartbeats_fit.drone)))
+        (drone_done s k n g found step tt tt own.range refl own.roomy own.unstored said (link_sends s n.link (g.links k (Drone n) found) drone_heartbeat heartbeats_fit.drone)))
 
   -- ---- a station
   module _ (n : Side StationState) (found : slice_get s.nodes k ≡ Some (Station n)) where
@@ -83,7 +86,7 @@ module _ (s : WorldState) (k : ℕ) (g : Steady s) where
 
     station_ticking : NodeDoes s k (as_station (station_ticks s.clock n))
     station_ticking =
-        a_station (station_ticks s.clock n) (station_goes s k n g found (station_tick n.core) (stations.ticks n.core (g.cores k (Station n) found).0) (station_tick_stays n.core))
+        a_station (station_ticks s.clock n) (station_goes s k n g found (station_tick n.core) (stations.ticks n.core (g.cores k (Station n) found).range) (station_tick_stays n.core))
 
     station_beating : NodeDoes s k (as_station (station_beats s.clock n))
     station_beating =
@@ -91,23 +94,23 @@ module _ (s : WorldState) (k : ℕ) (g : Steady s) where
         let step : CoreStep StationState = record { core = n.core; first = []; answer = None; last = [] } in
         let said = sends s.clock station_heartbeat n.link in
         a_station (station_beats s.clock n) (subst (λ (o : Outcome (Side StationState)). NodeDoes s k (as_node Station o)) (behind_none (with_core n.core [] said))
-        (station_done s k n g found step tt tt own.0 refl own.2 said (link_sends s n.link (g.links k (Station n) found) station_heartbeat heartbeats_fit.station)))
+        (station_done s k n g found step tt tt own.range refl own.told said (link_sends s n.link (g.links k (Station n) found) station_heartbeat heartbeats_fit.station)))
 
     pub station_cancelling : NodeDoes s k (as_station (station_cancels s.clock n))
     station_cancelling =
-        a_station (station_cancels s.clock n) (station_goes s k n g found (station_cancel n.core) (stations.cancels n.core (g.cores k (Station n) found).0) (station_cancel_stays n.core))
+        a_station (station_cancels s.clock n) (station_goes s k n g found (station_cancel n.core) (stations.cancels n.core (g.cores k (Station n) found).range) (station_cancel_stays n.core))
 
     pub station_beginning : (drone : Name) (kind : ℕ) (plan : List Item) → NameInRange drone → kind < 256 → All ItemInRange plan → upload_refusal n.core kind plan ≡ None → NodeDoes s k (as_station (station_begins s.clock (stream_of drone) kind plan n))
     station_beginning drone kind plan name small items free =
-        a_station (station_begins s.clock (stream_of drone) kind plan n) (station_goes s k n g found (begin_upload n.core (stream_of drone) kind plan) (stations.uploads n.core (stream_of drone) kind plan (g.cores k (Station n) found).0 name small items free) (begin_stays n.core (operation_of Uploads (stream_of drone) kind plan)))
+        a_station (station_begins s.clock (stream_of drone) kind plan n) (station_goes s k n g found (begin_upload n.core (stream_of drone) kind plan) (stations.uploads n.core (stream_of drone) kind plan (g.cores k (Station n) found).range name small items free) (begin_stays n.core (operation_of Uploads (stream_of drone) kind plan)))
 
     pub station_clearing : (drone : Name) (kind : ℕ) → NameInRange drone → kind < 256 → NodeDoes s k (as_station (station_clears s.clock (stream_of drone) kind n))
     station_clearing drone kind name small =
-        a_station (station_clears s.clock (stream_of drone) kind n) (station_goes s k n g found (begin_clear n.core (stream_of drone) kind) (stations.clears n.core (stream_of drone) kind (g.cores k (Station n) found).0 name small) (begin_stays n.core (operation_of Clears (stream_of drone) kind [])))
+        a_station (station_clears s.clock (stream_of drone) kind n) (station_goes s k n g found (begin_clear n.core (stream_of drone) kind) (stations.clears n.core (stream_of drone) kind (g.cores k (Station n) found).range name small) (begin_stays n.core (operation_of Clears (stream_of drone) kind [])))
 
     pub station_getting : (drone : Name) (kind : ℕ) → NameInRange drone → kind < 256 → NodeDoes s k (as_station (station_gets s.clock (stream_of drone) kind n))
     station_getting drone kind name small =
-        a_station (station_gets s.clock (stream_of drone) kind n) (station_goes s k n g found (begin_get n.core (stream_of drone) kind) (stations.gets n.core (stream_of drone) kind (g.cores k (Station n) found).0 name small) (begin_stays n.core (operation_of Gets (stream_of drone) kind [])))
+        a_station (station_gets s.clock (stream_of drone) kind n) (station_goes s k n g found (begin_get n.core (stream_of drone) kind) (stations.gets n.core (stream_of drone) kind (g.cores k (Station n) found).range name small) (begin_stays n.core (operation_of Gets (stream_of drone) kind [])))
 
   -- ---- either
   pub node_receiving : (bytes : List ℕ) → Known s bytes → (a : Node) → slice_get s.nodes k ≡ Some a → NodeDoes s k (node_receives s.clock bytes a)

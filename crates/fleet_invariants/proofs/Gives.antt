@@ -21,7 +21,7 @@ use Rattle.fleet_invariants.proofs.Calls.{sound_does}
 use Rattle.fleet_invariants.proofs.Heard.{sent_known}
 
 pub rests_so : (s : WorldState) → Sound s → StepKeeps s s
-rests_so s g = record { sound = g; kept = kept_still s s refl refl refl (omega arith); names = refl; clock = refl }
+rests_so s g = record { sound = g; kept = kept_still s s refl refl refl (omega arith) (omega arith); names = refl; clock = refl }
 
 step_on : (s t u : WorldState) → StepKeeps s t → StepKeeps t u → StepKeeps s u
 step_on s t u h k = record { sound = k.sound; kept = kept_on s t u h.kept k.kept; names = k.names ∙ h.names; clock = k.clock ∙ h.clock }

@@ -1,5 +1,5 @@
 -- What holds of a state goes on to hold if what was named and sent stays.
-use Rattle.std.proofs.Common.{◌≡◌, ℕ, ◌+◌, ◌≤◌, List, length, slice_get, Some, refl, sym, ap, subst, arith, ◌∙◌}
+use Rattle.std.proofs.Common.{◌≡◌, ℕ, ◌+◌, ◌*◌, ◌≤◌, List, length, slice_get, Some, refl, sym, ap, subst, arith, ◌∙◌}
 use Rattle.mav_names.specs.declared.names.Name.{Name}
 use Rattle.mav_names.specs.declared.names.Stream.{Stream}
 use Rattle.mav_profile.specs.Messages.{extras_of}
@@ -28,14 +28,15 @@ pub kept_follows : (s t : WorldState) (i : ℕ) (a : Node) → t.nodes ≡ s.nod
 kept_follows s t i a same e = record { node = a; found = ap (λ (ns : List Node). slice_get ns i) same ∙ e; named_is = refl; me = refl; previous = omega arith }
 
 -- if nothing but the rest changed
-pub kept_still : (s t : WorldState) → t.key ≡ s.key → t.nodes ≡ s.nodes → t.sent ≡ s.sent → s.clock ≤ t.clock → Kept s t
-kept_still s t key nodes sent clock = record {
+pub kept_still : (s t : WorldState) → t.key ≡ s.key → t.nodes ≡ s.nodes → t.sent ≡ s.sent → s.clock ≤ t.clock → s.restarts ≤ t.restarts → Kept s t
+kept_still s t key nodes sent clock restarts = record {
   key = key;
   nodes = λ i a e. kept_follows s t i a nodes e;
   many = subst (λ (ns : List Node). length s.nodes ≤ length ns) (sym nodes) (omega arith);
   sent = λ i p e. ap (λ (ps : List Packet). slice_get ps i) sent ∙ e;
   frames = subst (λ (ps : List Packet). length s.sent ≤ length ps) (sym sent) (omega arith);
   clock = clock;
+  restarts = restarts;
 }
 
 pub follows_on : (nodes : List Node) (i : ℕ) (a : Node) (before : List Node) (f : Follows before i a) → Follows nodes i f.node → Follows nodes i a
@@ -55,6 +56,7 @@ kept_on s t u h k = record {
   sent = λ i p e. k.sent i p (h.sent i p e);
   frames = at_most_on _ _ _ h.frames k.frames;
   clock = at_most_on _ _ _ h.clock k.clock;
+  restarts = at_most_on _ _ _ h.restarts k.restarts;
 }
 
 -- ---- what was sent
@@ -101,8 +103,8 @@ stamped_kept s t k stream stamp w =
       stamp_is = r.stamp_is ∙ w.stamp_is;
     }
 
-more_room : (a b c d local : ℕ) → local ≤ a + b → a ≤ c → b ≤ d → local ≤ c + d
-more_room a b c d local h i j = omega arith
+more_room : (a b r c d q local : ℕ) → local ≤ a + (b + 5001 * r) → a ≤ c → b ≤ d → r ≤ q → local ≤ c + (d + 5001 * q)
+more_room a b r c d q local h i j k = omega arith
 
 pub link_kept : (s t : WorldState) → Kept s t → (link : Link) → SoundLink s link → SoundLink t link
 link_kept s t k link h = record {
@@ -110,9 +112,10 @@ link_kept s t k link h = record {
   extras = h.extras;
   me = h.me;
   seq = h.seq;
-  local = more_room _ _ _ _ _ h.local k.clock k.frames;
+  local = more_room _ _ _ _ _ _ _ h.local k.clock k.frames k.restarts;
   previous = h.previous;
   lasts = λ stream stamp e. stamped_kept s t k stream stamp (h.lasts stream stamp e);
   streams = at_most_on _ _ _ h.streams k.many;
-  low = h.low;
+  within = h.within;
+  near = h.near;
 }

@@ -1,5 +1,5 @@
 -- What a node does at frames that it hears, at ticks and at orders.
-use Rattle.std.proofs.Common.{◌≡◌, ℕ, suc, List, [], ◌∷◌, ◌++◌, slice_get, Option, Some, None, true, IfSome, refl, sym, ap, subst, arith, ◌∙◌}
+use Rattle.std.proofs.Common.{◌≡◌, ◌≢◌, ℕ, suc, ◌≤◌, List, [], ◌∷◌, ◌++◌, slice_get, Option, Some, None, true, IfSome, refl, sym, ap, subst, ◌∙◌}
 use Rattle.std.specs.Prelude.{is_some}
 use Rattle.mav_names.specs.declared.names.Stream.{Stream}
 use Rattle.plan_items.specs.declared.messages.PlanMsg.{PlanMsg}
@@ -15,6 +15,7 @@ use Rattle.mav_sign.specs.declared.admission.Admit.{Admit}
 use Rattle.mav_sign.specs.declared.admission.Admit.TheVariants.{Admitted, Unsigned, BadSignature, BelowFloor, NotLater, TooOld, TooManyStreams}
 use Rattle.mav_sign.specs.History.{tried, last_of, answer_to, stream_of}
 use Rattle.mav_sign.specs.Signing.{Verifies}
+use Rattle.mav_nodes.specs.LowBounds.{stored_low}
 use Rattle.mav_nodes.specs.News.{Drops}
 use Rattle.mav_nodes.specs.Links.{Done, Outcome, behind, and_then, tries}
 use Rattle.mav_nodes.specs.Steps.{Side, steps, takes, admits, hears, hears_all}
@@ -29,12 +30,15 @@ use Rattle.fleet_world.specs.WorldState.{WorldState, Node, Drone, Station, node_
 use Rattle.fleet_world.specs.Steps.{packets_in}
 use Rattle.fleet_invariants.specs.Sound.{link_of, has_heard, IsSent}
 use Rattle.fleet_invariants.specs.Kept.{IsAmong}
-use Rattle.fleet_invariants.proofs.Lists.{nowhere, more_there}
-use Rattle.fleet_invariants.proofs.Roles.{drone_stays, station_stays}
+use Rattle.fleet_invariants.proofs.Lists.{more_there}
+use Rattle.fleet_invariants.proofs.LowBounds.{raised_some}
+use Rattle.fleet_invariants.proofs.Histories.{admitting_stores}
+use Rattle.fleet_world.proofs.Systems.{drone_stays}
+use Rattle.fleet_invariants.proofs.Roles.{station_stays}
 use Rattle.fleet_invariants.proofs.Messages.{carried_in_range}
 use Rattle.fleet_invariants.proofs.Moves.{Steady}
 use Rattle.fleet_invariants.proofs.Rooms.{roomy_step, heard_it}
-use Rattle.fleet_invariants.proofs.Links.{admitted_verifies}
+use Rattle.fleet_invariants.proofs.Links.{admitted_verifies, block_is, link_stays}
 use Rattle.fleet_invariants.proofs.Nodes.{Silent, advanced, NodeGoes, NodeDoes, node_goes, goes_on, as_node, drone_steps, drone_tries, station_steps, station_tries}
 
 -- ---- what comes in
@@ -90,16 +94,27 @@ module _ (s : WorldState) (k : ℕ) (packet : Packet) (g : Steady s) (known : Ve
     abbrev drone_tried : Side DroneState
     drone_tried = record n { link = tries packet n.link }
 
-    drone_takes : (q : IsSent s packet) (from : Stream) → StreamInRange from → has_heard drone_tried.link from ≡ true → (m : Option PlanMsg) → IfSome m InRange → NodeDoes s k (as_node Drone (takes drone_core s.clock drone_tried from m))
+    -- an admitted frame's stream has been heard, and something is stored
+    abbrev Knows : Stream → Type 0
+    Knows from = (has_heard drone_tried.link from ≡ true) × (stored_low drone_tried.link.history ≢ None)
+
+    knows : answer_to n.link.key n.link.history packet ≡ Admitted → IsAmong s.sent packet → (b : SignatureBlock) → packet.block ≡ Some b → Knows (stream_of packet b)
+    knows is at b signed =
+        let q = g.sent at.index packet at.found in
+        let some : 1 ≤ b.stamp = subst (λ stamp. 1 ≤ stamp) (sym (block_is s packet q b signed).stamp_is) q.some in
+        subst (λ (answer : Admit). (is_some (last_of (stream_of packet b) (n.link.history ++ tried packet answer ∷ [])) ≡ true) × (stored_low (n.link.history ++ tried packet answer ∷ []) ≢ None)) (sym is)
+        (heard_it n.link.history packet b signed, λ none. raised_some (stored_low n.link.history) b.stamp some (sym (admitting_stores n.link.history packet b signed) ∙ none))
+
+    drone_takes : (q : IsSent s packet) (from : Stream) → StreamInRange from → Knows from → (m : Option PlanMsg) → IfSome m InRange → NodeDoes s k (as_node Drone (takes drone_core s.clock drone_tried from m))
     drone_takes q from fits heard None range = drone_tries s k n g found packet known
     drone_takes q from fits heard (Some m) range =
         let first = drone_tries s k n g found packet known in
         let step = drone_step true n.core from m in
-        let r = drones.steps true from fits n.core m (g.cores k (Drone n) found).0 range in
+        let r = drones.steps true from fits n.core m (g.cores k (Drone n) found).range range in
         after_first (Drone drone_tried) _ first
-        (drone_steps (advanced s k (Drone drone_tried) []) k drone_tried first.steady first.there (drone_core n.core from m) (changes_silent from step.drone.plans (change_by step.event)) tt r.drone (drone_stays true from n.core m) (roomy_step (has_heard drone_tried.link) from heard n.core (first.steady.cores k (Drone drone_tried) first.there).3 m) r.answer)
+        (drone_steps (advanced s k (Drone drone_tried) []) k drone_tried first.steady first.there (drone_core n.core from m) (changes_silent from step.drone.plans (change_by step.event)) tt r.drone (drone_stays true from n.core m) (roomy_step (has_heard drone_tried.link) from heard.0 n.core (first.steady.cores k (Drone drone_tried) first.there).roomy m) (λ none. absurd (heard.1 none)) r.answer)
 
-    drone_admits : (answer : Admit) (block : Option SignatureBlock) → (answer ≡ Admitted → IsAmong s.sent packet) → (answer ≡ Admitted → (b : SignatureBlock) → block ≡ Some b → has_heard drone_tried.link (stream_of packet b) ≡ true) → NodeDoes s k (as_node Drone (admits drone_core s.clock drone_tried packet answer block))
+    drone_admits : (answer : Admit) (block : Option SignatureBlock) → (answer ≡ Admitted → IsAmong s.sent packet) → (answer ≡ Admitted → (b : SignatureBlock) → block ≡ Some b → Knows (stream_of packet b)) → NodeDoes s k (as_node Drone (admits drone_core s.clock drone_tried packet answer block))
     drone_admits Admitted None sent heard = dropped (Drone drone_tried) Admitted (drone_tries s k n g found packet known)
     drone_admits Admitted (Some block) sent heard =
         let at = sent refl in
@@ -116,9 +131,8 @@ module _ (s : WorldState) (k : ℕ) (packet : Packet) (g : Steady s) (known : Ve
     pub drone_hears : NodeDoes s k (as_node Drone (hears drone_core s.clock packet n))
     drone_hears =
         let l = g.links k (Drone n) found in
-        drone_admits (answer_to n.link.key n.link.history packet) packet.block
-        (λ is. known (subst (λ key. Verifies key packet packet.block) l.key (admitted_verifies n.link.key n.link.history packet is)))
-        (λ is b signed. subst (λ (answer : Admit). is_some (last_of (stream_of packet b) (n.link.history ++ tried packet answer ∷ [])) ≡ true) (sym is) (heard_it n.link.history packet b signed))
+        let sent : answer_to n.link.key n.link.history packet ≡ Admitted → IsAmong s.sent packet = λ is. known (subst (λ key. Verifies key packet packet.block) l.key (admitted_verifies n.link.key n.link.history packet is)) in
+        drone_admits (answer_to n.link.key n.link.history packet) packet.block sent (λ is. knows is (sent is))
 
   module _ (n : Side StationState) (found : slice_get s.nodes k ≡ Some (Station n)) where
     abbrev station_tried : Side StationState
@@ -129,7 +143,7 @@ module _ (s : WorldState) (k : ℕ) (packet : Packet) (g : Steady s) (known : Ve
     station_takes q from (Some m) range =
         let first = station_tries s k n g found packet known in
         let step = station_step n.core from m in
-        let r = stations.steps n.core from m (g.cores k (Station n) found).0 range in
+        let r = stations.steps n.core from m (g.cores k (Station n) found).range range in
         after_first (Station station_tried) _ first
         (station_goes (advanced s k (Station station_tried) []) k station_tried first.steady first.there step r (station_stays n.core from m))
 
@@ -176,24 +190,7 @@ then_next wrap s k (Some d) next first each = then_behind wrap s k d (next d.nod
 
 rests : (s : WorldState) (k : ℕ) (a : Node) → Steady s → slice_get s.nodes k ≡ Some a → NodeGoes s k (record { node = a; events = [] })
 rests s k a g found =
-    let l = g.links k a found in
-    node_goes s k a a [] g found
-    (record {
-      named_is = refl;
-      link = record {
-        me = refl;
-        key = l.key;
-        extras = l.extras;
-        seq = l.seq;
-        local = (let h = l.local in omega arith);
-        rises = omega arith;
-        lasts = l.lasts;
-        low = l.low;
-        heard = λ q h. h;
-        sends = λ p e. absurd (nowhere e.index p e.found);
-      };
-      core = g.cores k a found;
-    }) tt
+    node_goes s k a a [] g found (record { named_is = refl; link = (link_stays s (link_of a) (g.links k a found)).moves; core = g.cores k a found }) tt
 
 pub drone_hears_all : (packets : List Packet) (s : WorldState) (k : ℕ) (n : Side DroneState) → Steady s → slice_get s.nodes k ≡ Some (Drone n) → KnownFrames s packets → NodeDoes s k (as_node Drone (hears_all drone_core s.clock packets n))
 drone_hears_all [] s k n g found known = rests s k (Drone n) g found

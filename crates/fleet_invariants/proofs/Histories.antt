@@ -6,9 +6,11 @@ use Rattle.mav_names.specs.declared.names.Stream.{Stream}
 use Rattle.mav_frame.specs.Packet.{Packet, SignatureBlock}
 use Rattle.mav_sign.specs.declared.admission.Admit.{Admit}
 use Rattle.mav_sign.specs.declared.admission.Admit.TheVariants.{Admitted, Unsigned, BadSignature, BelowFloor, NotLater, TooOld, TooManyStreams}
-use Rattle.mav_sign.specs.History.{Entry, tried, sent, Stamped, stream_of, stamped, admitted_by, admitted_in, sent_in, same_stream, greatest, greatest_of, latest, stamps_of, last_of, accepted_in, previous_in, local_of, next_in}
+use Rattle.mav_sign.specs.History.{Entry, tried, sent, Stamped, stream_of, stamped, admitted_by, admitted_in, sent_in, same_stream, greatest, greatest_of, latest, stamps_of, last_of, accepted_in, previous_in, local_of, next_in, greatest_stamp}
 use Rattle.mav_sign.proofs.Histories.{admitted_more, admitted_same, sent_more, sent_same, greatest_more, greatest_of_more, latest_more, same_is, stamps_more, stamps_same}
+use Rattle.mav_nodes.specs.LowBounds.{raised, raised_by, stored_low}
 use Rattle.fleet_invariants.proofs.Lists.{some_is}
+use Rattle.fleet_invariants.proofs.LowBounds.{stored_more, Bounds, bounds_same, bounds_raised}
 
 -- the previous timestamp is at most the local one
 latest_within : (xs : List ℕ) (a b : ℕ) → a ≤ b → fold (λ _ number. number) a xs ≤ fold max b xs
@@ -46,16 +48,24 @@ sending_is history stamp = ap latest (sent_more history (sent stamp) stamp refl)
 greatest_with : (history : List Entry) (stamp : ℕ) → greatest (sent_in (history ++ sent stamp ∷ [])) ≡ max (greatest (sent_in history)) stamp
 greatest_with history stamp = ap greatest (sent_more history (sent stamp) stamp refl) ∙ greatest_more (sent_in history) stamp
 
+max_last : (accepted most stamp : ℕ) → max accepted (max most stamp) ≡ max (max accepted most) stamp
+max_last accepted most stamp = grind arith
+
+sending_local : (history : List Entry) (stamp : ℕ) → local_of (history ++ sent stamp ∷ []) ≡ max (local_of history) stamp
+sending_local history stamp =
+    ap (λ a. max a (greatest (sent_in (history ++ sent stamp ∷ [])))) (sending_admits history stamp).accepted ∙ ap (max (accepted_in history)) (greatest_with history stamp) ∙ max_last (accepted_in history) (greatest (sent_in history)) stamp
+
 -- no timestamp is ahead of the clock by more than the frames
-near : (accepted most previous clock n : ℕ) → max accepted most ≤ clock + n → previous ≤ max accepted most → max accepted (max most (max (previous + 1) (max clock accepted))) ≤ clock + (n + 1)
+near : (accepted most previous clock n : ℕ) → max accepted most ≤ clock + n → previous ≤ max accepted most → max (max accepted most) (max (previous + 1) (max clock accepted)) ≤ clock + (n + 1)
 near accepted most previous clock n h k = grind arith
 
 pub sending_near : (history : List Entry) (clock n : ℕ) → local_of history ≤ clock + n → local_of (history ++ sent (next_in history clock) ∷ []) ≤ clock + (n + 1)
 sending_near history clock n h =
-    let stamp = next_in history clock in
-    let accepted = (sending_admits history stamp).accepted in
-    let is : local_of (history ++ sent stamp ∷ []) ≡ max (accepted_in history) (max (greatest (sent_in history)) stamp) = ap (λ a. max a (greatest (sent_in (history ++ sent stamp ∷ [])))) accepted ∙ ap (max (accepted_in history)) (greatest_with history stamp) in
-    subst (λ local. local ≤ clock + (n + 1)) (sym is) (near (accepted_in history) (greatest (sent_in history)) (previous_in history) clock n h (previous_local history))
+    subst (λ local. local ≤ clock + (n + 1)) (sym (sending_local history (next_in history clock))) (near (accepted_in history) (greatest (sent_in history)) (previous_in history) clock n h (previous_local history))
+
+pub sending_bounds : (history : List Entry) (stamp : ℕ) → stamp ≤ greatest_stamp → Bounds (stored_low history) (local_of history) → Bounds (stored_low (history ++ sent stamp ∷ [])) (local_of (history ++ sent stamp ∷ []))
+sending_bounds history stamp fits b =
+    bounds_same _ _ _ _ (stored_more history (sent stamp)) (sending_local history stamp) (bounds_raised (stored_low history) (local_of history) stamp fits b)
 
 next_after : (previous q : ℕ) → previous + 1 ≤ max (previous + 1) q
 next_after previous q = grind arith
@@ -73,10 +83,10 @@ trying_previous history packet answer = ap latest (trying_sends history packet a
 
 -- what an answer to a frame leaves: nothing is admitted, or its timestamp is
 pub data Leaves (before after : List Entry) (packet : Packet) (answer : Admit) : Type 0 where
-  Nothing : AdmitsNothing before after → Leaves before after packet answer
+  Nothing : AdmitsNothing before after → stored_low after ≡ stored_low before → Leaves before after packet answer
   Stamp : (block : SignatureBlock) → answer ≡ Admitted → packet.block ≡ Some block
       → ((stream : Stream) (stamp : ℕ) → last_of stream after ≡ Some stamp → (last_of stream before ≡ Some stamp) ⊎ ((stream ≡ stream_of packet block) × (stamp ≡ block.stamp)))
-      → accepted_in after ≡ max (accepted_in before) block.stamp → Leaves before after packet answer
+      → accepted_in after ≡ max (accepted_in before) block.stamp → stored_low after ≡ raised (stored_low before) block.stamp → Leaves before after packet answer
 
 pick : (g x t : ℕ) → max g x ≡ t → (g ≡ t) ⊎ (t ≡ x)
 pick g x t is = grind arith
@@ -110,28 +120,42 @@ module _ (history : List Entry) (packet : Packet) (block : SignatureBlock) (sign
         | false ↦ λ apart. inl (sym (ap greatest_of (stamps_same stream (admitted_in history) s apart)) ∙ is)
       ] refl
 
-  pub admitting : Leaves history (history ++ tried packet Admitted ∷ []) packet Admitted
-  admitting = Stamp block refl signed last_more accepted_more
+  pub admitting_stores : stored_low (history ++ tried packet Admitted ∷ []) ≡ raised (stored_low history) block.stamp
+  admitting_stores = stored_more history (tried packet Admitted) ∙ ap (raised_by (stored_low history)) signed
 
-max_near : (accepted most stamp limit : ℕ) → max accepted most ≤ limit → stamp ≤ limit → max (max accepted stamp) most ≤ limit
-max_near accepted most stamp limit h k = grind arith
+  pub admitting : Leaves history (history ++ tried packet Admitted ∷ []) packet Admitted
+  admitting = Stamp block refl signed last_more accepted_more admitting_stores
+
+max_middle : (accepted most stamp : ℕ) → max (max accepted stamp) most ≡ max (max accepted most) stamp
+max_middle accepted most stamp = grind arith
+
+admitting_local : (before after : List Entry) (stamp : ℕ) → sent_in after ≡ sent_in before → accepted_in after ≡ max (accepted_in before) stamp → local_of after ≡ max (local_of before) stamp
+admitting_local before after stamp sends is =
+    ap (λ a. max a (greatest (sent_in after))) is ∙ ap (λ (l : List ℕ). max (max (accepted_in before) stamp) (greatest l)) sends ∙ max_middle (accepted_in before) (greatest (sent_in before)) stamp
+
+max_near : (local stamp limit : ℕ) → local ≤ limit → stamp ≤ limit → max local stamp ≤ limit
+max_near local stamp limit h k = grind arith
 
 -- an admitted timestamp that isn't ahead leaves the local one so
 pub admitting_near : (before after : List Entry) (stamp limit : ℕ) → sent_in after ≡ sent_in before → accepted_in after ≡ max (accepted_in before) stamp → local_of before ≤ limit → stamp ≤ limit → local_of after ≤ limit
 admitting_near before after stamp limit sends is h k =
-    let all : local_of after ≡ max (max (accepted_in before) stamp) (greatest (sent_in before)) = ap (λ a. max a (greatest (sent_in after))) is ∙ ap (λ (l : List ℕ). max (max (accepted_in before) stamp) (greatest l)) sends in
-    subst (λ local. local ≤ limit) (sym all) (max_near (accepted_in before) (greatest (sent_in before)) stamp limit h k)
+    subst (λ local. local ≤ limit) (sym (admitting_local before after stamp sends is)) (max_near (local_of before) stamp limit h k)
+
+pub admitting_bounds : (before after : List Entry) (stamp : ℕ) → sent_in after ≡ sent_in before → accepted_in after ≡ max (accepted_in before) stamp → stored_low after ≡ raised (stored_low before) stamp → stamp ≤ greatest_stamp
+    → Bounds (stored_low before) (local_of before) → Bounds (stored_low after) (local_of after)
+admitting_bounds before after stamp sends is stores fits b =
+    bounds_same _ _ _ _ stores (admitting_local before after stamp sends is) (bounds_raised (stored_low before) (local_of before) stamp fits b)
 
 pub nothing_near : (before after : List Entry) → sent_in after ≡ sent_in before → AdmitsNothing before after → local_of after ≡ local_of before
 nothing_near before after sends none = ap (λ a. max a (greatest (sent_in after))) none.accepted ∙ ap (λ (l : List ℕ). max (accepted_in before) (greatest l)) sends
 
 -- by the answer
 pub leaves : (history : List Entry) (packet : Packet) (answer : Admit) (block : Option SignatureBlock) → packet.block ≡ block → Leaves history (history ++ tried packet answer ∷ []) packet answer
-leaves history packet Admitted None signed = Nothing (nothing_admitted history (tried packet Admitted) (ap (option_map (stamped packet)) signed))
+leaves history packet Admitted None signed = Nothing (nothing_admitted history (tried packet Admitted) (ap (option_map (stamped packet)) signed)) (stored_more history (tried packet Admitted) ∙ ap (raised_by (stored_low history)) signed)
 leaves history packet Admitted (Some block) signed = admitting history packet block signed
-leaves history packet Unsigned block signed = Nothing (nothing_admitted history (tried packet Unsigned) refl)
-leaves history packet BadSignature block signed = Nothing (nothing_admitted history (tried packet BadSignature) refl)
-leaves history packet (BelowFloor floor) block signed = Nothing (nothing_admitted history (tried packet (BelowFloor floor)) refl)
-leaves history packet (NotLater last) block signed = Nothing (nothing_admitted history (tried packet (NotLater last)) refl)
-leaves history packet (TooOld local) block signed = Nothing (nothing_admitted history (tried packet (TooOld local)) refl)
-leaves history packet TooManyStreams block signed = Nothing (nothing_admitted history (tried packet TooManyStreams) refl)
+leaves history packet Unsigned block signed = Nothing (nothing_admitted history (tried packet Unsigned) refl) (stored_more history (tried packet Unsigned))
+leaves history packet BadSignature block signed = Nothing (nothing_admitted history (tried packet BadSignature) refl) (stored_more history (tried packet BadSignature))
+leaves history packet (BelowFloor floor) block signed = Nothing (nothing_admitted history (tried packet (BelowFloor floor)) refl) (stored_more history (tried packet (BelowFloor floor)))
+leaves history packet (NotLater last) block signed = Nothing (nothing_admitted history (tried packet (NotLater last)) refl) (stored_more history (tried packet (NotLater last)))
+leaves history packet (TooOld local) block signed = Nothing (nothing_admitted history (tried packet (TooOld local)) refl) (stored_more history (tried packet (TooOld local)))
+leaves history packet TooManyStreams block signed = Nothing (nothing_admitted history (tried packet TooManyStreams) refl) (stored_more history (tried packet TooManyStreams))

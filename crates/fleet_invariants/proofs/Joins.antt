@@ -66,6 +66,7 @@ kept_joined s n = record {
   sent = λ i p e. e;
   frames = omega arith;
   clock = omega arith;
+  restarts = omega arith;
 }
 
 pub sound_joined : (s : WorldState) (n : Node) → Sound s → Unnamed s.nodes (node_name n) → SoundLink s (link_of n) → SoundCore n → drones_in s.nodes + drones_in (n ∷ []) ≤ most_drones → stations_in s.nodes + stations_in (n ∷ []) ≤ most_stations → Sound (joined s n)
@@ -97,6 +98,7 @@ sound_joined s n g none link core drones stations =
       stations = subst (λ m. m ≤ most_stations) (sym (stations_more s.nodes n)) stations;
       draft = g.draft;
       clock = g.clock;
+      restarts = g.restarts;
     }
 
 pub names_joined_are : (s : WorldState) (n : Node) → names_of (s.nodes ++ n ∷ []) ≡ names_of s.nodes ++ named n ∷ []
@@ -116,13 +118,20 @@ fresh_link s me h = record {
   previous = omega arith;
   lasts = λ stream stamp e. absurd (no_stamp stamp e);
   streams = omega arith;
-  low = refl;
+  within = omega arith;
+  near = omega arith;
 }
 
 pub drone_joins : (s : WorldState) (sys : ℕ) → Sound s → 1 ≤ sys → sys < 256 → has_name (names_of s.nodes) (record { sys = sys; comp = 1 }) ≡ false → drones_in s.nodes < most_drones → Sound (joined s (Drone (new_drone s.key sys)))
 drone_joins s sys g some small none few =
-    sound_joined s (Drone (new_drone s.key sys)) g (unnamed s.nodes (record { sys = sys; comp = 1 }) none) (fresh_link s (record { sys = sys; comp = 1; link = 0 }) (some, small, omega arith, omega arith, refl)) (drones.fresh sys small, refl, refl, roomy_fresh (has_heard (new_link s.key (record { sys = sys; comp = 1; link = 0 }) (extras_of profile_definitions))) sys no_plans) (omega (arith, few)) (let h = g.stations in omega (arith, h))
+    sound_joined s (Drone (new_drone s.key sys)) g (unnamed s.nodes (record { sys = sys; comp = 1 }) none) (fresh_link s (record { sys = sys; comp = 1; link = 0 }) (some, small, omega arith, omega arith, refl)) (record {
+      range = drones.fresh sys small;
+      sys = refl;
+      comp = refl;
+      roomy = roomy_fresh (has_heard (new_link s.key (record { sys = sys; comp = 1; link = 0 }) (extras_of profile_definitions))) sys no_plans;
+      unstored = λ none. refl;
+    }) (omega (arith, few)) (let h = g.stations in omega (arith, h))
 
 pub station_joins : (s : WorldState) (name : Name) → Sound s → 1 ≤ name.sys → name.sys < 256 → 1 ≤ name.comp → name.comp < 256 → has_name (names_of s.nodes) name ≡ false → stations_in s.nodes < most_stations → Sound (joined s (Station (new_station s.key (stream_of name) 0)))
 station_joins s name g some small part short none few =
-    sound_joined s (Station (new_station s.key (stream_of name) 0)) g (unnamed s.nodes name none) (fresh_link s (stream_of name) (some, small, part, short, refl)) (stations.fresh name.sys name.comp 0 0 small short (omega arith) (omega arith), refl, refl) (let h = g.drones in omega (arith, h)) (omega (arith, few))
+    sound_joined s (Station (new_station s.key (stream_of name) 0)) g (unnamed s.nodes name none) (fresh_link s (stream_of name) (some, small, part, short, refl)) (record { range = stations.fresh name.sys name.comp 0 0 small short (omega arith) (omega arith); me = refl; told = refl; low = refl }) (let h = g.drones in omega (arith, h)) (omega (arith, few))

@@ -1,5 +1,6 @@
 pub mod Lists
 pub mod Tests
+pub mod LowBounds
 pub mod Histories
 pub mod Streams
 pub mod Rooms
@@ -18,6 +19,7 @@ pub mod Words
 pub mod Heard
 pub mod Calls
 pub mod Gives
+pub mod Restarting
 pub mod Lines
 pub mod Readings
 pub mod Plays

@@ -19,12 +19,12 @@ use Rattle.mav_nodes.specs.Nodes.{new_drone, new_station, station_cancels, stati
 use Rattle.plan_ranges.specs.Ranges.{Is8, NameInRange, ItemInRange}
 use Rattle.scenario_lines.specs.declared.faults.Reason.{Reason}
 use Rattle.scenario_lines.specs.declared.lines.Line.{Line}
-use Rattle.scenario_lines.specs.declared.lines.Line.TheVariants.{Blank, Drone as DroneLine, Station as StationLine, Item as OneItem, Items, Empty, Begin, Cancel, Clear, Get, Heartbeat, Deliver, Flow, Noise, Tick, Clock}
+use Rattle.scenario_lines.specs.declared.lines.Line.TheVariants.{Blank, Drone as DroneLine, Station as StationLine, Item as OneItem, Items, Empty, Begin, Cancel, Clear, Get, Heartbeat, Deliver, Flow, Noise, Tick, Clock, Restart}
 use Rattle.scenario_lines.specs.LineContext.{is_in_role, has_name, has_drone}
 use Rattle.scenario_lines.specs.LineContext as context
 use Rattle.scenario_lines.specs.Grammar.{against, first_reason}
 use Rattle.fleet_world.specs.WorldState.{WorldState, Node, Drone, Station, node_name, names_of, stream_of, is_station_named, drones_in, stations_in}
-use Rattle.fleet_world.specs.Steps.{Step, StepError, rests, most_drones, most_stations, node_receives, node_beats, node_ticks, node_does, as_station, station_line, orders, upload_begins, orders_at, orders_found, orders_to, begins, cancels, clears, gets, delivers, items_from, after_line}
+use Rattle.fleet_world.specs.Steps.{Step, StepError, rests, most_drones, most_stations, most_restarts, starts_again, restart_line, node_receives, node_beats, node_ticks, node_does, as_station, station_line, orders, upload_begins, orders_at, orders_found, orders_to, begins, cancels, clears, gets, delivers, items_from, after_line}
 use Rattle.fleet_invariants.specs.Sound.{link_of, Sound}
 use Rattle.fleet_invariants.specs.Kept.{StepKeeps, Keeps, names_joined, KeepsLine}
 use Rattle.fleet_invariants.specs.Laws.{EveryLineKeeps}
@@ -34,6 +34,7 @@ use Rattle.fleet_invariants.proofs.Joins.{kept_joined, names_joined_are, drone_j
 use Rattle.fleet_invariants.proofs.ItemRows.{rows_in_range}
 use Rattle.fleet_invariants.proofs.Calls.{sound_does}
 use Rattle.fleet_invariants.proofs.Heard.{authentic_known}
+use Rattle.fleet_invariants.proofs.Restarting.{sound_restarts}
 use Rattle.fleet_invariants.proofs.Gives.{rests_so, sound_calls, sound_flows, sound_gives}
 
 -- ---- a step that names no node
@@ -213,3 +214,7 @@ sound_line s g (Clock n) permitted fits authentic =
       kept = kept_restated s s.given s.draft (s.clock + n) (omega arith);
       names = sym (append-nil (names_of s.nodes));
     }
+sound_line s g (Restart drone) permitted fits authentic =
+    by_test (KeepsLine s (Restart drone)) (nat_lt s.restarts most_restarts) _ _
+    (λ few. line_of_step s (Restart drone) (starts_again (restart_line s) drone) refl (sound_restarts s g (less _ _ few) drone))
+    (λ _. tt)

@@ -1,5 +1,5 @@
 -- What one end of the links does with a frame that it tries or sends.
-use Rattle.std.proofs.Common.{◌≡◌, ℕ, zero, suc, ◌+◌, ◌<◌, ◌≤◌, ◌^◌, inl, inr, nat_lt, List, [], ◌∷◌, ◌++◌, length, slice_get, Option, Some, None, refl, sym, ap, subst, arith, ◌∙◌}
+use Rattle.std.proofs.Common.{◌≡◌, ℕ, zero, suc, ◌+◌, ◌<◌, ◌≤◌, ◌^◌, inl, inr, nat_lt, List, [], ◌∷◌, ◌++◌, slice_get, Option, Some, None, refl, sym, ap, subst, arith, ◌∙◌}
 use Rattle.std.specs.Prelude.{IfSome}
 use Rattle.std.specs.Str.{bytes_eq}
 use Rattle.std.proofs.lemmas.Slice.Eq.{bytes_eq-Decides}
@@ -13,6 +13,7 @@ use Rattle.mav_sign.specs.declared.admission.Admit.TheVariants.{Admitted, Unsign
 use Rattle.mav_sign.specs.History.{Entry, tried, sent, last_of, local_of, next_in, block_answer, answer_to, stamp_answer, greatest_stamp}
 use Rattle.mav_sign.specs.Signing.{Verifies, signature_of}
 use Rattle.mav_sign.proofs.Histories.{low_same}
+use Rattle.mav_nodes.specs.LowBounds.{stored_low}
 use Rattle.mav_nodes.specs.Links.{Link, Done, Outcome, tries, sent_at, sends}
 use Rattle.mav_nodes.specs.Steps.{answers}
 use Rattle.mav_nodes.specs.Signed.{signed_packet}
@@ -22,15 +23,16 @@ use Rattle.mav_nodes.proofs.Sendings.{plan_reads_back}
 use Rattle.plan_ranges.specs.Ranges.{InRange}
 use Rattle.fleet_world.specs.WorldState.{WorldState}
 use Rattle.fleet_world.specs.Steps.{packets_in}
-use Rattle.fleet_invariants.specs.Sound.{IsSent, WasStamped, SoundLink}
+use Rattle.fleet_invariants.specs.Sound.{ahead, IsSent, WasStamped, SoundLink}
 use Rattle.fleet_invariants.specs.Kept.{IsAmong, AllRead}
 use Rattle.fleet_invariants.proofs.Lists.{some_is, nowhere}
 use Rattle.fleet_invariants.proofs.Tests.{by_test, not_less}
-use Rattle.fleet_invariants.proofs.Histories.{sending_admits, sending_is, sending_near, next_later, trying_sends, trying_previous, Leaves, Nothing, Stamp, leaves, admitting_near, nothing_near}
+use Rattle.fleet_invariants.proofs.LowBounds.{stored_stays, Bounds, bounds_same}
+use Rattle.fleet_invariants.proofs.Histories.{sending_admits, sending_is, sending_near, sending_bounds, next_later, trying_sends, trying_previous, Leaves, Nothing, Stamp, leaves, admitting_near, admitting_bounds, nothing_near}
 use Rattle.fleet_invariants.proofs.Growth.{at_most_on}
 use Rattle.fleet_invariants.proofs.Messages.{plan_fits}
 use Rattle.fleet_invariants.proofs.Rooms.{heard_more}
-use Rattle.fleet_invariants.proofs.Moves.{Steady, Sending, LinkMoves}
+use Rattle.fleet_invariants.proofs.Moves.{Steady, Sending, LinkGrows}
 
 -- ---- a frame is tried
 
@@ -58,41 +60,54 @@ block_is s p q block e =
     let both = sym e ∙ ap (λ (x : Packet). x.block) q.is in
     record { link = ap (λ (b : SignatureBlock). b.link) (some_is both); stamp_is = ap (λ (b : SignatureBlock). b.stamp) (some_is both) }
 
-pub stamp_near : (s : WorldState) → Steady s → (p : Packet) (q : IsSent s p) → q.stamp ≤ s.clock + length s.sent
+pub stamp_near : (s : WorldState) → Steady s → (p : Packet) (q : IsSent s p) → q.stamp ≤ s.clock + ahead s
 stamp_near s g p q =
     let l = g.links q.from.index q.from.node q.from.found in
     at_most_on _ _ _ q.by_latest (at_most_on _ _ _ l.previous l.local)
+
+bounds_of : (s : WorldState) (link : Link) → SoundLink s link → Bounds (stored_low link.history) (local_of link.history)
+bounds_of s link l = record { within = l.within; near = l.near }
+
+six_bytes : (stamp : ℕ) → stamp < 2 ^ 48 → stamp ≤ greatest_stamp
+six_bytes stamp fits = omega arith
 
 module _ (s : WorldState) (g : Steady s) (link : Link) (l : SoundLink s link) (packet : Packet) where
   abbrev with_answer : Admit → Link
   with_answer answer = record link { history = link.history ++ tried packet answer ∷ [] }
 
-  moves : (answer : Admit) → local_of (link.history ++ tried packet answer ∷ []) ≤ s.clock + length s.sent
+  moves : (answer : Admit) → local_of (link.history ++ tried packet answer ∷ []) ≤ s.clock + ahead s
+      → Bounds (stored_low (link.history ++ tried packet answer ∷ [])) (local_of (link.history ++ tried packet answer ∷ []))
       → ((stream : Stream) (stamp : ℕ) → last_of stream (link.history ++ tried packet answer ∷ []) ≡ Some stamp → WasStamped s stream stamp)
-      → LinkMoves s link (with_answer answer) []
-  moves answer near lasts = record {
-    me = refl;
-    key = l.key;
-    extras = l.extras;
-    seq = l.seq;
-    local = omega (arith, near);
-    rises = (let e = trying_previous link.history packet answer in omega arith);
-    lasts = lasts;
-    low = low_same link.history (tried packet answer) refl ∙ l.low;
+      → LinkGrows s link (with_answer answer) []
+  moves answer near bounds lasts = record {
+    moves = record {
+      me = refl;
+      key = l.key;
+      extras = l.extras;
+      seq = l.seq;
+      local = omega (arith, near);
+      rises = (let e = trying_previous link.history packet answer in omega arith);
+      lasts = lasts;
+      within = bounds.within;
+      near = bounds.near;
+      sends = λ p e. absurd (nowhere e.index p e.found);
+    };
+    unstored = stored_stays link.history (tried packet answer);
+    low = low_same link.history (tried packet answer) refl;
     heard = λ q e. heard_more link.history (tried packet answer) q e;
-    sends = λ p e. absurd (nowhere e.index p e.found);
   }
 
-  by_answer : (answer : Admit) → (answer ≡ Admitted → IsAmong s.sent packet) → Leaves link.history (link.history ++ tried packet answer ∷ []) packet answer → LinkMoves s link (with_answer answer) []
-  by_answer answer known (Nothing none) =
+  by_answer : (answer : Admit) → (answer ≡ Admitted → IsAmong s.sent packet) → Leaves link.history (link.history ++ tried packet answer ∷ []) packet answer → LinkGrows s link (with_answer answer) []
+  by_answer answer known (Nothing none stores) =
       let same = nothing_near link.history (link.history ++ tried packet answer ∷ []) (trying_sends link.history packet answer) none in
-      moves answer (subst (λ n. n ≤ s.clock + length s.sent) (sym same) l.local) (λ stream stamp e. l.lasts stream stamp (sym (none.lasts stream) ∙ e))
-  by_answer answer known (Stamp block is signed last accepted) =
+      moves answer (subst (λ n. n ≤ s.clock + ahead s) (sym same) l.local) (bounds_same _ _ _ _ stores same (bounds_of s link l)) (λ stream stamp e. l.lasts stream stamp (sym (none.lasts stream) ∙ e))
+  by_answer answer known (Stamp block is signed last accepted stores) =
       let at = known is in
       let q = g.sent at.index packet at.found in
       let b = block_is s packet q block signed in
       moves answer
-      (admitting_near link.history (link.history ++ tried packet answer ∷ []) block.stamp (s.clock + length s.sent) (trying_sends link.history packet answer) accepted l.local (subst (λ n. n ≤ s.clock + length s.sent) (sym b.stamp_is) (stamp_near s g packet q)))
+      (admitting_near link.history (link.history ++ tried packet answer ∷ []) block.stamp (s.clock + ahead s) (trying_sends link.history packet answer) accepted l.local (subst (λ n. n ≤ s.clock + ahead s) (sym b.stamp_is) (stamp_near s g packet q)))
+      (admitting_bounds link.history (link.history ++ tried packet answer ∷ []) block.stamp (trying_sends link.history packet answer) accepted stores (subst (λ n. n ≤ greatest_stamp) (sym b.stamp_is) (six_bytes q.stamp q.stamp_fits)) (bounds_of s link l))
       (λ stream stamp e. elim (last stream stamp e) [
         | inl old ↦ l.lasts stream stamp old
         | inr new ↦ record {
@@ -105,7 +120,7 @@ module _ (s : WorldState) (g : Steady s) (link : Link) (l : SoundLink s link) (p
         }
       ])
 
-  pub link_tries : (Verifies s.key packet packet.block → IsAmong s.sent packet) → LinkMoves s link (tries packet link) []
+  pub link_tries : (Verifies s.key packet packet.block → IsAmong s.sent packet) → LinkGrows s link (tries packet link) []
   link_tries known =
       by_answer (answer_to link.key link.history packet)
       (λ is. known (subst (λ key. Verifies key packet packet.block) l.key (admitted_verifies link.key link.history packet is)))
@@ -114,7 +129,7 @@ module _ (s : WorldState) (g : Steady s) (link : Link) (l : SoundLink s link) (p
 -- ---- a message is sent
 
 pub record LinkGoes (s : WorldState) (a : Link) (d : Done Link) : Type 0 where
-  pub moves : LinkMoves s a d.node (packets_in d.events)
+  pub link : LinkGrows s a d.node (packets_in d.events)
   pub reads : AllRead d.events
 
 abbrev pub LinkDoes : WorldState → Link → Outcome Link → Type 0
@@ -151,24 +166,32 @@ module _ (s : WorldState) (link : Link) (l : SoundLink s link) where
   link_sends message fits =
       let stamp = next_in link.history s.clock in
       let packet = signed_packet link.key link.extras link.me link.seq stamp message in
-      by_test (LinkDoes s link) (nat_lt greatest_stamp stamp) None _ (λ _. tt) (λ e. record {
-        moves = record {
-          me = refl;
-          key = l.key;
-          extras = l.extras;
-          seq = omega arith;
-          local = sending_near link.history s.clock (length s.sent) l.local;
-          rises = (let later = next_later link.history s.clock in let is = sending_is link.history stamp in omega (arith, later, is));
-          lasts = λ stream t h. l.lasts stream t (sym ((sending_admits link.history stamp).lasts stream) ∙ h);
-          low = low_same link.history (sent stamp) refl ∙ l.low;
+      by_test (LinkDoes s link) (nat_lt greatest_stamp stamp) None _ (λ _. tt) (λ e.
+      let bounds = sending_bounds link.history stamp (not_less _ _ e) (bounds_of s link l) in
+      record {
+        link = record {
+          moves = record {
+            me = refl;
+            key = l.key;
+            extras = l.extras;
+            seq = omega arith;
+            local = sending_near link.history s.clock (ahead s) l.local;
+            rises = (let later = next_later link.history s.clock in let is = sending_is link.history stamp in omega (arith, later, is));
+            lasts = λ stream t h. l.lasts stream t (sym ((sending_admits link.history stamp).lasts stream) ∙ h);
+            within = bounds.within;
+            near = bounds.near;
+            sends = λ p h. subst (Sending s (sent_at stamp link)) (one_of packet p h.index h.found) (sending message fits (not_less _ _ e));
+          };
+          unstored = stored_stays link.history (sent stamp);
+          low = low_same link.history (sent stamp) refl;
           heard = λ q h. heard_more link.history (sent stamp) q h;
-          sends = λ p h. subst (Sending s (sent_at stamp link)) (one_of packet p h.index h.found) (sending message fits (not_less _ _ e));
         };
         reads = (plan_reads_back message fits.values fits.item (payload_small message), tt);
       })
 
-  link_rests : LinkDoes s link (Some (record { node = link; events = [] }))
-  link_rests = record {
+  -- nothing is done
+  pub link_stays : LinkGrows s link link []
+  link_stays = record {
     moves = record {
       me = refl;
       key = l.key;
@@ -177,13 +200,15 @@ module _ (s : WorldState) (link : Link) (l : SoundLink s link) where
       local = (let h = l.local in omega arith);
       rises = omega arith;
       lasts = l.lasts;
-      low = l.low;
-      heard = λ q h. h;
+      within = l.within;
+      near = l.near;
       sends = λ p e. absurd (nowhere e.index p e.found);
     };
-    reads = tt;
+    unstored = λ none. none;
+    low = refl;
+    heard = λ q h. h;
   }
 
   pub link_answers : (answer : Option PlanMsg) → IfSome answer InRange → LinkDoes s link (answers s.clock answer link)
-  link_answers None h = link_rests
+  link_answers None h = record { link = link_stays; reads = tt }
   link_answers (Some m) h = link_sends (message_of_plan m) (plan_fits m h)

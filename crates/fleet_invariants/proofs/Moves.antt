@@ -1,6 +1,6 @@
 -- One node moves, and sends frames: the state stays steady.
-use Rattle.std.proofs.Common.{◌≡◌, ℕ, ◌+◌, ◌<◌, ◌≤◌, ◌^◌, inl, inr, true, List, [], ◌∷◌, ◌++◌, length, map, slice_get, slice_set, Some, None, refl, sym, ap, subst, arith, ◌∙◌}
-use Rattle.std.specs.Prelude.{All, option_map}
+use Rattle.std.proofs.Common.{◌≡◌, ℕ, ◌+◌, ◌*◌, ◌<◌, ◌≤◌, ◌^◌, inl, inr, true, List, [], ◌∷◌, ◌++◌, length, map, slice_get, slice_set, Some, None, refl, sym, ap, subst, arith, ◌∙◌}
+use Rattle.std.specs.Prelude.{All, option_map, unwrap_or}
 use Rattle.std.proofs.lemmas.Option.{slice_get-map}
 use Rattle.std.proofs.lemmas.List.{length-append, length-map}
 use Rattle.mav_names.specs.declared.names.Name.{Name}
@@ -13,6 +13,7 @@ use Rattle.mav_messages.specs.declared.messages.Message.{Message}
 use Rattle.mav_messages.specs.Messages.{definition_of, values_of}
 use Rattle.mav_messages.specs.Plans.{plan_of}
 use Rattle.mav_sign.specs.History.{Entry, last_of, low_of, local_of, previous_in, streams_of}
+use Rattle.mav_nodes.specs.LowBounds.{headroom, stored_low}
 use Rattle.mav_nodes.specs.Links.{Link}
 use Rattle.mav_nodes.specs.Payloads.{ItemFits}
 use Rattle.mav_nodes.specs.Signed.{signed_packet}
@@ -21,8 +22,8 @@ use Rattle.scenario_lines.specs.declared.roster.Named.{Named}
 use Rattle.scenario_lines.specs.declared.roster.Role.{Role}
 use Rattle.scenario_lines.specs.declared.roster.Role.TheVariants.{Drone as DroneRole, Station as StationRole}
 use Rattle.fleet_world.specs.WorldState.{WorldState, Node, Drone, Station, node_name, named, names_of, stream_of, drones_in, stations_in}
-use Rattle.fleet_world.specs.Steps.{most_frames, most_drones, most_stations}
-use Rattle.fleet_invariants.specs.Sound.{link_of, has_heard, IsSent, WasStamped, SoundLink, SoundCore, Sound}
+use Rattle.fleet_world.specs.Steps.{most_frames, most_drones, most_stations, most_restarts}
+use Rattle.fleet_invariants.specs.Sound.{ahead, link_of, has_heard, IsSent, WasStamped, SoundLink, SoundCore, Sound}
 use Rattle.fleet_invariants.specs.Kept.{Follows, Kept}
 use Rattle.fleet_invariants.proofs.Lists.{set_there, which, stays_where, set_length, map_set, more_there, IsAt, in_either}
 use Rattle.fleet_invariants.proofs.Histories.{previous_local}
@@ -40,12 +41,13 @@ pub record Steady (s : WorldState) : Type 0 where
   pub stations : stations_in s.nodes ≤ most_stations
   pub draft : All ItemInRange s.draft
   pub clock : s.clock ≤ 140737488355328
+  pub restarts : s.restarts ≤ most_restarts
 
 pub steady_of : (s : WorldState) → Sound s → Steady s
-steady_of s g = record { apart = g.apart; links = g.links; cores = g.cores; sent = g.sent; given = g.given; drones = g.drones; stations = g.stations; draft = g.draft; clock = g.clock }
+steady_of s g = record { apart = g.apart; links = g.links; cores = g.cores; sent = g.sent; given = g.given; drones = g.drones; stations = g.stations; draft = g.draft; clock = g.clock; restarts = g.restarts }
 
 pub sound_of : (s : WorldState) → Steady s → length s.sent ≤ most_frames → Sound s
-sound_of s g frames = record { apart = g.apart; links = g.links; cores = g.cores; sent = g.sent; frames = frames; given = g.given; drones = g.drones; stations = g.stations; draft = g.draft; clock = g.clock }
+sound_of s g frames = record { apart = g.apart; links = g.links; cores = g.cores; sent = g.sent; frames = frames; given = g.given; drones = g.drones; stations = g.stations; draft = g.draft; clock = g.clock; restarts = g.restarts }
 
 -- a frame that a node sends
 pub record Sending (s : WorldState) (b : Link) (p : Packet) : Type 0 where
@@ -66,12 +68,19 @@ pub record LinkMoves (s : WorldState) (a b : Link) (packets : List Packet) : Typ
   pub key : b.key ≡ s.key
   pub extras : b.extras ≡ extras_of profile_definitions
   pub seq : b.seq < 256
-  pub local : local_of b.history ≤ s.clock + (length s.sent + length packets)
+  pub local : local_of b.history ≤ s.clock + (ahead s + length packets)
   pub rises : previous_in a.history ≤ previous_in b.history
   pub lasts : (stream : Stream) (stamp : ℕ) → last_of stream b.history ≡ Some stamp → WasStamped s stream stamp
-  pub low : low_of b.history ≡ None
-  pub heard : (stream : Stream) → has_heard a stream ≡ true → has_heard b stream ≡ true
+  pub within : local_of b.history ≤ unwrap_or (stored_low b.history) 0
+  pub near : unwrap_or (stored_low b.history) 0 ≤ local_of b.history + headroom
   pub sends : (p : Packet) → IsAt packets p → Sending s b p
+
+-- it goes on with what it has heard and stored
+pub record LinkGrows (s : WorldState) (a b : Link) (packets : List Packet) : Type 0 where
+  pub moves : LinkMoves s a b packets
+  pub unstored : stored_low b.history ≡ None → stored_low a.history ≡ None
+  pub low : low_of b.history ≡ low_of a.history
+  pub heard : (stream : Stream) → has_heard a stream ≡ true → has_heard b stream ≡ true
 
 pub record Moves (s : WorldState) (a b : Node) (packets : List Packet) : Type 0 where
   pub named_is : named b ≡ named a
@@ -161,6 +170,7 @@ module _ (s : WorldState) (k : ℕ) (a b : Node) (packets : List Packet) (found 
     sent = λ i p e. more_there s.sent packets p i e;
     frames = longer;
     clock = omega arith;
+    restarts = omega arith;
   }
 
   pub names_moved : names_of after.nodes ≡ names_of s.nodes
@@ -181,17 +191,21 @@ module _ (s : WorldState) (k : ℕ) (a b : Node) (packets : List Packet) (found 
   lasts : (stream : Stream) (stamp : ℕ) → last_of stream (link_of b).history ≡ Some stamp → WasStamped after stream stamp
   lasts stream stamp e = stamped_kept s after kept_moved stream stamp (m.link.lasts stream stamp e)
 
+  further : (clock sent more all again local : ℕ) → all ≡ sent + more → local ≤ clock + ((sent + again) + more) → local ≤ clock + (all + again)
+  further clock sent more all again local e h = omega arith
+
   own_link : SoundLink s (link_of a) → SoundLink after (link_of b)
   own_link h = record {
     key = m.link.key;
     extras = m.link.extras;
     me = subst (λ (me : Stream). (1 ≤ me.sys) × (me.sys < 256) × (1 ≤ me.comp) × (me.comp < 256) × (me.link ≡ 0)) (sym m.link.me) h.me;
     seq = m.link.seq;
-    local = subst (λ n. local_of (link_of b).history ≤ s.clock + n) (sym (length-append s.sent packets)) m.link.local;
+    local = further (s.clock) (length s.sent) (length packets) (length (s.sent ++ packets)) (5001 * s.restarts) (local_of (link_of b).history) (length-append s.sent packets) m.link.local;
     previous = previous_local (link_of b).history;
     lasts = lasts;
     streams = streams_few after (link_of b).history lasts;
-    low = m.link.low;
+    within = m.link.within;
+    near = m.link.near;
   }
 
   new_sent : Steady s → (p : Packet) → Sending s (link_of b) p → slice_get after.nodes k ≡ Some b → IsSent after p
@@ -240,4 +254,5 @@ module _ (s : WorldState) (k : ℕ) (a b : Node) (packets : List Packet) (found 
     stations = subst (λ n. n ≤ most_stations) (sym (same_stations after.nodes s.nodes names_moved)) g.stations;
     draft = g.draft;
     clock = g.clock;
+    restarts = g.restarts;
   }

@@ -4,10 +4,12 @@ use Rattle.std.specs.Prelude.{IfSome}
 use Rattle.std.proofs.lemmas.List.{append-nil}
 use Rattle.mav_names.specs.declared.names.Stream.{Stream}
 use Rattle.plan_upload.specs.Addresses.{node_of}
+use Rattle.plan_upload.specs.Plans.{no_plans}
 use Rattle.plan_upload.specs.Drone.{DroneState}
 use Rattle.plan_upload.specs.Station.{StationState}
 use Rattle.mav_frame.specs.Packet.{Packet}
 use Rattle.mav_sign.specs.Signing.{Verifies}
+use Rattle.mav_nodes.specs.LowBounds.{stored_low}
 use Rattle.mav_nodes.specs.News.{NodeEvent, Sends, Installs, Empties, Drops, Ends}
 use Rattle.mav_nodes.specs.Links.{Link, Done, Outcome, done, behind, tries}
 use Rattle.mav_nodes.specs.Steps.{Side, CoreStep, answers, with_core, steps}
@@ -18,7 +20,7 @@ use Rattle.fleet_invariants.specs.Sound.{Roomy, has_heard}
 use Rattle.fleet_invariants.specs.Kept.{IsAmong, AllRead, Kept}
 use Rattle.fleet_invariants.proofs.Lists.{set_there, set_twice}
 use Rattle.fleet_invariants.proofs.Growth.{kept_on}
-use Rattle.fleet_invariants.proofs.Moves.{Steady, LinkMoves, Moves, moved, kept_moved, names_moved, steady_moved}
+use Rattle.fleet_invariants.proofs.Moves.{Steady, LinkGrows, Moves, moved, kept_moved, names_moved, steady_moved}
 use Rattle.fleet_invariants.proofs.Rooms.{roomy_more}
 use Rattle.fleet_invariants.proofs.Links.{LinkDoes, link_tries, link_answers}
 
@@ -119,42 +121,53 @@ as_node wrap None = None
 as_node wrap (Some d) = done (wrap d.node) d.events
 
 module _ (s : WorldState) (k : ℕ) (n : Side DroneState) (g : Steady s) (found : slice_get s.nodes k ≡ Some (Drone n)) where
-  drone_moves : (link : Link) (core : DroneState) (packets : List Packet) → DroneInRange core → core.sys ≡ n.core.sys → Roomy (has_heard n.link) core → LinkMoves s n.link link packets → Moves s (Drone n) (Drone (record { link = link; core = core })) packets
-  drone_moves link core packets range same room m =
+  -- a core without plans, if nothing is stored
+  abbrev Unstored : DroneState → Type 0
+  Unstored core = stored_low n.link.history ≡ None → core.plans ≡ no_plans
+
+  drone_moves : (link : Link) (core : DroneState) (packets : List Packet) → DroneInRange core → core.sys ≡ n.core.sys → Roomy (has_heard n.link) core → Unstored core → LinkGrows s n.link link packets → Moves s (Drone n) (Drone (record { link = link; core = core })) packets
+  drone_moves link core packets range same room unstored m =
       let own = g.cores k (Drone n) found in
       record {
-        named_is = ap (λ (me : Stream). named (Drone (record { link = record link { me = me }; core = core }))) m.me;
-        link = m;
-        core = (range, same ∙ own.1 ∙ ap (λ (me : Stream). me.sys) (sym m.me), ap (λ (me : Stream). me.comp) m.me ∙ own.2, roomy_more (has_heard n.link) (has_heard link) m.heard core room);
+        named_is = ap (λ (me : Stream). named (Drone (record { link = record link { me = me }; core = core }))) m.moves.me;
+        link = m.moves;
+        core = record {
+          range = range;
+          sys = same ∙ own.sys ∙ ap (λ (me : Stream). me.sys) (sym m.moves.me);
+          comp = ap (λ (me : Stream). me.comp) m.moves.me ∙ own.comp;
+          roomy = roomy_more (has_heard n.link) (has_heard link) m.heard core room;
+          unstored = λ none. unstored (m.unstored none);
+        };
       }
 
-  pub drone_done : (step : CoreStep DroneState) → Silent step.first → Silent step.last → DroneInRange step.core → step.core.sys ≡ n.core.sys → Roomy (has_heard n.link) step.core
+  pub drone_done : (step : CoreStep DroneState) → Silent step.first → Silent step.last → DroneInRange step.core → step.core.sys ≡ n.core.sys → Roomy (has_heard n.link) step.core → Unstored step.core
       → (o : Outcome Link) → LinkDoes s n.link o → NodeDoes s k (as_node Drone (behind step.first (with_core step.core step.last o)))
-  drone_done step h l range same room None m = tt
-  drone_done step h l range same room (Some d) m =
+  drone_done step h l range same room unstored None m = tt
+  drone_done step h l range same room unstored (Some d) m =
       let all : List NodeEvent = step.first ++ (d.events ++ step.last) in
       let sends = between step.first d.events step.last h l in
       node_goes s k (Drone n) (Drone (record { link = d.node; core = step.core })) all g found
-      (drone_moves d.node step.core (packets_in all) range same room (subst (LinkMoves s n.link d.node) (sym sends) m.moves))
+      (drone_moves d.node step.core (packets_in all) range same room unstored (subst (LinkGrows s n.link d.node) (sym sends) m.link))
       (all_read step.first (d.events ++ step.last) (silent_read step.first h) (all_read d.events step.last m.reads (silent_read step.last l)))
 
-  pub drone_steps : (step : CoreStep DroneState) → Silent step.first → Silent step.last → DroneInRange step.core → step.core.sys ≡ n.core.sys → Roomy (has_heard n.link) step.core → IfSome step.answer InRange → NodeDoes s k (as_node Drone (steps s.clock n.link step))
-  drone_steps step h l range same room says =
-      drone_done step h l range same room (answers s.clock step.answer n.link) (link_answers s n.link (g.links k (Drone n) found) step.answer says)
+  pub drone_steps : (step : CoreStep DroneState) → Silent step.first → Silent step.last → DroneInRange step.core → step.core.sys ≡ n.core.sys → Roomy (has_heard n.link) step.core → Unstored step.core → IfSome step.answer InRange → NodeDoes s k (as_node Drone (steps s.clock n.link step))
+  drone_steps step h l range same room unstored says =
+      drone_done step h l range same room unstored (answers s.clock step.answer n.link) (link_answers s n.link (g.links k (Drone n) found) step.answer says)
 
   pub drone_tries : (packet : Packet) → (Verifies s.key packet packet.block → IsAmong s.sent packet) → NodeGoes s k (record { node = Drone (record n { link = tries packet n.link }); events = [] })
   drone_tries packet known =
+      let own = g.cores k (Drone n) found in
       node_goes s k (Drone n) (Drone (record n { link = tries packet n.link })) [] g found
-      (drone_moves (tries packet n.link) n.core [] (g.cores k (Drone n) found).0 refl (g.cores k (Drone n) found).3 (link_tries s g n.link (g.links k (Drone n) found) packet known)) tt
+      (drone_moves (tries packet n.link) n.core [] own.range refl own.roomy own.unstored (link_tries s g n.link (g.links k (Drone n) found) packet known)) tt
 
 module _ (s : WorldState) (k : ℕ) (n : Side StationState) (g : Steady s) (found : slice_get s.nodes k ≡ Some (Station n)) where
-  station_moves : (link : Link) (core : StationState) (packets : List Packet) → StationInRange core → core.me ≡ n.core.me → core.outcome ≡ None → LinkMoves s n.link link packets → Moves s (Station n) (Station (record { link = link; core = core })) packets
+  station_moves : (link : Link) (core : StationState) (packets : List Packet) → StationInRange core → core.me ≡ n.core.me → core.outcome ≡ None → LinkGrows s n.link link packets → Moves s (Station n) (Station (record { link = link; core = core })) packets
   station_moves link core packets range same told m =
       let own = g.cores k (Station n) found in
       record {
-        named_is = ap (λ (me : Stream). named (Station (record { link = record link { me = me }; core = core }))) m.me;
-        link = m;
-        core = (range, same ∙ own.1 ∙ ap node_of (sym m.me), told);
+        named_is = ap (λ (me : Stream). named (Station (record { link = record link { me = me }; core = core }))) m.moves.me;
+        link = m.moves;
+        core = record { range = range; me = same ∙ own.me ∙ ap node_of (sym m.moves.me); told = told; low = m.low ∙ own.low };
       }
 
   pub station_done : (step : CoreStep StationState) → Silent step.first → Silent step.last → StationInRange step.core → step.core.me ≡ n.core.me → step.core.outcome ≡ None
@@ -164,7 +177,7 @@ module _ (s : WorldState) (k : ℕ) (n : Side StationState) (g : Steady s) (foun
       let all : List NodeEvent = step.first ++ (d.events ++ step.last) in
       let sends = between step.first d.events step.last h l in
       node_goes s k (Station n) (Station (record { link = d.node; core = step.core })) all g found
-      (station_moves d.node step.core (packets_in all) range same told (subst (LinkMoves s n.link d.node) (sym sends) m.moves))
+      (station_moves d.node step.core (packets_in all) range same told (subst (LinkGrows s n.link d.node) (sym sends) m.link))
       (all_read step.first (d.events ++ step.last) (silent_read step.first h) (all_read d.events step.last m.reads (silent_read step.last l)))
 
   pub station_steps : (step : CoreStep StationState) → Silent step.first → Silent step.last → StationInRange step.core → step.core.me ≡ n.core.me → step.core.outcome ≡ None → IfSome step.answer InRange → NodeDoes s k (as_node Station (steps s.clock n.link step))
@@ -175,4 +188,4 @@ module _ (s : WorldState) (k : ℕ) (n : Side StationState) (g : Steady s) (foun
   station_tries packet known =
       let own = g.cores k (Station n) found in
       node_goes s k (Station n) (Station (record n { link = tries packet n.link })) [] g found
-      (station_moves (tries packet n.link) n.core [] own.0 refl own.2 (link_tries s g n.link (g.links k (Station n) found) packet known)) tt
+      (station_moves (tries packet n.link) n.core [] own.range refl own.told (link_tries s g n.link (g.links k (Station n) found) packet known)) tt

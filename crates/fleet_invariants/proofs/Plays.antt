@@ -77,6 +77,7 @@ sound_start key = record {
   stations = omega arith;
   draft = All-nil ItemInRange;
   clock = omega arith;
+  restarts = omega arith;
 }
 
 last_line : (p : Played) → Sound p.state → (number : ℕ) (rest : List ℕ) → p.stop ≡ None → AuthenticLast true p number rest → IsSound (last_played p number rest)

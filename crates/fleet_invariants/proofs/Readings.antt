@@ -119,9 +119,10 @@ module _ (s : LineContext) (words : List (List ℕ)) where
       (choose (Fits s words) (bytes_eq w (codes "noise")) _ _ _ _ (λ h. bytes_small words 2)
       (choose (Fits s words) (bytes_eq w (codes "tick")) _ _ _ _ (λ h. tt)
       (choose (Fits s words) (bytes_eq w (codes "clock")) _ _ _ _ (λ h. tt)
+      (choose (Fits s words) (bytes_eq w (codes "restart")) _ _ _ _ (λ h. tt)
       (unbuilt (Fits s words) (bytes_eq w (codes "sim")) _ _ Blank (λ is h. no_line s words (A_drone ∷ Whole 1 10000 ∷ []) _ (rw is (third (bytes_eq w (codes "command")) (bytes_eq w (codes "params")) (bytes_eq w (codes "where")))) h)
       (unbuilt (Fits s words) (bytes_eq w (codes "where")) _ _ Blank (λ is h. no_line s words (A_drone ∷ []) _ (rw is (fourth (bytes_eq w (codes "command")) (bytes_eq w (codes "params")) (bytes_eq w (codes "sim")))) h)
-      (λ h. tt)))))))))))))))))))
+      (λ h. tt))))))))))))))))))))
 
 text_fits : (s : LineContext) (text : List ℕ) (blank : Bool) → (if blank then None else words_reason s (words_of text) (form_of (word_at (words_of text) 0))) ≡ None → LineFits (if blank then Blank else line_from (words_of text))
 text_fits s text true h = tt

@@ -15,7 +15,7 @@ abbrev pub restated : WorldState → ℕ → List Item → ℕ → WorldState
 restated s given draft clock = record s { given = given; draft = draft; clock = clock }
 
 pub kept_restated : (s : WorldState) (given : ℕ) (draft : List Item) (clock : ℕ) → s.clock ≤ clock → Kept s (restated s given draft clock)
-kept_restated s given draft clock h = kept_still s (restated s given draft clock) refl refl refl h
+kept_restated s given draft clock h = kept_still s (restated s given draft clock) refl refl refl h (omega arith)
 
 pub steady_restated : (s : WorldState) (given : ℕ) (draft : List Item) (clock : ℕ) → Steady s → given ≤ length s.sent → All ItemInRange draft → s.clock ≤ clock → clock ≤ 140737488355328 → Steady (restated s given draft clock)
 steady_restated s given draft clock g few items later soon =
@@ -30,6 +30,7 @@ steady_restated s given draft clock g few items later soon =
       stations = g.stations;
       draft = items;
       clock = soon;
+      restarts = g.restarts;
     }
 
 pub sound_restated : (s : WorldState) (given : ℕ) (draft : List Item) (clock : ℕ) → Sound s → given ≤ length s.sent → All ItemInRange draft → s.clock ≤ clock → clock ≤ 140737488355328 → Sound (restated s given draft clock)

@@ -102,9 +102,9 @@ tries_near clock key n link p h near = record {
     verified is = subst (λ k. Verifies k p p.block) h.key_is (admitted_verifies link.key link.history p is)
 
     by_answer : (answer : Admit) → (answer ≡ Admitted → (block : SignatureBlock) → p.block ≡ Some block → block.stamp ≤ clock + n) → Leaves link.history (link.history ++ tried p answer ∷ []) p answer → local_of (link.history ++ tried p answer ∷ []) ≤ clock + n
-    by_answer answer known (Nothing none) =
+    by_answer answer known (Nothing none _) =
         subst (λ m. m ≤ clock + n) (sym (nothing_near link.history (link.history ++ tried p answer ∷ []) (trying_sends link.history p answer) none)) h.local
-    by_answer answer known (Stamp block is signed last accepted) =
+    by_answer answer known (Stamp block is signed last accepted _) =
         admitting_near link.history (link.history ++ tried p answer ∷ []) block.stamp (clock + n) (trying_sends link.history p answer) accepted h.local (known is block signed)
 
 module _ {Core : Type 0} (step : Core → Stream → PlanMsg → CoreStep Core) (clock : ℕ) (key : List ℕ) where

@@ -1,5 +1,5 @@
 -- No authentic scenario stops for want of a timestamp.
-use Rattle.std.proofs.Common.{◌≡◌, ◌≢◌, ℕ, zero, suc, ◌+◌, ◌-◌, ◌≤◌, Bool, true, false, if◌then◌else◌, nat_lt, List, [], ◌∷◌, length, slice_get, Option, Some, None, Ok, Err, refl, sym, subst, arith}
+use Rattle.std.proofs.Common.{◌≡◌, ◌≢◌, ℕ, zero, suc, ◌+◌, ◌-◌, ◌<◌, ◌≤◌, Bool, true, false, if◌then◌else◌, nat_lt, List, [], ◌∷◌, length, slice_get, Option, Some, None, Ok, Err, refl, sym, subst, arith}
 use Rattle.std.specs.Prelude.{nat_le, position}
 use Rattle.std.specs.declared.result.Result.{Result}
 use Rattle.mav_names.specs.declared.names.Name.{Name}
@@ -26,21 +26,25 @@ use Rattle.mav_nodes.specs.Nodes.{drone_core, drone_waits, drone_heartbeat, dron
 use Rattle.scenario_lines.specs.declared.faults.Reason.{Reason}
 use Rattle.scenario_lines.specs.declared.faults.Reason.TheVariants.{Long}
 use Rattle.scenario_lines.specs.declared.lines.Line.{Line}
-use Rattle.scenario_lines.specs.declared.lines.Line.TheVariants.{Blank, Drone as DroneLine, Station as StationLine, Item as OneItem, Items, Empty, Begin, Cancel, Clear, Get, Heartbeat, Deliver, Flow, Noise, Tick, Clock}
+use Rattle.scenario_lines.specs.declared.lines.Line.TheVariants.{Blank, Drone as DroneLine, Station as StationLine, Item as OneItem, Items, Empty, Begin, Cancel, Clear, Get, Heartbeat, Deliver, Flow, Noise, Tick, Clock, Restart}
 use Rattle.scenario_lines.specs.Grammar.{line_of, most_line_bytes}
 use Rattle.scenario_lines.specs.Reasons.{reason_against}
-use Rattle.fleet_report.specs.Events.{Event}
-use Rattle.fleet_world.specs.WorldState.{WorldState, Node, Drone, Station, node_name, is_named, is_station_named, stream_of, context_of, drones_in, stations_in}
-use Rattle.fleet_world.specs.Steps.{Step, StepError, At_limit, Stamps_spent, most_frames, most_drones, most_stations, behind, and_then, packets_in, as_drone, as_station, node_receives, node_beats, node_ticks, node_does, calls_at, calls_found, calls, given_to, given_from, given_to_all, flow_next, flows, delivers, station_line, orders, upload_begins, orders_at, orders_found, orders_to, begins, cancels, clears, gets, after_line}
+use Rattle.mav_nodes.specs.Restarts.{restarted_drone, drone_restarts}
+use Rattle.std.proofs.lemmas.List.{append-nil}
+use Rattle.fleet_report.specs.Events.{Event, Restarted}
+use Rattle.fleet_world.specs.WorldState.{WorldState, Node, Drone, Station, node_name, is_named, is_drone_named, is_station_named, stream_of, context_of, drones_in, stations_in}
+use Rattle.fleet_world.specs.Steps.{Step, StepError, At_limit, Stamps_spent, most_frames, most_drones, most_stations, most_restarts, restarts_at, restarts_found, starts_again, restart_line, behind, and_then, packets_in, as_drone, as_station, node_receives, node_beats, node_ticks, node_does, calls_at, calls_found, calls, given_to, given_from, given_to_all, flow_next, flows, delivers, station_line, orders, upload_begins, orders_at, orders_found, orders_to, begins, cancels, clears, gets, after_line}
 use Rattle.fleet_world.specs.Scenario.{ScenarioError, Bad, Too_many_lines, Not_done, Played, most_lines, whole_lines, unfinished, without_cr, stopped, goes_on, judged, line_played, unless_stopped, lines_played, at_start, last_played, rest_played, played}
 use Rattle.fleet_world.specs.Authentic.{AuthenticLine, line_read, line_done, AuthenticDone, UnlessStopped, AuthenticLines, AuthenticLast}
-use Rattle.fleet_invariants.specs.Sound.{link_of, Sound}
+use Rattle.fleet_invariants.specs.Sound.{ahead, link_of, Sound}
 use Rattle.fleet_invariants.specs.Kept.{Known, StepKeeps, Keeps, LineFits}
 use Rattle.fleet_invariants.specs.Laws.{NoneSpent}
 use Rattle.fleet_invariants.proofs.Lists.{within}
-use Rattle.fleet_invariants.proofs.Tests.{by_test}
+use Rattle.fleet_invariants.proofs.Tests.{by_test, less}
 use Rattle.fleet_invariants.proofs.Growth.{at_most_on}
-use Rattle.fleet_invariants.proofs.Moves.{steady_of}
+use Rattle.fleet_invariants.proofs.Moves.{steady_of, sound_of}
+use Rattle.fleet_invariants.proofs.Nodes.{advanced}
+use Rattle.fleet_invariants.proofs.Restarting.{starts_anew}
 use Rattle.fleet_invariants.proofs.Links.{block_is, stamp_near}
 use Rattle.fleet_invariants.proofs.Hearing.{KnownFrames}
 use Rattle.fleet_invariants.proofs.Doing.{known_frames}
@@ -68,33 +72,33 @@ HasFew bytes = length (frames_of (final_parse (extras_of profile_definitions) fa
 
 module _ (s : WorldState) (g : Sound s) where
   abbrev NearNow : Link → Type 0
-  NearNow link = Near s.clock s.key (length s.sent) link
+  NearNow link = Near s.clock s.key (ahead s) link
 
   near_at : (k : ℕ) (a : Node) → slice_get s.nodes k ≡ Some a → NearNow (link_of a)
   near_at k a found = let l = g.links k a found in record { key_is = l.key; local = l.local }
 
-  near_known : (packets : List Packet) → KnownFrames s packets → (index : ℕ) (p : Packet) → slice_get packets index ≡ Some p → NearFrame s.clock s.key (length s.sent) p
+  near_known : (packets : List Packet) → KnownFrames s packets → (index : ℕ) (p : Packet) → slice_get packets index ≡ Some p → NearFrame s.clock s.key (ahead s) p
   near_known packets known index p e v block signed =
       let at = known index p e v in
       let q = g.sent at.index p at.found in
-      subst (λ n. n ≤ s.clock + length s.sent) (sym (block_is s p q block signed).stamp_is) (stamp_near s (steady_of s g) p q)
+      subst (λ n. n ≤ s.clock + ahead s) (sym (block_is s p q block signed).stamp_is) (stamp_near s (steady_of s g) p q)
 
-  room : s.clock + (length s.sent + 1) ≤ greatest_stamp
-  room = let clock = g.clock in let frames = g.frames in omega arith
+  room : s.clock + (ahead s + 1) ≤ greatest_stamp
+  room = let clock = g.clock in let frames = g.frames in let restarts = g.restarts in omega arith
 
   steps_done : {Core : Type 0} (link : Link) (step : CoreStep Core) → NearNow link → IsDone (steps s.clock link step)
-  steps_done link step h = near_done s.clock s.key (length s.sent + 1) (steps s.clock link step) (steps_near s.clock s.key (length s.sent) link step h room)
+  steps_done link step h = near_done s.clock s.key (ahead s + 1) (steps s.clock link step) (steps_near s.clock s.key (ahead s) link step h room)
 
   beats_done : {Core : Type 0} (link : Link) (core : Core) (message : Message) → NearNow link → IsDone (with_core core [] (sends s.clock message link))
-  beats_done link core message h = near_done s.clock s.key (length s.sent + 1) (with_core core [] (sends s.clock message link)) (beats_near s.clock s.key (length s.sent) link core message h room)
+  beats_done link core message h = near_done s.clock s.key (ahead s + 1) (with_core core [] (sends s.clock message link)) (beats_near s.clock s.key (ahead s) link core message h room)
 
-  room_for : (n : ℕ) → n ≤ 4096 → s.clock + (length s.sent + n) ≤ greatest_stamp
-  room_for n few = let clock = g.clock in let frames = g.frames in omega arith
+  room_for : (n : ℕ) → n ≤ 4096 → s.clock + (ahead s + n) ≤ greatest_stamp
+  room_for n few = let clock = g.clock in let frames = g.frames in let restarts = g.restarts in omega arith
 
   datagram_done : {Core : Type 0} (step : Core → Stream → PlanMsg → CoreStep Core) (node : Side Core) (bytes : List ℕ) → node.link.extras ≡ extras_of profile_definitions → NearNow node.link → Known s bytes → HasFew bytes → IsDone (receives step s.clock bytes node)
   datagram_done step node bytes extras h known few =
       let packets = frames_of (final_parse node.link.extras false bytes) in
-      all_done step s.clock s.key packets (length s.sent) (length s.sent) node (omega arith) h (near_known packets (known_frames s bytes node.link.extras extras known))
+      all_done step s.clock s.key packets (ahead s) (ahead s) node (omega arith) h (near_known packets (known_frames s bytes node.link.extras extras known))
       (room_for (length packets) (subst (λ (x : List (ℕ × ℕ)). length (frames_of (final_parse x false bytes)) ≤ 4096) (sym extras) few))
 
   -- ---- calls
@@ -231,6 +235,30 @@ module _ (s : WorldState) (g : Sound s) where
       order_unspent (λ k node. orders s k node (refusal node.core) (station_gets s.clock (stream_of drone) kind node))
       (λ k node found. refused_or k node (refusal node.core) (station_gets s.clock (stream_of drone) kind node) (step_done k node found (begin_get node.core (stream_of drone) kind))) station
 
+-- ---- a drone that starts again
+
+module _ (s : WorldState) (g : Sound s) (few : s.restarts < most_restarts) where
+  starting : (k : ℕ) (n : Side DroneState) → slice_get s.nodes k ≡ Some (Drone n) → IsDone (as_drone (drone_restarts s.key s.clock n))
+  starting k n found =
+      let first = starts_anew s (steady_of s g) k n found few in
+      let t = advanced (restart_line s) k (Drone (restarted_drone s.key n)) [] in
+      heartbeats_done t (sound_of t first.steady (subst (λ (ps : List Packet). length ps ≤ most_frames) (sym (append-nil s.sent)) g.frames)) k (Drone (restarted_drone s.key n)) first.there
+
+  restart_at : (k : ℕ) (o : Option Node) → slice_get s.nodes k ≡ o → Unspent (restarts_at (restart_line s) k o)
+  restart_at k None found = tt
+  restart_at k (Some (Station n)) found = tt
+  restart_at k (Some (Drone n)) found =
+      let name = node_of n.link.me in
+      let o = as_drone (drone_restarts s.key s.clock n) in
+      behind_unspent (Restarted name ∷ []) (node_does (restart_line s) k name o) (does (restart_line s) k name o (starting k n found))
+
+  restart_placed : (o : Option ℕ) → Unspent (restarts_found (restart_line s) o)
+  restart_placed None = tt
+  restart_placed (Some k) = restart_at k (slice_get s.nodes k) refl
+
+  restarts_unspent : (drone : Name) → Unspent (starts_again (restart_line s) drone)
+  restarts_unspent drone = restart_placed (position (is_drone_named drone) s.nodes)
+
 -- ---- lines
 
 at_line : (s : WorldState) → Sound s → Sound (station_line s)
@@ -255,6 +283,8 @@ line_unspent s g (Noise node bytes) fits authentic short =
     calls_unspent s g node (node_receives s.clock bytes) (receives_done s g bytes (authentic_known s g bytes fits authentic) few)
 line_unspent s g (Tick node) fits authentic short = calls_unspent s g node (node_ticks s.clock) (ticks_done s g)
 line_unspent s g (Clock n) fits authentic short = tt
+line_unspent s g (Restart drone) fits authentic short =
+    by_test Unspent (nat_lt s.restarts most_restarts) _ _ (λ few. restarts_unspent s g (less _ _ few) drone) (λ _. tt)
 
 -- ---- a scenario
 

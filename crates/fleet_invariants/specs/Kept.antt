@@ -14,7 +14,7 @@ use Rattle.mav_nodes.specs.News.{NodeEvent, Sends, Installs, Empties, Drops, End
 use Rattle.mav_nodes.specs.Links.{Outcome}
 use Rattle.mav_nodes.specs.Payloads.{plan_in}
 use Rattle.scenario_lines.specs.declared.lines.Line.{Line}
-use Rattle.scenario_lines.specs.declared.lines.Line.TheVariants.{Blank, Drone as DroneLine, Station as StationLine, Item as OneItem, Items, Empty, Begin, Cancel, Clear, Get, Heartbeat, Deliver, Flow, Noise, Tick, Clock}
+use Rattle.scenario_lines.specs.declared.lines.Line.TheVariants.{Blank, Drone as DroneLine, Station as StationLine, Item as OneItem, Items, Empty, Begin, Cancel, Clear, Get, Heartbeat, Deliver, Flow, Noise, Tick, Clock, Restart}
 use Rattle.scenario_lines.specs.declared.roster.Named.{Named}
 use Rattle.scenario_lines.specs.declared.roster.Role.TheVariants.{Drone as DroneRole, Station as StationRole}
 use Rattle.plan_ranges.specs.Ranges.{Is8, ItemInRange}
@@ -72,6 +72,7 @@ pub record Kept (s t : WorldState) : Type 0 where
   pub sent : (i : ℕ) (p : Packet) → slice_get s.sent i ≡ Some p → slice_get t.sent i ≡ Some p
   pub frames : length s.sent ≤ length t.sent
   pub clock : s.clock ≤ t.clock
+  pub restarts : s.restarts ≤ t.restarts
 
 -- a step that names no node and moves no clock
 pub record StepKeeps (s t : WorldState) : Type 0 where
@@ -102,6 +103,7 @@ names_joined (Flow k) = []
 names_joined (Noise node bytes) = []
 names_joined (Tick node) = []
 names_joined (Clock n) = []
+names_joined (Restart drone) = []
 
 pub record LineKeeps (s : WorldState) (line : Line) (t : WorldState) : Type 0 where
   pub sound : Sound t
@@ -130,3 +132,4 @@ LineFits (Deliver number node) = Unit {0}
 LineFits (Flow k) = Unit {0}
 LineFits (Tick node) = Unit {0}
 LineFits (Clock n) = Unit {0}
+LineFits (Restart drone) = Unit {0}

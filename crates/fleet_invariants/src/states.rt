@@ -8,8 +8,8 @@ pub fn every_state()
 {}
 
 /// No authentic scenario stops for want of a timestamp: the clock is at most 2^47, no
-/// timestamp is ahead of it by more than the frames sent, and a line brings no more frames than it
-/// has bytes.
+/// timestamp is ahead of it by more than the frames sent and 5,001 for each restart, and a line brings
+/// no more frames than it has bytes.
 pub fn every_authentic_scenario()
     ensures { NoneSpent }
 {}

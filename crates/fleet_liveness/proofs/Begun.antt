@@ -19,7 +19,7 @@ use Rattle.plan_upload.specs.Refusals.{busy_with, first_of, spent, empty_plan, u
 use Rattle.plan_ranges.specs.Ranges.{NameInRange}
 use Rattle.mav_frame.specs.Packet.{Packet}
 use Rattle.mav_messages.specs.Plans.{message_of_plan}
-use Rattle.mav_sign.specs.History.{last_of, next_in, greatest_stamp}
+use Rattle.mav_sign.specs.History.{low_of, last_of, next_in, greatest_stamp}
 use Rattle.mav_nodes.specs.News.{Sends}
 use Rattle.mav_nodes.specs.Links.{Link, Outcome, done, behind, sent_at}
 use Rattle.mav_nodes.specs.Signed.{signed_packet}
@@ -34,13 +34,13 @@ use Rattle.fleet_invariants.specs.Sound.{Sound}
 use Rattle.fleet_invariants.specs.Kept.{StepKeeps, OutcomeReads}
 use Rattle.fleet_invariants.proofs.Lists.{some_is, nowhere, within, set_there, set_elsewhere, last_there, at_end}
 use Rattle.fleet_invariants.proofs.Tests.{by_test, name_eq, name_same, name_is, differ}
-use Rattle.fleet_invariants.proofs.Histories.{next_later}
+use Rattle.fleet_invariants.proofs.Histories.{sending_is, next_later}
 use Rattle.fleet_invariants.proofs.Rooms.{room_for}
 use Rattle.fleet_invariants.proofs.Restated.{sound_restated}
 use Rattle.fleet_invariants.proofs.Calls.{sound_does}
-use Rattle.fleet_liveness.specs.Uncontended.{Upload, Installs}
+use Rattle.fleet_liveness.specs.Uncontended.{Upload, HasHeard, Installs}
 use Rattle.fleet_liveness.proofs.Hearing.{Carries}
-use Rattle.fleet_liveness.proofs.States.{same_place, few_streams, last_before, next_recent}
+use Rattle.fleet_liveness.proofs.States.{IsAbove, same_place, few_streams, last_before, next_recent, last_next}
 use Rattle.fleet_liveness.proofs.Sendings.{reads_at, carries_last}
 use Rattle.fleet_liveness.proofs.Steps.{moved, does, does_nothing, weaker}
 use Rattle.fleet_liveness.proofs.Stages.{Stage, Pings, Counts, is_up, is_ping, message_of, costs, DroneIs, StationIs, station_untold, is_carried}
@@ -107,6 +107,15 @@ third_none (Some x) b c d e = absurd (cc)
 number_left : (t : StationState) → spent t ≡ None → nat_lt t.pings last_ping ≡ true
 number_left t = by_test (λ (z : Option OpFault). z ≡ None → nat_lt t.pings last_ping ≡ true) (nat_lt t.pings last_ping) None (Some PingsSpent) (λ e _. e) (λ _ e. absurd (cc))
 
+-- what isn't below a timestamp that was heard is above the low bound
+heard_above : (low last : Option ℕ) (stamp : ℕ) → HasHeard low last → ((l : ℕ) → last ≡ Some l → l ≤ stamp) → (n : ℕ) → low ≡ Some n → n < stamp
+heard_above None last stamp h most n e = absurd (cc)
+heard_above (Some low) None stamp h most n e = absurd h
+heard_above (Some low) (Some last) stamp h most n e =
+    let same = some_is e in
+    let under = most last refl in
+    omega arith
+
 -- what a node sends at an order
 data Says {Core : Type 0} (clock : ℕ) (link : Link) (r : CoreStep Core) (answer : PlanMsg) : Type 0 where
   Spent : steps clock link r ≡ None → Says clock link r answer
@@ -122,7 +131,8 @@ orders_say clock link r answer is =
     (ap (λ z. steps clock link (record r { answer = z })) is)
 
 module _ (s : WorldState) (g : Sound s) (dp sp : ℕ) (d : Side DroneState) (t : Side StationState) (d_there : slice_get s.nodes dp ≡ Some (Drone d)) (t_there : slice_get s.nodes sp ≡ Some (Station t))
-    (kind : PlanKind) (valid : IsValid (number_of kind) s.draft) (accepted : upload_refusal t.core (number_of kind) s.draft ≡ None) (free : is_other d.core.upload (stream_of t.core.me) ≡ false) where
+    (kind : PlanKind) (valid : IsValid (number_of kind) s.draft) (accepted : upload_refusal t.core (number_of kind) s.draft ≡ None) (free : is_other d.core.upload (stream_of t.core.me) ≡ false)
+    (heard : HasHeard (low_of d.link.history) (last_of (stream_of (drone_name d.core.sys)) t.link.history)) where
   abbrev sys : ℕ
   sys = d.core.sys
 
@@ -133,10 +143,10 @@ module _ (s : WorldState) (g : Sound s) (dp sp : ℕ) (d : Side DroneState) (t :
   number = number_of kind
 
   d_named : node_name (Drone d) ≡ drone_name sys
-  d_named = let core = g.cores dp (Drone d) d_there in name_is (node_name (Drone d)) (drone_name sys) (sym core.1) core.2
+  d_named = let core = g.cores dp (Drone d) d_there in name_is (node_name (Drone d)) (drone_name sys) (sym core.sys) core.comp
 
   t_named : node_name (Station t) ≡ me
-  t_named = sym (g.cores sp (Station t) t_there).1
+  t_named = sym (g.cores sp (Station t) t_there).me
 
   abbrev upload : Upload
   upload = upload_of sys me kind s.draft valid
@@ -149,7 +159,7 @@ module _ (s : WorldState) (g : Sound s) (dp sp : ℕ) (d : Side DroneState) (t :
   room =
       let core = g.cores dp (Drone d) d_there in
       let few = few_streams s g dp (Drone d) d_there in
-      let less = room_for d.link.history d.core core.3 in
+      let less = room_for d.link.history d.core core.roomy in
       full (not (is_some (result_of d.core.results (stream_of me)))) (nat_lt (length d.core.results) most_results) (lt-ltb (length d.core.results) most_results (omega arith))
     where
       full : (a b : Bool) → b ≡ true → (a && not b) ≡ false
@@ -202,6 +212,9 @@ module _ (s : WorldState) (g : Sound s) (dp sp : ℕ) (d : Side DroneState) (t :
   abbrev stamp : ℕ
   stamp = next_in t.link.history s.clock
 
+  stamp_above : IsAbove d.link.history stamp
+  stamp_above = heard_above (low_of d.link.history) (last_of (stream_of (drone_name sys)) t.link.history) stamp heard (last_next (stream_of (drone_name sys)) t.link.history s.clock)
+
   -- the step of the core, and the station after it
   abbrev does_so : StationStep
   does_so = begin_upload t.core (stream_of (drone_name sys)) number s.draft
@@ -233,6 +246,7 @@ module _ (s : WorldState) (g : Sound s) (dp sp : ℕ) (d : Side DroneState) (t :
       station_named = t_named;
       drone_is = b.drone_is;
       station_is = station_untold sys me kind s.draft valid b.stage does_so.station b.station_is;
+      above = subst (IsAbove d.link.history) (sym (sending_is t.link.history stamp)) stamp_above;
       flies = record {
         frame = packet;
         found = last_there s.sent packet;
@@ -241,6 +255,7 @@ module _ (s : WorldState) (g : Sound s) (dp sp : ℕ) (d : Side DroneState) (t :
         carries = carries;
         recent = next_recent t.link.history s.clock;
         fresh = fresh (is_up b.stage) b.up;
+        above = subst (λ up. IsAbove (listener sys me kind s.draft valid dp sp up d.link new.link).history stamp) (sym b.up) stamp_above;
       };
       asides = λ i q le e ne. elim (at_end s.sent packet q i e) [
         | inl old ↦ let inside = within s.sent i q old in absurd (omega arith)
@@ -277,7 +292,7 @@ module _ (s : WorldState) (g : Sound s) (dp sp : ℕ) (d : Side DroneState) (t :
       let events = Sends packet (message_of_plan m) ∷ last in
       let link = g.links sp (Station t) t_there in
       let d_link = g.links dp (Drone d) d_there in
-      let sys_is : sys ≡ d.link.me.sys = (g.cores dp (Drone d) d_there).1 in
+      let sys_is : sys ≡ d.link.me.sys = (g.cores dp (Drone d) d_there).sys in
       let me_is = d_link.me in
       let known : NameInRange (drone_name sys) = record { sys = omega arith; comp = omega arith } in
       let small = number_of-bound kind in

@@ -7,6 +7,7 @@ use Rattle.plan_items.specs.Kinds.{number_of}
 use Rattle.plan_items.specs.Validation.{IsValid}
 use Rattle.plan_upload.specs.Drone.{is_other}
 use Rattle.plan_upload.specs.Refusals.{upload_refusal}
+use Rattle.mav_sign.specs.History.{low_of, last_of}
 use Rattle.scenario_lines.specs.declared.lines.Line.TheVariants.{Begin, Flow}
 use Rattle.scenario_lines.specs.Grammar.{line_of}
 use Rattle.scenario_lines.specs.LineContext.{drone_name}
@@ -17,7 +18,7 @@ use Rattle.fleet_world.specs.Authentic.{UnlessStopped, AuthenticLines, Authentic
 use Rattle.fleet_invariants.specs.Sound.{Sound}
 use Rattle.fleet_invariants.proofs.Tests.{name_is}
 use Rattle.fleet_invariants.proofs.Plays.{sound_start, sound_lines}
-use Rattle.fleet_liveness.specs.Uncontended.{Upload, NextLine, Whole, Last, text_of, Lines, HaveLines, before, begun, next_played, flowed, IsUncontended, Installs, IsInstalled}
+use Rattle.fleet_liveness.specs.Uncontended.{Upload, NextLine, Whole, Last, text_of, Lines, HaveLines, before, begun, next_played, flowed, HasHeard, IsUncontended, Installs, IsInstalled}
 use Rattle.fleet_liveness.proofs.Begun.{begin_leads}
 use Rattle.fleet_liveness.proofs.Onward.{line_done, last_done, Done, goes_done, Grows, grows_same, grows_then, lines_grow, end_grows, unless_none, one_line, front_and}
 
@@ -106,13 +107,14 @@ module _ (key : List ℕ) (ended : Bool) (bytes : List ℕ) (authentic : Authent
       let drones = drones_in s.nodes in
       let d_core = sound.cores h.is_free.index (Drone d) h.is_free.found in
       let t_core = sound.cores h.accepts.index (Station t) h.accepts.found in
-      let station_is : t.core.me ≡ u.station = t_core.1 ∙ h.accepts.named in
-      let drone_is : drone_name d.core.sys ≡ u.drone = name_is (drone_name d.core.sys) (node_name (Drone d)) d_core.1 (sym d_core.2) ∙ h.is_free.named in
+      let station_is : t.core.me ≡ u.station = t_core.me ∙ h.accepts.named in
+      let drone_is : drone_name d.core.sys ≡ u.drone = name_is (drone_name d.core.sys) (node_name (Drone d)) d_core.sys (sym d_core.comp) ∙ h.is_free.named in
       let valid : IsValid (number_of u.kind) s.draft = subst (IsValid (number_of u.kind)) (sym h.plan_is) h.valid in
       let accepted : upload_refusal t.core (number_of u.kind) s.draft ≡ None = subst (λ x. upload_refusal t.core (number_of u.kind) x ≡ None) (sym h.plan_is) h.accepts.accepted in
       let free : is_other d.core.upload (stream_of t.core.me) ≡ false = subst (λ x. is_other d.core.upload (stream_of x) ≡ false) (sym station_is) h.is_free.free in
+      let heard : HasHeard (low_of d.link.history) (last_of (stream_of (drone_name d.core.sys)) t.link.history) = subst (λ x. HasHeard (low_of d.link.history) (last_of (stream_of x) t.link.history)) (sym drone_is) h.heard in
       subst (λ v. IfOk (after_line s (Begin v.station v.drone v.kind)) (LeadsOn drones v)) (upload_is u t.core.me (drone_name d.core.sys) s.draft station_is drone_is h.plan_is)
-      (begin_leads s sound h.is_free.index h.accepts.index d t h.is_free.found h.accepts.found u.kind valid accepted free)
+      (begin_leads s sound h.is_free.index h.accepts.index d t h.is_free.found h.accepts.found u.kind valid accepted free heard)
 
   begin_line : Done (LeadsOn (drones_in first.state.nodes) u) first (after_line first.state (Begin u.station u.drone u.kind))
   begin_line = goes_done (LeadsOn (drones_in first.state.nodes) u) first (after_line first.state (Begin u.station u.drone u.kind)) (ap (λ (q : Played). q.stop) (sym begin_goes) ∙ h.begin_done) begin_on

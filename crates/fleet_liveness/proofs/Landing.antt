@@ -172,6 +172,7 @@ module _ (sys : ℕ) (me : Name) (kind : PlanKind) (plan : List Item) (valid : I
     station_named = w.station_named;
     drone_is = w.drone_is;
     station_is = w.station_is;
+    above = w.above;
     flies = record {
       frame = w.flies.frame;
       found = w.flies.found;
@@ -180,6 +181,7 @@ module _ (sys : ℕ) (me : Name) (kind : PlanKind) (plan : List Item) (valid : I
       carries = w.flies.carries;
       recent = w.flies.recent;
       fresh = w.flies.fresh;
+      above = w.flies.above;
     };
     asides = λ j q le e ne. w.asides j q (omega arith) e ne;
   }

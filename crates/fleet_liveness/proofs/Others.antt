@@ -14,7 +14,7 @@ use Rattle.plan_upload.specs.Drone.{DroneState, DroneStep, rests, drone_step}
 use Rattle.plan_upload.specs.Station.{StationState, Told, stays, station_step, untold}
 use Rattle.mav_frame.specs.Packet.{Packet}
 use Rattle.mav_frame.specs.Encoding.{encoding}
-use Rattle.mav_sign.specs.History.{answer_to, last_of}
+use Rattle.mav_sign.specs.History.{answer_to, last_of, low_of, previous_in}
 use Rattle.mav_nodes.specs.Links.{Link, tries}
 use Rattle.mav_nodes.specs.Nodes.{drone_core, station_core, change_events, station_does, told_events}
 use Rattle.mav_nodes.specs.Steps.{Side, CoreStep}
@@ -23,9 +23,9 @@ use Rattle.fleet_world.specs.WorldState.{WorldState, Node, Drone, Station, strea
 use Rattle.fleet_world.specs.Steps.{Step, packets_in, node_receives, node_does}
 use Rattle.fleet_invariants.specs.Sound.{Holds, Sound}
 use Rattle.fleet_invariants.proofs.Lists.{set_there, set_elsewhere, more_there, in_either, some_is, nowhere, IsAt}
-use Rattle.fleet_invariants.proofs.Histories.{Leaves, Nothing, Stamp, leaves}
+use Rattle.fleet_invariants.proofs.Histories.{Leaves, Nothing, Stamp, leaves, trying_previous}
 use Rattle.fleet_liveness.proofs.Hearing.{Carries}
-use Rattle.fleet_liveness.proofs.States.{same_place}
+use Rattle.fleet_liveness.proofs.States.{IsAbove, low_tried, same_place}
 use Rattle.fleet_liveness.proofs.Steps.{Moves, moved, weaker}
 use Rattle.fleet_liveness.proofs.Given.{drones, stations, Still, still}
 use Rattle.fleet_liveness.proofs.Stages.{Stage, is_up, DroneIs, StationIs, station_untold}
@@ -36,8 +36,8 @@ pub last_kept : (key : List ℕ) (link : Link) (q : Packet) (name : Name) → na
 last_kept key link q name ne l e = by_leaves (leaves link.history q (answer_to link.key link.history q) q.block refl)
   where
     by_leaves : Leaves link.history (tries q link).history q (answer_to link.key link.history q) → last_of (stream_of name) link.history ≡ Some l
-    by_leaves (Nothing none) = sym (none.lasts (stream_of name)) ∙ e
-    by_leaves (Stamp block admitted signed h accepted) = elim (h (stream_of name) l e) [
+    by_leaves (Nothing none _) = sym (none.lasts (stream_of name)) ∙ e
+    by_leaves (Stamp block admitted signed h accepted _) = elim (h (stream_of name) l e) [
       | inl old ↦ old
       | inr new ↦ absurd (ne (ap node_of new.0))
     ]
@@ -102,13 +102,20 @@ module _ (sys : ℕ) (me : Name) (kind : PlanKind) (plan : List Item) (valid : I
     abbrev pub station_holds : Holds s.nodes me
     station_holds = record { index = sp; node = Station w.station; found = w.station_there; name_is = w.station_named }
 
+    -- the low bounds of the two stay
+    above_up : (b : Bool) (d t : Link) → low_of d.history ≡ low_of w.drone.link.history → low_of t.history ≡ low_of w.station.link.history
+        → IsAbove (hears_it b w.drone.link w.station.link).history w.flies.stamp → IsAbove (hears_it b d t).history w.flies.stamp
+    above_up true d t h k old low e = old low (sym h ∙ e)
+    above_up false d t h k old low e = old low (sym k ∙ e)
+
     -- with these nodes and frames
     goes_on : (j : ℕ) (b : Node) (packets : List Packet) → Sound (moved s j b packets)
         → (d : Side DroneState) → slice_get (slice_set s.nodes j b) dp ≡ Some (Drone d) → d.link.me ≡ w.drone.link.me → d.core ≡ w.drone.core
         → (t : Side StationState) → slice_get (slice_set s.nodes j b) sp ≡ Some (Station t) → t.link.me ≡ w.station.link.me → StationIs sys me kind plan valid p t.core
+        → low_of d.link.history ≡ low_of w.drone.link.history → low_of t.link.history ≡ low_of w.station.link.history → previous_in t.link.history ≡ previous_in w.station.link.history
         → ((l : ℕ) → last_of (stream_of (sends_it (is_up p))) (hears_it (is_up p) d.link t.link).history ≡ Some l → l < w.flies.stamp)
         → ((q : Packet) → IsAt packets q → Aside s.key q) → IsWaiting (moved s j b packets) r p
-    goes_on j b packets sound d d_there d_me d_core t t_there t_me t_is fresh new = record {
+    goes_on j b packets sound d d_there d_me d_core t t_there t_me t_is d_low t_low previous fresh new = record {
       sound = sound;
       drone = d;
       drone_there = d_there;
@@ -118,6 +125,7 @@ module _ (sys : ℕ) (me : Name) (kind : PlanKind) (plan : List Item) (valid : I
       station_named = ap node_of t_me ∙ w.station_named;
       drone_is = subst (DroneIs sys me kind plan valid p) (sym d_core) w.drone_is;
       station_is = t_is;
+      above = λ low e. subst (λ n. low < n) (sym previous) (w.above low (sym d_low ∙ e));
       flies = record {
         frame = w.flies.frame;
         found = more_there s.sent packets w.flies.frame r w.flies.found;
@@ -126,6 +134,7 @@ module _ (sys : ℕ) (me : Name) (kind : PlanKind) (plan : List Item) (valid : I
         carries = w.flies.carries;
         recent = w.flies.recent;
         fresh = fresh;
+        above = above_up (is_up p) d.link t.link d_low t_low w.flies.above;
       };
       asides = λ i q le e ne. elim (in_either s.sent packets q i e) [ inl h ↦ w.asides i q le h ne | inr h ↦ new q h ];
     }
@@ -144,7 +153,7 @@ module _ (sys : ℕ) (me : Name) (kind : PlanKind) (plan : List Item) (valid : I
     pub near_other : (j : ℕ) (b : Node) (packets : List Packet) (events : List Event) (t : Step) → j ≢ dp → j ≢ sp → Moves s j b packets events t → ((q : Packet) → IsAt packets q → Aside s.key q) → Near s (length packets) r p t
     near_other j b packets events t nd ns h new = near_moved j b packets events t h (λ sound.
         goes_on j b packets sound w.drone (set_elsewhere s.nodes j dp b (λ e. nd (sym e)) ∙ w.drone_there) refl refl
-        w.station (set_elsewhere s.nodes j sp b (λ e. ns (sym e)) ∙ w.station_there) refl w.station_is w.flies.fresh new)
+        w.station (set_elsewhere s.nodes j sp b (λ e. ns (sym e)) ∙ w.station_there) refl w.station_is refl refl refl w.flies.fresh new)
 
     module _ (i : ℕ) (f : Packet) (found : slice_get s.sent i ≡ Some f) (stamp : ℕ) (m : PlanMsg) (c : Carries s.key f stamp m) (name : Name) where
       abbrev Given : ℕ → Node → ℕ → Type 0
@@ -203,7 +212,7 @@ module _ (sys : ℕ) (me : Name) (kind : PlanKind) (plan : List Item) (valid : I
           (λ t h. let d : Side DroneState = record { link = tries f w.drone.link; core = w.drone.core } in
           near_moved dp (Drone d) [] h.events t h.moves (λ sound.
           goes_on dp (Drone d) [] sound d (set_there s.nodes dp (Drone w.drone) (Drone d) w.drone_there) refl refl
-          w.station (set_elsewhere s.nodes dp sp (Drone d) (λ e. apart_indices (sym e)) ∙ w.station_there) refl w.station_is
+          w.station (set_elsewhere s.nodes dp sp (Drone d) (λ e. apart_indices (sym e)) ∙ w.station_there) refl w.station_is (low_tried w.drone.link f) refl refl
           (fresh_up (is_up p) ne d.link w.station.link (inr refl) (inl refl) w.flies.fresh) (λ q at. absurd (no_packet q at))))
           (drone_still dp w.drone w.drone_there is)
 
@@ -212,7 +221,7 @@ module _ (sys : ℕ) (me : Name) (kind : PlanKind) (plan : List Item) (valid : I
           let y : Side StationState = record { link = tries f w.station.link; core = core } in
           near_moved sp (Station y) [] h.events t h.moves (λ sound.
           goes_on sp (Station y) [] sound w.drone (set_elsewhere s.nodes sp dp (Station y) apart_indices ∙ w.drone_there) refl refl
-          y (set_there s.nodes sp (Station w.station) (Station y) w.station_there) refl is
+          y (set_there s.nodes sp (Station w.station) (Station y) w.station_there) refl is refl (low_tried w.station.link f) (trying_previous w.station.link.history f (answer_to w.station.link.key w.station.link.history f))
           (fresh_up (is_up p) ne w.drone.link y.link (inl refl) (inr refl) w.flies.fresh) (λ q at. absurd (no_packet q at)))
 
       pub own_station : f.from ≢ sends_it (is_up p) → station_step w.station.core (stream_of f.from) m ≡ stays w.station.core → Given sp (Station w.station) 0

@@ -31,7 +31,7 @@ use Rattle.fleet_report.specs.Events.{Event}
 use Rattle.fleet_world.specs.WorldState.{WorldState, Node, Drone, Station, node_name, named, names_of}
 use Rattle.fleet_world.specs.Steps.{Step, StepError, rests, packets_in, node_receives, node_does, most_frames, given_to, given_from, given_to_all, flow_next, flows}
 use Rattle.fleet_world.specs.Steps as world
-use Rattle.fleet_invariants.specs.Sound.{link_of, Sound}
+use Rattle.fleet_invariants.specs.Sound.{ahead, link_of, Sound}
 use Rattle.fleet_invariants.specs.Kept.{Keeps}
 use Rattle.fleet_invariants.proofs.Calls.{sound_does}
 use Rattle.fleet_invariants.proofs.Heard.{heard_is, sent_known}
@@ -162,10 +162,11 @@ module _ (s : WorldState) (g : Sound s) (i : ℕ) (p : Packet) (found : slice_ge
   stamp_left j y there =
       let link = g.links j y there in
       let after = tries p (link_of y) in
-      let near = (link_tries s (steady_of s g) (link_of y) link p (λ _. record { index = i; found = found })).local in
+      let near = (link_tries s (steady_of s g) (link_of y) link p (λ _. record { index = i; found = found })).moves.local in
       let clock = g.clock in
       let frames = g.frames in
-      let next = next_near (previous_in after.history) s.clock (accepted_in after.history) (local_of after.history) (s.clock + length s.sent) (previous_local after.history) (accepted_local after.history) (omega arith) (omega arith) in
+      let restarts = g.restarts in
+      let next = next_near (previous_in after.history) s.clock (accepted_in after.history) (local_of after.history) (s.clock + ahead s) (previous_local after.history) (accepted_local after.history) (omega arith) (omega arith) in
       omega arith
 
   node_short : (j : ℕ) (y : Node) → slice_get s.nodes j ≡ Some y → Short (node_receives s.clock (encoding p) y)

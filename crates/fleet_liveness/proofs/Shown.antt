@@ -53,6 +53,7 @@ whole_line key ended = record {
   valid = valid;
   accepts = record { index = 1; station = _; found = refl; named = refl; accepted = refl };
   is_free = record { index = 0; drone = _; found = refl; named = refl; free = refl };
+  heard = tt;
   frames = 9;
   flows = refl;
   enough = omega arith;
@@ -70,6 +71,7 @@ last_line key = record {
   valid = valid;
   accepts = record { index = 1; station = _; found = refl; named = refl; accepted = refl };
   is_free = record { index = 0; drone = _; found = refl; named = refl; free = refl };
+  heard = tt;
   frames = 9;
   flows = refl;
   enough = omega arith;

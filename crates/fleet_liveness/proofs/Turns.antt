@@ -25,9 +25,10 @@ use Rattle.fleet_report.specs.Events.{Event}
 use Rattle.fleet_world.specs.WorldState.{WorldState, Node, Drone, Station, node_name, stream_of, names_of}
 use Rattle.fleet_world.specs.Steps.{Step, packets_in, reported_by, node_receives, node_does}
 use Rattle.fleet_invariants.specs.Sound.{Holds, Sound}
+use Rattle.fleet_invariants.proofs.Histories.{sending_is}
 use Rattle.fleet_invariants.proofs.Lists.{set_there, set_elsewhere, at_end, last_there}
 use Rattle.fleet_liveness.proofs.Hearing.{Carries}
-use Rattle.fleet_liveness.proofs.States.{drone_leaves, station_leaves, station_leaves_ping, is_admitted, last_before, next_fresh, next_recent}
+use Rattle.fleet_liveness.proofs.States.{IsAbove, low_tried, low_sent, station_above, drone_leaves, station_leaves, station_leaves_ping, is_admitted, last_before, next_fresh, next_recent}
 use Rattle.fleet_liveness.proofs.Steps.{moved, weaker}
 use Rattle.fleet_liveness.proofs.Given.{drones, stations, Said, said, unless_still, ends_so}
 use Rattle.fleet_liveness.proofs.Stages.{Stage, Acks, is_up, is_last, is_ping, message_of, costs, DroneGoes, drone_goes, StationGoes, station_goes, station_ends, station_untold, for_one, ping_of, is_carried}
@@ -157,6 +158,9 @@ module _ (sys : ℕ) (me : Name) (kind : PlanKind) (plan : List Item) (valid : I
         (ap (λ x. last_of (stream_of (sends_it (is_up p))) (hears_it x w.drone.link w.station.link).history) e
         ∙ ap (λ n. last_of (stream_of n) (hears_it b w.drone.link w.station.link).history) (sym w.flies.from) ∙ h)
 
+    above_at : (b : Bool) → is_up p ≡ b → IsAbove (hears_it b w.drone.link w.station.link).history w.flies.stamp
+    above_at b e = subst (λ x. IsAbove (hears_it x w.drone.link w.station.link).history w.flies.stamp) e w.flies.above
+
     old_aside : (given_on : r < s.given) (packet : Packet) (i : ℕ) (q : Packet) → s.given ≤ i → slice_get (s.sent ++ packet ∷ []) i ≡ Some q → i ≢ length s.sent → Aside s.key q
     old_aside given_on packet i q le e ne = elim (at_end s.sent packet q i e) [
       | inl old ↦ w.asides i q le old (λ z. absurd (omega arith))
@@ -197,6 +201,7 @@ module _ (sys : ℕ) (me : Name) (kind : PlanKind) (plan : List Item) (valid : I
         station_named = w.station_named;
         drone_is = goes.drone_is;
         station_is = goes.station_is w.station.core w.station_is;
+        above = λ low e. w.above low (sym (low_sent drone_after drone_stamp ∙ low_tried w.drone.link f) ∙ e);
         flies = record {
           frame = h.packet;
           found = last_there s.sent h.packet;
@@ -209,6 +214,7 @@ module _ (sys : ℕ) (me : Name) (kind : PlanKind) (plan : List Item) (valid : I
               let below = last_before s w.sound sp dp (Station w.station) (Drone w.drone) w.station_there w.drone_there (sends_it false) w.drone_named l old in
               let above = next_fresh s.key w.drone.link f s.clock in
               omega arith;
+          above = subst (λ b. IsAbove (hears_it b drone_new.link w.station.link).history drone_stamp) (sym goes.down) (station_above s w.sound sp w.station w.station_there drone_stamp);
         };
         asides = old_aside given_on h.packet;
       }
@@ -238,7 +244,7 @@ module _ (sys : ℕ) (me : Name) (kind : PlanKind) (plan : List Item) (valid : I
       drone_turn =
           weaker DroneSaid Moved (node_does s dp (node_name (Drone w.drone)) (node_receives s.clock (encoding f) (Drone w.drone))) drone_moved
           (said s w.sound r f w.flies.found w.flies.stamp m w.flies.carries drone_core drones dp w.drone w.drone_there (node_name (Drone w.drone))
-          (is_admitted s w.sound dp (Drone w.drone) w.drone_there f w.flies.stamp m w.flies.carries w.flies.recent (fresh_at true up))
+          (is_admitted s w.sound dp (Drone w.drone) w.drone_there f w.flies.stamp m w.flies.carries w.flies.recent (fresh_at true up) (above_at true up))
           drone_took drone_takes_it (says goes.next) goes.answer (ap packets_in goes.event ∙ no_frames sys me kind plan valid goes.next) refl (carried goes.next))
 
     -- the station takes it
@@ -247,7 +253,7 @@ module _ (sys : ℕ) (me : Name) (kind : PlanKind) (plan : List Item) (valid : I
       from_drone = w.flies.from ∙ ap sends_it down
 
       station_admits : answer_to w.station.link.key w.station.link.history f ≡ Admitted
-      station_admits = is_admitted s w.sound sp (Station w.station) w.station_there f w.flies.stamp m w.flies.carries w.flies.recent (fresh_at false down)
+      station_admits = is_admitted s w.sound sp (Station w.station) w.station_there f w.flies.stamp m w.flies.carries w.flies.recent (fresh_at false down) (above_at false down)
 
       station_takes : (q : StationStep) → station_step w.station.core (stream_of (sends_it false)) m ≡ q → station_core w.station.core (stream_of f.from) m ≡ station_does q
       station_takes q is = ap (λ n. station_core w.station.core (stream_of n) m) from_drone ∙ ap station_does is
@@ -268,6 +274,12 @@ module _ (sys : ℕ) (me : Name) (kind : PlanKind) (plan : List Item) (valid : I
         abbrev station_new : Side StationState
         station_new = record { link = sent_at station_stamp station_after; core = untold does_it.step.station }
 
+        stamp_above : IsAbove w.drone.link.history station_stamp
+        stamp_above low e =
+            let below = w.above low e in
+            let above = next_fresh s.key w.station.link f s.clock in
+            omega arith
+
         station_waits : (t : Step) (h : StationSaid t) → Sound (moved s sp (Station station_new) (h.packet ∷ [])) → IsWaiting (moved s sp (Station station_new) (h.packet ∷ [])) (length s.sent) does_it.next
         station_waits t h sound = record {
           sound = sound;
@@ -279,6 +291,7 @@ module _ (sys : ℕ) (me : Name) (kind : PlanKind) (plan : List Item) (valid : I
           station_named = w.station_named;
           drone_is = does_it.drone_is w.drone.core w.drone_is;
           station_is = station_untold sys me kind plan valid does_it.next does_it.step.station does_it.station_is;
+          above = subst (IsAbove w.drone.link.history) (sym (sending_is station_after.history station_stamp)) stamp_above;
           flies = record {
             frame = h.packet;
             found = last_there s.sent h.packet;
@@ -291,6 +304,7 @@ module _ (sys : ℕ) (me : Name) (kind : PlanKind) (plan : List Item) (valid : I
                 let below = last_before s w.sound dp sp (Drone w.drone) (Station w.station) w.drone_there w.station_there me w.station_named l old in
                 let above = next_fresh s.key w.station.link f s.clock in
                 omega arith;
+            above = subst (λ b. IsAbove (hears_it b w.drone.link station_new.link).history station_stamp) (sym does_it.up) stamp_above;
           };
           asides = old_aside given_on h.packet;
         }

@@ -9,13 +9,14 @@ use Rattle.plan_items.specs.Validation.{IsValid}
 use Rattle.plan_upload.specs.Drone.{DroneState}
 use Rattle.plan_upload.specs.Station.{StationState}
 use Rattle.mav_frame.specs.Packet.{Packet}
-use Rattle.mav_sign.specs.History.{last_of}
+use Rattle.mav_sign.specs.History.{last_of, previous_in}
 use Rattle.mav_nodes.specs.Links.{Link}
 use Rattle.mav_nodes.specs.Steps.{Side}
 use Rattle.scenario_lines.specs.LineContext.{drone_name}
 use Rattle.fleet_world.specs.WorldState.{WorldState, Drone, Station, node_name, stream_of}
 use Rattle.fleet_invariants.specs.Sound.{Sound}
 use Rattle.fleet_liveness.proofs.Hearing.{Carries}
+use Rattle.fleet_liveness.proofs.States.{IsAbove}
 use Rattle.fleet_liveness.proofs.Stages.{Stage, is_up, message_of, DroneIs, StationIs}
 
 module _ (sys : ℕ) (me : Name) (kind : PlanKind) (plan : List Item) (valid : IsValid (number_of kind) plan) (dp sp : ℕ) where
@@ -49,6 +50,7 @@ module _ (sys : ℕ) (me : Name) (kind : PlanKind) (plan : List Item) (valid : I
     pub carries : Carries s.key frame stamp (message_of sys me kind plan valid p)
     pub recent : s.clock ≤ stamp
     pub fresh : (l : ℕ) → last_of (stream_of (sender (is_up p))) link.history ≡ Some l → l < stamp
+    pub above : IsAbove link.history stamp
 
   pub record Waits (s : WorldState) (r : ℕ) (p : Stage plan) : Type 0 where
     pub sound : Sound s
@@ -60,5 +62,7 @@ module _ (sys : ℕ) (me : Name) (kind : PlanKind) (plan : List Item) (valid : I
     pub station_named : node_name (Station station) ≡ me
     pub drone_is : DroneIs sys me kind plan valid p drone.core
     pub station_is : StationIs sys me kind plan valid p station.core
+    -- the station's next timestamps are above the low bound of a drone that has started again
+    pub above : IsAbove drone.link.history (previous_in station.link.history)
     pub flies : Flies s (listener (is_up p) drone.link station.link) r p
     pub asides : (j : ℕ) (q : Packet) → s.given ≤ j → slice_get s.sent j ≡ Some q → j ≢ r → IsAside s.key q

@@ -3,7 +3,7 @@ use Rattle.std.specs.Prelude.{ℕ, ◌||◌, Bool, true, false, List, [], ◌∷
 use Rattle.plan_items.specs.declared.items.Item.{Item}
 use Rattle.plan_items.specs.declared.kinds.PlanKind.TheVariants.{Mission}
 use Rattle.plan_upload.specs.Station.{Told, Told_installed, Told_not_installed, Told_unknown, Told_cleared, Told_got, Told_ended}
-use Rattle.fleet_report.specs.Events.{Event, Sent, Installed, Emptied, Dropped, Missing, Refused, Ended}
+use Rattle.fleet_report.specs.Events.{Event, Sent, Installed, Emptied, Dropped, Missing, Restarted, Refused, Ended}
 use Rattle.fleet_liveness.specs.Uncontended.{Lines, NextLine, Upload}
 
 -- a drone, a station, and one item or two
@@ -56,5 +56,6 @@ acknowledges (Installed drone kind items by ∷ es) = acknowledges es
 acknowledges (Emptied drone kind ∷ es) = acknowledges es
 acknowledges (Dropped node answer ∷ es) = acknowledges es
 acknowledges (Missing number ∷ es) = acknowledges es
+acknowledges (Restarted drone ∷ es) = acknowledges es
 acknowledges (Refused station why ∷ es) = acknowledges es
 acknowledges (Ended station told ∷ es) = is_installed told || acknowledges es

@@ -1,6 +1,6 @@
 -- An uncontended upload, as a scenario's bytes have it: a begin line of a valid plan, with a long enough
 -- flow as the very next line. And what then happens within that flow line.
-use Rattle.std.specs.Prelude.{◌≡◌, ℕ, ◌+◌, ◌*◌, ◌≤◌, Bool, true, false, List, [], ◌∷◌, ◌++◌, length, slice_get, Some, None}
+use Rattle.std.specs.Prelude.{◌≡◌, ℕ, ◌+◌, ◌*◌, ◌<◌, ◌≤◌, Bool, true, false, List, [], ◌∷◌, ◌++◌, length, slice_get, Option, Some, None}
 use Rattle.mav_names.specs.declared.names.Name.{Name}
 use Rattle.plan_items.specs.declared.items.Item.{Item}
 use Rattle.plan_items.specs.declared.kinds.PlanKind.{PlanKind}
@@ -9,6 +9,7 @@ use Rattle.plan_items.specs.Validation.{IsValid}
 use Rattle.plan_upload.specs.Drone.{DroneState, is_other}
 use Rattle.plan_upload.specs.Station.{StationState, Told_installed}
 use Rattle.plan_upload.specs.Refusals.{upload_refusal}
+use Rattle.mav_sign.specs.History.{low_of, last_of}
 use Rattle.mav_nodes.specs.Steps.{Side}
 use Rattle.scenario_lines.specs.declared.lines.Line.TheVariants.{Begin, Flow}
 use Rattle.scenario_lines.specs.Grammar.{line_of}
@@ -74,7 +75,14 @@ pub record IsFree (s : WorldState) (u : Upload) : Type 0 where
   pub named : node_name (Drone drone) ≡ u.drone
   pub free : is_other drone.core.upload (stream_of u.station) ≡ false
 
--- an accepted upload of a valid plan to a free drone, whose flow line is long enough. Up to that line the scenario
+-- a drone that has started again admits what is later than its low bound: the station has admitted a frame of it that it
+-- sent since, and so one above that bound
+abbrev pub HasHeard : Option ℕ → Option ℕ → Type 0
+HasHeard None last = Unit {0}
+HasHeard (Some low) None = ⊥
+HasHeard (Some low) (Some last) = low < last
+
+-- an accepted upload of a valid plan to a free drone, which the station has heard, and whose flow line is long enough. Up to that line the scenario
 -- wasn't stopped, neither by a line nor by a limit
 pub record IsUncontended (key : List ℕ) (ended : Bool) (bytes : List ℕ) (l : Lines) (u : Upload) : Type 0 where
   pub lines : HaveLines ended bytes l.front l.begin l.flow
@@ -86,6 +94,7 @@ pub record IsUncontended (key : List ℕ) (ended : Bool) (bytes : List ℕ) (l :
   pub valid : IsValid (number_of u.kind) u.plan
   pub accepts : Accepts (before key l).state u
   pub is_free : IsFree (before key l).state u
+  pub heard : HasHeard (low_of is_free.drone.link.history) (last_of (stream_of u.drone) accepts.station.link.history)
   pub frames : ℕ
   pub flows : line_of (text_of l.flow) ≡ Flow frames
   pub enough : 2 * length u.plan + 6 + drones_in (before key l).state.nodes ≤ frames

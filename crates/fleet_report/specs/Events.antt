@@ -18,6 +18,7 @@ pub data Event : Type 0 where
   Emptied : (drone : Name) (kind : ℕ) → Event
   Dropped : (node : Name) (answer : Admit) → Event  -- a frame that the node didn't admit
   Missing : (number : ℕ) → Event  -- no frame of that number was sent
+  Restarted : (drone : Name) → Event  -- it starts again
   Refused : (station : Name) (why : OpFault) → Event
   Ended : (station : Name) (outcome : Told) → Event
 
@@ -35,6 +36,7 @@ event_text frames (Installed drone kind items by) =
 event_text frames (Emptied drone kind) = codes "clear " ++ name_text drone ++ space ++ kind_text kind ++ newline
 event_text frames (Dropped node answer) = codes "drop " ++ name_text node ++ space ++ decimal (code_of answer) ++ newline
 event_text frames (Missing number) = codes "no frame " ++ decimal number ++ newline
+event_text frames (Restarted drone) = codes "restart " ++ name_text drone ++ newline
 event_text frames (Refused station why) = codes "refused " ++ name_text station ++ space ++ refusal_text why ++ newline
 event_text frames (Ended station outcome) = codes "outcome " ++ name_text station ++ space ++ outcome_text outcome
 

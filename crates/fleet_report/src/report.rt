@@ -8,7 +8,7 @@ ghost use Rattle.mav_frame.specs.Encoding.{encoding};
 ghost use Rattle.hex.specs.Hex.{encode_lower};
 ghost use Rattle.std.specs.Fmt.{decimal};
 ghost use Rattle.fleet_report.specs.Texts.{newline};
-ghost use Rattle.fleet_report.specs.Events.{Sent, Installed, Emptied, Dropped, Missing, Refused, Ended, plan_text, frame_text};
+ghost use Rattle.fleet_report.specs.Events.{Sent, Installed, Emptied, Dropped, Missing, Restarted, Refused, Ended, plan_text, frame_text};
 ghost use Rattle.fleet_report.specs.Reports.{reported, with_text};
 
 use crate::NoMemory;
@@ -127,6 +127,13 @@ impl Report {
         ensures { OnOk result (self.new ≡ reported self.old (Missing number)) }
     {
         writeln!(self.text, "no frame {number}")
+    }
+
+    /// A drone starts again.
+    pub fn restarted(&mut self, drone: Name) -> Result<(), NoMemory>
+        ensures { OnOk result (self.new ≡ reported self.old (Restarted drone)) }
+    {
+        writeln!(self.text, "restart {}", NameText(drone))
     }
 
     /// A station refused a new operation.

@@ -1,5 +1,6 @@
 -- The calls of each line are the events that it causes, and no others.
 use Rattle.std.proofs.Common.{false, ◌≡◌, ℕ, zero, suc, ◌+◌, ◌-◌, ◌⊎◌, inl, inr, Bool, true, not, cond, nat_lt, List, [], ◌∷◌, ◌++◌, length, position, slice_get, Option, Some, None, Ok, Err, refl, sym, ap, subst, arith, ◌∙◌}
+use Rattle.std.specs.Prelude.{unwrap_or}
 use Rattle.std.specs.List.{position_or_len}
 use Rattle.std.specs.declared.result.Result.{Result}
 use Rattle.std.proofs.lemmas.List.{append-nil}
@@ -25,18 +26,20 @@ use Rattle.plan_safety.specs.World.{Begins, Clears, Gets, Cancels, Drone_ticks, 
 use Rattle.plan_safety.proofs.Keys.{by_test, bool_split, name_eq}
 use Rattle.mav_nodes.specs.News.{NodeEvent}
 use Rattle.mav_nodes.specs.Links.{Link, Outcome, behind, tries}
+use Rattle.mav_nodes.specs.LowBounds.{stored_low}
+use Rattle.mav_nodes.specs.Restarts.{restarted_drone}
 use Rattle.mav_nodes.specs.Payloads.{plan_in}
 use Rattle.mav_nodes.specs.Steps.{Side, CoreStep, answers, with_core, takes, admits, hears}
 use Rattle.mav_nodes.specs.Nodes.{drone_core, station_core, station_cancels, station_clears, station_gets}
 use Rattle.scenario_lines.specs.declared.lines.Line.{Line}
 use Rattle.scenario_lines.specs.declared.lines.Line.TheVariants as line
-use Rattle.fleet_world.specs.WorldState.{WorldState, Node, Drone, Station, node_name, stream_of, is_named, is_station_named}
-use Rattle.fleet_world.specs.Steps.{Step, StepError, as_drone, as_station, given_to, given_to_all, node_does, node_beats, node_ticks, station_line, orders, upload_begins}
+use Rattle.fleet_world.specs.WorldState.{WorldState, Node, Drone, Station, node_name, stream_of, is_named, is_drone_named, is_station_named}
+use Rattle.fleet_world.specs.Steps.{Step, StepError, as_drone, as_station, given_to, given_to_all, node_does, node_beats, node_ticks, station_line, restart_line, orders, upload_begins}
 use Rattle.fleet_invariants.specs.Sound.{link_of, Sound}
 use Rattle.fleet_invariants.proofs.Heard.{heard_is}
-use Rattle.fleet_safety.specs.Actions.{Action, Order, Accepts_upload, Accepts_clear, Accepts_get, moves, ticks, comes_to, accepted, cancelled, ticked, beaten, upload_at, clear_at, get_at, cancel_at, if_admitted, if_plan, if_sent, hearing, index_of, ordering, node_hears, state_with, at_index, if_found, at_node, and_next, at_station, if_ordered, to_station, acts, hears_then, frames_heard, datagram_heard, frame_given, row_given, flown, flow_actions, delivered, calls_of}
+use Rattle.fleet_safety.specs.Actions.{Action, Order, Accepts_upload, Accepts_clear, Accepts_get, moves, ticks, comes_to, accepted, cancelled, ticked, beaten, restarted_at, restarted, at_drone, if_drone, to_drone, upload_at, clear_at, get_at, cancel_at, if_admitted, if_plan, if_sent, hearing, index_of, ordering, node_hears, state_with, at_index, if_found, at_node, and_next, at_station, if_ordered, to_station, acts, hears_then, frames_heard, datagram_heard, frame_given, row_given, flown, flow_actions, delivered, calls_of}
 use Rattle.fleet_safety.specs.Safe.{events_of}
-use Rattle.fleet_safety.specs.Causes.{without_waits, AtMostOne, EachEvent, Of, Gives, Causes}
+use Rattle.fleet_safety.specs.Causes.{without_waits, AtMostOne, EachEvent, Of, Gives, StartsAgain, Causes}
 use Rattle.fleet_safety.proofs.Lists.{some_is}
 use Rattle.fleet_safety.proofs.Follows.{events_on}
 
@@ -138,6 +141,19 @@ to_station_has P s name order none h = by_place (position (is_station_named name
     by_node k (Some (Station a)) is e = h k a (name_eq (node_of a.link.me) name (passes_at (is_station_named name) s.nodes k (Station a) is e))
 
     by_place : (o : Option ℕ) → position (is_station_named name) s.nodes ≡ o → P (main (if_ordered s o order))
+    by_place None is = none
+    by_place (Some k) is = by_node k (slice_get s.nodes k) is refl
+
+-- and at the drone of a name
+to_drone_has : (P : List world.Event → Type 0) (number : ℕ) (s : WorldState) (name : Name) → P [] → ((k : ℕ) (a : Side DroneState) → node_of a.link.me ≡ name → P (main (restarted number s k a))) → P (main (to_drone number s name))
+to_drone_has P number s name none h = by_place (position (is_drone_named name) s.nodes) refl
+  where
+    by_node : (k : ℕ) (o : Option Node) → position (is_drone_named name) s.nodes ≡ Some k → slice_get s.nodes k ≡ o → P (main (at_drone number s k o))
+    by_node k None is e = none
+    by_node k (Some (Station a)) is e = none
+    by_node k (Some (Drone a)) is e = h k a (name_eq (node_of a.link.me) name (passes_at (is_drone_named name) s.nodes k (Drone a) is e))
+
+    by_place : (o : Option ℕ) → position (is_drone_named name) s.nodes ≡ o → P (main (if_drone number s o))
     by_place None is = none
     by_place (Some k) is = by_node k (slice_get s.nodes k) is refl
 
@@ -342,6 +358,20 @@ module _ (number : ℕ) where
       ticking (Drone a) is = inr (Drone_ticks a.link.me, refl, record { stream = a.link.me; name_is = is; is = inl refl })
       ticking (Station a) is = inr (Station_ticks a.link.me, refl, record { stream = a.link.me; name_is = is; is = inr refl })
   every_cause s (line.Clock n) = refl
+  every_cause s (line.Restart drone) = to_drone_has (λ es. (es ≡ []) ⊎ StartsAgain drone es) number (restart_line s) drone (inl refl) (λ k a is. inr (starting (restart_line s) drone k a is))
+    where
+      starting : (t : WorldState) (name : Name) (k : ℕ) (a : Side DroneState) → node_of a.link.me ≡ name → StartsAgain name (main (restarted number t k a))
+      starting t name k a is = record {
+        stream = a.link.me;
+        name_is = is;
+        low = unwrap_or (stored_low a.link.history) 0;
+        later = main (beaten number (restarted_at t k a) k (Drone (restarted_drone t.key a)));
+        is = refl;
+        beats =
+            let P : world.Event → Type 0 = λ e. (me : Stream) × (e ≡ Speaks me) in
+            let b : Side DroneState = restarted_drone t.key a in
+            acts_one (AtMostOne P) number (moves t.clock (Drone b) (Speaks b.link.me)) [] (node_does (restarted_at t k a) k (node_name (Drone b)) (node_beats t.clock (Drone b))) (inl refl) (one P (Speaks b.link.me) (b.link.me, refl));
+      }
 
   -- ---- a sent frame is heard alone, so that it comes once
 

@@ -13,7 +13,7 @@ use Rattle.fleet_safety.specs.Reporting.{seen, reported}
 use Rattle.fleet_safety.specs.Actions.{Action}
 use Rattle.fleet_safety.specs.Safe.{events_of, report_of, orders_of, state_after}
 use Rattle.fleet_safety.proofs.Reports.{final_on, reported_on, seen_on}
-use Rattle.fleet_safety.proofs.Own.{IsLasting, EachStep, each_on, Own}
+use Rattle.fleet_safety.proofs.Own.{Own}
 
 -- an action from a world on
 pub record Acts (n : Nodes) (w : World) (a : Action) : Type 0 where
@@ -100,12 +100,3 @@ history_back n w h (e ∷ es) =
     ∙ ap (λ g. history n v [] es ++ g) (steps_back v.sent v.news h)
     ∙ sym (append_assoc (history n v [] es) now h)
     ∙ ap (λ g. g ++ h) (sym (history_back n v now es))
-
--- none is a restart
-pub all_lasting : (n : Nodes) (w : World) (actions : List Action) → Follows n w actions → EachStep IsLasting (history n w [] (events_of actions))
-all_lasting n w [] f = tt
-all_lasting n w (a ∷ actions) f =
-    let v : World = final n w a.events in
-    let own : List Step = history n w [] a.events in
-    subst (EachStep IsLasting) (sym (history_on n w [] a.events (events_of actions) ∙ history_back n v own (events_of actions)))
-    (each_on IsLasting (history n v [] (events_of actions)) own (all_lasting n v actions f.1) f.0.own.lasting)

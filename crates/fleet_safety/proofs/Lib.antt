@@ -15,6 +15,7 @@ pub mod Stations
 pub mod Datagrams
 pub mod States
 pub mod Orders
+pub mod Restarting
 pub mod Lines
 pub mod Plays
 pub mod ReportedLines

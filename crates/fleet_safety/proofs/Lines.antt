@@ -17,18 +17,19 @@ use Rattle.scenario_lines.specs.LineContext.{has_name}
 use Rattle.scenario_lines.specs.Grammar.{against}
 use Rattle.scenario_lines.specs.Permits.{IsPermitted}
 use Rattle.fleet_world.specs.WorldState.{WorldState, Node, Drone, Station, node_name, stream_of, names_of, context_of, drones_in, stations_in}
-use Rattle.fleet_world.specs.Steps.{Step, StepError, node_ticks, node_beats, node_receives, rests, joins, station_line, begins, cancels, clears, gets, calls, delivers, flows, after_line, items_from, most_drones, most_stations}
+use Rattle.fleet_world.specs.Steps.{Step, StepError, node_ticks, node_beats, node_receives, rests, joins, station_line, begins, cancels, clears, gets, calls, delivers, flows, after_line, items_from, most_drones, most_stations, most_restarts, starts_again, restart_line}
 use Rattle.fleet_world.specs.Authentic.{AuthenticLine}
 use Rattle.fleet_invariants.proofs.Restated.{sound_restated}
 use Rattle.fleet_invariants.specs.Sound.{Sound}
 use Rattle.fleet_invariants.specs.Kept.{LineFits}
 use Rattle.fleet_invariants.specs.Laws.{EveryCallKeeps, SentKnown, AuthenticKnown}
-use Rattle.fleet_safety.specs.Actions.{Action, at_node, ticked, beaten, datagram_heard, flow_actions, delivered, calls_of}
+use Rattle.fleet_safety.specs.Actions.{Action, at_node, ticked, beaten, datagram_heard, flow_actions, delivered, to_drone, calls_of}
 use Rattle.fleet_safety.proofs.Lists.{at_end, more_there}
 use Rattle.fleet_safety.proofs.Names.{Named, Covers, Kept, kept, Proper, more_kept, more_named, unnamed}
 use Rattle.fleet_safety.proofs.Times.{KeepsTime, first_keeps}
 use Rattle.fleet_safety.proofs.Fits.{Stands, Fits, clock_fits}
 use Rattle.fleet_safety.proofs.States.{StateLeads, state_maps, state_rests, Goes, bytes_lead, calls_lead, delivers_lead, flows_lead}
+use Rattle.fleet_safety.proofs.Restarting.{restart_leads}
 use Rattle.fleet_safety.proofs.Orders.{ticks_lead, beats_lead, begins_lead, cancels_lead, clears_lead, gets_lead}
 
 -- after a line: its nodes are those before and perhaps one more, and if the fleet has them, the state fits the world
@@ -36,6 +37,10 @@ pub record Done (n : Nodes) (s t : WorldState) (v : World) : Type 0 where
   pub kept : Kept s.nodes t.nodes
   pub named : Named t.nodes
   pub fits : Covers n t.nodes → Fits n t.clock t.nodes t.sent v
+
+-- fewer than the limit
+fewer : (restarts : ℕ) → nat_lt restarts most_restarts ≡ true → restarts < most_restarts
+fewer restarts e = grind arith
 
 -- no reason is given if its test fails
 no_reason : (b : Bool) (r : Reason) → against b r ≡ None → b ≡ false
@@ -120,3 +125,7 @@ module _ (number : ℕ) (n : Nodes) (distinct : Distinct n) (every_call : EveryC
   line_leads (line.Tick node) p f a =
       went (calls s node (node_ticks s.clock)) (at_node s node (ticked number)) (calls_lead number n distinct every_call sent_known s w sound fits node (node_ticks s.clock) (ticked number) (ticks_lead number n distinct every_call s w sound fits))
   line_leads (line.Clock more) p f a = unmoved (record s { clock = s.clock + more }) refl (clock_fits n s.clock more s.nodes s.sent w fits)
+  line_leads (line.Restart drone) p f a =
+      by_test (λ r. StateLeads n w (Done n s) r (to_drone number (restart_line s) drone)) (nat_lt s.restarts most_restarts) _ _
+      (λ few. went (starts_again (restart_line s) drone) (to_drone number (restart_line s) drone) (restart_leads number n distinct every_call s w sound fits (fewer s.restarts few) drone))
+      (λ _. tt)

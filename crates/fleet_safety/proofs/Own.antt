@@ -26,18 +26,6 @@ IsPlain (Cancelled station) = Unit {0}
 IsPlain (Ended station told) = ⊥
 IsPlain (Restarted drone) = Unit {0}
 
--- no restart
-abbrev pub IsLasting : StoreEvent → Type 0
-IsLasting (Upload_begun station drone kind plan since drone_since) = Unit {0}
-IsLasting (Installed drone kind plan station) = Unit {0}
-IsLasting (Clear_begun station drone kind drone_since) = Unit {0}
-IsLasting (Cleared drone kind station) = Unit {0}
-IsLasting (Get_begun station drone kind drone_since) = Unit {0}
-IsLasting (Shown drone kind plan station) = Unit {0}
-IsLasting (Cancelled station) = Unit {0}
-IsLasting (Ended station told) = Unit {0}
-IsLasting (Restarted drone) = ⊥
-
 -- of each event, and of each step
 abbrev pub Each : (StoreEvent → Type 0) → List StoreEvent → Type 0
 Each P [] = Unit {0}
@@ -55,7 +43,7 @@ each_steps : (P : StoreEvent → Type 0) (sent : List Frame) (es : List StoreEve
 each_steps P sent [] h a b = b
 each_steps P sent (e ∷ es) h a b = each_steps P sent es (step sent e ∷ h) a.1 (a.0, b)
 
--- one event, or plain ones; and no restart
+-- one event, or plain ones
 abbrev pub Few : List StoreEvent → Type 0
 Few es = ((e : StoreEvent) × (es ≡ e ∷ [])) ⊎ Each IsPlain es
 
@@ -64,7 +52,6 @@ FewSteps h = ((x : Step) × (h ≡ x ∷ [])) ⊎ EachStep IsPlain h
 
 pub record IsTame (es : List StoreEvent) : Type 0 where
   pub few : Few es
-  pub lasting : Each IsLasting es
 
 few_steps : (sent : List Frame) (es : List StoreEvent) → Few es → FewSteps (steps_of sent es [])
 few_steps sent es (inl one) = inl (step sent one.0, ap (λ (x : List StoreEvent). steps_of sent x []) one.1)
@@ -73,30 +60,30 @@ few_steps sent es (inr plain) = inr (each_steps IsPlain sent es [] plain tt)
 -- ---- what the events of a call are
 
 pub tame_nothing : IsTame []
-tame_nothing = record { few = inr tt; lasting = tt }
+tame_nothing = record { few = inr tt }
 
 pub tame_drone : (d : Stream) (e : PlanEvent) → IsTame (drone_news d e)
 tame_drone d Quiet = tame_nothing
-tame_drone d (Installs by kind items) = record { few = inl (Installed d kind items by, refl); lasting = (tt, tt) }
+tame_drone d (Installs by kind items) = record { few = inl (Installed d kind items by, refl) }
 tame_drone d (Empties by kind) =
     by_test (λ (es : List StoreEvent). IsTame es) (kind == every_kind) _ _
-    (λ _. record { few = inr (tt, (tt, (tt, tt))); lasting = (tt, (tt, (tt, tt))) })
-    (λ _. record { few = inr (tt, tt); lasting = (tt, tt) })
-tame_drone d (Shows to kind items) = record { few = inr (tt, tt); lasting = (tt, tt) }
+    (λ _. record { few = inr (tt, (tt, (tt, tt))) })
+    (λ _. record { few = inr (tt, tt) })
+tame_drone d (Shows to kind items) = record { few = inr (tt, tt) }
 
 pub tame_reported : (s : Stream) (told : Option Told) → IsTame (outcome_news s told)
 tame_reported s None = tame_nothing
-tame_reported s (Some told) = record { few = inl (Ended s told, refl); lasting = (tt, tt) }
+tame_reported s (Some told) = record { few = inl (Ended s told, refl) }
 
 -- an operation begins, and reports nothing
-pub tame_begun : (e : StoreEvent) (s : Stream) (told : Option Told) → IsLasting e → told ≡ None → IsTame (e ∷ outcome_news s told)
-tame_begun e s told lasts none =
+pub tame_begun : (e : StoreEvent) (s : Stream) (told : Option Told) → told ≡ None → IsTame (e ∷ outcome_news s told)
+tame_begun e s told none =
     let is : e ∷ outcome_news s told ≡ e ∷ [] = ap (λ o. e ∷ outcome_news s o) none in
-    subst IsTame (sym is) (record { few = inl (e, refl); lasting = (lasts, tt) })
+    subst IsTame (sym is) (record { few = inl (e, refl) })
 
 pub tame_cancel : (s : Stream) (o : Option Operation) (told : Option Told) → told ≡ None → IsTame (cancel_news s o ++ outcome_news s told)
 tame_cancel s None told none = tame_reported s told
-tame_cancel s (Some o) told none = tame_begun (Cancelled s) s told tt none
+tame_cancel s (Some o) told none = tame_begun (Cancelled s) s told none
 
 -- ---- their orders
 
@@ -130,14 +117,12 @@ orders_steps sent (e ∷ es) h = orders_steps sent es (step sent e ∷ h) ∙ ap
 pub record Own (n : Nodes) (w : World) (events : List world.Event) (orders : List Order) : Type 0 where
   pub orders_are : orders_in (history n w [] events) ≡ orders
   pub few : FewSteps (history n w [] events)
-  pub lasting : EachStep IsLasting (history n w [] events)
 
 pub own_of : (n : Nodes) (w : World) (events : List world.Event) (sent : List Frame) (news : List StoreEvent) (orders : List Order) → history n w [] events ≡ steps_of sent news [] → IsTame news → orders_among news ≡ orders → Own n w events orders
 own_of n w events sent news orders is tame among = record {
   orders_are = ap orders_in is ∙ orders_steps sent news [] ∙ among;
   few = subst FewSteps (sym is) (few_steps sent news tame.few);
-  lasting = subst (EachStep IsLasting) (sym is) (each_steps IsLasting sent news [] tame.lasting tt);
 }
 
 pub own_nothing : (n : Nodes) (w : World) → Own n w [] []
-own_nothing n w = record { orders_are = refl; few = inr tt; lasting = tt }
+own_nothing n w = record { orders_are = refl; few = inr tt }

@@ -164,6 +164,7 @@ first_sound key = record {
   stations = omega arith;
   draft = λ k d l. absurd (omega arith);
   clock = omega arith;
+  restarts = omega arith;
 }
 
 starts : (key : List ℕ) → Runs key (at_start key) []

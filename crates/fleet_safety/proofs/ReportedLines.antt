@@ -8,21 +8,21 @@ use Rattle.plan_upload.specs.Station.{Told, Told_installed, Told_not_installed, 
 use Rattle.plan_safety.specs.Frames.{Frame}
 use Rattle.plan_safety.specs.Store.{StoreEvent, Upload_begun, Installed as InstalledStep, Clear_begun, Cleared, Get_begun, Shown, Cancelled, Ended as EndedStep, Restarted}
 use Rattle.plan_safety.specs.World.{Nodes, World, first_world}
-use Rattle.plan_safety.specs.History.{Step, step, IsHistory, Uploaded, Installation, RestartedSince, installs, refuses, uploads, tally, final, history}
+use Rattle.plan_safety.specs.History.{Step, step, IsHistory, Uploaded, Installation, installs, refuses, uploads, tally, final, history}
 use Rattle.plan_safety.proofs.Keys.{by_test, number_same, same}
 use Rattle.plan_safety.proofs.StoreLaws.{once_law, never_law, installed_law, installation_law}
 use Rattle.plan_safety.proofs.OutcomeLaws.{got_law, ended_law, not_installed_law, unknown_law}
 use Rattle.fleet_report.specs.Events as report
 use Rattle.fleet_world.specs.Scenario.{Played, played}
 use Rattle.fleet_world.specs.Authentic.{Authentic}
-use Rattle.fleet_safety.specs.Reporting.{ProtocolEvent, Sent, Installed, Emptied, Refused, Ended, event_seen, seen, change_reported, end_reported, plan_lines, steps_reported}
+use Rattle.fleet_safety.specs.Reporting.{ProtocolEvent, Sent, Installed, Emptied, Refused, Ended, Restarted as RestartedLine, event_seen, seen, change_reported, end_reported, plan_lines, steps_reported}
 use Rattle.fleet_safety.specs.Actions.{Action, actions_of}
 use Rattle.fleet_safety.specs.Safe.{nodes_of, start, events_of, report_of, orders_of, world_after, history_of, steps_in, orders_in, upload, uploads_by, IsTheUpload}
 use Rattle.fleet_safety.specs.Meaning.{Means, ReportedBy, OutcomeIsTrue, newest, InstallIsTrue, LinesAreTrue}
 use Rattle.fleet_safety.proofs.Lists.{some_is}
 use Rattle.fleet_safety.proofs.StoreLines.{lines_on, history_lines}
-use Rattle.fleet_safety.proofs.Own.{IsPlain, IsLasting, EachStep, FewSteps}
-use Rattle.fleet_safety.proofs.Follows.{Acts, Follows, events_on, each_follows, follows_before, history_on, history_back, all_lasting}
+use Rattle.fleet_safety.proofs.Own.{IsPlain, EachStep, FewSteps}
+use Rattle.fleet_safety.proofs.Follows.{Acts, Follows, events_on, each_follows, follows_before, history_on, history_back}
 use Rattle.fleet_safety.proofs.Begun.{newest_at, count_is, orders_all, the_upload}
 use Rattle.fleet_safety.proofs.Plays.{Runs, follows, valid, every_run}
 
@@ -63,6 +63,7 @@ IsLine (Installed drone kind items by) = Unit {0}
 IsLine (Emptied drone kind) = ⊥
 IsLine (Refused station why) = ⊥
 IsLine (Ended station told) = Unit {0}
+IsLine (RestartedLine drone) = ⊥
 
 emptied_no_line : (x : ProtocolEvent) (drone : Name) (kind : ℕ) → IsLine x → Emptied drone kind ≡ x → ⊥
 emptied_no_line (Sent number from m) drone kind l e = absurd l
@@ -70,6 +71,15 @@ emptied_no_line (Installed d k items by) drone kind l e = absurd (cc)
 emptied_no_line (Emptied d k) drone kind l e = absurd l
 emptied_no_line (Refused station why) drone kind l e = absurd l
 emptied_no_line (Ended station told) drone kind l e = absurd (cc)
+emptied_no_line (RestartedLine d) drone kind l e = absurd l
+
+restart_no_line : (x : ProtocolEvent) (drone : Name) → IsLine x → RestartedLine drone ≡ x → ⊥
+restart_no_line (Sent number from m) drone l e = absurd l
+restart_no_line (Installed d k items by) drone l e = absurd (cc)
+restart_no_line (Emptied d k) drone l e = absurd l
+restart_no_line (Refused station why) drone l e = absurd l
+restart_no_line (Ended station told) drone l e = absurd (cc)
+restart_no_line (RestartedLine d) drone l e = absurd l
 
 plain_reports_none : (x : ProtocolEvent) → IsLine x → (e : StoreEvent) → IsPlain e → In x (change_reported e ++ end_reported e) → ⊥
 plain_reports_none x l (Upload_begun s drone kind plan since drone_since) p i = absurd i
@@ -81,7 +91,8 @@ plain_reports_none x l (Get_begun s drone kind drone_since) p i = absurd i
 plain_reports_none x l (Shown drone kind plan s) p i = absurd i
 plain_reports_none x l (Cancelled s) p i = absurd i
 plain_reports_none x l (EndedStep s other) p i = absurd p
-plain_reports_none x l (Restarted drone) p i = absurd i
+plain_reports_none x l (Restarted drone) p (inl e) = restart_no_line x (node_of drone) l e
+plain_reports_none x l (Restarted drone) p (inr i) = absurd i
 
 plain_report_none : (x : ProtocolEvent) → IsLine x → (h : List Step) → EachStep IsPlain h → In x (steps_reported h) → ⊥
 plain_report_none x l [] p i = absurd i
@@ -113,7 +124,8 @@ end_at station told (EndedStep s other) (inl e) =
     let name_is : node_of s ≡ station = cc in
     record { stream = s; name_is = name_is; is = ap (EndedStep s) reported_is }
 end_at station told (EndedStep s other) (inr i) = absurd i
-end_at station told (Restarted drone) i = absurd i
+end_at station told (Restarted drone) (inl e) = absurd (cc)
+end_at station told (Restarted drone) (inr i) = absurd i
 
 -- so is an installation
 record InstallOf (e : StoreEvent) (drone : Name) (kind : ℕ) (plan : List Item) (by : Name) : Type 0 where
@@ -140,7 +152,8 @@ install_at drone kind plan by (Shown d k p s) i = absurd i
 install_at drone kind plan by (Cancelled s) i = absurd i
 install_at drone kind plan by (EndedStep s told) (inl e) = absurd (cc)
 install_at drone kind plan by (EndedStep s told) (inr i) = absurd i
-install_at drone kind plan by (Restarted d) i = absurd i
+install_at drone kind plan by (Restarted d) (inl e) = absurd (cc)
+install_at drone kind plan by (Restarted d) (inr i) = absurd i
 
 -- the earlier part of a history is one
 part_is : (later h : List Step) → IsHistory (later ++ h) → IsHistory h
@@ -191,13 +204,6 @@ module _ (whole later earlier : List Step) (sent : List Frame) (s : Stream) (val
   installed_once : (d : Stream) (kind : ℕ) (plan : List Item) → whole ≡ later ++ step sent (InstalledStep d kind plan s) ∷ earlier → tally installs whole s (uploads earlier s) ≡ 1
   installed_once d kind plan is =
       once_in (InstalledStep d kind plan s) is (counts (same_stream s s && (uploads earlier s == uploads earlier s)) (tally installs earlier s (uploads earlier s)) (rw (same s, own) refl))
-
--- ---- without a restart no outcome is unknown
-
-lasting_on : (h : List Step) (s drone : Stream) → EachStep IsLasting h → RestartedSince h s drone → ⊥
-lasting_on [] s drone l r = absurd r
-lasting_on (x ∷ h) s drone l (inl e) = absurd (subst IsLasting e l.0)
-lasting_on (x ∷ h) s drone l (inr r) = lasting_on h s drone l.1 r.1
 
 -- ---- the action that reports the line at an index
 
@@ -339,15 +345,8 @@ module _ (key : List ℕ) (p : Played) (actions : List Action) (run : Runs key p
         once = installed_once whole later past y.0.sent o.station (valid key p actions run) o.index kind plan whole_are;
       }
 
-  known : (index : ℕ) (station : Name) → slice_get p.events index ≡ Some (report.Ended station Told_unknown) → ⊥
-  known index station is =
-      let o : OutcomeIsTrue n actions index station Told_unknown = outcome_is_true index station Told_unknown is in
-      let before : List Action = o.reported_by.before in
-      let here : Follows n (first_world start) (before ++ o.reported_by.action ∷ o.reported_by.later) = subst (Follows n (first_world start)) o.reported_by.is all in
-      lasting_on (history_of n before) o.stream _ (all_lasting n (first_world start) before (follows_before n (first_world start) before (o.reported_by.action ∷ o.reported_by.later) here)) o.means.restarted
-
   lines_are_true : LinesAreTrue n p.events actions
-  lines_are_true = record { outcomes = outcome_is_true; known = known; installs = install_is_true; once = once_law whole (valid key p actions run) }
+  lines_are_true = record { outcomes = outcome_is_true; installs = install_is_true; once = once_law whole (valid key p actions run) }
 
 pub every_line : (key : List ℕ) (ended : Bool) (bytes : List ℕ) → Authentic key ended bytes → LinesAreTrue (nodes_of (played key ended bytes).state.nodes) (played key ended bytes).events (actions_of key ended bytes)
 every_line key ended bytes authentic = lines_are_true key (played key ended bytes) (actions_of key ended bytes) (every_run key ended bytes authentic)

@@ -382,7 +382,7 @@ module _ (n : Nodes) (sound : Distinct n) (clock : ℕ) (nodes : List Node) (sen
         let act : StationStep = begin_upload a.core d (number_of kind) plan in
         let reports = begun_reports a.core (operation_of Uploads d (number_of kind) plan) in
         step_leads a.link act waited.last waited.next (Upload_begun y d (number_of kind) plan waited.next (u.drone d).next ∷ []) (Begins y d kind plan) (Accepts_upload y d (number_of kind) plan ∷ [])
-        (tame_begun (Upload_begun y d (number_of kind) plan waited.next (u.drone d).next) y act.told tt reports.1) (one_order (Upload_begun y d (number_of kind) plan waited.next (u.drone d).next) y act.told) due refl refl (reports.0 ∙ sym reports.1)
+        (tame_begun (Upload_begun y d (number_of kind) plan waited.next (u.drone d).next) y act.told reports.1) (one_order (Upload_begun y d (number_of kind) plan waited.next (u.drone d).next) y act.told) due refl refl (reports.0 ∙ sym reports.1)
         (ranges.uploads a.core d (number_of kind) plan stands.3 stream_d (small kind) items free) (no_changes y act.told) refl
         (begins_on n u y waited here own d is_drone kind plan free)
         (rw (here, is_drone, own, free) refl)
@@ -401,7 +401,7 @@ module _ (n : Nodes) (sound : Distinct n) (clock : ℕ) (nodes : List Node) (sen
         let reports = begun_reports a.core (operation_of Clears_work d (world.clear_number kind) []) in
         subst (λ c. Leads n clock nodes sent w k (Station a) Station (station_clears clock d c a) (moves clock (Station a) (Clears y d kind)) (Accepts_clear y d (world.clear_number kind) ∷ [])) (clear_is kind)
         (step_leads a.link act waited.last waited.next (Clear_begun y d (world.clear_number kind) (u.drone d).next ∷ []) (Clears y d kind) (Accepts_clear y d (world.clear_number kind) ∷ [])
-        (tame_begun (Clear_begun y d (world.clear_number kind) (u.drone d).next) y act.told tt reports.1) (one_order (Clear_begun y d (world.clear_number kind) (u.drone d).next) y act.told) due refl refl (reports.0 ∙ sym reports.1)
+        (tame_begun (Clear_begun y d (world.clear_number kind) (u.drone d).next) y act.told reports.1) (one_order (Clear_begun y d (world.clear_number kind) (u.drone d).next) y act.told) due refl refl (reports.0 ∙ sym reports.1)
         (ranges.clears a.core d (world.clear_number kind) stands.3 stream_d (small_clear kind)) (no_changes y act.told) refl
         (clears_on n u y waited here own d is_drone kind free)
         (rw (here, is_drone, own, free) refl))
@@ -411,7 +411,7 @@ module _ (n : Nodes) (sound : Distinct n) (clock : ℕ) (nodes : List Node) (sen
         let act : StationStep = begin_get a.core d (number_of kind) in
         let reports = begun_reports a.core (operation_of Gets_work d (number_of kind) []) in
         step_leads a.link act waited.last waited.next (Get_begun y d (number_of kind) (u.drone d).next ∷ []) (Gets y d kind) (Accepts_get y d (number_of kind) ∷ [])
-        (tame_begun (Get_begun y d (number_of kind) (u.drone d).next) y act.told tt reports.1) (one_order (Get_begun y d (number_of kind) (u.drone d).next) y act.told) due refl refl (reports.0 ∙ sym reports.1)
+        (tame_begun (Get_begun y d (number_of kind) (u.drone d).next) y act.told reports.1) (one_order (Get_begun y d (number_of kind) (u.drone d).next) y act.told) due refl refl (reports.0 ∙ sym reports.1)
         (ranges.gets a.core d (number_of kind) stands.3 stream_d (small kind)) (no_changes y act.told) refl
         (gets_on n u y waited here own d is_drone kind free)
         (rw (here, is_drone, own, free) refl)

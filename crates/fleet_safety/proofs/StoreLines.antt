@@ -26,6 +26,7 @@ lines_on (report.Installed drone kind items by ∷ es) ys = ap (λ z. report.Ins
 lines_on (report.Emptied drone kind ∷ es) ys = ap (λ z. report.Emptied drone kind ∷ z) (lines_on es ys)
 lines_on (report.Refused station why ∷ es) ys = lines_on es ys
 lines_on (report.Ended station told ∷ es) ys = ap (λ z. report.Ended station told ∷ z) (lines_on es ys)
+lines_on (report.Restarted drone ∷ es) ys = ap (λ z. report.Restarted drone ∷ z) (lines_on es ys)
 
 -- changes and ends are all reported, frames and refusals are not
 one_change : (e : StoreEvent) → plan_lines (change_reported e) ≡ change_reported e

@@ -1,6 +1,6 @@
 -- The actions of a scenario: the smallest things that happen in it, one call of one node at one frame. The functions follow
 -- those of a line's step (`after_line` of fleet_world), line by line and call by call.
-use Rattle.std.specs.Prelude.{ℕ, ◌+◌, ◌-◌, zero, suc, Bool, true, false, if◌then◌else◌, List, [], ◌∷◌, ◌++◌, length, slice_get, slice_set, position, Option, Some, None, Ok, Err}
+use Rattle.std.specs.Prelude.{ℕ, ◌+◌, ◌-◌, zero, suc, Bool, true, false, if◌then◌else◌, List, [], ◌∷◌, ◌++◌, length, slice_get, slice_set, position, Option, Some, None, unwrap_or, Ok, Err}
 use Rattle.std.specs.declared.result.Result.{Result}
 use Rattle.std.specs.Str.{bytes_eq}
 use Rattle.mav_names.specs.declared.names.Name.{Name}
@@ -17,21 +17,24 @@ use Rattle.plan_items.specs.declared.kinds.PlanKind.{PlanKind}
 use Rattle.plan_items.specs.declared.messages.PlanMsg.{PlanMsg}
 use Rattle.plan_items.specs.Kinds.{number_of}
 use Rattle.plan_upload.specs.declared.faults.OpFault.{OpFault}
-use Rattle.plan_upload.specs.Addresses.{same_name}
+use Rattle.plan_upload.specs.Addresses.{node_of, same_name}
 use Rattle.plan_upload.specs.Kinds.{clear_number}
 use Rattle.plan_upload.specs.Refusals.{upload_refusal, refusal}
+use Rattle.plan_upload.specs.Drone.{DroneState}
 use Rattle.plan_upload.specs.Station.{StationState, Operation}
 use Rattle.plan_safety.specs.World as world
-use Rattle.plan_safety.specs.World.{Begins, Clears, Gets, Cancels, Hands_out, Drone_ticks, Station_ticks, To_drone, To_station, Speaks, Drone_waits, Station_waits}
+use Rattle.plan_safety.specs.World.{Begins, Clears, Gets, Cancels, Hands_out, Drone_ticks, Station_ticks, To_drone, To_station, Speaks, Drone_waits, Station_waits, Restarts}
 use Rattle.mav_nodes.specs.Links.{Done, Outcome}
+use Rattle.mav_nodes.specs.LowBounds.{stored_low}
+use Rattle.mav_nodes.specs.Restarts.{restarted_drone}
 use Rattle.mav_nodes.specs.Payloads.{plan_in}
 use Rattle.mav_nodes.specs.Steps.{Side, hears}
 use Rattle.mav_nodes.specs.Nodes.{drone_core, station_core, station_cancels, station_clears, station_gets}
 use Rattle.scenario_lines.specs.declared.lines.Line.{Line}
 use Rattle.scenario_lines.specs.declared.lines.Line.TheVariants as line
-use Rattle.fleet_report.specs.Events.{Event}
-use Rattle.fleet_world.specs.WorldState.{WorldState, Node, Drone, Station, stream_of, node_name, is_named, is_station_named}
-use Rattle.fleet_world.specs.Steps.{Step, StepError, packets_in, reported_by, as_drone, as_station, node_beats, node_ticks, node_does, given_to, given_to_all, delivers, station_line, orders, upload_begins, after_line}
+use Rattle.fleet_report.specs.Events.{Event, Restarted}
+use Rattle.fleet_world.specs.WorldState.{WorldState, Node, Drone, Station, stream_of, node_name, is_named, is_drone_named, is_station_named}
+use Rattle.fleet_world.specs.Steps.{Step, StepError, packets_in, reported_by, as_drone, as_station, node_beats, node_ticks, node_does, given_to, given_to_all, delivers, station_line, restart_line, orders, upload_begins, after_line}
 use Rattle.fleet_world.specs.Scenario.{ScenarioError, Played, at_start, line_played, lines_played, whole_lines, unfinished, without_cr}
 use Rattle.fleet_world.specs.Authentic.{line_done}
 use Rattle.fleet_invariants.specs.Sound.{link_of}
@@ -125,6 +128,10 @@ node_hears clock p (Station a) = as_station (hears station_core clock p a)
 abbrev pub state_with : WorldState → ℕ → Done Node → WorldState
 state_with s k d = record s { nodes = slice_set s.nodes k d.node; sent = s.sent ++ packets_in d.events }
 
+-- the state after the drone at index `k` has started again, before it sends anything
+abbrev pub restarted_at : WorldState → ℕ → Side DroneState → WorldState
+restarted_at s k a = record s { nodes = slice_set s.nodes k (Drone (restarted_drone s.key a)) }
+
 -- the node at an index, and the one of a name, if there is one
 abbrev pub at_index : WorldState → ℕ → Option Node → (WorldState → ℕ → Node → List Action) → List Action
 at_index s k None call = []
@@ -190,6 +197,31 @@ module _ (number : ℕ) where
 
   abbrev pub beaten : WorldState → ℕ → Node → List Action
   beaten s k a = acts (moves s.clock a (Speaks (link_of a).me)) [] (node_does s k (node_name a) (node_beats s.clock a))
+
+  -- ---- of a drone that starts again
+
+  -- with the low bound that it has stored; and then it sends HEARTBEAT
+  abbrev pub restarted : WorldState → ℕ → Side DroneState → List Action
+  restarted s k a = record {
+    number = number;
+    events = Restarts a.link.me (unwrap_or (stored_low a.link.history) 0) ∷ [];
+    orders = [];
+    report = Restarted (node_of a.link.me) ∷ [];
+    state = restarted_at s k a;
+  } ∷ beaten (restarted_at s k a) k (Drone (restarted_drone s.key a))
+
+  -- the drone at an index, and the one of a name, if there is one
+  abbrev pub at_drone : WorldState → ℕ → Option Node → List Action
+  at_drone s k None = []
+  at_drone s k (Some (Station a)) = []
+  at_drone s k (Some (Drone a)) = restarted s k a
+
+  abbrev pub if_drone : WorldState → Option ℕ → List Action
+  if_drone s None = []
+  if_drone s (Some k) = at_drone s k (slice_get s.nodes k)
+
+  abbrev pub to_drone : WorldState → Name → List Action
+  to_drone s name = if_drone s (position (is_drone_named name) s.nodes)
 
   -- ---- of frames that are given
 
@@ -269,6 +301,7 @@ module _ (number : ℕ) where
   calls_of s (line.Noise node bytes) = at_node s node (datagram_heard bytes)
   calls_of s (line.Tick node) = at_node s node ticked
   calls_of s (line.Clock n) = []
+  calls_of s (line.Restart drone) = to_drone (restart_line s) drone
 
   -- the end of a line
   abbrev pub line_end : WorldState → Action

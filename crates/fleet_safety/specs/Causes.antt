@@ -44,6 +44,15 @@ pub record Of (name : Name) (P : Stream → Event → Type 0) (e : Event) : Type
 abbrev pub Gives : Stream → Event → Type 0
 Gives me e = (index : ℕ) × ((e ≡ To_drone index me true) ⊎ (e ≡ To_station index me))
 
+-- a drone of this name starts again, and the new node sends HEARTBEAT
+pub record StartsAgain (name : Name) (es : List Event) : Type 0 where
+  pub stream : Stream
+  pub name_is : node_of stream ≡ name
+  pub low : ℕ
+  pub later : List Event
+  pub is : es ≡ Restarts stream low ∷ later
+  pub beats : AtMostOne (λ e. (me : Stream) × (e ≡ Speaks me)) later
+
 -- the events of a line in a state
 abbrev pub Causes : WorldState → Line → List Event → Type 0
 -- an order: that one, once, and for an upload of the draft
@@ -58,6 +67,8 @@ Causes s (line.Heartbeat node) es = AtMostOne (Of node (λ me e. e ≡ Speaks me
 Causes s (line.Deliver number node) es = EachEvent (Of node Gives) es
 Causes s (line.Noise node bytes) es = EachEvent (Of node Gives) es
 Causes s (line.Flow k) es = EachEvent (λ e. (me : Stream) × Gives me e) es
+-- the drone starts again, once, and sends one HEARTBEAT
+Causes s (line.Restart drone) es = (es ≡ []) ⊎ StartsAgain drone es
 -- nothing
 Causes s line.Blank es = es ≡ []
 Causes s (line.Drone sys x y) es = es ≡ []

@@ -76,11 +76,10 @@ pub record InstallIsTrue (n : Nodes) (actions : List Action) (index : ℕ) (dron
 -- what an operator may take from the lines of a report; `n` are the nodes of the scenario
 pub record LinesAreTrue (n : Nodes) (events : List report.Event) (actions : List Action) : Type 0 where
   -- each line `outcome` is true: what is reported as installed was installed, and in the whole history once; what is reported
-  -- as not installed never is, before or after; a plan that was got is one that the drone held since the download began
+  -- as not installed never is, before or after; a plan that was got is one that the drone held since the download began;
+  -- and an outcome is unknown only if the drone has started again since the upload began
   pub outcomes : (index : ℕ) (station : Name) (told : Told) → slice_get events index ≡ Some (report.Ended station told)
       → OutcomeIsTrue n actions index station told
-  -- and none reports that the outcome is unknown
-  pub known : (index : ℕ) (station : Name) → slice_get events index ≡ Some (report.Ended station Told_unknown) → ⊥
   -- each line `install` is: the plan is the draft of the station's latest accepted `begin` line, which it has fully transmitted
   pub installs : (index : ℕ) (drone : Name) (kind : ℕ) (plan : List Item) (by : Name) → slice_get events index ≡ Some (report.Installed drone kind plan by)
       → InstallIsTrue n actions index drone kind plan by

@@ -1,5 +1,6 @@
 -- What a report says of an execution of the world in which messages alone are exchanged: changes of plans, the
--- messages of the mission protocol that were sent, the ends of operations, and calls that were refused.
+-- messages of the mission protocol that were sent, the ends of operations, calls that were refused, and drones that start
+-- again.
 -- Nothing here speaks of scenario lines or of datagrams.
 use Rattle.std.specs.Prelude.{ℕ, ◌&&◌, nat_lt, if◌then◌else◌, List, [], ◌∷◌, ◌++◌, length, Option, Some, None}
 use Rattle.mav_names.specs.declared.names.Name.{Name}
@@ -12,7 +13,7 @@ use Rattle.plan_upload.specs.Addresses.{node_of}
 use Rattle.plan_upload.specs.Station.{Told}
 use Rattle.plan_upload.specs.Refusals.{upload_refusal, refusal}
 use Rattle.plan_safety.specs.Frames.{Frame}
-use Rattle.plan_safety.specs.Store.{StoreEvent, Upload_begun, Installed as Installs, Clear_begun, Cleared, Get_begun, Shown, Cancelled, Ended as Ends, Restarted}
+use Rattle.plan_safety.specs.Store.{StoreEvent, Upload_begun, Installed as Installs, Clear_begun, Cleared, Get_begun, Shown, Cancelled, Ended as Ends, Restarted as Restarts}
 use Rattle.plan_safety.specs.History.{Step}
 use Rattle.plan_safety.specs.World as world
 use Rattle.plan_safety.specs.World.{Nodes, World, happens}
@@ -27,6 +28,7 @@ pub data ProtocolEvent : Type 0 where
   Emptied : (drone : Name) (kind : ℕ) → ProtocolEvent
   Refused : (station : Name) (why : OpFault) → ProtocolEvent
   Ended : (station : Name) (told : Told) → ProtocolEvent
+  Restarted : (drone : Name) → ProtocolEvent  -- a drone starts again
 
 -- a frame that was sent, if its message is one of the protocol
 abbrev pub sent_seen : ℕ → Name → Option PlanMsg → List ProtocolEvent
@@ -40,6 +42,7 @@ event_seen (report.Installed drone kind items by) = Installed drone kind items b
 event_seen (report.Emptied drone kind) = Emptied drone kind ∷ []
 event_seen (Dropped node answer) = []
 event_seen (Missing number) = []
+event_seen (report.Restarted drone) = Restarted drone ∷ []
 event_seen (report.Refused station why) = Refused station why ∷ []
 event_seen (report.Ended station told) = Ended station told ∷ []
 
@@ -47,7 +50,7 @@ abbrev pub seen : List report.Event → List ProtocolEvent
 seen [] = []
 seen (e ∷ es) = event_seen e ++ seen es
 
--- a change of a drone's plan
+-- a change of a drone's plan, and a drone that starts again
 abbrev pub change_reported : StoreEvent → List ProtocolEvent
 change_reported (Upload_begun station drone kind plan since drone_since) = []
 change_reported (Installs drone kind plan station) = Installed (node_of drone) kind plan (node_of station) ∷ []
@@ -57,7 +60,7 @@ change_reported (Get_begun station drone kind drone_since) = []
 change_reported (Shown drone kind plan station) = []
 change_reported (Cancelled station) = []
 change_reported (Ends station told) = []
-change_reported (Restarted drone) = []
+change_reported (Restarts drone) = Restarted (node_of drone) ∷ []
 
 abbrev pub changes_reported : List StoreEvent → List ProtocolEvent
 changes_reported [] = []
@@ -73,7 +76,7 @@ end_reported (Get_begun station drone kind drone_since) = []
 end_reported (Shown drone kind plan station) = []
 end_reported (Cancelled station) = []
 end_reported (Ends station told) = Ended (node_of station) told ∷ []
-end_reported (Restarted drone) = []
+end_reported (Restarts drone) = []
 
 abbrev pub ends_reported : List StoreEvent → List ProtocolEvent
 ends_reported [] = []
@@ -126,7 +129,8 @@ abbrev pub reported : Nodes → World → List world.Event → List ProtocolEven
 reported n w [] = []
 reported n w (e ∷ es) = reported_in n w e ++ reported n (happens n w e) es
 
--- what a report says of plans: the installations, the clears and the ends of operations, without the frames
+-- what a report says of plans: the installations, the clears, the drones that start again and the ends of operations, without
+-- the frames
 abbrev pub plan_lines : List ProtocolEvent → List ProtocolEvent
 plan_lines [] = []
 plan_lines (Sent number from m ∷ es) = plan_lines es
@@ -134,6 +138,7 @@ plan_lines (Installed drone kind items by ∷ es) = Installed drone kind items b
 plan_lines (Emptied drone kind ∷ es) = Emptied drone kind ∷ plan_lines es
 plan_lines (Refused station why ∷ es) = plan_lines es
 plan_lines (Ended station told ∷ es) = Ended station told ∷ plan_lines es
+plan_lines (Restarted drone ∷ es) = Restarted drone ∷ plan_lines es
 
 -- what it says of the steps of the abstract mission store, which come with the newest first
 abbrev pub steps_reported : List Step → List ProtocolEvent

@@ -31,7 +31,7 @@ pub fn every_report()
 
 /// The calls of a line, in any state, are the events that it causes, and no others: a `begin` line is
 /// one begin of the draft, a `tick` line one tick, frames come to the nodes of a `deliver`, `flow` or
-/// `noise` line, and no line is a restart.
+/// `noise` line, and the drone of a `restart` line starts again.
 pub fn every_cause()
     ensures { (number : ℕ) → (s : WorldState) → (line : Line) → Causes s line (without_waits (events_of (calls_of number s line))) }
 {}

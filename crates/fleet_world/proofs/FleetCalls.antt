@@ -27,15 +27,15 @@ module _ (nodes : List Node) (fleet after : Fleet) (k : ℕ) (call : Node → Ou
   moved node None keeps f found e did = absurd did
   moved node (Some d) keeps f found e did = (fleet_set nodes fleet after k node d.node new f found keeps did.0 e, did.1)
 
-  did_at : AtPlace nodes fleet.nodes k → ((node : Node) → KeepsName node (call node)) → IsFleet nodes fleet → slice_get fleet.nodes k ≡ Some view → after ≡ record fleet { nodes = slice_set fleet.nodes k new } → ((node : Node) → IsNode node view → NodeOutcome (call node) new news) → FleetOutcome nodes k (slice_get nodes k) call after news
+  did_at : AtPlace nodes fleet.nodes k → ((node : Node) → IsNode node view → KeepsName node (call node)) → IsFleet nodes fleet → slice_get fleet.nodes k ≡ Some view → after ≡ record fleet { nodes = slice_set fleet.nodes k new } → ((node : Node) → IsNode node view → NodeOutcome (call node) new news) → FleetOutcome nodes k (slice_get nodes k) call after news
   did_at (none a b) keeps f found e did = cc
   did_at (one node v a b is) keeps f found e did =
       let same : v ≡ view = cc in
       let does : NodeOutcome (call node) new news = did node (subst (IsNode node) same is) in
-      subst (λ (o : Option Node). FleetOutcome nodes k o call after news) (sym a) (moved node (call node) (keeps node) f a e does)
+      subst (λ (o : Option Node). FleetOutcome nodes k o call after news) (sym a) (moved node (call node) (keeps node (subst (IsNode node) same is)) f a e does)
 
   -- the node at an index did what it was asked
-  pub fleet_outcome : ((node : Node) → KeepsName node (call node)) → IsFleet nodes fleet → slice_get fleet.nodes k ≡ Some view → after ≡ record fleet { nodes = slice_set fleet.nodes k new } → ((node : Node) → IsNode node view → NodeOutcome (call node) new news) → FleetOutcome nodes k (slice_get nodes k) call after news
+  pub fleet_outcome : ((node : Node) → IsNode node view → KeepsName node (call node)) → IsFleet nodes fleet → slice_get fleet.nodes k ≡ Some view → after ≡ record fleet { nodes = slice_set fleet.nodes k new } → ((node : Node) → IsNode node view → NodeOutcome (call node) new news) → FleetOutcome nodes k (slice_get nodes k) call after news
   fleet_outcome keeps f found e did = did_at (at_index nodes fleet.nodes k f.are) keeps f found e did
 
 call_fails_by : (fault : NodeFault) (node : Node) (call : Node → Outcome Node) → FailsBy fault (call node) → CallFails fault (Some node) call
@@ -64,7 +64,7 @@ fleet_rests nodes fleet k call news f found e = rests_at nodes fleet k call news
 -- ---- as the calls of a fleet say it
 
 module _ (inside seen after : Fleet) (call : ℕ → Node → Outcome Node) (k n : ℕ) (view new : ViewNode) (same : inside ≡ seen) (size : n ≡ length inside.nodes) (within : k < n) (read : view ≡ get_or inside.nodes k view) where
-  pub call_done : (result : Result (Vec News Global) NodeFault) → ((node : Node) → KeepsName node (call seen.clock node)) → after ≡ record inside { nodes = slice_set inside.nodes k new } → IfOk result (λ news. (node : Node) → IsNode node view → NodeOutcome (call inside.clock node) new news.items) → IfOk result (λ news. (nodes : List Node) → IsFleet nodes seen → FleetOutcome nodes k (slice_get nodes k) (call seen.clock) after news.items)
+  pub call_done : (result : Result (Vec News Global) NodeFault) → ((node : Node) → IsNode node view → KeepsName node (call seen.clock node)) → after ≡ record inside { nodes = slice_set inside.nodes k new } → IfOk result (λ news. (node : Node) → IsNode node view → NodeOutcome (call inside.clock node) new news.items) → IfOk result (λ news. (nodes : List Node) → IsFleet nodes seen → FleetOutcome nodes k (slice_get nodes k) (call seen.clock) after news.items)
   call_done (Ok news) keeps e did = λ nodes f.
       fleet_outcome nodes seen after k (call seen.clock) view new news.items keeps f
       (ap (λ (z : Fleet). slice_get z.nodes k) (sym same) ∙ slice_get_read inside.nodes n k view size within read)

@@ -1,5 +1,5 @@
--- What a node does leaves its name.
-use Rattle.std.proofs.Common.{◌≡◌, ℕ, Bool, true, false, if◌then◌else◌, List, [], ◌∷◌, Option, Some, None, refl, ap, ◌∙◌}
+-- What a node does leaves its name, and a drone's system.
+use Rattle.std.proofs.Common.{◌≡◌, ℕ, Bool, true, false, if◌then◌else◌, List, [], ◌∷◌, Option, Some, None, refl, sym, ap, subst, ◌∙◌}
 use Rattle.mav_names.specs.declared.names.Stream.{Stream}
 use Rattle.plan_items.specs.declared.messages.PlanMsg.{PlanMsg}
 use Rattle.mav_frame.specs.Packet.{Packet, SignatureBlock}
@@ -14,7 +14,9 @@ use Rattle.mav_nodes.specs.Payloads.{plan_in}
 use Rattle.mav_nodes.specs.News.{NodeEvent}
 use Rattle.mav_nodes.specs.Links.{Link, Outcome, done, behind, and_then, tries, sends}
 use Rattle.mav_nodes.specs.Steps.{Side, CoreStep, answers, with_core, steps, takes, admits, hears, hears_all, receives}
-use Rattle.mav_nodes.specs.Nodes.{drone_core, drone_heartbeat, drone_waits, station_core, station_heartbeat, station_does, station_obeys}
+use Rattle.mav_nodes.specs.Nodes.{drone_core, drone_receives, drone_beats, drone_ticks, drone_heartbeat, drone_waits, station_core, station_heartbeat, station_does, station_obeys}
+use Rattle.mav_nodes.specs.LowBounds.{stored_low}
+use Rattle.mav_nodes.specs.Restarts.{started_again, restarted_drone, drone_restarts}
 use Rattle.mav_nodes.specs.declared.orders.Order.{Order}
 use Rattle.mav_nodes.specs.declared.orders.Order.TheVariants.{Begin, Cancel, Clear, Get}
 use Rattle.plan_items.specs.Kinds.{number_of}
@@ -24,18 +26,23 @@ use Rattle.plan_upload.specs.Drone.{DroneState, drone_tick}
 use Rattle.plan_upload.specs.Station.{StationState, station_tick, station_cancel, begin_upload, begin_clear, begin_get}
 use Rattle.fleet_world.specs.WorldState.{Node, Drone, Station, named}
 use Rattle.fleet_world.specs.declared.calls.Call.{Call}
-use Rattle.fleet_world.specs.declared.calls.Call.TheVariants.{Take, Noise, Heartbeat, Tick}
+use Rattle.fleet_world.specs.declared.calls.Call.TheVariants.{Take, Noise, Heartbeat, Tick, Restart}
+use Rattle.fleet_world.specs.declared.nodes.Node.{Node as ViewNode}
+use Rattle.fleet_world.specs.declared.nodes.Node.TheVariants.{Drone as ViewDrone, Station as ViewStation}
+use Rattle.fleet_world.specs.WorldView.{IsNode}
 use Rattle.fleet_world.specs.Steps.{as_drone, as_station, node_receives, node_beats, node_ticks}
-use Rattle.fleet_world.specs.NodeSteps.{node_called}
+use Rattle.fleet_world.specs.NodeSteps.{node_restarts, node_called}
+use Rattle.fleet_world.proofs.Systems.{drone_stays, drone_tick_stays}
 
--- if it is done, the link or the node has that stream
+-- if it is done, the link has that stream
 abbrev LinkKeeps : Stream → Outcome Link → Type 0
 LinkKeeps me None = Unit {0}
 LinkKeeps me (Some d) = d.node.me ≡ me
 
-abbrev SideKeeps : {Core : Type 0} → Stream → Outcome (Side Core) → Type 0
-SideKeeps me None = Unit {0}
-SideKeeps me (Some d) = d.node.link.me ≡ me
+-- the node's link has it, and its core is of that system
+abbrev pub SideKeeps : {Core : Type 0} → (Core → ℕ) → Stream → ℕ → Outcome (Side Core) → Type 0
+SideKeeps of me sys None = Unit {0}
+SideKeeps of me sys (Some d) = (d.node.link.me ≡ me) × (of d.node.core ≡ sys)
 
 sends-if : (test : Bool) (link new : Link) (events : List NodeEvent) → new.me ≡ link.me → LinkKeeps link.me (if test then None else done new events)
 sends-if true link new events e = tt
@@ -48,50 +55,69 @@ answers-keep : (clock : ℕ) (answer : Option PlanMsg) (link : Link) → LinkKee
 answers-keep clock None link = refl
 answers-keep clock (Some message) link = sends-keep clock (message_of_plan message) link
 
-with_core-keep : {Core : Type 0} (me : Stream) (core : Core) (last : List NodeEvent) (o : Outcome Link) → LinkKeeps me o → SideKeeps me (with_core core last o)
-with_core-keep me core last None h = tt
-with_core-keep me core last (Some d) h = h
+module _ {Core : Type 0} (of : Core → ℕ) where
+  with_core-keep : (me : Stream) (sys : ℕ) (core : Core) (last : List NodeEvent) (o : Outcome Link) → LinkKeeps me o → of core ≡ sys → SideKeeps of me sys (with_core core last o)
+  with_core-keep me sys core last None h e = tt
+  with_core-keep me sys core last (Some d) h e = (h, e)
 
-behind-keep : {Core : Type 0} (me : Stream) (events : List NodeEvent) (o : Outcome (Side Core)) → SideKeeps me o → SideKeeps me (behind events o)
-behind-keep me events None h = tt
-behind-keep me events (Some d) h = h
+  behind-keep : (me : Stream) (sys : ℕ) (events : List NodeEvent) (o : Outcome (Side Core)) → SideKeeps of me sys o → SideKeeps of me sys (behind events o)
+  behind-keep me sys events None h = tt
+  behind-keep me sys events (Some d) h = h
 
-steps-keep : {Core : Type 0} (clock : ℕ) (link : Link) (step : CoreStep Core) → SideKeeps link.me (steps clock link step)
-steps-keep clock link step = behind-keep link.me step.first _ (with_core-keep link.me step.core step.last _ (answers-keep clock step.answer link))
+  steps-keep : (clock : ℕ) (link : Link) (sys : ℕ) (step : CoreStep Core) → of step.core ≡ sys → SideKeeps of link.me sys (steps clock link step)
+  steps-keep clock link sys step e = behind-keep link.me sys step.first _ (with_core-keep link.me sys step.core step.last _ (answers-keep clock step.answer link) e)
 
-module _ {Core : Type 0} (step : Core → Stream → PlanMsg → CoreStep Core) (clock : ℕ) where
-  takes-keep : (node : Side Core) (from : Stream) (message : Option PlanMsg) → SideKeeps node.link.me (takes step clock node from message)
-  takes-keep node from None = refl
-  takes-keep node from (Some message) = steps-keep clock node.link (step node.core from message)
+  module _ (step : Core → Stream → PlanMsg → CoreStep Core) (clock : ℕ) (stays : (core : Core) (from : Stream) (message : PlanMsg) → of (step core from message).core ≡ of core) where
+    takes-keep : (node : Side Core) (from : Stream) (message : Option PlanMsg) → SideKeeps of node.link.me (of node.core) (takes step clock node from message)
+    takes-keep node from None = (refl, refl)
+    takes-keep node from (Some message) = steps-keep clock node.link (of node.core) (step node.core from message) (stays node.core from message)
 
-  admits-keep : (node : Side Core) (packet : Packet) (answer : Admit) (block : Option SignatureBlock) → SideKeeps node.link.me (admits step clock node packet answer block)
-  admits-keep node packet Admitted (Some block) = takes-keep node (stream_of packet block) (plan_in packet.id packet.payload)
-  admits-keep node packet Admitted None = refl
-  admits-keep node packet Unsigned block = refl
-  admits-keep node packet BadSignature block = refl
-  admits-keep node packet (BelowFloor floor) block = refl
-  admits-keep node packet (NotLater last) block = refl
-  admits-keep node packet (TooOld local) block = refl
-  admits-keep node packet TooManyStreams block = refl
+    admits-keep : (node : Side Core) (packet : Packet) (answer : Admit) (block : Option SignatureBlock) → SideKeeps of node.link.me (of node.core) (admits step clock node packet answer block)
+    admits-keep node packet Admitted (Some block) = takes-keep node (stream_of packet block) (plan_in packet.id packet.payload)
+    admits-keep node packet Admitted None = (refl, refl)
+    admits-keep node packet Unsigned block = (refl, refl)
+    admits-keep node packet BadSignature block = (refl, refl)
+    admits-keep node packet (BelowFloor floor) block = (refl, refl)
+    admits-keep node packet (NotLater last) block = (refl, refl)
+    admits-keep node packet (TooOld local) block = (refl, refl)
+    admits-keep node packet TooManyStreams block = (refl, refl)
 
-  hears-keep : (packet : Packet) (node : Side Core) → SideKeeps node.link.me (hears step clock packet node)
-  hears-keep packet node = admits-keep (record node { link = tries packet node.link }) packet (answer_to node.link.key node.link.history packet) packet.block
+    hears-keep : (packet : Packet) (node : Side Core) → SideKeeps of node.link.me (of node.core) (hears step clock packet node)
+    hears-keep packet node = admits-keep (record node { link = tries packet node.link }) packet (answer_to node.link.key node.link.history packet) packet.block
 
-  and_then-keep : (me : Stream) (first : Outcome (Side Core)) (next : Side Core → Outcome (Side Core)) → SideKeeps me first → ((node : Side Core) → SideKeeps node.link.me (next node)) → SideKeeps me (and_then first next)
-  and_then-keep me None next h rest = tt
-  and_then-keep me (Some d) next h rest = behind-keep me d.events (next d.node) (moved (next d.node) (rest d.node))
-    where
-      moved : (o : Outcome (Side Core)) → SideKeeps d.node.link.me o → SideKeeps me o
-      moved None k = tt
-      moved (Some e) k = k ∙ h
+    and_then-keep : (me : Stream) (sys : ℕ) (first : Outcome (Side Core)) (next : Side Core → Outcome (Side Core)) → SideKeeps of me sys first → ((node : Side Core) → SideKeeps of node.link.me (of node.core) (next node)) → SideKeeps of me sys (and_then first next)
+    and_then-keep me sys None next h rest = tt
+    and_then-keep me sys (Some d) next h rest = behind-keep me sys d.events (next d.node) (moved (next d.node) (rest d.node))
+      where
+        moved : (o : Outcome (Side Core)) → SideKeeps of d.node.link.me (of d.node.core) o → SideKeeps of me sys o
+        moved None k = tt
+        moved (Some e) k = (k.0 ∙ h.0, k.1 ∙ h.1)
 
-  hears_all-keep : (packets : List Packet) (node : Side Core) → SideKeeps node.link.me (hears_all step clock packets node)
-  hears_all-keep [] node = refl
-  hears_all-keep (packet ∷ packets) node =
-      and_then-keep node.link.me (hears step clock packet node) (hears_all step clock packets) (hears-keep packet node) (hears_all-keep packets)
+    hears_all-keep : (packets : List Packet) (node : Side Core) → SideKeeps of node.link.me (of node.core) (hears_all step clock packets node)
+    hears_all-keep [] node = (refl, refl)
+    hears_all-keep (packet ∷ packets) node =
+        and_then-keep node.link.me (of node.core) (hears step clock packet node) (hears_all step clock packets) (hears-keep packet node) (hears_all-keep packets)
 
-  receives-keep : (datagram : List ℕ) (node : Side Core) → SideKeeps node.link.me (receives step clock datagram node)
-  receives-keep datagram node = hears_all-keep (frames_of (final_parse node.link.extras false datagram)) node
+    receives-keep : (datagram : List ℕ) (node : Side Core) → SideKeeps of node.link.me (of node.core) (receives step clock datagram node)
+    receives-keep datagram node = hears_all-keep (frames_of (final_parse node.link.extras false datagram)) node
+
+-- ---- drones and stations
+
+abbrev pub sys_of : DroneState → ℕ
+sys_of d = d.sys
+
+-- stations have no system of their own beside their names
+abbrev none_of : StationState → ℕ
+none_of s = 0
+
+pub drone_receiving : (clock : ℕ) (datagram : List ℕ) (n : Side DroneState) → SideKeeps sys_of n.link.me n.core.sys (drone_receives clock datagram n)
+drone_receiving clock datagram n = receives-keep sys_of drone_core clock (λ core from message. drone_stays true from core message) datagram n
+
+pub drone_beating : (clock : ℕ) (n : Side DroneState) → SideKeeps sys_of n.link.me n.core.sys (drone_beats clock n)
+drone_beating clock n = with_core-keep sys_of n.link.me n.core.sys n.core [] _ (sends-keep clock drone_heartbeat n.link) refl
+
+pub drone_ticking : (clock : ℕ) (n : Side DroneState) → SideKeeps sys_of n.link.me n.core.sys (drone_ticks clock n)
+drone_ticking clock n = steps-keep sys_of clock n.link n.core.sys (drone_waits (drone_tick n.core)) (drone_tick_stays n.core)
 
 -- ---- nodes
 
@@ -100,35 +126,53 @@ abbrev pub KeepsName : Node → Outcome Node → Type 0
 KeepsName node None = Unit {0}
 KeepsName node (Some d) = named d.node ≡ named node
 
-drone-keeps : (n : Side DroneState) (o : Outcome (Side DroneState)) → SideKeeps n.link.me o → KeepsName (Drone n) (as_drone o)
+drone-keeps : (n : Side DroneState) (o : Outcome (Side DroneState)) → SideKeeps sys_of n.link.me n.core.sys o → KeepsName (Drone n) (as_drone o)
 drone-keeps n None h = tt
-drone-keeps n (Some d) h = ap (λ (me : Stream). named (Drone (record n { link = record n.link { me = me } }))) h
+drone-keeps n (Some d) h = ap (λ (me : Stream). named (Drone (record n { link = record n.link { me = me } }))) h.0
 
-station-keeps : (n : Side StationState) (o : Outcome (Side StationState)) → SideKeeps n.link.me o → KeepsName (Station n) (as_station o)
+station-keeps : (n : Side StationState) (o : Outcome (Side StationState)) → SideKeeps none_of n.link.me 0 o → KeepsName (Station n) (as_station o)
 station-keeps n None h = tt
-station-keeps n (Some d) h = ap (λ (me : Stream). named (Station (record n { link = record n.link { me = me } }))) h
+station-keeps n (Some d) h = ap (λ (me : Stream). named (Station (record n { link = record n.link { me = me } }))) h.0
 
 pub receives_keeps : (clock : ℕ) (datagram : List ℕ) (node : Node) → KeepsName node (node_receives clock datagram node)
-receives_keeps clock datagram (Drone n) = drone-keeps n _ (receives-keep drone_core clock datagram n)
-receives_keeps clock datagram (Station n) = station-keeps n _ (receives-keep station_core clock datagram n)
+receives_keeps clock datagram (Drone n) = drone-keeps n _ (drone_receiving clock datagram n)
+receives_keeps clock datagram (Station n) = station-keeps n _ (receives-keep none_of station_core clock (λ core from message. refl) datagram n)
 
 pub beats_keep : (clock : ℕ) (node : Node) → KeepsName node (node_beats clock node)
-beats_keep clock (Drone n) = drone-keeps n _ (with_core-keep n.link.me n.core [] _ (sends-keep clock drone_heartbeat n.link))
-beats_keep clock (Station n) = station-keeps n _ (with_core-keep n.link.me n.core [] _ (sends-keep clock station_heartbeat n.link))
+beats_keep clock (Drone n) = drone-keeps n _ (drone_beating clock n)
+beats_keep clock (Station n) = station-keeps n _ (with_core-keep none_of n.link.me 0 n.core [] _ (sends-keep clock station_heartbeat n.link) refl)
 
 pub ticks_keep : (clock : ℕ) (node : Node) → KeepsName node (node_ticks clock node)
-ticks_keep clock (Drone n) = drone-keeps n _ (steps-keep clock n.link (drone_waits (drone_tick n.core)))
-ticks_keep clock (Station n) = station-keeps n _ (steps-keep clock n.link (station_does (station_tick n.core)))
+ticks_keep clock (Drone n) = drone-keeps n _ (drone_ticking clock n)
+ticks_keep clock (Station n) = station-keeps n _ (steps-keep none_of clock n.link 0 (station_does (station_tick n.core)) refl)
 
-pub calls_keep : (call : Call) (datagram : List ℕ) (clock : ℕ) (node : Node) → KeepsName node (node_called call datagram clock node)
-calls_keep (Take number) datagram clock node = receives_keeps clock datagram node
-calls_keep (Noise bytes) datagram clock node = receives_keeps clock datagram node
-calls_keep Heartbeat datagram clock node = beats_keep clock node
-calls_keep Tick datagram clock node = ticks_keep clock node
+-- a drone that starts again, on the stream of its system
+restarted_keeps : (key : List ℕ) (n : Side DroneState) → n.link.me ≡ record { sys = n.core.sys; comp = 1; link = 0 }
+    → ((restarted_drone key n).link.me ≡ n.link.me) × ((restarted_drone key n).core.sys ≡ n.core.sys)
+restarted_keeps key n me = by_low (stored_low n.link.history)
+  where
+    by_low : (low : Option ℕ) → ((started_again key n.core.sys low n.core.plans).link.me ≡ n.link.me) × ((started_again key n.core.sys low n.core.plans).core.sys ≡ n.core.sys)
+    by_low None = (sym me, refl)
+    by_low (Some low) = (sym me, refl)
+
+restarts_keep : (key : List ℕ) (clock : ℕ) (node : Node) (view : ViewNode) → IsNode node view → KeepsName node (node_restarts key clock node)
+restarts_keep key clock (Station n) view is = refl
+restarts_keep key clock (Drone n) (ViewStation v) is = absurd is
+restarts_keep key clock (Drone n) (ViewDrone v) is =
+    let same = restarted_keeps key n is.me in
+    drone-keeps n _ (subst (λ (me : Stream). SideKeeps sys_of me n.core.sys (drone_restarts key clock n)) same.0
+    (subst (λ (sys : ℕ). SideKeeps sys_of (restarted_drone key n).link.me sys (drone_restarts key clock n)) same.1 (drone_beating clock (restarted_drone key n))))
+
+pub calls_keep : (call : Call) (datagram : List ℕ) (clock : ℕ) (node : Node) (view : ViewNode) → IsNode node view → KeepsName node (node_called call datagram clock node)
+calls_keep (Take number) datagram clock node view is = receives_keeps clock datagram node
+calls_keep (Noise bytes) datagram clock node view is = receives_keeps clock datagram node
+calls_keep Heartbeat datagram clock node view is = beats_keep clock node
+calls_keep Tick datagram clock node view is = ticks_keep clock node
+calls_keep (Restart key) datagram clock node view is = restarts_keep key clock node view is
 
 -- a station's step
 pub step_keeps : (clock : ℕ) (n : Side StationState) (step : CoreStep StationState) → KeepsName (Station n) (as_station (steps clock n.link step))
-step_keeps clock n step = station-keeps n _ (steps-keep clock n.link step)
+step_keeps clock n step = station-keeps n _ (steps-keep none_of clock n.link 0 step refl)
 
 pub obeys_keeps : (clock : ℕ) (order : Order) (n : Side StationState) → KeepsName (Station n) (as_station (station_obeys clock order n))
 obeys_keeps clock (Begin drone kind plan) n = step_keeps clock n (station_does (begin_upload n.core drone (number_of kind) (items_of plan)))

@@ -210,6 +210,7 @@ taken_state state frames now after is e = subst (IsState (record state { given =
   sent = is.sent;
   given = ap (λ (n : ℕ). n + 1) is.given;
   draft = is.draft;
+  restarts = is.restarts;
   frames_is = is.frames_is;
 })
 

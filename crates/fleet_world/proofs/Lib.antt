@@ -1,8 +1,10 @@
 pub mod CutBytes
 pub mod NodeLists
+pub mod Systems
 pub mod KeptNames
 pub mod FleetCalls
 pub mod Lookups
+pub mod Found
 pub mod Reporting
 pub mod NewsReports
 pub mod DraftItems
@@ -12,3 +14,4 @@ pub mod Ordering
 pub mod Closings
 pub mod Contexts
 mod NodeFaults
+pub mod Restarting

@@ -4,12 +4,12 @@ use Rattle.std.proofs.lemmas.List.{length-map}
 use Rattle.std.specs.List.{position_or_len}
 use Rattle.std.proofs.Common.{◌<◌, ◌≤◌, drop, get_or, drop-cons, add-one}
 use Rattle.mav_names.specs.declared.names.Name.{Name}
-use Rattle.scenario_lines.specs.declared.roster.Role.TheVariants.{Station as StationRole}
+use Rattle.scenario_lines.specs.declared.roster.Role.TheVariants.{Drone as DroneRole, Station as StationRole}
 use Rattle.scenario_lines.specs.LineContext.{is_called, is_in_role}
 use Rattle.fleet_world.specs.declared.nodes.Node.{Node as ViewNode}
 use Rattle.fleet_world.specs.declared.nodes.Node.TheVariants.{Drone as ViewDrone, Station as ViewStation}
 use Rattle.fleet_world.specs.Counts.{is_drone_view, counted}
-use Rattle.fleet_world.specs.WorldState.{Node, Drone, Station, named, names_of, is_named, is_station_named, drones_in, stations_in}
+use Rattle.fleet_world.specs.WorldState.{Node, Drone, Station, named, names_of, is_named, is_drone_named, is_station_named, drones_in, stations_in}
 use Rattle.fleet_world.specs.WorldView.{AreNodes, Fleet, IsFleet}
 
 -- a search goes by the tests of the elements
@@ -27,6 +27,10 @@ called_named : (name : Name) (node : Node) → is_called name (named node) ≡ i
 called_named name (Drone n) = refl
 called_named name (Station n) = refl
 
+drone_named : (name : Name) (node : Node) → is_in_role DroneRole name (named node) ≡ is_drone_named name node
+drone_named name (Drone n) = refl
+drone_named name (Station n) = refl
+
 station_named : (name : Name) (node : Node) → is_in_role StationRole name (named node) ≡ is_station_named name node
 station_named name (Drone n) = refl
 station_named name (Station n) = refl
@@ -35,6 +39,11 @@ pub place_named : (name : Name) (nodes : List Node) (fleet inside : Fleet) (foun
 place_named name nodes fleet inside found same f is =
     is ∙ ap (λ (z : Fleet). position (is_called name) z.roster) same ∙ ap (position (is_called name)) f.names
     ∙ position_by (is_named name) (is_called name) named (called_named name) nodes
+
+pub index_of_drone : (name : Name) (nodes : List Node) (fleet inside : Fleet) (found : Option ℕ) → inside ≡ fleet → IsFleet nodes fleet → found ≡ position (is_in_role DroneRole name) inside.roster → found ≡ position (is_drone_named name) nodes
+index_of_drone name nodes fleet inside found same f is =
+    is ∙ ap (λ (z : Fleet). position (is_in_role DroneRole name) z.roster) same ∙ ap (position (is_in_role DroneRole name)) f.names
+    ∙ position_by (is_drone_named name) (is_in_role DroneRole name) named (drone_named name) nodes
 
 pub index_of_station : (name : Name) (nodes : List Node) (fleet inside : Fleet) (found : Option ℕ) → inside ≡ fleet → IsFleet nodes fleet → found ≡ position (is_in_role StationRole name) inside.roster → found ≡ position (is_station_named name) nodes
 index_of_station name nodes fleet inside found same f is =

@@ -1,9 +1,6 @@
 -- Orders to stations.
 use Rattle.std.specs.Prelude.{OnOk, IfErr, ◌≢◌}
-use Rattle.std.proofs.Common.{◌≡◌, ℕ, suc, ◌<◌, Bool, true, false, not, cond, ◌+◌, ◌==◌, List, [], ◌∷◌, map, length, nat_lt, position, slice_get, Option, Some, None, Result, Ok, Err, refl, sym, ap, ◌∙◌, subst, arith}
-use Rattle.std.specs.List.{position_or_len}
-use Rattle.std.proofs.lemmas.Bool.{and_parts, eqb-true}
-use borrow.Author.Tests.{ltb-true}
+use Rattle.std.proofs.Common.{◌≡◌, ℕ, Bool, true, List, [], ◌∷◌, map, position, slice_get, Option, Some, None, Result, Ok, Err, refl, sym, ap, ◌∙◌, subst}
 use Rattle.mav_names.specs.declared.names.Name.{Name}
 use Rattle.mav_names.specs.declared.names.Stream.{Stream}
 use Rattle.plan_items.specs.declared.items.Item.{Item}
@@ -13,7 +10,7 @@ use Rattle.plan_items.specs.Kinds.{number_of}
 use Rattle.plan_items.specs.Plans.{items_of}
 use Rattle.plan_upload.specs.declared.faults.OpFault.{OpFault}
 use Rattle.plan_upload.specs.declared.faults.OpFault.TheVariants.{NoMemory as NoOpMemory}
-use Rattle.plan_upload.specs.Addresses.{node_of, same_name}
+use Rattle.plan_upload.specs.Addresses.{node_of}
 use Rattle.plan_upload.specs.Refusals.{upload_refusal, refusal, first_of}
 use Rattle.plan_upload.specs.Station.{StationState}
 use Rattle.mav_nodes.specs.News.{NodeEvent, shown, events_of}
@@ -32,11 +29,12 @@ use Rattle.fleet_report.specs.Events.{Refused}
 use Rattle.fleet_report.specs.Reports.{ReportState}
 use Rattle.fleet_world.specs.declared.faults.WorldFault.{WorldFault}
 use Rattle.fleet_world.specs.declared.faults.WorldFault.TheVariants.{Node as NodeFails}
-use Rattle.fleet_world.specs.WorldState.{WorldState, Node, Drone, Station, stream_of, is_station_named}
+use Rattle.fleet_world.specs.WorldState.{WorldState, Node, Station, stream_of, is_station_named}
 use Rattle.fleet_world.specs.WorldView.{IsFleet, WorldView, IsState}
 use Rattle.fleet_world.specs.Steps.{Step, StepError, as_station, node_does, station_line, upload_begins, orders_at, orders_found, orders_to, begins}
 use Rattle.fleet_world.specs.NodeSteps.{reports_news, handed_back, obeys_or, obeys}
 use Rattle.fleet_world.specs.Promises.{Moved, Refuses, WorldOutcome, IsStepError, RefusalReported, IsGivenUp}
+use Rattle.fleet_world.proofs.Found.{FoundStation, found_station}
 use Rattle.fleet_world.proofs.Reporting.{reports-one}
 use Rattle.fleet_world.proofs.WorldCalls.{NodesOnly, moved_state, moved_outcome, moved_error}
 
@@ -99,6 +97,7 @@ drafted state frames w after items is e = subst (IsState (record state { draft =
   sent = is.sent;
   given = is.given;
   draft = refl;
+  restarts = is.restarts;
   frames_is = is.frames_is;
 })
 
@@ -139,56 +138,13 @@ refuse_error (Ok t) w after k name order fault only refused up = tt
 refuse_error (Err e) w after k name order fault only refused up = λ state node is found.
     give_up_by state w after after k name node order (record { frames = true; text = [] }) (record { frames = true; text = [] }) is only fault e (refused state.nodes node is.fleet found) up
 
--- ---- the station of a name
-
-record Found (name : Name) (nodes : List Node) (k : ℕ) : Type 0 where
-  node : Side StationState
-  there : slice_get nodes k ≡ Some (Station node)
-  called : node_of node.link.me ≡ name
-
-same_is : (a b : Name) → same_name a b ≡ true → a ≡ b
-same_is a b e =
-    let parts = and_parts (a.sys == b.sys) (a.comp == b.comp) e in
-    λ i. record { sys = eqb-true a.sys b.sys parts.0 i; comp = eqb-true a.comp b.comp parts.1 i }
-
-found_if : (name : Name) (node : Node) (nodes : List Node) (k : ℕ) → is_station_named name node ≡ true → slice_get nodes k ≡ Some node → Found name nodes k
-found_if name (Drone n) nodes k e there = cc
-found_if name (Station n) nodes k e there = record { node = n; there = there; called = same_is (node_of n.link.me) name e }
-
-found_test : (name : Name) (x : Node) (xs whole : List Node) (k n : ℕ) → k ≡ position_or_len (is_station_named name) (x ∷ xs) → k < length (x ∷ xs) → ((node : Node) → slice_get (x ∷ xs) k ≡ Some node → slice_get whole n ≡ Some node) → (k ≡ suc (position_or_len (is_station_named name) xs) → position_or_len (is_station_named name) xs < length xs → Found name whole n) → (b : Bool) → is_station_named name x ≡ b → Found name whole n
-found_test name x xs whole k n index within there next true e =
-    let zero_is : k ≡ 0 = index ∙ ap (λ (t : Bool). cond (not t) (1 + position_or_len (is_station_named name) xs) 0) e in
-    found_if name x whole n e (there x (ap (slice_get (x ∷ xs)) zero_is))
-found_test name x xs whole k n index within there next false e =
-    let more : k ≡ 1 + position_or_len (is_station_named name) xs = index ∙ ap (λ (t : Bool). cond (not t) (1 + position_or_len (is_station_named name) xs) 0) e in
-    next (omega arith) (omega arith)
-
-found_at : (name : Name) (nodes whole : List Node) (k n : ℕ) → k ≡ position_or_len (is_station_named name) nodes → k < length nodes → ((node : Node) → slice_get nodes k ≡ Some node → slice_get whole n ≡ Some node) → Found name whole n
-found_at name [] whole k n index within there = absurd (omega arith)
-found_at name (x ∷ xs) whole k n index within there =
-    found_test name x xs whole k n index within there
-    (λ next less. found_at name xs whole (position_or_len (is_station_named name) xs) n refl less (λ node h. there node (ap (slice_get (x ∷ xs)) next ∙ h)))
-    (is_station_named name x) refl
-
-some_place : (n size k : ℕ) → cond (nat_lt n size) (Some n) None ≡ Some k → (n ≡ k) × (n < size)
-some_place n size k e = by_test (nat_lt n size) refl e
-  where
-    by_test : (b : Bool) → nat_lt n size ≡ b → cond b (Some n) None ≡ Some k → (n ≡ k) × (n < size)
-    by_test true t h = let same : n ≡ k = cc in (same, ltb-true n size t)
-    by_test false t h = cc
-
-found_station : (name : Name) (nodes : List Node) (k : ℕ) → position (is_station_named name) nodes ≡ Some k → Found name nodes k
-found_station name nodes k e =
-    let index = some_place (position_or_len (is_station_named name) nodes) (length nodes) k e in
-    found_at name nodes nodes k k (sym index.0) (subst (λ (n : ℕ). n < length nodes) index.0 index.1) (λ node h. h)
-
 -- ---- an order to the station of a name
 
-ordered : (state : WorldState) (name : Name) (order : ℕ → Side StationState → Result Step StepError) (k : ℕ) (f : Found name state.nodes k) → position (is_station_named name) state.nodes ≡ Some k → orders_to state name order ≡ order k f.node
+ordered : (state : WorldState) (name : Name) (order : ℕ → Side StationState → Result Step StepError) (k : ℕ) (f : FoundStation name state.nodes k) → position (is_station_named name) state.nodes ≡ Some k → orders_to state name order ≡ order k f.node
 ordered state name order k f index =
     ap (λ (o : Option ℕ). orders_found state o order) index ∙ ap (λ (o : Option Node). orders_at state k o order) f.there
 
-obeyed_order : (state : WorldState) (name : Name) (order : Order) (k : ℕ) (f : Found name state.nodes k) → position (is_station_named name) state.nodes ≡ Some k → obeys state k name f.node order ≡ orders_to state name (λ k node. obeys state k (node_of node.link.me) node order)
+obeyed_order : (state : WorldState) (name : Name) (order : Order) (k : ℕ) (f : FoundStation name state.nodes k) → position (is_station_named name) state.nodes ≡ Some k → obeys state k name f.node order ≡ orders_to state name (λ k node. obeys state k (node_of node.link.me) node order)
 obeyed_order state name order k f index =
     ap (λ (n : Name). obeys state k n f.node order) (sym f.called)
     ∙ sym (ordered state name (λ k node. obeys state k (node_of node.link.me) node order) k f index)
@@ -222,7 +178,7 @@ begun_or state k node drone kind plan None e =
 begun_or state k node drone kind plan (Some why) e =
     ap (λ (items : List Item). Ok (record { state = record state { draft = items }; events = Refused (node_of node.link.me) why ∷ [] })) e
 
-begun_order : (state : WorldState) (name drone : Name) (kind : PlanKind) (plan : Plan) (k : ℕ) (f : Found name state.nodes k) → position (is_station_named name) state.nodes ≡ Some k → items_of plan ≡ state.draft → obeys (record state { draft = [] }) k name f.node (Begin (stream_of drone) kind plan) ≡ begins state name drone (number_of kind)
+begun_order : (state : WorldState) (name drone : Name) (kind : PlanKind) (plan : Plan) (k : ℕ) (f : FoundStation name state.nodes k) → position (is_station_named name) state.nodes ≡ Some k → items_of plan ≡ state.draft → obeys (record state { draft = [] }) k name f.node (Begin (stream_of drone) kind plan) ≡ begins state name drone (number_of kind)
 begun_order state name drone kind plan k f index e =
     ap (λ (n : Name). obeys (record state { draft = [] }) k n f.node (Begin (stream_of drone) kind plan)) (sym f.called)
     ∙ begun_or state k f.node drone kind plan (upload_refusal f.node.core (number_of kind) (items_of plan)) e
@@ -238,7 +194,7 @@ module _ (w skipped taken : WorldView) (k : ℕ) (name drone : Name) (to : Strea
   taken_frames : (state : WorldState) → IsState state w.frames skipped → taken.frames ≡ w.frames
   taken_frames state is = (drafted state w.frames skipped taken [] is after).frames_is
 
-  begin_by : (state : WorldState) (f : Found name state.nodes k) → IsState state w.frames skipped → position (is_station_named name) state.nodes ≡ Some k → obeys (record state { draft = [] }) k name f.node (Begin to kind plan) ≡ begins state name drone (number_of kind)
+  begin_by : (state : WorldState) (f : FoundStation name state.nodes k) → IsState state w.frames skipped → position (is_station_named name) state.nodes ≡ Some k → obeys (record state { draft = [] }) k name f.node (Begin to kind plan) ≡ begins state name drone (number_of kind)
   begin_by state f is at =
       ap (λ (s : Stream). obeys (record state { draft = [] }) k name f.node (Begin s kind plan)) stream
       ∙ begun_order state name drone kind plan k f at (items ∙ is.draft)

@@ -40,6 +40,7 @@ moved_state state nodes w after is fleet e = record {
   sent = ap (λ (z : WorldView). z.sent) e ∙ is.sent;
   given = ap (λ (z : WorldView). z.given) e ∙ is.given;
   draft = ap (λ (z : WorldView). z.draft) e ∙ is.draft;
+  restarts = ap (λ (z : WorldView). z.restarts) e ∙ is.restarts;
   frames_is = refl;
 }
 

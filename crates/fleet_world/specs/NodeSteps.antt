@@ -3,22 +3,25 @@ use Rattle.std.specs.Prelude.{ℕ, ◌+◌, nat_le, if◌then◌else◌, List, [
 use Rattle.std.specs.declared.result.Result.{Result}
 use Rattle.mav_names.specs.declared.names.Name.{Name}
 use Rattle.mav_nodes.specs.News.{NodeEvent}
-use Rattle.mav_nodes.specs.Links.{Outcome}
+use Rattle.mav_nodes.specs.Links.{Outcome, done}
+use Rattle.mav_nodes.specs.Restarts.{drone_restarts}
 use Rattle.mav_nodes.specs.Steps.{Side}
 use Rattle.mav_nodes.specs.Nodes.{station_obeys, order_refusal, order_plan}
 use Rattle.mav_nodes.specs.declared.orders.Order.{Order}
 use Rattle.plan_items.specs.declared.plans.Plan.{Plan}
 use Rattle.plan_items.specs.Plans.{items_of}
 use Rattle.plan_upload.specs.declared.faults.OpFault.{OpFault}
+use Rattle.plan_upload.specs.Addresses.{node_of}
+use Rattle.plan_upload.specs.Drone.{DroneState}
 use Rattle.plan_upload.specs.Station.{StationState}
-use Rattle.fleet_report.specs.Events.{Event, Refused, events_text}
+use Rattle.fleet_report.specs.Events.{Event, Refused, Restarted, events_text}
 use Rattle.fleet_report.specs.Reports.{ReportState, with_text}
 use Rattle.fleet_world.specs.declared.faults.Bound.TheVariants.{Frames}
 use Rattle.fleet_world.specs.declared.calls.Call.{Call}
-use Rattle.fleet_world.specs.declared.calls.Call.TheVariants.{Take, Noise, Heartbeat, Tick}
-use Rattle.fleet_world.specs.WorldState.{WorldState, Node}
+use Rattle.fleet_world.specs.declared.calls.Call.TheVariants.{Take, Noise, Heartbeat, Tick, Restart}
+use Rattle.fleet_world.specs.WorldState.{WorldState, Node, Drone, Station}
 use Rattle.fleet_world.specs.WorldView.{Kept, WorldView, bytes_of}
-use Rattle.fleet_world.specs.Steps.{Step, StepError, At_limit, most_frames, packets_in, reported_by, as_station, node_does, node_receives, node_beats, node_ticks}
+use Rattle.fleet_world.specs.Steps.{Step, StepError, At_limit, behind, most_frames, packets_in, reported_by, as_drone, as_station, node_does, node_receives, node_beats, node_ticks}
 
 -- a report with the text of these events more
 abbrev pub reports : ReportState → List Event → ReportState
@@ -33,12 +36,18 @@ reports_news s name events =
     })
     else Err (At_limit Frames)
 
+-- a drone ends, and starts again with what it has stored; a station goes on
+abbrev pub node_restarts : List ℕ → ℕ → Node → Outcome Node
+node_restarts key clock (Drone n) = as_drone (drone_restarts key clock n)
+node_restarts key clock (Station n) = done (Station n) []
+
 -- what a node does at a call; `datagram` is what it is to take
 abbrev pub node_called : Call → List ℕ → ℕ → Node → Outcome Node
 node_called (Take number) datagram clock node = node_receives clock datagram node
 node_called (Noise bytes) datagram clock node = node_receives clock datagram node
 node_called Heartbeat datagram clock node = node_beats clock node
 node_called Tick datagram clock node = node_ticks clock node
+node_called (Restart key) datagram clock node = node_restarts key clock node
 
 -- the datagram of a call, after these frames were sent
 abbrev pub datagram_of : List Kept → Call → List ℕ
@@ -46,6 +55,7 @@ datagram_of sent (Take number) = bytes_of (slice_get sent number)
 datagram_of sent (Noise bytes) = bytes
 datagram_of sent Heartbeat = []
 datagram_of sent Tick = []
+datagram_of sent (Restart key) = []
 
 -- what a node of a world does at a call
 abbrev pub called : WorldView → Call → Node → Outcome Node
@@ -63,3 +73,7 @@ obeys_or s k name node order None = node_does s k name (as_station (station_obey
 
 abbrev pub obeys : WorldState → ℕ → Name → Side StationState → Order → Result Step StepError
 obeys s k name node order = obeys_or s k name node order (order_refusal node.core order)
+
+-- a drone starts again, and is reported by this name
+abbrev pub restarts_as : WorldState → ℕ → Name → Side DroneState → Result Step StepError
+restarts_as s k name node = behind (Restarted name ∷ []) (node_does s k (node_of node.link.me) (as_drone (drone_restarts s.key s.clock node)))

@@ -15,13 +15,14 @@ use Rattle.plan_upload.specs.Refusals.{upload_refusal, refusal}
 use Rattle.mav_nodes.specs.News.{NodeEvent, Sends, Installs, Empties, Drops, Ends}
 use Rattle.mav_nodes.specs.Links.{Outcome, done}
 use Rattle.mav_nodes.specs.Steps.{Side}
+use Rattle.mav_nodes.specs.Restarts.{drone_restarts}
 use Rattle.mav_nodes.specs.Nodes.{new_drone, drone_receives, drone_beats, drone_ticks, new_station, station_receives, station_beats, station_ticks, station_begins, station_cancels, station_clears, station_gets}
 use Rattle.scenario_lines.specs.declared.lines.Line.{Line}
-use Rattle.scenario_lines.specs.declared.lines.Line.TheVariants.{Blank, Drone as DroneLine, Station as StationLine, Item as OneItem, Items, Empty, Begin, Cancel, Clear, Get, Heartbeat, Deliver, Flow, Noise, Tick, Clock}
-use Rattle.fleet_report.specs.Events.{Event, Sent, Installed, Emptied, Dropped, Missing, Refused, Ended, plan_text}
+use Rattle.scenario_lines.specs.declared.lines.Line.TheVariants.{Blank, Drone as DroneLine, Station as StationLine, Item as OneItem, Items, Empty, Begin, Cancel, Clear, Get, Heartbeat, Deliver, Flow, Noise, Tick, Clock, Restart}
+use Rattle.fleet_report.specs.Events.{Event, Sent, Installed, Emptied, Dropped, Missing, Restarted, Refused, Ended, plan_text}
 use Rattle.fleet_world.specs.declared.faults.Bound.{Bound}
-use Rattle.fleet_world.specs.declared.faults.Bound.TheVariants.{Frames, Drones, Stations}
-use Rattle.fleet_world.specs.WorldState.{WorldState, Node, Drone, Station, stream_of, node_name, is_named, is_station_named, drones_in, stations_in}
+use Rattle.fleet_world.specs.declared.faults.Bound.TheVariants.{Frames, Drones, Stations, Restarts}
+use Rattle.fleet_world.specs.WorldState.{WorldState, Node, Drone, Station, stream_of, node_name, is_named, is_drone_named, is_station_named, drones_in, stations_in}
 
 pub record Step : Type 0 where
   pub state : WorldState
@@ -54,6 +55,9 @@ most_drones = 16
 
 abbrev pub most_stations : ℕ
 most_stations = 16
+
+abbrev pub most_restarts : ℕ
+most_restarts = 1000
 
 -- ---- what a node does
 
@@ -149,6 +153,26 @@ abbrev pub delivers : WorldState → ℕ → Name → Option Packet → Result S
 delivers s number name None = Ok (record { state = s; events = Missing number ∷ [] })
 delivers s number name (Some p) = calls s name (node_receives s.clock (encoding p))
 
+-- ---- drones that start again
+
+-- the drone at an index, and the one of a name, if there is one: that it starts again is reported before what it sends
+abbrev pub restarts_at : WorldState → ℕ → Option Node → Result Step StepError
+restarts_at s k None = rests s
+restarts_at s k (Some (Station n)) = rests s
+restarts_at s k (Some (Drone n)) =
+    behind (Restarted (node_of n.link.me) ∷ []) (node_does s k (node_of n.link.me) (as_drone (drone_restarts s.key s.clock n)))
+
+abbrev pub restarts_found : WorldState → Option ℕ → Result Step StepError
+restarts_found s None = rests s
+restarts_found s (Some k) = restarts_at s k (slice_get s.nodes k)
+
+abbrev pub starts_again : WorldState → Name → Result Step StepError
+starts_again s drone = restarts_found s (position (is_drone_named drone) s.nodes)
+
+-- it is counted
+abbrev pub restart_line : WorldState → WorldState
+restart_line s = record s { restarts = s.restarts + 1 }
+
 -- ---- orders to stations
 
 -- a station line: from here on frames are given by the flows that follow
@@ -229,6 +253,7 @@ after_line s (Flow k) = flows k s
 after_line s (Noise node bytes) = calls s node (node_receives s.clock bytes)
 after_line s (Tick node) = calls s node (node_ticks s.clock)
 after_line s (Clock n) = rests (record s { clock = s.clock + n })
+after_line s (Restart drone) = if nat_lt s.restarts most_restarts then starts_again (restart_line s) drone else Err (At_limit Restarts)
 
 -- the closing plans: of each drone in the order named, and each kind
 abbrev pub closing_of : Node → List ℕ

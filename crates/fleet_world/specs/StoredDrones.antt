@@ -14,9 +14,10 @@ pub record StoredView : Type 0 where
   pub node : DroneView
   pub store : MemStore
 
--- it is this drone, the store has what the drone has stored, and no call of it fails
+-- it is this drone, on the stream of its system, the store has what the drone has stored, and no call of it fails
 pub record IsStoredDrone (node : Side DroneState) (view : StoredView) : Type 0 where
   pub drone : IsDrone node view.node
+  pub me : node.link.me ≡ record { sys = node.core.sys; comp = 1; link = 0 }
   pub holds : StoreHolds (Some view.store.contents) view.node
   pub infallible : view.store.fails ≡ []
 

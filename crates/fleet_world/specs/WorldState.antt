@@ -23,9 +23,10 @@ pub record WorldState : Type 0 where
   pub given : ℕ  -- how many of these were sent before the latest station line, or were given by a flow since then
   pub draft : List Item
   pub clock : ℕ  -- in units of 10 microseconds
+  pub restarts : ℕ  -- how often a drone has started again
 
 abbrev pub empty_state : List ℕ → WorldState
-empty_state key = record { key = key; nodes = []; sent = []; given = 0; draft = []; clock = 0 }
+empty_state key = record { key = key; nodes = []; sent = []; given = 0; draft = []; clock = 0; restarts = 0 }
 
 -- every node signs on link 0
 abbrev pub stream_of : Name → Stream
@@ -46,9 +47,13 @@ names_of nodes = map named nodes
 abbrev pub context_of : WorldState → LineContext
 context_of s = record { nodes = names_of s.nodes; drafted = length s.draft; clock = s.clock }
 
--- a node of this name, and a station
+-- a node of this name, a drone, and a station
 abbrev pub is_named : Name → Node → Bool
 is_named name node = same_name (node_name node) name
+
+abbrev pub is_drone_named : Name → Node → Bool
+is_drone_named name (Drone n) = same_name (node_of n.link.me) name
+is_drone_named name (Station n) = false
 
 abbrev pub is_station_named : Name → Node → Bool
 is_station_named name (Drone n) = false

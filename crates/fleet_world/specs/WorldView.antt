@@ -55,6 +55,7 @@ pub record WorldView : Type 0 where
   pub sent : List Kept
   pub given : ℕ
   pub draft : List Item
+  pub restarts : ℕ
   pub frames : Bool  -- whether reports print frames whole
 
 -- the world is in this state
@@ -65,6 +66,7 @@ pub record IsState (state : WorldState) (frames : Bool) (world : WorldView) : Ty
   pub sent : world.sent ≡ map kept_as state.sent
   pub given : world.given ≡ state.given
   pub draft : world.draft ≡ state.draft
+  pub restarts : world.restarts ≡ state.restarts
   pub frames_is : world.frames ≡ frames
 
 -- what the lines that follow are read against

@@ -1,5 +1,6 @@
 // What a node is asked to do.
 use field_layout::Label;
+use mav_sign::Key;
 
 #[derive(Drop)]
 pub enum Call {
@@ -9,4 +10,6 @@ pub enum Call {
     Noise(Label),
     Heartbeat,
     Tick,
+    /// To start again, under this key. A station goes on.
+    Restart(Key),
 }

@@ -11,6 +11,8 @@ pub enum Bound {
     Drones,
     /// 16 stations.
     Stations,
+    /// Drones that start again, 1,000 times in all.
+    Restarts,
 }
 
 /// Why a line isn't done. After it the world isn't used any more.

@@ -3,7 +3,7 @@ ghost use Rattle.std.specs.Prelude.{◌≡◌, if◌then◌else◌, ◌+◌, ◌
 ghost use Rattle.mav_nodes.specs.Steps.{Side};
 ghost use Rattle.mav_nodes.specs.Nodes.{new_drone, new_station, order_refusal, station_obeys};
 ghost use Rattle.plan_upload.specs.Station.{StationState};
-ghost use Rattle.fleet_world.specs.WorldState.{Node as StateNode, Drone as StateDrone, Station as StateStation, node_name, is_named, is_station_named, drones_in, stations_in, stream_of};
+ghost use Rattle.fleet_world.specs.WorldState.{Node as StateNode, Drone as StateDrone, Station as StateStation, node_name, is_named, is_drone_named, is_station_named, drones_in, stations_in, stream_of};
 ghost use Rattle.fleet_world.specs.WorldView.{no_fleet, IsFleet};
 ghost use Rattle.fleet_world.specs.Steps.{as_station};
 ghost use Rattle.fleet_world.specs.NodeSteps.{node_called};
@@ -92,6 +92,12 @@ impl Fleet {
         }
     }
 
+    pub(crate) fn key(&self) -> Key
+        ensures { result ≡ self.now.key }
+    {
+        self.key
+    }
+
     pub(crate) fn roster(&self) -> &Roster
         ensures { result.now ≡ self.now.roster }
     {
@@ -170,7 +176,7 @@ impl Fleet {
         ensures kept { self.new ≡ record self.old { nodes = self.new.nodes } }
     {
         if index < self.nodes.len() {
-            self.nodes[index].call(call, datagram, self.clock)
+            self.nodes[index].call(self.alloc, call, datagram, self.clock)
         } else {
             Ok(Vec::new(self.alloc))
         }
@@ -199,6 +205,13 @@ impl Fleet {
         ensures { (nodes : List StateNode) → IsFleet nodes self.now → result ≡ position (is_named name) nodes }
     {
         self.roster.index_of_name(name)
+    }
+
+    /// The index of the drone of a name.
+    pub(crate) fn index_of_drone(&self, name: Name) -> Option<usize>
+        ensures { (nodes : List StateNode) → IsFleet nodes self.now → result ≡ position (is_drone_named name) nodes }
+    {
+        self.roster.index_of(Role::Drone, name)
     }
 
     /// The index of the station of a name.

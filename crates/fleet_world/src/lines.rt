@@ -22,6 +22,8 @@ const MOST_DRONES: usize = 16;
 
 const MOST_STATIONS: usize = 16;
 
+const MOST_RESTARTS: u64 = 1000;
+
 impl World {
     /// Does one line, and reports its events.
     pub(crate) fn act(&mut self, line: Line, report: &mut Report) -> Result<(), WorldFault>
@@ -60,6 +62,7 @@ impl World {
             Line::Noise { node, bytes } => self.call(node, &Call::Noise(bytes), report),
             Line::Tick { node } => self.call(node, &Call::Tick, report),
             Line::Clock { n } => self.advance(n),
+            Line::Restart { drone } => self.restart(drone, report),
         }
     }
 
@@ -127,5 +130,22 @@ impl World {
     {
         self.fleet.advance(by);
         Ok(())
+    }
+
+    // The drone of this name starts again.
+    fn restart(&mut self, drone: Name, report: &mut Report) -> Result<(), WorldFault>
+        ensures done { OnOk result ((state : WorldState) → IsState state self.old.frames self.old
+            → WorldOutcome (after_line state (line.Restart drone)) self.old.frames self.new report.old report.new) }
+        ensures error { IfErr result (λ fault. (state : WorldState) → IsState state self.old.frames self.old
+            → IsStepError (after_line state (line.Restart drone)) fault) }
+    {
+        if self.restarts >= MOST_RESTARTS {
+            return Err(WorldFault::Limit(Bound::Restarts));
+        }
+        self.restarts += 1;
+        match self.fleet.index_of_drone(drone) {
+            Some(index) => self.restart_at(index, drone, report),
+            None => Ok(()),
+        }
     }
 }

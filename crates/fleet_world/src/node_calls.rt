@@ -1,10 +1,12 @@
 // Calls of nodes, and what is reported of them.
-ghost use Rattle.std.specs.Prelude.{◌≡◌, ◌-◌, ◌+◌, nat_le, List, [], map, length, option_map, slice_get, OnOk, IfOk, IfErr};
+ghost use Rattle.std.specs.Prelude.{◌≡◌, ◌-◌, ◌+◌, nat_le, List, [], Some, map, length, option_map, slice_get, OnOk, IfOk, IfErr};
 ghost use Rattle.mav_nodes.specs.News.{NodeEvent, shown, events_of};
-ghost use Rattle.fleet_world.specs.WorldState.{WorldState, Node as StateNode};
+ghost use Rattle.mav_nodes.specs.Steps.{Side};
+ghost use Rattle.plan_upload.specs.Drone.{DroneState};
+ghost use Rattle.fleet_world.specs.WorldState.{WorldState, Node as StateNode, Drone as StateDrone};
 ghost use Rattle.fleet_world.specs.WorldView.{IsFleet, IsState};
 ghost use Rattle.fleet_world.specs.Steps.{most_frames, calls, calls_at, delivers};
-ghost use Rattle.fleet_world.specs.NodeSteps.{called, datagram_of, reports_news};
+ghost use Rattle.fleet_world.specs.NodeSteps.{called, datagram_of, reports_news, restarts_as};
 ghost use Rattle.fleet_world.specs.Promises.{FleetOutcome, CallFails, WorldOutcome, IsStepError};
 
 use crate::calls::Call;
@@ -31,7 +33,7 @@ fn datagram_of<'a>(sent: &'a SentFrames, call: &'a Call) -> &'a [u8]
     match call {
         Call::Take(number) => sent.bytes(*number),
         Call::Noise(bytes) => bytes.bytes(),
-        Call::Heartbeat | Call::Tick => &[],
+        Call::Heartbeat | Call::Tick | Call::Restart(_) => &[],
     }
 }
 
@@ -85,6 +87,24 @@ impl World {
         };
         let news = self.news_of(index, call)?;
         self.report_news(name, news.as_slice(), report)
+    }
+
+    // The drone at an index, of this name, starts again.
+    pub(crate) fn restart_at(
+        &mut self,
+        index: usize,
+        drone: Name,
+        report: &mut Report,
+    ) -> Result<(), WorldFault>
+        ensures done { OnOk result ((state : WorldState) → (node : Side DroneState) → IsState state self.old.frames self.old
+            → slice_get state.nodes index ≡ Some (StateDrone node)
+            → WorldOutcome (restarts_as state index drone node) self.old.frames self.new report.old report.new) }
+        ensures error { IfErr result (λ fault. (state : WorldState) → (node : Side DroneState) → IsState state self.old.frames self.old
+            → slice_get state.nodes index ≡ Some (StateDrone node) → IsStepError (restarts_as state index drone node) fault) }
+    {
+        report.restarted(drone)?;
+        let call = Call::Restart(self.fleet.key());
+        self.call_at(index, &call, report)
     }
 
     // The node of this name is called.

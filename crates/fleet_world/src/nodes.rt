@@ -22,9 +22,10 @@ pub enum Node {
 }
 
 impl Node {
-    /// Does what it is asked: takes a datagram, sends HEARTBEAT, or lets time pass.
+    /// Does what it is asked: takes a datagram, sends HEARTBEAT, lets time pass, or starts again.
     pub(crate) fn call(
         &mut self,
+        alloc: Global,
         call: &Call,
         datagram: &[u8],
         clock: u64,
@@ -39,10 +40,12 @@ impl Node {
             (Node::Drone(drone), Call::Noise(_)) => drone.receive(datagram, clock),
             (Node::Drone(drone), Call::Heartbeat) => drone.heartbeat(clock),
             (Node::Drone(drone), Call::Tick) => drone.tick(clock),
+            (Node::Drone(drone), Call::Restart(key)) => drone.restart(alloc, *key, clock),
             (Node::Station(station), Call::Take(_)) => station.receive(datagram, clock),
             (Node::Station(station), Call::Noise(_)) => station.receive(datagram, clock),
             (Node::Station(station), Call::Heartbeat) => station.heartbeat(clock),
             (Node::Station(station), Call::Tick) => station.tick(clock),
+            (Node::Station(station), Call::Restart(_)) => Ok(Vec::new(alloc)),
         }
     }
 

@@ -1,9 +1,10 @@
 // A drone of a scenario, over a store in memory that never fails.
-ghost use Rattle.std.specs.Prelude.{◌≡◌, [], IfOk, IfErr};
+ghost use Rattle.std.specs.Prelude.{◌≡◌, [], IfOk, IfErr, OnOk};
 ghost use Rattle.plan_upload.specs.Drone.{DroneState};
 ghost use Rattle.mav_nodes.specs.Steps.{Side};
 ghost use Rattle.mav_nodes.specs.Nodes.{new_drone, drone_receives, drone_ticks, drone_beats};
 ghost use Rattle.mav_nodes.specs.Promises.{Did};
+ghost use Rattle.mav_nodes.specs.Restarts.{restarted_drone, drone_restarts};
 ghost use Rattle.fleet_world.specs.StoredDrones.{IsStoredDrone, FailsBy};
 
 use mav_nodes::{DroneNode, News, NodeFault, StartFault};
@@ -13,9 +14,12 @@ use plan_upload::Drone;
 use std::alloc::Global;
 use std::marker::Model;
 
-/// A drone's node and the store that it was started with. Contracts see both.
+/// A drone's node and the store that it was started with, which contracts see, and where it starts: at x and y in units
+/// of 1e-7 degrees.
 #[derive(Drop)]
 pub struct StoredDrone {
+    x: i32,
+    y: i32,
     node: DroneNode,
     store: MemKeeper,
 }
@@ -42,7 +46,7 @@ impl StoredDrone {
     {
         let mut store = MemKeeper::new(alloc, Vec::new(alloc), Vec::new(alloc));
         let node = DroneNode::start(alloc, key, sys, x, y, &mut store)?;
-        Ok(StoredDrone { node, store })
+        Ok(StoredDrone { x, y, node, store })
     }
 
     /// The drone's plans.
@@ -80,5 +84,33 @@ impl StoredDrone {
             → FailsBy fault (drone_beats clock node)) }
     {
         self.node.heartbeat(clock, &mut self.store)
+    }
+
+    // The node ends, and one starts from what the store has.
+    fn start_again(&mut self, alloc: Global, key: Key) -> Result<(), StartFault>
+        ensures done { OnOk result ((node : Side DroneState) → IsStoredDrone node self.old → IsStoredDrone (restarted_drone key node) self.new) }
+        ensures fault { IfErr result (λ fault. (node : Side DroneState) → IsStoredDrone node self.old → fault ≡ StartFault.NoMemory) }
+    {
+        let sys = self.node.plans().sys();
+        self.node = DroneNode::start(alloc, key, sys, self.x, self.y, &mut self.store)?;
+        Ok(())
+    }
+
+    /// Starts again with what is stored, and sends HEARTBEAT.
+    pub(crate) fn restart(
+        &mut self,
+        alloc: Global,
+        key: Key,
+        clock: u64,
+    ) -> Result<Vec<News>, NodeFault>
+        ensures done { IfOk result (λ news. (node : Side DroneState) → IsStoredDrone node self.old
+            → Did (drone_restarts key clock node) (λ n. IsStoredDrone n self.new) [] news.items) }
+        ensures fault { IfErr result (λ fault. (node : Side DroneState) → IsStoredDrone node self.old
+            → FailsBy fault (drone_restarts key clock node)) }
+    {
+        match self.start_again(alloc, key) {
+            Ok(()) => self.heartbeat(clock),
+            Err(_) => Err(NodeFault::NoMemory),
+        }
     }
 }

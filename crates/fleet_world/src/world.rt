@@ -27,6 +27,7 @@ pub struct World {
     pub(crate) sent: SentFrames,
     pub(crate) given: usize,
     pub(crate) draft: Plan,
+    pub(crate) restarts: u64,
     frames: bool,
 }
 
@@ -36,7 +37,7 @@ impl Model for World {
 
     ghost Value = { WorldView };
 
-    ghost view = { λ w. record { fleet = w.fleet; sent = w.sent; given = w.given; draft = items_of w.draft; frames = w.frames } };
+    ghost view = { λ w. record { fleet = w.fleet; sent = w.sent; given = w.given; draft = items_of w.draft; restarts = w.restarts; frames = w.frames } };
 }
 
 impl World {
@@ -51,6 +52,7 @@ impl World {
             sent: SentFrames::new(alloc),
             given: 0,
             draft: Plan::new(alloc),
+            restarts: 0,
             frames,
         })
     }

@@ -1,9 +1,8 @@
 // A stored image with its bytes written out by hand.
 use mav_names::{Name, Stream};
 use plan_items::{Item, PlanMsg};
-use plan_upload::{Drone, Kept, KeptFault, NoMemory, read_kept};
+use plan_upload::{Drone, Kept, KeptFault, read_kept};
 use std::alloc::Global;
-use std::test::Fail;
 
 // System id 1, the low bound 5001, a mission of one item, no fence and no rally points.
 static MISSION_OF_ONE: [u8; 48] = [
@@ -21,8 +20,8 @@ static MISSION_OF_ONE: [u8; 48] = [
     0, 0, // no rally point
 ];
 
-// A drone to which a mission of one item was uploaded.
-fn uploaded(alloc: Global) -> Result<Drone, NoMemory> {
+// Uploads a mission of one item to the drone.
+fn upload(drone: &mut Drone) {
     let ground = Stream {
         sys: 255,
         comp: 190,
@@ -39,7 +38,6 @@ fn uploaded(alloc: Global) -> Result<Drone, NoMemory> {
         y: 85_455_940,
         z: 0x4220_0000,
     };
-    let mut drone = Drone::new(alloc, 1)?;
     let _asked = drone.step(
         ground,
         &PlanMsg::Count {
@@ -57,30 +55,40 @@ fn uploaded(alloc: Global) -> Result<Drone, NoMemory> {
             item,
         },
     );
-    Ok(drone)
 }
 
-fn is_as_written(bytes: &[u8]) -> bool {
-    bytes == MISSION_OF_ONE.as_slice()
-}
-
-// Whether a drone that starts again with these plans keeps the same bytes.
-fn keeps_the_same(alloc: Global, kept: &Kept) -> Result<bool, NoMemory> {
-    let drone = Drone::restore(alloc, 1, kept)?;
-    let bytes = drone.kept(alloc, kept.floor)?;
-    Ok(is_as_written(bytes.as_slice()))
-}
-
-// A mission is uploaded and kept, its image read, and a drone restored from it.
-fn is_kept(alloc: Global) -> Result<bool, NoMemory> {
-    let drone = uploaded(alloc)?;
-    let bytes = drone.kept(alloc, 5001)?;
-    if !is_as_written(bytes.as_slice()) {
-        return Ok(false);
+// Whether the drone keeps the bytes that are written above.
+fn keeps_as_written(alloc: Global, drone: &Drone) -> bool {
+    match drone.kept(alloc, 5001) {
+        Ok(bytes) => bytes.as_slice() == MISSION_OF_ONE.as_slice(),
+        Err(_) => false,
     }
-    match read_kept(alloc, 1, bytes.as_slice()) {
-        Ok(kept) => keeps_the_same(alloc, &kept),
-        Err(_) => Ok(false),
+}
+
+// Whether a drone does after an upload.
+fn keeps_upload(alloc: Global) -> bool {
+    match Drone::new(alloc, 1) {
+        Ok(mut drone) => {
+            upload(&mut drone);
+            keeps_as_written(alloc, &drone)
+        }
+        Err(_) => false,
+    }
+}
+
+// Whether a drone does that starts again with these plans.
+fn restores_upload(alloc: Global, kept: &Kept) -> bool {
+    match Drone::restore(alloc, 1, kept) {
+        Ok(drone) => keeps_as_written(alloc, &drone),
+        Err(_) => false,
+    }
+}
+
+// Whether a drone does that starts again with the plans in those bytes.
+fn reads_upload(alloc: Global) -> bool {
+    match read_kept(alloc, 1, MISSION_OF_ONE.as_slice()) {
+        Ok(kept) => restores_upload(alloc, &kept),
+        Err(_) => false,
     }
 }
 
@@ -91,8 +99,7 @@ fn one_byte_is_no_image(rt: HostRuntime) {
 }
 
 #[test]
-fn an_uploaded_mission_is_kept(rt: HostRuntime) -> Result<(), Fail> {
-    let kept = is_kept(rt.alloc())?;
-    assert!(rt; kept);
-    Ok(())
+fn an_uploaded_mission_is_kept(rt: HostRuntime) {
+    let is_kept = keeps_upload(rt.alloc()) && reads_upload(rt.alloc());
+    assert!(rt; is_kept);
 }

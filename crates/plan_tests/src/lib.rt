@@ -4,6 +4,8 @@
 #![tactic(auto)]
 
 #[cfg(test)]
+mod failing_stores;
+#[cfg(test)]
 mod images;
 #[cfg(test)]
 mod plans;

@@ -6,7 +6,7 @@ use Rattle.run_status.specs.declared.input_errors.Place.TheVariants.{Line, Key a
 use Rattle.run_status.specs.declared.input_errors.Reason.{Reason}
 use Rattle.run_status.specs.declared.input_errors.Reason.TheVariants.{Long, Word, Later, Count, Number, Node, Kind, Hex, Twice, Range, Draft, Clock, Key, Json, Shape, FieldType, Name, TwiceId, TwiceName, Layout, TooMany, Refused}
 use Rattle.run_status.specs.declared.input_errors.Bound.{Bound}
-use Rattle.run_status.specs.declared.input_errors.Bound.TheVariants.{Lines, Frames, Drones, Stations, DefinitionBytes, InputBytes}
+use Rattle.run_status.specs.declared.input_errors.Bound.TheVariants.{Lines, Frames, Drones, Stations, Restarts, DefinitionBytes, InputBytes}
 use Rattle.run_status.specs.declared.input_errors.InputError.{InputError}
 use Rattle.run_status.specs.declared.input_errors.InputError.TheVariants.{Bad, AtLimit, StampsSpent}
 use Rattle.run_status.specs.declared.run_ends.RunEnd.{RunEnd}
@@ -42,6 +42,7 @@ bound_words Lines = codes "lines 100000"
 bound_words Frames = codes "frames 100000"
 bound_words Drones = codes "drones 16"
 bound_words Stations = codes "stations 16"
+bound_words Restarts = codes "restarts 1000"
 bound_words DefinitionBytes = codes "bytes 16777216"
 bound_words InputBytes = codes "bytes 268435456"
 

@@ -51,6 +51,7 @@ pub enum Bound {
     Frames,
     Drones,
     Stations,
+    Restarts,
     /// Bytes of definitions.
     DefinitionBytes,
     /// Bytes of an input that is decoded.
@@ -106,6 +107,7 @@ impl Bound {
             Bound::Frames => "frames 100000",
             Bound::Drones => "drones 16",
             Bound::Stations => "stations 16",
+            Bound::Restarts => "restarts 1000",
             Bound::DefinitionBytes => "bytes 16777216",
             Bound::InputBytes => "bytes 268435456",
         }

@@ -7,12 +7,12 @@ use Rattle.plan_items.specs.declared.kinds.PlanKind.{PlanKind}
 use Rattle.scenario_lines.specs.declared.faults.Reason.{Reason}
 use Rattle.scenario_lines.specs.declared.faults.Reason.TheVariants.{Count, Number, Kind as KindReason, Hex, Twice, Range, Draft, Clock as ClockReason}
 use Rattle.scenario_lines.specs.declared.lines.Line.{Line}
-use Rattle.scenario_lines.specs.declared.lines.Line.TheVariants.{Drone, Station, Item as OneItem, Items, Begin, Cancel, Clear, Get, Heartbeat, Deliver, Flow, Noise, Tick, Clock}
+use Rattle.scenario_lines.specs.declared.lines.Line.TheVariants.{Drone, Station, Item as OneItem, Items, Begin, Cancel, Clear, Get, Heartbeat, Deliver, Flow, Noise, Tick, Clock, Restart}
 use Rattle.scenario_lines.specs.Words.{word_at, number_in, integer_of, bytes_word, name_of_word}
 use Rattle.scenario_lines.specs.LineContext.{LineContext, drone_name, has_name, has_drone, has_station}
 use Rattle.scenario_lines.specs.Grammar.{first_reason, against, whole_at, signed_at, name_at, kind_at, kind_or_all_at, bytes_at, kind_word, kind_or_all, most_whole, most_draft, most_clock}
 use Rattle.scenario_lines.specs.Reasons.{state_reason, leaves_range}
-use Rattle.scenario_lines.specs.Readings.{answered, reading, of_words, read_drone, read_station, read_one_item, read_items, read_empty, read_begin, read_cancel, read_clear, read_get, read_heartbeat, read_deliver, read_flow, read_noise, read_tick, read_clock}
+use Rattle.scenario_lines.specs.Readings.{answered, reading, of_words, read_drone, read_station, read_one_item, read_items, read_empty, read_begin, read_cancel, read_clear, read_get, read_heartbeat, read_deliver, read_flow, read_noise, read_tick, read_clock, read_restart}
 use Rattle.scenario_lines.proofs.ReadWords.{first, step, named_step, the_value, number_wider, too_few, too_many, enough}
 use Rattle.scenario_lines.proofs.ReadItems.{item-reads, item_said}
 
@@ -235,6 +235,13 @@ clock_at s ws =
     (step (number_in 0 most_whole (word_at (codes "clock" ∷ ws) 1)) None _ Number _ _ (λ n is_n.
     clock_said s (codes "clock" ∷ ws) n (the_value _ 0 n is_n)))
 
+-- restart DRONE
+restart_at : (s : LineContext) (ws : List (List ℕ)) → reading s (codes "restart" ∷ ws) ≡ read_restart s.nodes (codes "restart" ∷ ws)
+restart_at s ws =
+    counted_first 2 (codes "restart" ∷ ws) _ _ _
+    (named_step (has_drone s.nodes) (name_of_word (word_at (codes "restart" ∷ ws) 1)) None None _ _ (λ drone is_drone.
+    ap (λ name. Ok (Restart name)) (sym (the_value _ _ drone is_drone))))
+
 -- words of which the first is given
 pub starts : (P : List (List ℕ) → Type 0) (b : ℕ) (bs : List ℕ) → ((ws : List (List ℕ)) → P ((b ∷ bs) ∷ ws)) → (words : List (List ℕ)) → word_at words 0 ≡ b ∷ bs → P words
 starts P b bs h [] e = cc
@@ -284,3 +291,6 @@ tick_reads s words e = starts (λ ws. reading s ws ≡ read_tick s.nodes ws) _ _
 
 pub clock_reads : (s : LineContext) (words : List (List ℕ)) → word_at words 0 ≡ codes "clock" → reading s words ≡ read_clock s.clock words
 clock_reads s words e = starts (λ ws. reading s ws ≡ read_clock s.clock ws) _ _ (clock_at s) words e
+
+pub restart_reads : (s : LineContext) (words : List (List ℕ)) → word_at words 0 ≡ codes "restart" → reading s words ≡ read_restart s.nodes words
+restart_reads s words e = starts (λ ws. reading s ws ≡ read_restart s.nodes ws) _ _ (restart_at s) words e

@@ -135,6 +135,12 @@ node_named s words more h =
     let fit = fits_first _ _ _ (needs_fit s words (A_node ∷ more) h) in
     (known_named (has_name s.nodes) (name_of_word (word_at words 1)) no_name fit.0, fit.1)
 
+drone_named : (s : LineContext) (words : List (List ℕ)) (more : List Argument) → words_reason s words (form (A_drone ∷ more)) ≡ None
+    → IsTrue (has_drone s.nodes (name_at words 1)) × (misfit s.nodes (more ++ []) words 2 ≡ None)
+drone_named s words more h =
+    let fit = fits_first _ _ _ (needs_fit s words (A_drone ∷ more) h) in
+    (known_named (has_drone s.nodes) (name_of_word (word_at words 1)) no_name fit.0, fit.1)
+
 both_named : (s : LineContext) (words : List (List ℕ)) (kind : Argument) → words_reason s words (form (A_station ∷ A_drone ∷ kind ∷ [])) ≡ None
     → IsTrue (has_station s.nodes (name_at words 1)) × IsTrue (has_drone s.nodes (name_at words 2))
 both_named s words kind h =
@@ -196,9 +202,10 @@ in_range s words =
     (choose (Ranged s words) (bytes_eq w (codes "noise")) _ _ _ _ (noise_ranged s words)
     (choose (Ranged s words) (bytes_eq w (codes "tick")) _ _ _ _ (λ h. (node_named s words [] h).0)
     (choose (Ranged s words) (bytes_eq w (codes "clock")) _ _ _ _ (λ h. tt)
+    (choose (Ranged s words) (bytes_eq w (codes "restart")) _ _ _ _ (λ h. (drone_named s words [] h).0)
     (unbuilt (Ranged s words) (bytes_eq w (codes "sim")) _ _ Blank (λ is h. no_line s words (A_drone ∷ Whole 1 10000 ∷ []) _ (rw is (third (bytes_eq w (codes "command")) (bytes_eq w (codes "params")) (bytes_eq w (codes "where")))) h)
     (unbuilt (Ranged s words) (bytes_eq w (codes "where")) _ _ Blank (λ is h. no_line s words (A_drone ∷ []) _ (rw is (fourth (bytes_eq w (codes "command")) (bytes_eq w (codes "params")) (bytes_eq w (codes "sim")))) h)
-    (λ h. tt)))))))))))))))))))
+    (λ h. tt))))))))))))))))))))
 
 words_permitted : (s : LineContext) (words : List (List ℕ)) → words_reason s words (form_of (word_at words 0)) ≡ None → IsPermitted s (line_from words)
 words_permitted s words h = (in_range s words h, no_state_reason s words _ h)

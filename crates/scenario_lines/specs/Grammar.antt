@@ -9,7 +9,7 @@ use Rattle.plan_items.specs.declared.kinds.PlanKind.TheVariants.{Mission, Fence,
 use Rattle.scenario_lines.specs.declared.faults.Reason.{Reason}
 use Rattle.scenario_lines.specs.declared.faults.Reason.TheVariants.{Number, Node as NodeReason, Kind as KindReason, Hex}
 use Rattle.scenario_lines.specs.declared.lines.Line.{Line}
-use Rattle.scenario_lines.specs.declared.lines.Line.TheVariants.{Blank, Drone, Station, Item as OneItem, Items, Empty, Begin, Cancel, Clear, Get, Heartbeat, Deliver, Flow, Noise, Tick, Clock}
+use Rattle.scenario_lines.specs.declared.lines.Line.TheVariants.{Blank, Drone, Station, Item as OneItem, Items, Empty, Begin, Cancel, Clear, Get, Heartbeat, Deliver, Flow, Noise, Tick, Clock, Restart}
 use Rattle.scenario_lines.specs.declared.roster.Named.{Named}
 use Rattle.scenario_lines.specs.Words.{words_of, word_at, number_in, integer_of, wire_word, bytes_word, name_of_word}
 use Rattle.scenario_lines.specs.LineContext.{has_name, has_drone, has_station}
@@ -80,6 +80,8 @@ form_of word =
     else if bytes_eq word (codes "tick") then form (A_node ∷ [])
     -- clock N
     else if bytes_eq word (codes "clock") then form (Whole 0 most_whole ∷ [])
+    -- restart DRONE
+    else if bytes_eq word (codes "restart") then form (A_drone ∷ [])
     -- sim DRONE N
     else if bytes_eq word (codes "sim") then form (A_drone ∷ Whole 1 10000 ∷ [])
     -- where DRONE
@@ -214,6 +216,7 @@ line_from words =
     else if bytes_eq first (codes "noise") then Noise (name_at words 1) (bytes_at words 2)
     else if bytes_eq first (codes "tick") then Tick (name_at words 1)
     else if bytes_eq first (codes "clock") then Clock (whole_at words 1)
+    else if bytes_eq first (codes "restart") then Restart (name_at words 1)
     else Blank
 
 -- an empty line, or a comment

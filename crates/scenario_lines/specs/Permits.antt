@@ -2,7 +2,7 @@
 -- nothing known of the world against them.
 use Rattle.std.specs.Prelude.{◌≡◌, ◌≤◌, IsTrue, None, length}
 use Rattle.scenario_lines.specs.declared.lines.Line.{Line}
-use Rattle.scenario_lines.specs.declared.lines.Line.TheVariants.{Blank, Drone, Station, Item as OneItem, Items, Empty, Begin, Cancel, Clear, Get, Heartbeat, Deliver, Flow, Noise, Tick, Clock}
+use Rattle.scenario_lines.specs.declared.lines.Line.TheVariants.{Blank, Drone, Station, Item as OneItem, Items, Empty, Begin, Cancel, Clear, Get, Heartbeat, Deliver, Flow, Noise, Tick, Clock, Restart}
 use Rattle.scenario_lines.specs.LineContext.{LineContext, has_name, has_drone, has_station}
 use Rattle.scenario_lines.specs.Reasons.{state_reason}
 
@@ -24,6 +24,7 @@ IsInRange s (Flow k) = Unit {0}
 IsInRange s (Noise node bytes) = IsTrue (has_name s.nodes node) × (1 ≤ length bytes)
 IsInRange s (Tick node) = IsTrue (has_name s.nodes node)
 IsInRange s (Clock n) = Unit {0}
+IsInRange s (Restart drone) = IsTrue (has_drone s.nodes drone)
 
 abbrev pub IsPermitted : LineContext → Line → Type 0
 IsPermitted s line = IsInRange s line × (state_reason s line ≡ None)
@@ -46,3 +47,4 @@ IsOfItems (Flow k) = ⊥
 IsOfItems (Noise node bytes) = ⊥
 IsOfItems (Tick node) = ⊥
 IsOfItems (Clock n) = ⊥
+IsOfItems (Restart drone) = ⊥

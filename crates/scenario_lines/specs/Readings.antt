@@ -10,7 +10,7 @@ use Rattle.scenario_lines.specs.declared.faults.Reason.TheVariants.{Count, Numbe
 use Rattle.scenario_lines.specs.declared.faults.LineFault.{LineFault}
 use Rattle.scenario_lines.specs.declared.faults.LineFault.TheVariants.{Bad, NoMemory}
 use Rattle.scenario_lines.specs.declared.lines.Line.{Line}
-use Rattle.scenario_lines.specs.declared.lines.Line.TheVariants.{Drone, Station, Item as OneItem, Items, Empty, Begin, Cancel, Clear, Get, Heartbeat, Deliver, Flow, Noise, Tick, Clock}
+use Rattle.scenario_lines.specs.declared.lines.Line.TheVariants.{Drone, Station, Item as OneItem, Items, Empty, Begin, Cancel, Clear, Get, Heartbeat, Deliver, Flow, Noise, Tick, Clock, Restart}
 use Rattle.scenario_lines.specs.declared.roster.Named.{Named}
 use Rattle.scenario_lines.specs.Words.{word_at, number_in, integer_of, wire_word, bytes_word, name_of_word}
 use Rattle.scenario_lines.specs.LineContext.{LineContext, drone_name, has_name, has_drone, has_station}
@@ -184,6 +184,9 @@ read_clock clock words =
     of_words 2 words
     (and_then (whole words 1 0 most_whole) (λ n.
     if nat_lt most_clock (clock + n) then Err ClockReason else Ok (Clock n)))
+
+abbrev pub read_restart : List Named → List (List ℕ) → Result Line Reason
+read_restart nodes words = of_words 2 words (and_then (named (has_drone nodes) words 1) (λ drone. Ok (Restart drone)))
 
 -- what is read of the words of a line of items
 abbrev pub reading_items : ℕ → List (List ℕ) → Result Line Reason

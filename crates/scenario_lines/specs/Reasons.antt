@@ -5,7 +5,7 @@ use Rattle.plan_items.specs.declared.items.Item.{Item}
 use Rattle.scenario_lines.specs.declared.faults.Reason.{Reason}
 use Rattle.scenario_lines.specs.declared.faults.Reason.TheVariants.{Long, Word, Later, Count, Twice, Range, Draft, Clock as ClockReason}
 use Rattle.scenario_lines.specs.declared.lines.Line.{Line}
-use Rattle.scenario_lines.specs.declared.lines.Line.TheVariants.{Blank, Drone, Station, Item as OneItem, Items, Empty, Begin, Cancel, Clear, Get, Heartbeat, Deliver, Flow, Noise, Tick, Clock}
+use Rattle.scenario_lines.specs.declared.lines.Line.TheVariants.{Blank, Drone, Station, Item as OneItem, Items, Empty, Begin, Cancel, Clear, Get, Heartbeat, Deliver, Flow, Noise, Tick, Clock, Restart}
 use Rattle.scenario_lines.specs.Words.{words_of, word_at}
 use Rattle.scenario_lines.specs.LineContext.{LineContext, context_of, drone_name, has_name}
 use Rattle.scenario_lines.specs.Grammar.{Form, form_of, counts, arguments_at, misfit, first_reason, against, line_from, is_blank, most_line_bytes, most_draft, most_clock}
@@ -42,6 +42,7 @@ state_reason s (Flow k) = None
 state_reason s (Noise node bytes) = None
 state_reason s (Tick node) = None
 state_reason s (Clock n) = against (nat_lt most_clock (s.clock + n)) ClockReason
+state_reason s (Restart drone) = None
 
 abbrev pub words_reason : LineContext → List (List ℕ) → Option Form → Option Reason
 words_reason s words None = Some Word

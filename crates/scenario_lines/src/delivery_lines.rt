@@ -1,6 +1,6 @@
-// The lines that give frames and bytes to nodes, and let time pass.
+// The lines that give frames and bytes to nodes, let time pass, and have drones start again.
 ghost use Rattle.std.specs.Prelude.{◌≡◌};
-ghost use Rattle.scenario_lines.specs.Readings.{Says, read_heartbeat, read_deliver, read_flow, read_noise, read_tick, read_clock};
+ghost use Rattle.scenario_lines.specs.Readings.{Says, read_heartbeat, read_deliver, read_flow, read_noise, read_tick, read_clock, read_restart};
 
 use crate::numbers::some_bytes;
 use crate::words::Words;
@@ -79,4 +79,15 @@ pub(crate) fn read_clock(clock: u64, words: &Words) -> Result<Line, Reason>
         return Err(Reason::Clock);
     }
     Ok(Line::Clock { n })
+}
+
+/// `restart DRONE`
+pub(crate) fn read_restart(roster: &Roster, words: &Words) -> Result<Line, Reason>
+    ensures { result ≡ read_restart roster.now words.now }
+{
+    if words.len() != 2 {
+        return Err(Reason::Count);
+    }
+    let drone = words.drone(1, roster)?;
+    Ok(Line::Restart { drone })
 }

@@ -77,4 +77,8 @@ pub enum Line {
     Clock {
         n: u64,
     },
+    /// The drone ends, and starts again from what it has stored.
+    Restart {
+        drone: Name,
+    },
 }

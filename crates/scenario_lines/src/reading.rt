@@ -10,7 +10,7 @@ ghost use Rattle.scenario_lines.specs.Readings.{Says, reading, reading_items};
 ghost use Rattle.scenario_lines.specs.Permits.{IsPermitted, IsOfItems};
 
 use crate::delivery_lines::{
-    read_clock, read_deliver, read_flow, read_heartbeat, read_noise, read_tick,
+    read_clock, read_deliver, read_flow, read_heartbeat, read_noise, read_restart, read_tick,
 };
 use crate::items::{read_item, read_items};
 use crate::name_words::is_word;
@@ -63,6 +63,7 @@ fn read_words(roster: &Roster, drafted: usize, clock: u64, words: &Words) -> Res
         first if is_word(first, "flow") => read_flow(words),
         first if is_word(first, "tick") => read_tick(roster, words),
         first if is_word(first, "clock") => read_clock(clock, words),
+        first if is_word(first, "restart") => read_restart(roster, words),
         first if is_unbuilt(first) => Err(Reason::Later),
         _ => Err(Reason::Word),
     }

@@ -1,7 +1,7 @@
 -- Each form, read word by word, is what the grammar says of its first word.
 use Rattle.std.proofs.Common.{sym, ◌∙◌}
 use Rattle.scenario_lines.specs.LineContext.{context_of}
-use Rattle.scenario_lines.proofs.Forms.{drone_reads, station_reads, item_reads, items_reads, empty_reads, begin_reads, cancel_reads, clear_reads, get_reads, heartbeat_reads, deliver_reads, flow_reads, tick_reads, clock_reads}
+use Rattle.scenario_lines.proofs.Forms.{drone_reads, station_reads, item_reads, items_reads, empty_reads, begin_reads, cancel_reads, clear_reads, get_reads, heartbeat_reads, deliver_reads, flow_reads, tick_reads, clock_reads, restart_reads}
 use Rattle.scenario_lines.proofs.FirstWords.{spelled, unbuilt_reads}
 use Rattle.scenario_lines.proofs.reading.read_words.Goals as goal
 
@@ -74,6 +74,11 @@ pub returns-then-is_word-14 : goal.returns-then-is_word-14
 returns-then-is_word-14 c =
     c.read_clock.ensures
     ∙ sym (clock_reads (context_of c.args.roster.now c.args.drafted c.args.clock) c.args.words.now (sym c.at-first.ensures ∙ spelled _ _ c.if-is_word-14.ensures))
+
+pub returns-then-is_word-15 : goal.returns-then-is_word-15
+returns-then-is_word-15 c =
+    c.read_restart.ensures
+    ∙ sym (restart_reads (context_of c.args.roster.now c.args.drafted c.args.clock) c.args.words.now (sym c.at-first.ensures ∙ spelled _ _ c.if-is_word-15.ensures))
 
 pub returns-then-is_unbuilt : goal.returns-then-is_unbuilt
 returns-then-is_unbuilt c = sym (unbuilt_reads (context_of c.args.roster.now c.args.drafted c.args.clock) c.args.words.now _ c.at-first.ensures c.if-is_unbuilt.ensures)

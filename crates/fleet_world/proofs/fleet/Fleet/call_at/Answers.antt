@@ -7,7 +7,7 @@ use Rattle.fleet_world.proofs.fleet.Fleet.call_at.Goals as goal
 pub returns-then-index-len-clause-done : goal.returns-then-index-len-clause-done
 returns-then-index-len-clause-done c =
     call_done _ _ _ (λ clock. node_called c.args.call.now c.args.datagram.now clock) _ _ _ _ c.self.view_is (c.len.ensures ∙ c.self.inside.nodes.ok.0) c.if-index-len.true c.index_mut.ensures.value
-    _ (calls_keep c.args.call.now c.args.datagram.now c.args.self.now.clock) refl c.call.ensures.done
+    _ (λ node is. calls_keep c.args.call.now c.args.datagram.now c.args.self.now.clock node _ is) refl c.call.ensures.done
 
 pub returns-then-index-len-clause-fault : goal.returns-then-index-len-clause-fault
 returns-then-index-len-clause-fault c =

@@ -2,9 +2,10 @@ use Rattle.std.proofs.Common.{ap}
 use Rattle.fleet_world.specs.declared.calls.Call.{Call}
 use Rattle.fleet_world.specs.WorldState.{Drone, Station}
 use Rattle.mav_nodes.specs.Nodes.{drone_beats, drone_ticks, drone_receives, station_beats, station_ticks, station_receives}
+use Rattle.mav_nodes.specs.Restarts.{drone_restarts}
 use Rattle.fleet_world.specs.NodeSteps.{node_called}
 use Rattle.fleet_world.proofs.NodeFaults.{if_err, drone_fails, station_fails}
-use Rattle.fleet_world.proofs.nodes.Node.call.Goals.{in-Drone-Take, in-Drone-Noise, in-Drone-Heartbeat, in-Drone-Tick, in-Station-Take, in-Station-Noise, in-Station-Heartbeat, in-Station-Tick}
+use Rattle.fleet_world.proofs.nodes.Node.call.Goals.{in-Drone-Take, in-Drone-Noise, in-Drone-Heartbeat, in-Drone-Tick, in-Drone-Restart, in-Station-Take, in-Station-Noise, in-Station-Heartbeat, in-Station-Tick, in-Station-Restart}
 use Rattle.fleet_world.proofs.nodes.Node.call.Goals as goal
 
 pub returns-clause-fault : goal.returns-clause-fault
@@ -21,6 +22,8 @@ returns-clause-fault c =
           rw w.result-is (if_err w.heartbeat.result (λ fault. drone_fails called (drone_beats clock) _ c.args.self.now fault (λ n. ap (λ (call : Call). node_called call bytes clock (Drone n)) w.in-Drone-Heartbeat.is-1) w.in-Drone-Heartbeat.is-0) w.heartbeat.ensures.fault)
       | in-Drone-Tick w ↦
           rw w.result-is (if_err w.tick.result (λ fault. drone_fails called (drone_ticks clock) _ c.args.self.now fault (λ n. ap (λ (call : Call). node_called call bytes clock (Drone n)) w.in-Drone-Tick.is-1) w.in-Drone-Tick.is-0) w.tick.ensures.fault)
+      | in-Drone-Restart w ↦
+          rw w.result-is (if_err w.restart.result (λ fault. drone_fails called (drone_restarts _ clock) _ c.args.self.now fault (λ n. ap (λ (call : Call). node_called call bytes clock (Drone n)) w.in-Drone-Restart.is-1) w.in-Drone-Restart.is-0) w.restart.ensures.fault)
       | in-Station-Take w ↦
           rw w.result-is (if_err w.receive-in-Station-Take.result (λ fault. station_fails called (station_receives clock bytes) _ c.args.self.now fault (λ n. ap (λ (call : Call). node_called call bytes clock (Station n)) w.in-Station-Take.is-1) w.in-Station-Take.is-0) w.receive-in-Station-Take.ensures.fault)
       | in-Station-Noise w ↦
@@ -29,4 +32,5 @@ returns-clause-fault c =
           rw w.result-is (if_err w.heartbeat-in-Station-Heartbeat.result (λ fault. station_fails called (station_beats clock) _ c.args.self.now fault (λ n. ap (λ (call : Call). node_called call bytes clock (Station n)) w.in-Station-Heartbeat.is-1) w.in-Station-Heartbeat.is-0) w.heartbeat-in-Station-Heartbeat.ensures.fault)
       | in-Station-Tick w ↦
           rw w.result-is (if_err w.tick-in-Station-Tick.result (λ fault. station_fails called (station_ticks clock) _ c.args.self.now fault (λ n. ap (λ (call : Call). node_called call bytes clock (Station n)) w.in-Station-Tick.is-1) w.in-Station-Tick.is-0) w.tick-in-Station-Tick.ensures.fault)
+      | in-Station-Restart w ↦ rw w.result-is tt
     ]
