@@ -17,7 +17,7 @@ use Rattle.decode_command.proofs.Lines.{run_lines, run_bytes, run_frames, run_sk
 use Rattle.decode_command.proofs.Steps.{events_put, stepped}
 
 -- the lines of the bytes of a run were added
-pub run_put : (why : Why) (run : List ℕ) (old new : Decoder) (count : ℕ) → count ≡ length run → new ≡ record old { text = new.text; chunk = new.chunk; offset = old.offset + count; skipped = old.skipped + count } → new.text.items ≡ old.text.items ++ skip_lines old.offset run why → Puts (map (skipped_for why) run) old new
+pub run_put : (why : Why) (run : List ℕ) (old new : Decoder) (count : ℕ) → count ≡ length run → new ≡ record old { text = new.text; blocks = new.blocks; offset = old.offset + count; skipped = old.skipped + count } → new.text.items ≡ old.text.items ++ skip_lines old.offset run why → Puts (map (skipped_for why) run) old new
 run_put why run old new count size is text = record {
   known = ap (λ (d : Decoder). d.known) is;
   reader = ap (λ (d : Decoder). d.reader) is;

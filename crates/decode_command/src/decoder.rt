@@ -17,7 +17,7 @@ use dialect::Dialect;
 use mav_frame::Why;
 use mav_ports::{NoMemory, Sink};
 use mav_scan::{NextSpan, Scanner};
-use mav_text::{Chunk, put_decimal, put_skips};
+use mav_text::{Chunk, SkipBlocks, put_decimal, put_skips};
 use run_status::RunEnd;
 use std::alloc::Global;
 
@@ -31,6 +31,7 @@ pub struct Decoder {
     reader: Scanner,
     text: Vec<u8>,
     chunk: Chunk,
+    blocks: SkipBlocks,
     /// The offset of the next event.
     offset: u64,
     frames: u64,
@@ -65,6 +66,7 @@ impl Decoder {
             reader,
             text: Vec::new(alloc),
             chunk: Chunk::new(),
+            blocks: SkipBlocks::new(),
             offset: 0,
             frames: 0,
             skipped: 0,
@@ -231,7 +233,7 @@ impl Decoder {
         ensures text { OnErr result (self.new.text.items ≡ self.old.text.items) }
     {
         let bytes = &self.reader.bytes()[..count];
-        put_skips(self.offset, bytes, why, &mut self.chunk, &mut self.text)?;
+        put_skips(self.offset, bytes, why, &mut self.blocks, &mut self.text)?;
         self.offset += count as u64;
         self.skipped += count as u64;
         Ok(())

@@ -1,6 +1,7 @@
 pub mod WireLines
 mod ChunkSteps
 mod SkipSteps
+mod SkipBlockSteps
 mod SmallNumbers
 mod Tables
 mod DecimalSteps

@@ -2,3 +2,4 @@ pub mod LayoutText
 pub mod FrameText
 pub mod TemplateText
 pub mod TextLaws
+pub mod SkipBlocks

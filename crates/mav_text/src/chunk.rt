@@ -138,6 +138,17 @@ pub(crate) fn set_two<const N: usize>(chunk: &mut [u8; N], at: usize, two: [u8; 
     chunk[at + 1] = second;
 }
 
+/// The same in a slice.
+#[inline(always)]
+pub(crate) fn set_pair(bytes: &mut [u8], at: usize, two: [u8; 2])
+    requires { at + 2 ≤ length bytes.old }
+    ensures { bytes.new ≡ slice_set (slice_set bytes.old at (slice_index two 0)) (at + 1) (slice_index two 1) }
+{
+    let [first, second] = two;
+    bytes[at] = first;
+    bytes[at + 1] = second;
+}
+
 // Puts four bytes at an index.
 #[inline(always)]
 fn put_four<const N: usize>(chunk: &mut [u8; N], at: usize, four: [u8; 4])

@@ -12,6 +12,8 @@ mod layouts;
 mod line_template;
 mod line_templates;
 mod pieces;
+mod skip_block;
+mod skip_ending;
 mod skips;
 mod small;
 mod values;
@@ -22,7 +24,7 @@ pub use fields::put_fields;
 pub use layouts::put_layout;
 pub use line_templates::LineTemplates;
 pub use pieces::put_decimal;
-pub use skips::{put_skip, put_skips};
+pub use skips::{SkipBlocks, put_skip, put_skips};
 use std::alloc::AllocError;
 
 pub type NoMemory = AllocError;
