@@ -2,7 +2,14 @@
 //! node's plan core, and its reply is sent at once as a signed frame.
 //!
 //! A node reports all that happened as a list of [`News`]; a caller sends the frames among them. What a node does is a
-//! total function of its state, the datagram and the clock. It has no link of its own, and no clock.
+//! total function of its state, the datagram, the clock and what its store keeps. It has no link of its own, no clock and
+//! no store.
+//!
+//! A drone's store, which is handed to each call, has its plans and a low bound of timestamps: a drone that starts again
+//! has those plans, and admits and sends only timestamps above the bound. The drone saves before a timestamp above the
+//! stored bound is admitted or sent, and before its plans change. If a save fails it loads, and what the store then has
+//! decides: a change of plans that isn't stored is refused, and a bound that isn't stored, or a load that fails too, is a
+//! fault, after which the node isn't used again.
 #![tactic(auto)]
 
 mod drone_core;

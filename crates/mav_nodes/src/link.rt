@@ -182,7 +182,7 @@ impl Link {
             return Ok(());
         }
         let bound = bound_for(stamp);
-        save_bound(core, keeper, self.alloc, self.low, bound)?;
+        save_bound(core, keeper, self.alloc, bound)?;
         self.low = Some(bound);
         Ok(())
     }

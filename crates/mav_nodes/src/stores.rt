@@ -24,16 +24,14 @@ fn stored_bytes<C: Core>(core: &C, alloc: Global, low: Option<u64>) -> Result<Ve
     }
 }
 
-/// Saves the core with a new low bound, in place of the one that the store has.
+/// Saves the core with a new low bound. If the store then has anything else, whatever it is, the bound isn't stored.
 pub(crate) fn save_bound<K: Keeper, C: Core>(
     core: &C,
     keeper: &mut K,
     alloc: Global,
-    low: Option<u64>,
     bound: u64,
 ) -> Result<(), NodeFault>
-    requires low { IfSome low (λ low. low < 2 ^ 48) }
-    requires bound { bound < 2 ^ 48 }
+    requires { bound < 2 ^ 48 }
     ensures stored { OnOk result (Holds (K.contents keeper.new) (C.stored core.now) (Some bound)) }
     ensures serves { Serves K.faults K.is_infallible keeper.old keeper.new }
     ensures fault { IfErr result (λ fault. HasFailedAt fault K.faults K.is_infallible keeper.old keeper.new) }
@@ -41,8 +39,7 @@ pub(crate) fn save_bound<K: Keeper, C: Core>(
     let Some(new) = core.image(alloc, bound)? else {
         return Ok(());
     };
-    let old = stored_bytes(core, alloc, low)?;
-    match save_or_load(keeper, &old, &new)? {
+    match save_or_load(keeper, &[], &new)? {
         Stored::New => Ok(()),
         Stored::Old => Err(NodeFault::Store),
     }

@@ -163,7 +163,7 @@ fn start(alloc: Global, keeper: &mut MemKeeper, uploads: bool) -> Option<Ending>
 }
 
 // Two digits: the result in the ACK of the last item, or 9 if there was none; and how many items the drone has once it
-// starts again. Nines if it had another number of items before.
+// starts again. 99 for what must not be, as a plan that isn't the one that was stored.
 fn digits(ending: Ending, again: Ending) -> u64 {
     match (ending, again) {
         (Ending::GivenUp, Ending::Started(0)) => 90,
