@@ -12,7 +12,7 @@ use Rattle.fleet_world.specs.Authentic.{Authentic}
 use Rattle.fleet_invariants.specs.Sound.{Sound}
 use Rattle.fleet_invariants.proofs.Plays.{sound_start, sound_lines}
 use Rattle.fleet_liveness.specs.Uncontended.{NextLine, Whole, Last, IsUncontended, begun}
-use Rattle.fleet_liveness.specs.Examples.{scenario, upload_lines, one_item, two_items, waypoint, upload, newline, some_key, acknowledges}
+use Rattle.fleet_liveness.specs.Examples.{scenario, upload_lines, one_item, two_items, waypoint, upload, newline, some_key, again, again_lines, acknowledges}
 use Rattle.fleet_liveness.proofs.Shorts.{Goes, flows_go}
 
 valid : IsValid 0 (waypoint ∷ [])
@@ -103,3 +103,30 @@ ten_do = refl
 pub nine_do_not : acknowledges (played some_key true (scenario two_items (codes "flow 9"))).events ≡ false
 unfolding item_fault whole_fault plan_fault decode_pairs first_words schedule rounds compress hash_after digest_bytes sha256 check.after_byte
 nine_do_not = refl
+
+-- the premise can be met by a drone that has started again
+pub again_uncontended : IsUncontended some_key true (again (codes "flow 5")) again_lines upload
+unfolding item_fault whole_fault plan_fault decode_pairs first_words schedule rounds compress hash_after digest_bytes sha256 check.after_byte
+again_uncontended = record {
+  lines = refl;
+  front_done = refl;
+  begin_done = refl;
+  flow_done = refl;
+  begins = refl;
+  plan_is = refl;
+  valid = valid;
+  accepts = record { index = 1; station = _; found = refl; named = refl; accepted = refl };
+  is_free = record { index = 0; drone = _; found = refl; named = refl; free = refl };
+  heard = omega arith;
+  frames = 9;
+  flows = refl;
+  enough = omega arith;
+}
+
+pub a_heard_drone : acknowledges (played some_key true (again (codes "flow 5"))).events ≡ true
+unfolding item_fault whole_fault plan_fault decode_pairs first_words schedule rounds compress hash_after digest_bytes sha256 check.after_byte
+a_heard_drone = refl
+
+pub an_unheard_drone : acknowledges (played some_key true (again (codes "# not heard"))).events ≡ false
+unfolding item_fault whole_fault plan_fault decode_pairs first_words schedule rounds compress hash_after digest_bytes sha256 check.after_byte
+an_unheard_drone = refl

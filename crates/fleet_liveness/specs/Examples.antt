@@ -4,7 +4,7 @@ use Rattle.plan_items.specs.declared.items.Item.{Item}
 use Rattle.plan_items.specs.declared.kinds.PlanKind.TheVariants.{Mission}
 use Rattle.plan_upload.specs.Station.{Told, Told_installed, Told_not_installed, Told_unknown, Told_cleared, Told_got, Told_ended}
 use Rattle.fleet_report.specs.Events.{Event, Sent, Installed, Emptied, Dropped, Missing, Restarted, Refused, Ended}
-use Rattle.fleet_liveness.specs.Uncontended.{Lines, NextLine, Upload}
+use Rattle.fleet_liveness.specs.Uncontended.{Lines, NextLine, Whole, Upload}
 
 -- a drone, a station, and one item or two
 abbrev pub one_item : List ℕ
@@ -21,7 +21,20 @@ abbrev pub scenario : List ℕ → List ℕ → List ℕ
 scenario items flow =
     codes "drone 1" ++ newline ++ codes "station 255 190" ++ newline ++ items ++ newline ++ codes "begin 255.190 1.1 mission" ++ newline ++ flow
 
--- its lines if there is one item
+-- the upload of one item with nine frames' flow, to a drone that has started again, after this line
+abbrev pub again : List ℕ → List ℕ
+again heard =
+    codes "drone 1\nstation 255 190\nheartbeat 1.1\nrestart 1.1\n" ++ heard ++ newline ++ one_item ++ newline ++ codes "begin 255.190 1.1 mission\nflow 9\n"
+
+-- its lines, if the station hears the drone since
+abbrev pub again_lines : Lines
+again_lines = record {
+  front = codes "drone 1" ∷ codes "station 255 190" ∷ codes "heartbeat 1.1" ∷ codes "restart 1.1" ∷ codes "flow 5" ∷ one_item ∷ [];
+  begin = codes "begin 255.190 1.1 mission";
+  flow = Whole (codes "flow 9") [];
+}
+
+-- the lines of the upload of one item to a drone that has not
 abbrev pub upload_lines : NextLine → Lines
 upload_lines flow = record {
   front = codes "drone 1" ∷ codes "station 255 190" ∷ one_item ∷ [];

@@ -1,3 +1,4 @@
 pub mod Plainly
 pub mod Lines
 pub mod Reports
+pub mod Restarted

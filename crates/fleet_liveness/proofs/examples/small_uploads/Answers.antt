@@ -11,4 +11,7 @@ returns c = record {
   seven_do_not = shown.seven_do_not;
   ten_do_for_two = shown.ten_do;
   nine_do_not_for_two = shown.nine_do_not;
+  again_uncontended = shown.again_uncontended;
+  heard_again = shown.a_heard_drone;
+  not_heard_again = shown.an_unheard_drone;
 }

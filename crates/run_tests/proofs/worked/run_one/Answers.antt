@@ -8,12 +8,17 @@ use Rattle.dialect_command.specs.Examples.{profile_layouts}
 use Rattle.dialect_command.proofs.Worked.{profile_output}
 use Rattle.fleet_command.specs.Examples.{one_item, one_item_installed}
 use Rattle.fleet_command.proofs.Worked.{spec as playing, one_item_code, one_item_output}
+use Rattle.run_tests.specs.Restarts.{restart_between, restart_between_report}
+use Rattle.run_tests.proofs.Restarted.{restart_code, restart_output}
 use Rattle.run_tests.proofs.Plainly.{asked, asked_dialect, asks_fleet, asks_decode, asks_dialect, sure_input, no_input, sure, awake, status_reported, text_reported, installed_reported, completed_reported}
 use Rattle.run_tests.proofs.worked.run_one.Goals as goal
 
 pub returns-clause-status : goal.returns-clause-status
 returns-clause-status c = elim c.requires.one [
-  | inl fleet ↦ status_reported playing one_item one_item_installed one_item_code one_item_output (sure_input c.args.inputs.now.main c.run.new.inputs.main) c.args.out.now c.run.new.out c.run.result fleet.1 sure awake (c.run.ensures.fleet (asked Fleet) (asks_fleet (map string_bytes c.args.words.now) fleet.0) refl)
+  | inl fleet ↦ elim fleet.1 [
+    | inl item ↦ status_reported playing one_item one_item_installed one_item_code one_item_output (sure_input c.args.inputs.now.main c.run.new.inputs.main) c.args.out.now c.run.new.out c.run.result item sure awake (c.run.ensures.fleet (asked Fleet) (asks_fleet (map string_bytes c.args.words.now) fleet.0) refl)
+    | inr restart ↦ status_reported playing restart_between restart_between_report restart_code restart_output (sure_input c.args.inputs.now.main c.run.new.inputs.main) c.args.out.now c.run.new.out c.run.result restart sure awake (c.run.ensures.fleet (asked Fleet) (asks_fleet (map string_bytes c.args.words.now) fleet.0) refl)
+  ]
   | inr others ↦ elim others [
     | inl decode ↦ status_reported decoding one_heartbeat one_heartbeat_text one_heartbeat_code one_heartbeat_output (sure_input c.args.inputs.now.main c.run.new.inputs.main) c.args.out.now c.run.new.out c.run.result decode.1 sure awake (c.run.ensures.decode (asked Decode) (asks_decode (map string_bytes c.args.words.now) decode.0) refl)
     | inr words ↦ status_reported profile_spec [] profile_layouts refl profile_output no_input c.args.out.now c.run.new.out c.run.result refl sure awake (c.run.ensures.profile asked_dialect (asks_dialect (map string_bytes c.args.words.now) words) refl refl)
@@ -23,6 +28,10 @@ returns-clause-status c = elim c.requires.one [
 pub returns-clause-report : goal.returns-clause-report
 returns-clause-report c = λ words scenario.
     text_reported playing one_item one_item_installed one_item_code one_item_output (sure_input c.args.inputs.now.main c.run.new.inputs.main) c.args.out.now c.run.new.out c.run.result scenario sure awake (c.run.ensures.fleet (asked Fleet) (asks_fleet (map string_bytes c.args.words.now) words) refl) c.requires.empty
+
+pub returns-clause-restarted : goal.returns-clause-restarted
+returns-clause-restarted c = λ words scenario.
+    text_reported playing restart_between restart_between_report restart_code restart_output (sure_input c.args.inputs.now.main c.run.new.inputs.main) c.args.out.now c.run.new.out c.run.result scenario sure awake (c.run.ensures.fleet (asked Fleet) (asks_fleet (map string_bytes c.args.words.now) words) refl) c.requires.empty
 
 pub returns-clause-installed : goal.returns-clause-installed
 returns-clause-installed c = λ words scenario zero.
