@@ -1,5 +1,5 @@
 // Texts that are put together in a fixed chunk of bytes, of which those up to an index count.
-ghost use Rattle.std.specs.Prelude.{◌≡◌, ◌+◌, ◌≤◌, ◌∷◌, [], ◌++◌, length, replicate, take, vec_len, slice_index, slice_range, slice_set, IfOk};
+ghost use Rattle.std.specs.Prelude.{◌≡◌, ◌+◌, ◌/◌, ◌%◌, ◌≤◌, ◌∷◌, [], ◌++◌, length, replicate, take, vec_len, slice_index, slice_range, slice_set, IfOk};
 
 use crate::NoMemory;
 
@@ -147,6 +147,16 @@ pub(crate) fn set_pair(bytes: &mut [u8], at: usize, two: [u8; 2])
     let [first, second] = two;
     bytes[at] = first;
     bytes[at + 1] = second;
+}
+
+/// Writes the low byte of a word and its high one, which are one store where the word is in a register.
+#[inline(always)]
+pub(crate) fn set_word(bytes: &mut [u8], at: usize, word: u16)
+    requires { at + 2 ≤ length bytes.old }
+    ensures { bytes.new ≡ slice_set (slice_set bytes.old at (word % 256)) (at + 1) (word / 256) }
+{
+    bytes[at] = (word % 256) as u8;
+    bytes[at + 1] = (word / 256) as u8;
 }
 
 // Puts four bytes at an index.

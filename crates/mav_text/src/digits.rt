@@ -1,5 +1,5 @@
 // Digits of numbers.
-ghost use Rattle.std.specs.Prelude.{◌≡◌, ◌<◌, ◌^◌, drop};
+ghost use Rattle.std.specs.Prelude.{◌≡◌, ◌<◌, ◌^◌, ◌/◌, ◌%◌, ◌∷◌, [], drop};
 ghost use Rattle.std.specs.Fmt.{decimal};
 ghost use Rattle.mav_text.specs.FrameText.{pair_text, byte_hex, word_hex};
 
@@ -30,6 +30,16 @@ pub(crate) fn pair_digits(pair: usize) -> [u8; 2]
     let tens = PAIRS[from];
     let ones = PAIRS[from + 1];
     [tens, ones]
+}
+
+/// The two digits of a number below 100 as a word, the first in its low byte.
+#[inline(always)]
+pub(crate) fn pair_word(pair: usize) -> u16
+    requires { pair < 100 }
+    ensures { result % 256 ∷ result / 256 ∷ [] ≡ pair_text pair }
+{
+    let [tens, ones] = pair_digits(pair);
+    u16::from(tens) + u16::from(ones) * 256
 }
 
 /// The two digits of a byte, in lower case.

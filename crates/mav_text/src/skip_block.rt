@@ -5,9 +5,9 @@ ghost use Rattle.mav_text.specs.FrameText.{pair_text, skip_lines, why_text};
 ghost use Rattle.mav_text.specs.SkipBlocks.{blank_line, blank_lines};
 
 use crate::NoMemory;
-use crate::chunk::{put_part, put_two, set_pair};
+use crate::chunk::{put_part, put_two, set_pair, set_word};
 use crate::decimals::put_middle;
-use crate::digits::{byte_digits, pair_digits};
+use crate::digits::{byte_digits, pair_digits, pair_word};
 use crate::skip_ending::SkipEnding;
 use mav_frame::Why;
 use std::marker::Model;
@@ -105,15 +105,25 @@ impl SkipBlock {
         }
     }
 
-    // Makes it that of other ten thousands.
-    #[inline]
+    // Puts the lines of other ten thousands. Inlined, it would clear its stack at each run.
+    #[inline(never)]
+    fn renew(&mut self, ten_thousands: u64)
+        requires some { 0 < ten_thousands }
+        requires near { ten_thousands < 1000000 }
+        ensures { self.new ≡ (ten_thousands, self.old.1) }
+    {
+        *self = SkipBlock::of(ten_thousands, self.why);
+    }
+
+    // Makes it that of these ten thousands.
+    #[inline(always)]
     fn turn_to(&mut self, ten_thousands: u64)
         requires some { 0 < ten_thousands }
         requires near { ten_thousands < 1000000 }
         ensures { self.new ≡ (ten_thousands, self.old.1) }
     {
         if self.ten_thousands != ten_thousands {
-            *self = SkipBlock::of(ten_thousands, self.why);
+            self.renew(ten_thousands);
         }
     }
 
@@ -146,12 +156,13 @@ impl SkipBlock {
         requires same { last_four % 100 + length bytes.now ≤ 100 }
         ensures { lines.new ≡ skip_lines (10000 * self.now.0 + last_four) bytes.now self.now.1 }
     {
-        let hundreds = pair_digits(last_four / 100);
+        let hundreds = pair_word(last_four / 100);
+        let line_len = self.line_len;
         let mut at = self.hundreds_at;
         for byte in bytes {
-            set_pair(lines, at, hundreds);
+            set_word(lines, at, hundreds);
             set_pair(lines, at + 10, byte_digits(*byte));
-            at += self.line_len;
+            at += line_len;
         }
     }
 

@@ -18,18 +18,18 @@ has_room t pair count at why lines done some is place =
     let rest : List ℕ = blank_lines (count - 1) t (suc pair) why in
     omega (arith, ap length is, length-append done (blank_lines count t pair why), ap length (next_first t pair count why some), length-append (blank_line t pair why) rest, line_room t why pair, place)
 
-pub set_pair-requires : goal.set_pair-requires
-set_pair-requires c =
+pub set_word-requires : goal.set_word-requires
+set_word-requires c =
     let l = c.loop-byte in let bytes : List ℕ = c.args.bytes.now in
     let room = has_room c.args.self.now.0 (c.args.last_four % 100 + l.byte-index) (length bytes - l.byte-index) l.at c.args.self.now.1 l.lines _ (omega (arith, c.loop-byte-test.true)) l.invariant.lines l.invariant.at in
     omega (arith, room)
 
-pub set_pair-requires-in-loop-byte : goal.set_pair-requires-in-loop-byte
-set_pair-requires-in-loop-byte c =
+pub set_pair-requires : goal.set_pair-requires
+set_pair-requires c =
     let l = c.loop-byte in let bytes : List ℕ = c.args.bytes.now in
     let room = has_room c.args.self.now.0 (c.args.last_four % 100 + l.byte-index) (length bytes - l.byte-index) l.at c.args.self.now.1 l.lines _ (omega (arith, c.loop-byte-test.true)) l.invariant.lines l.invariant.at in
-    let tens : ℕ = slice_index c.pair_digits-hundreds.result 0 in let ones : ℕ = slice_index c.pair_digits-hundreds.result 1 in
-    omega (arith, room, ap length c.set_pair.ensures, length-set (set l.lines l.at tens) (l.at + 1) ones, length-set l.lines l.at tens)
+    let tens : ℕ = c.pair_word-hundreds.result % 256 in let ones : ℕ = c.pair_word-hundreds.result / 256 in
+    omega (arith, room, ap length c.set_word.ensures, length-set (set l.lines l.at tens) (l.at + 1) ones, length-set l.lines l.at tens)
 
 pub loop-byte-preserved : goal.loop-byte-preserved
 loop-byte-preserved c =
@@ -42,9 +42,9 @@ loop-byte-preserved c =
     let near : t < 1000000 = omega (arith, c.self.invariant.1, ap (λ (z : ℕ × Why). z.0) c.self.view_is) in
     let two : hundreds < 100 = omega (arith, c.requires.last_four) in
     let last : pair < 100 = omega (arith, c.requires.same, is_inside) in
-    let tens : ℕ = slice_index c.pair_digits-hundreds.result 0 in let ones : ℕ = slice_index c.pair_digits-hundreds.result 1 in
+    let tens : ℕ = c.pair_word-hundreds.result % 256 in let ones : ℕ = c.pair_word-hundreds.result / 256 in
     let high : ℕ = slice_index c.byte_digits.result 0 in let low : ℕ = slice_index c.byte_digits.result 1 in
-    let hundreds_is : tens ∷ ones ∷ [] ≡ pair_text hundreds = ap (λ (d : List ℕ). slice_index d 0 ∷ slice_index d 1 ∷ []) c.pair_digits-hundreds.ensures in
+    let hundreds_is : tens ∷ ones ∷ [] ≡ pair_text hundreds = c.pair_word-hundreds.ensures in
     let byte_is : high ∷ low ∷ [] ≡ byte_hex byte = ap (λ (d : List ℕ). slice_index d 0 ∷ slice_index d 1 ∷ []) c.byte_digits.ensures in
     let done : List ℕ = skip_lines start (take i bytes) why in
     let rest : List ℕ = blank_lines (length bytes - i - 1) t (suc pair) why in
@@ -59,8 +59,8 @@ loop-byte-preserved c =
     record {
       at = omega (arith, l.invariant.at, long, ap length more, length-append done (skip_line (10000 * t + 100 * hundreds + pair) byte why), written_length t why some near hundreds pair byte two last);
       lines =
-          c.set_pair-in-loop-byte.ensures
-          ∙ ((λ k. set (set (c.set_pair.ensures k) (at + 10) high) (at + 10 + 1) low)
+          c.set_pair.ensures
+          ∙ ((λ k. set (set (c.set_word.ensures k) (at + 10) high) (at + 10 + 1) low)
           ∙ ((λ k. set (set (set (set (before k) at tens) (at + 1) ones) (at + 10) high) (at + 10 + 1) low)
           ∙ (written t why some near hundreds pair byte two last done rest at tens ones high low l.invariant.at hundreds_is byte_is
           ∙ (λ k. sym more k ++ blank_lines (fewer k) t (next k) why))));
