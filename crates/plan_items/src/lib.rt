@@ -5,6 +5,7 @@
 //! here sends, stores or flies a plan, and a `Plan` allocates only in `with_room` and `push`.
 #![tactic(auto)]
 
+mod actions;
 mod codes;
 mod faults;
 mod items;
@@ -14,6 +15,7 @@ mod plans;
 mod validation;
 mod words;
 
+pub use actions::Action;
 pub use codes::{MavCommand, MavFrame, MissionResult};
 pub use faults::{PlanFault, code};
 pub use items::Item;
