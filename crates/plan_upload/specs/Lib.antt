@@ -1,6 +1,6 @@
 pub use Rattle.plan_image.specs.Image
 pub use Rattle.plan_image.specs.Kept
-pub mod Addresses
+pub use Rattle.mav_names.specs.Addresses
 pub mod Plans
 pub mod Kinds
 pub mod Drone

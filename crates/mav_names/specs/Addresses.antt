@@ -1,4 +1,4 @@
--- Who a plan message comes from and whom it is for (MAVLink guide, Routing).
+-- Who a message comes from and whom it is for (MAVLink guide, Routing).
 use Rattle.std.specs.Prelude.{ℕ, ◌==◌, ◌&&◌, ◌||◌, Bool}
 use Rattle.mav_names.specs.declared.names.Name.{Name}
 use Rattle.mav_names.specs.declared.names.Stream.{Stream}
@@ -22,3 +22,7 @@ everyone = record { sys = 0; comp = 0 }
 -- a drone is component 1 of its system, and accepts what is for that component or for all of them
 abbrev pub is_for_drone : ℕ → Name → Bool
 is_for_drone sys to = (to.sys == sys) && ((to.comp == 1) || (to.comp == 0))
+
+-- a node accepts what is for its component or for all components of its system
+abbrev pub is_for_node : Name → Name → Bool
+is_for_node me to = (to.sys == me.sys) && ((to.comp == me.comp) || (to.comp == 0))
