@@ -8,3 +8,4 @@ pub mod Tables
 pub mod Payload
 pub mod Words
 pub mod Reading
+pub mod CharText

@@ -1,5 +1,5 @@
 -- The texts of frames and of skipped bytes.
-use Rattle.std.specs.Prelude.{ℕ, zero, suc, ◌+◌, ◌-◌, ◌/◌, ◌%◌, ◌^◌, ◌==◌, ◌&&◌, Bool, true, false, not, nat_lt, nat_le, if◌then◌else◌, List, [], ◌∷◌, ◌++◌, take, codes, Option, Some, None}
+use Rattle.std.specs.Prelude.{ℕ, zero, suc, ◌+◌, ◌-◌, ◌/◌, ◌%◌, ◌^◌, ◌==◌, Bool, true, false, nat_lt, if◌then◌else◌, List, [], ◌∷◌, ◌++◌, take, codes, Option, Some, None}
 use Rattle.std.specs.Fmt.{decimal}
 use Rattle.field_layout.specs.declared.ty.Ty.{Ty}
 use Rattle.field_layout.specs.declared.ty.Ty.TheVariants.{I8, U8, Char, I16, U16, I32, U32, I64, U64, F32, F64, Version}
@@ -9,6 +9,7 @@ use Rattle.field_layout.specs.Definition.{Definition, all_fields, base_len_of, e
 use Rattle.field_layout.specs.WireOrder.{offset_of}
 use Rattle.field_layout.specs.Payload.{words_at}
 use Rattle.field_layout.specs.Reading.{words_from}
+pub use Rattle.field_layout.specs.CharText.{hex_digit, byte_hex, is_plain, char_text, chars_text, quoted_text}
 use Rattle.mav_frame.specs.Packet.{SignatureBlock, Packet}
 use Rattle.mav_frame.specs.declared.looks.Why.{Why}
 use Rattle.mav_frame.specs.declared.looks.Why.TheVariants.{NotStx, UnknownFlag, UnknownId, BadCheck, Short}
@@ -18,14 +19,6 @@ use Rattle.mav_frame.specs.declared.looks.Why.TheVariants.{NotStx, UnknownFlag, 
 -- two decimal digits, the first of which may be 0
 abbrev pub pair_text : ℕ → List ℕ
 pair_text pair = (48 + pair / 10) ∷ (48 + pair % 10) ∷ []
-
--- a hexadecimal digit, in lower case
-abbrev pub hex_digit : ℕ → ℕ
-hex_digit nibble = if nat_lt nibble 10 then 48 + nibble else 87 + nibble
-
--- the two digits of a byte
-abbrev pub byte_hex : ℕ → List ℕ
-byte_hex byte = hex_digit (byte / 16) ∷ hex_digit (byte % 16) ∷ []
 
 -- the digits of a word of so many bytes, highest byte first
 abbrev pub word_hex : ℕ → ℕ → List ℕ
@@ -53,19 +46,6 @@ number_text Char word = decimal word
 
 -- ---- values of fields
 
--- a character that is written as it is: printable ASCII, neither a quote nor a backslash
-abbrev pub is_plain : ℕ → Bool
-is_plain byte = nat_le 32 byte && nat_le byte 126 && not (byte == 34) && not (byte == 92)
-
--- any other character is `\x` and its two digits
-abbrev pub char_text : ℕ → List ℕ
-char_text byte = if is_plain byte then byte ∷ [] else 92 ∷ 120 ∷ byte_hex byte
-
--- the characters up to the first zero
-abbrev pub chars_text : List ℕ → List ℕ
-chars_text [] = []
-chars_text (byte ∷ bytes) = if byte == 0 then [] else char_text byte ++ chars_text bytes
-
 -- values with a comma before each
 abbrev pub further_text : Ty → List ℕ → List ℕ
 further_text ty [] = []
@@ -83,7 +63,7 @@ is_char _ = false
 -- a char or a char array in double quotes, another array in square brackets, or a single value
 abbrev pub shown_text : Ty → ℕ → List ℕ → List ℕ
 shown_text ty len words =
-    if is_char ty then 34 ∷ chars_text words ++ 34 ∷ []
+    if is_char ty then quoted_text words
     else if len == 0 then values_text ty words
     else 91 ∷ values_text ty words ++ 93 ∷ []
 
