@@ -1,0 +1,3 @@
+pub mod LastLists
+pub mod Ranges
+pub mod Repetitions

@@ -1,0 +1,4 @@
+pub mod Executor
+pub mod Commander
+pub mod Answers
+pub mod Laws
