@@ -1,0 +1,11 @@
+pub mod Params
+pub mod Server
+pub mod Client
+pub mod Faults
+pub mod Places
+pub mod Views
+pub mod Ends
+pub mod ClientView
+pub mod ServerView
+pub mod Ranges
+pub mod Laws
