@@ -1,0 +1,22 @@
+// A link that its caller boxed.
+ghost use Rattle.std.specs.Prelude.{◌≡◌};
+
+use crate::Link;
+use mav_ports::{Got, Put};
+
+/// A box is the link in it.
+impl Link for Box<dyn Link> {
+    ghost state = { λ b. (Link-box b).state b.value };
+
+    fn read(&mut self, buf: &mut [u8]) -> Got {
+        (**self).read(buf)
+    }
+
+    fn write(&mut self, bytes: &[u8]) -> Put {
+        (**self).write(bytes)
+    }
+
+    fn sent(&self) -> &[u8] {
+        (**self).sent()
+    }
+}
