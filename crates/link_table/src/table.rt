@@ -1,0 +1,142 @@
+// The table of learned nodes.
+ghost use Rattle.std.specs.Prelude.{◌≡◌, ◌+◌, ◌-◌, ◌*◌, ◌^◌, ◌<◌, ◌≤◌, ◌++◌, ◌∷◌, [], ℕ, List, length, slice_index, slice_set, IfOk};
+ghost use Rattle.std.specs.Int.Bits.{bit_or};
+ghost use Rattle.link_table.specs.Routing.{Learned, is_behind, goes_out, ways_of};
+ghost use Rattle.link_table.specs.Table.{Represents, has_bit as mask_has};
+
+use crate::{NoMemory, Ways};
+use mav_names::Name;
+use std::alloc::Global;
+use std::marker::Model;
+
+const SYSTEMS: usize = 256;
+
+// Each system has 256 components.
+const NODES: usize = 65_536;
+
+// The mask of all ports.
+const ALL_PORTS: u8 = 255;
+
+/// Which nodes are behind which port. Each node has a byte with a bit for each port, so that a port has one table of
+/// 65,536 bits; each system has a byte too, with the bits of its nodes together.
+#[derive(Drop)]
+pub struct LinkTable {
+    ports: u8,
+    nodes: Vec<u8>,
+    systems: Vec<u8>,
+}
+
+impl Model for LinkTable {
+    ghost use Rattle.std.specs.Prelude.{◌≡◌, ◌≤◌, length};
+    ghost use Rattle.link_table.specs.Table.{Masks};
+
+    ghost Value = { Masks };
+
+    ghost view = { λ t. record { ports = t.ports; nodes = t.nodes.items; systems = t.systems.items } };
+
+    ghost invariant = { λ t. (t.ports ≤ 8) × (length t.nodes.items ≡ 65536) × (length t.systems.items ≡ 256) };
+}
+
+// The bit of a port.
+fn bit_of(port: u8) -> u8
+    requires from { 1 ≤ port }
+    requires to { port ≤ 8 }
+    ensures { result ≡ 2 ^ (port - 1) }
+{
+    1 << (port - 1)
+}
+
+fn has_bit(mask: u8, port: u8) -> bool
+    requires from { 1 ≤ port }
+    requires to { port ≤ 8 }
+    ensures { result ≡ mask_has mask port }
+{
+    mask & bit_of(port) != 0
+}
+
+fn mark(masks: &mut Vec<u8>, index: usize, port: u8)
+    requires within { index < length masks.old.items }
+    requires from { 1 ≤ port }
+    requires to { port ≤ 8 }
+    ensures { masks.new.items ≡ slice_set masks.old.items index (bit_or (slice_index masks.old.items index) (2 ^ (port - 1))) }
+{
+    masks[index] |= bit_of(port);
+}
+
+fn node_index(node: Name) -> usize
+    ensures index { result ≡ node.sys * 256 + node.comp }
+    ensures within { result < 65536 }
+{
+    usize::from(node.sys) * 256 + usize::from(node.comp)
+}
+
+impl LinkTable {
+    /// Nothing is learned yet. Allocates all its memory here.
+    pub fn new(alloc: Global, ports: u8) -> Result<LinkTable, NoMemory>
+        requires from { 1 ≤ ports }
+        requires to { ports ≤ 8 }
+        ensures ports { IfOk result (λ table. table.ports ≡ ports) }
+        ensures learned { IfOk result (λ table. Represents table []) }
+    {
+        let nodes = vec![in alloc; 0; NODES]?;
+        let systems = vec![in alloc; 0; SYSTEMS]?;
+        Ok(LinkTable {
+            ports,
+            nodes,
+            systems,
+        })
+    }
+
+    /// That node is behind the port: a frame of it was admitted there.
+    pub fn learn(&mut self, port: u8, from: Name)
+        requires from { 1 ≤ port }
+        requires to { port ≤ self.old.ports }
+        ensures ports { self.new.ports ≡ self.old.ports }
+        ensures learned { (learned : List Learned) → Represents self.old learned
+            → Represents self.new (learned ++ (record { port = port; from = from }) ∷ []) }
+    {
+        mark(&mut self.nodes, node_index(from), port);
+        mark(&mut self.systems, usize::from(from.sys), port);
+    }
+
+    // The ports behind which somebody is whom a message for that target is for.
+    fn ports_of(&self, target: Name) -> u8
+        ensures { (learned : List Learned) (port : ℕ) → 1 ≤ port → port ≤ 8 → Represents self.now learned
+            → mask_has result port ≡ is_behind learned port target }
+    {
+        if target.sys == 0 {
+            ALL_PORTS
+        } else if target.comp == 0 {
+            self.systems[usize::from(target.sys)]
+        } else {
+            self.nodes[node_index(target)]
+        }
+    }
+
+    // Whether a message goes out at a port, by the mask of its ports and the port that it came in at.
+    fn goes_out(&self, mask: u8, own: u8, port: u8) -> bool
+        requires from { 1 ≤ port }
+        requires to { port ≤ 8 }
+        ensures { result ≡ goes_out self.now.ports (mask_has mask port) own port }
+    {
+        port <= self.ports && port != own && has_bit(mask, port)
+    }
+
+    /// The ports at which a message for that target goes out; it came in at the port `own`, and never goes out there.
+    pub fn ways(&self, own: u8, target: Name) -> Ways
+        ensures { (learned : List Learned) → Represents self.now learned
+            → result ≡ ways_of self.now.ports learned own target }
+    {
+        let mask = self.ports_of(target);
+        Ways::of([
+            self.goes_out(mask, own, 1),
+            self.goes_out(mask, own, 2),
+            self.goes_out(mask, own, 3),
+            self.goes_out(mask, own, 4),
+            self.goes_out(mask, own, 5),
+            self.goes_out(mask, own, 6),
+            self.goes_out(mask, own, 7),
+            self.goes_out(mask, own, 8),
+        ])
+    }
+}
