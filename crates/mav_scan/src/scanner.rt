@@ -13,7 +13,7 @@ use crate::skips::skipped_length;
 use crate::spans::NextSpan;
 use crate::table::ExtrasTable;
 use crate::window::Window;
-use mav_frame::{FrameCheck, Why, check_frame};
+use mav_frame::{Frame, FrameCheck, Why, check_frame, frame_at};
 use std::alloc::Global;
 use std::marker::Model;
 use x25_check::Extras;
@@ -99,6 +99,14 @@ impl Scanner {
     {
         let _held = self.window.bytes();
         self.span()
+    }
+
+    /// The frame at the start of the bytes held, if `next_span` says that one is there.
+    pub fn frame(&self) -> Frame
+        requires { frame_size_at (is_old_at self.now.reads_old self.now.bytes) self.now.bytes ≤ length self.now.bytes }
+        ensures { result ≡ first_packet self.now }
+    {
+        frame_at(self.reads_old, self.window.bytes())
     }
 
     /// Removes bytes from the start, once their events were seen.

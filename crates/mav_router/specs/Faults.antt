@@ -1,0 +1,81 @@
+-- What holds when a run stops because its switch takes no more frames.
+use Rattle.std.specs.Prelude.{ℕ, ◌≡◌, ◌≤◌, ◌+◌, ◌==◌, Bool, true, if◌then◌else◌, List, [], ◌∷◌, ◌++◌, length, slice_get, Option, Some, None, ⊤}
+use Rattle.std.specs.Io.KnownBytes.{append_known, prepend_known}
+use Rattle.mav_ports.specs.Gets.{IsSpent}
+use Rattle.mav_links.specs.Links.{LinkState}
+use Rattle.mav_frame.specs.Packet.{Packet}
+use Rattle.mav_router.specs.declared.entries.Entry.{Entry}
+use Rattle.mav_router.specs.declared.entries.SwitchFault.{SwitchFault}
+use Rattle.mav_router.specs.declared.entries.SwitchFault.TheVariants.{Full, NoMemory}
+use Rattle.mav_router.specs.Journal.{Rules, frames_to, bytes_of}
+use Rattle.mav_router.specs.Runs.{Begun}
+
+-- the fault of a switch with this journal: Full only if it has as many entries as it may have
+abbrev pub IsSwitchFault : SwitchFault → List Entry → Type 0
+IsSwitchFault (Full entries) journal = (entries ≡ 1000000) × (length journal ≡ 1000000)
+IsSwitchFault NoMemory journal = ⊤
+
+-- reading stopped at a frame that the switch didn't take
+pub record StopsReading (ended : Bool) (rules : Rules) (port : ℕ) (bytes : List ℕ) (journal : List Entry) : Type 0 where
+  pub frame : Packet
+  pub begun : Begun ended rules port bytes (frame ∷ []) journal
+
+-- a port's entries, and then the frames `beyond`, are those of a prefix of the parse of the bytes read from it: of the
+-- final one only if nothing is left
+pub record PartInput (rules : Rules) (journal : List Entry) (port : ℕ) (beyond : List Packet) (first now : LinkState) : Type 0 where
+  pub bytes : List ℕ
+  pub left : first.left ≡ prepend_known bytes now.left
+  pub ended : Bool
+  pub begun : Begun ended rules port bytes beyond journal
+  pub spent : ended ≡ true → IsSpent now.left
+
+-- what was written to a port is a prefix of these frames' bytes
+pub record PartOutput (frames : List Packet) (first now : LinkState) : Type 0 where
+  pub written : List ℕ
+  pub rest : List ℕ
+  pub sent : now.sent ≡ append_known first.sent written
+  pub front : written ++ rest ≡ bytes_of frames
+
+pub record PartRun (rules : Rules) (journal : List Entry) (port : ℕ) (beyond : List Packet) (first now : LinkState) : Type 0 where
+  pub input : PartInput rules journal port beyond first now
+  pub output : PartOutput (frames_to port journal) first now
+
+-- at one port the switch didn't take this frame
+pub record StopsInput (rules : Rules) (journal : List Entry) (port : ℕ) (first now : LinkState) : Type 0 where
+  pub frame : Packet
+  pub input : PartInput rules journal port (frame ∷ []) first now
+
+-- a frame that came in at a port, and that the switch didn't take
+pub record Untaken : Type 0 where
+  pub port : ℕ
+  pub frame : Packet
+
+-- what was found at a port after the frames of its entries
+abbrev pub beyond_at : Option Untaken → ℕ → List Packet
+beyond_at None port = []
+beyond_at (Some untaken) port = if untaken.port == port then untaken.frame ∷ [] else []
+
+-- so far with each port
+abbrev pub PartRuns : {A : Type 0} → (A → LinkState) → Rules → List Entry → Option Untaken → (ℕ → LinkState) → List A → Type 0
+PartRuns {A} state rules journal untaken first links =
+    (k : ℕ) (link : A) → slice_get links k ≡ Some link → PartRun rules journal (k + 1) (beyond_at untaken (k + 1)) (first k) (state link)
+
+-- a round stopped at a frame that the switch didn't take
+pub record StopsRound {A : Type 0} (state : A → LinkState) (rules : Rules) (journal : List Entry) (first : ℕ → LinkState) (links : List A) : Type 0 where
+  pub untaken : Untaken
+  pub from : 1 ≤ untaken.port
+  pub to : untaken.port ≤ length links
+  pub ports : PartRuns state rules journal (Some untaken) first links
+
+-- Full comes only if a frame was found that would be one entry more than there may be
+abbrev pub CausedBy : SwitchFault → Option Untaken → ℕ → List Entry → Type 0
+CausedBy NoMemory untaken ports journal = ⊤
+CausedBy (Full entries) None ports journal = ⊥
+CausedBy (Full entries) (Some untaken) ports journal =
+    (entries ≡ 1000000) × (length journal ≡ 1000000) × (1 ≤ untaken.port) × (untaken.port ≤ ports)
+
+-- the run stopped
+pub record RouteStopped {A : Type 0} (state : A → LinkState) (rules : Rules) (why : SwitchFault) (journal : List Entry) (before after : List A) : Type 0 where
+  pub untaken : Option Untaken
+  pub cause : CausedBy why untaken (length before) journal
+  pub ports : (k : ℕ) (b c : A) → slice_get before k ≡ Some b → slice_get after k ≡ Some c → PartRun rules journal (k + 1) (beyond_at untaken (k + 1)) (state b) (state c)

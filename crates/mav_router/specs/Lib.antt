@@ -1,0 +1,5 @@
+pub mod Journal
+pub mod Runs
+pub mod Ends
+pub mod Faults
+pub mod Delivery

@@ -1,0 +1,111 @@
+// What a router keeps of a port.
+ghost use Rattle.std.specs.Prelude.{◌+◌, ◌^◌, ◌≡◌, ◌≤◌, ◌++◌, ◌∷◌, [], ◌<◌, ℕ, List, length, false, OnOk, OnErr, IfErr};
+ghost use Rattle.mav_frame.specs.Packet.{Packet};
+ghost use Rattle.mav_links.specs.Links.{LinkState};
+ghost use Rattle.mav_router.specs.Journal.{Rules, Grows, given_to, frames_to};
+ghost use Rattle.mav_router.specs.Runs.{Input, Output, HadTurns};
+ghost use Rattle.mav_router.specs.declared.entries.Entry.{Entry};
+ghost use Rattle.mav_router.specs.Faults.{IsSwitchFault, StopsInput};
+
+use crate::hearing::hear;
+use crate::lane::Lane;
+use crate::{Switch, SwitchFault};
+use mav_frame::{Frame, encode};
+use mav_links::{Link, write_prefix};
+use mav_ports::Got;
+
+/// Reads a port once, and admits the frames that are found.
+pub(crate) fn read_port<L: Link>(
+    switch: &mut Switch<'_>,
+    lane: &mut Lane,
+    link: &mut L,
+    port: u8,
+    buf: &mut [u8],
+) -> Result<(), SwitchFault>
+    requires from { 1 ≤ port }
+    requires to { port ≤ switch.old.rules.ports }
+    requires room { 0 < length buf.old }
+    requires most { length buf.old ≤ 4096 }
+    ensures grows { Grows port switch.old switch.new }
+    ensures input { OnOk result ((rules : Rules) (first : LinkState)
+        → Input rules switch.old.journal port first (L.state link.old) lane.old
+        → Input rules switch.new.journal port first (L.state link.new) lane.new) }
+    ensures stopped { OnErr result ((rules : Rules) (first : LinkState)
+        → Input rules switch.old.journal port first (L.state link.old) lane.old
+        → StopsInput rules switch.new.journal port first (L.state link.new)) }
+    ensures fault { IfErr result (λ fault. IsSwitchFault fault switch.new.journal) }
+    ensures output { (frames : List Packet) (first : LinkState)
+        → Output frames first (L.state link.old) lane.old → Output frames first (L.state link.new) lane.new }
+    ensures turned { (turns : ℕ) → turns + 1 < 2 ^ 64 → HadTurns lane.old turns → HadTurns lane.new (turns + 1) }
+{
+    if lane.failed || lane.ended {
+        return Ok(());
+    }
+    match link.read(buf) {
+        Got::Bytes(count) => {
+            lane.turns = lane.turns.saturating_add(1);
+            lane.read = lane.read.saturating_add(count as u64);
+            hear(
+                switch,
+                &mut lane.scanner,
+                &mut lane.skipped,
+                port,
+                &buf[..count],
+            )
+        }
+        Got::Idle => {
+            lane.turns = lane.turns.saturating_add(1);
+            Ok(())
+        }
+        Got::End => {
+            lane.ended = true;
+            lane.scanner.end();
+            hear(switch, &mut lane.scanner, &mut lane.skipped, port, &[])
+        }
+        Got::Failed => {
+            lane.failed = true;
+            Ok(())
+        }
+    }
+}
+
+// Writes one frame, put together in `out`, to a port that hasn't failed.
+fn write_frame<L: Link>(lane: &mut Lane, link: &mut L, frame: &Frame, out: &mut [u8; 280])
+    requires { lane.old.failed ≡ false }
+    ensures input { (rules : Rules) (journal : List Entry) (port : ℕ) (first : LinkState)
+        → Input rules journal port first (L.state link.old) lane.old
+        → Input rules journal port first (L.state link.new) lane.new }
+    ensures output { (frames : List Packet) (first : LinkState) → Output frames first (L.state link.old) lane.old
+        → Output (frames ++ frame.now ∷ []) first (L.state link.new) lane.new }
+    ensures turned { (turns : ℕ) → HadTurns lane.old turns → HadTurns lane.new turns }
+{
+    let size = encode(frame, out);
+    let count = write_prefix(link, &out[..size]);
+    lane.written = lane.written.saturating_add(count as u64);
+    if count < size {
+        lane.failed = true;
+    }
+}
+
+/// Writes all that is waiting for a port, unless it failed or fails.
+pub(crate) fn write_port<L: Link>(switch: &mut Switch<'_>, lane: &mut Lane, link: &mut L, port: u8)
+    requires from { 1 ≤ port }
+    requires to { port ≤ switch.old.rules.ports }
+    ensures same { (switch.new.rules ≡ switch.old.rules) × (switch.new.journal ≡ switch.old.journal) }
+    ensures others { (other : ℕ) → 1 ≤ other → (other ≡ port → ⊥) → given_to switch.new other ≡ given_to switch.old other }
+    ensures input { (rules : Rules) (journal : List Entry) (first : LinkState)
+        → Input rules journal port first (L.state link.old) lane.old
+        → Input rules journal port first (L.state link.new) lane.new }
+    ensures output { (first : LinkState) → Output (given_to switch.old port) first (L.state link.old) lane.old
+        → Output (given_to switch.new port) first (L.state link.new) lane.new }
+    ensures drained { lane.new.failed ≡ false → given_to switch.new port ≡ frames_to port switch.new.journal }
+    ensures turned { (turns : ℕ) → HadTurns lane.old turns → HadTurns lane.new turns }
+{
+    let mut out = [0; 280];
+    while !lane.failed {
+        let Some(index) = switch.next(port) else {
+            return;
+        };
+        write_frame(lane, link, switch.frame(index), &mut out);
+    }
+}

@@ -1,0 +1,59 @@
+// Rounds over all ports.
+ghost use Rattle.std.specs.Prelude.{◌≡◌, ◌≤◌, ◌<◌, ◌+◌, ◌^◌, ℕ, length, OnOk, OnErr, IfErr};
+ghost use Rattle.mav_links.specs.Links.{LinkState};
+ghost use Rattle.mav_router.specs.Journal.{Rules};
+ghost use Rattle.mav_router.specs.Faults.{IsSwitchFault, StopsRound};
+ghost use Rattle.mav_router.specs.Runs.{RunSoFar, IsDrained, AllTurned};
+
+use crate::lane::Lane;
+use crate::lanes::{read_port, write_port};
+use crate::{Switch, SwitchFault};
+use mav_links::Link;
+
+/// Reads each port once, in turn.
+pub(crate) fn read_each<L: Link>(
+    switch: &mut Switch<'_>,
+    lanes: &mut [Lane],
+    links: &mut [L],
+    buf: &mut [u8],
+) -> Result<(), SwitchFault>
+    requires lanes { length lanes.old ≡ length links.old }
+    requires ports { length links.old ≤ switch.old.rules.ports }
+    requires few { length links.old ≤ 8 }
+    requires room { 0 < length buf.old }
+    requires most { length buf.old ≤ 4096 }
+    ensures rules { switch.new.rules ≡ switch.old.rules }
+    ensures so_far { OnOk result ((rules : Rules) (first : ℕ → LinkState)
+        → RunSoFar L.state rules switch.old first links.old lanes.old
+        → RunSoFar L.state rules switch.new first links.new lanes.new) }
+    ensures stopped { OnErr result ((rules : Rules) (first : ℕ → LinkState)
+        → RunSoFar L.state rules switch.old first links.old lanes.old
+        → StopsRound L.state rules switch.new.journal first links.new) }
+    ensures fault { IfErr result (λ fault. IsSwitchFault fault switch.new.journal) }
+    ensures turned { OnOk result ((turns : ℕ) → turns + 1 < 2 ^ 64 → AllTurned lanes.old turns → AllTurned lanes.new (turns + 1)) }
+{
+    for at in 0..links.len() {
+        let port = at as u8 + 1;
+        if let Err(fault) = read_port(switch, &mut lanes[at], &mut links[at], port, buf) {
+            return Err(fault);
+        }
+    }
+    Ok(())
+}
+
+/// Writes all that is waiting, in the order of the ports.
+pub(crate) fn write_each<L: Link>(switch: &mut Switch<'_>, lanes: &mut [Lane], links: &mut [L])
+    requires lanes { length lanes.old ≡ length links.old }
+    requires ports { length links.old ≤ switch.old.rules.ports }
+    requires few { length links.old ≤ 8 }
+    ensures rules { switch.new.rules ≡ switch.old.rules }
+    ensures so_far { (rules : Rules) (first : ℕ → LinkState)
+        → RunSoFar L.state rules switch.old first links.old lanes.old
+        → RunSoFar L.state rules switch.new first links.new lanes.new }
+    ensures turned { (turns : ℕ) → AllTurned lanes.old turns → AllTurned lanes.new turns }
+    ensures drained { (k : ℕ) → k < length lanes.new → IsDrained switch.new lanes.new k }
+{
+    for at in 0..links.len() {
+        write_port(switch, &mut lanes[at], &mut links[at], at as u8 + 1);
+    }
+}

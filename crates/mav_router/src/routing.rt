@@ -1,0 +1,272 @@
+// A run of a router.
+ghost use Rattle.std.specs.Prelude.{◌≡◌, ◌≤◌, ◌<◌, ◌+◌, ℕ, List, [], length, false, true, OnOk, OnErr, IfOk, IfErr, slice_get, Some};
+ghost use Rattle.mav_links.specs.Links.{LinkState};
+ghost use Rattle.mav_router.specs.Journal.{Rules, IsJournal, given_to};
+ghost use Rattle.mav_profile.specs.Messages.{extras_of};
+ghost use Rattle.mav_router.specs.Runs.{IsNew, RunSoFar, IsDrained, AllFresh, AllTurned};
+ghost use Rattle.mav_router.specs.Ends.{PortRun, end_by};
+ghost use Rattle.mav_router.specs.Faults.{IsSwitchFault, StopsRound, RouteStopped};
+
+use crate::lane::Lane;
+use crate::rounds::{read_each, write_each};
+use crate::{How, NoMemory, PortEnd, RouteEnd, RouteFault, RoutePlan, Switch, SwitchFault};
+use dialect::Dialect;
+use link_table::Ways;
+use mav_links::Link;
+use mav_scan::Scanner;
+use mav_sign::Key;
+use std::alloc::Global;
+
+// How many bytes one read takes at most.
+const PIECE: usize = 4096;
+
+// Whether the port is still read.
+fn is_live(lane: &Lane) -> bool
+    ensures { result ≡ false → lane.now.ended ≡ false → lane.now.failed ≡ false → ⊥ }
+{
+    !lane.ended && !lane.failed
+}
+
+// Whether no port is still read.
+fn is_done(lanes: &[Lane]) -> bool
+    ensures { result ≡ true → (turns more : ℕ) → turns ≤ more → AllTurned lanes.now turns → AllTurned lanes.now more }
+{
+    for at in 0..lanes.len() {
+        if is_live(&lanes[at]) {
+            return false;
+        }
+    }
+    true
+}
+
+// Reads and writes in rounds, until no port is still read or there were as many rounds as may be.
+fn run_rounds<L: Link>(
+    switch: &mut Switch<'_>,
+    lanes: &mut [Lane],
+    links: &mut [L],
+    turns: u64,
+) -> Result<(), SwitchFault>
+    requires lanes { length lanes.old ≡ length links.old }
+    requires ports { length links.old ≤ switch.old.rules.ports }
+    requires few { length links.old ≤ 8 }
+    requires drained { (k : ℕ) → IsDrained switch.old lanes.old k }
+    requires turned { AllTurned lanes.old 0 }
+    ensures rules { switch.new.rules ≡ switch.old.rules }
+    ensures so_far { OnOk result ((rules : Rules) (first : ℕ → LinkState)
+        → RunSoFar L.state rules switch.old first links.old lanes.old
+        → RunSoFar L.state rules switch.new first links.new lanes.new) }
+    ensures stopped { OnErr result ((rules : Rules) (first : ℕ → LinkState)
+        → RunSoFar L.state rules switch.old first links.old lanes.old
+        → StopsRound L.state rules switch.new.journal first links.new) }
+    ensures fault { IfErr result (λ fault. IsSwitchFault fault switch.new.journal) }
+    ensures drained { OnOk result ((k : ℕ) → k < length lanes.new → IsDrained switch.new lanes.new k) }
+    ensures turned { OnOk result (AllTurned lanes.new turns) }
+{
+    let mut buf = [0; PIECE];
+    for turn in 0..turns {
+        let _ = turn;
+        if is_done(lanes) {
+            return Ok(());
+        }
+        if let Err(fault) = read_each(switch, lanes, links, &mut buf) {
+            return Err(fault);
+        }
+        write_each(switch, lanes, links);
+    }
+    Ok(())
+}
+
+// The end of a port.
+fn end_of(lane: &Lane, turns: u64) -> PortEnd
+    ensures { result ≡ end_by lane.now turns }
+{
+    let how = if lane.failed {
+        How::Failed
+    } else if lane.ended {
+        How::Ended
+    } else {
+        How::Turns(turns)
+    };
+    PortEnd {
+        read: lane.read,
+        skipped: lane.skipped,
+        written: lane.written,
+        how,
+    }
+}
+
+fn ends_of(alloc: Global, lanes: &[Lane], turns: u64) -> Result<Vec<PortEnd>, NoMemory>
+    ensures length { IfOk result (λ ends. length ends.items ≡ length lanes.now) }
+    ensures each { IfOk result (λ ends. (k : ℕ) (lane : _) (end : PortEnd) → slice_get lanes.now k ≡ Some lane
+        → slice_get ends.items k ≡ Some end → end ≡ end_by lane turns) }
+{
+    let mut ends = Vec::new(alloc);
+    for at in 0..lanes.len() {
+        ends.push(end_of(&lanes[at], turns))?;
+    }
+    Ok(ends)
+}
+
+// Before the first read of a port.
+fn new_lane(alloc: Global, known: &Dialect, old: bool) -> Result<Lane, NoMemory>
+    ensures { IfOk result (λ lane. IsNew (extras_of known.now) old lane) }
+{
+    let scanner = Scanner::new(alloc, known.extras().copy()?, old)?;
+    Ok(Lane {
+        scanner,
+        ended: false,
+        failed: false,
+        turns: 0,
+        read: 0,
+        skipped: 0,
+        written: 0,
+    })
+}
+
+fn new_lanes(
+    alloc: Global,
+    known: &Dialect,
+    plain: Ways,
+    count: usize,
+) -> Result<Vec<Lane>, NoMemory>
+    requires { count ≤ 8 }
+    ensures length { IfOk result (λ lanes. length lanes.items ≡ count) }
+    ensures fresh { IfOk result (λ lanes. (key : List ℕ) (ports : ℕ)
+        → AllFresh (record { key = key; known = known.now; ports = ports; plain = plain }) lanes.items) }
+    ensures turned { IfOk result (λ lanes. AllTurned lanes.items 0) }
+{
+    let mut lanes = Vec::new(alloc);
+    for at in 0..count {
+        lanes.push(new_lane(alloc, known, plain.has(at as u8 + 1))?)?;
+    }
+    Ok(lanes)
+}
+
+// Runs over new ports, and returns what became of each.
+fn route_lanes<L: Link>(
+    alloc: Global,
+    switch: &mut Switch<'_>,
+    lanes: &mut [Lane],
+    links: &mut [L],
+    turns: u64,
+) -> Result<Vec<PortEnd>, SwitchFault>
+    requires lanes { length lanes.old ≡ length links.old }
+    requires ports { length links.old ≤ switch.old.rules.ports }
+    requires some { 1 ≤ length links.old }
+    requires few { length links.old ≤ 8 }
+    requires journal { switch.old.journal ≡ [] }
+    requires given { (port : ℕ) → given_to switch.old port ≡ [] }
+    requires turned { AllTurned lanes.old 0 }
+    requires turns { turns ≤ 1_000_000_000 }
+    ensures rules { switch.new.rules ≡ switch.old.rules }
+    ensures length { IfOk result (λ ends. length ends.items ≡ length links.old) }
+    ensures each { IfOk result (λ ends. (rules : Rules) → AllFresh rules lanes.old
+        → (k : ℕ) (b c : _) (e : PortEnd) → slice_get links.old k ≡ Some b
+        → slice_get links.new k ≡ Some c → slice_get ends.items k ≡ Some e
+        → PortRun rules switch.new.journal turns (k + 1) (L.state b) (L.state c) e) }
+    ensures stopped { IfErr result (λ fault. (rules : Rules) → AllFresh rules lanes.old
+        → RouteStopped L.state rules fault switch.new.journal links.old links.new) }
+{
+    if let Err(fault) = run_rounds(switch, lanes, links, turns) {
+        return Err(fault);
+    }
+    let Ok(ends) = ends_of(alloc, lanes, turns) else {
+        return Err(SwitchFault::NoMemory);
+    };
+    // That it has at most 1,000,000 entries makes the counts exact.
+    let _entries = switch.journal();
+    Ok(ends)
+}
+
+// Runs over a new switch, and returns what became of each port.
+fn route_switch<L: Link>(
+    alloc: Global,
+    known: &Dialect,
+    switch: &mut Switch<'_>,
+    links: &mut [L],
+    plan: RoutePlan,
+) -> Result<Vec<PortEnd>, SwitchFault>
+    requires ports { length links.old ≤ switch.old.rules.ports }
+    requires some { 1 ≤ length links.old }
+    requires few { length links.old ≤ 8 }
+    requires journal { switch.old.journal ≡ [] }
+    requires given { (port : ℕ) → given_to switch.old port ≡ [] }
+    requires turns { plan.turns ≤ 1_000_000_000 }
+    ensures rules { switch.new.rules ≡ switch.old.rules }
+    ensures length { IfOk result (λ ends. length ends.items ≡ length links.old) }
+    ensures each { IfOk result (λ ends. (key : List ℕ) (ports : ℕ)
+        → (k : ℕ) (b c : _) (e : PortEnd) → slice_get links.old k ≡ Some b
+        → slice_get links.new k ≡ Some c → slice_get ends.items k ≡ Some e
+        → PortRun (record { key = key; known = known.now; ports = ports; plain = plan.plain }) switch.new.journal plan.turns (k + 1) (L.state b) (L.state c) e) }
+    ensures stopped { IfErr result (λ fault. (key : List ℕ) (ports : ℕ)
+        → RouteStopped L.state (record { key = key; known = known.now; ports = ports; plain = plan.plain }) fault switch.new.journal links.old links.new) }
+{
+    let Ok(mut lanes) = new_lanes(alloc, known, plan.plain, links.len()) else {
+        return Err(SwitchFault::NoMemory);
+    };
+    route_lanes(alloc, switch, lanes.as_mut_slice(), links, plan.turns)
+}
+
+// Routes between links on one thread.
+fn route_links<L: Link>(
+    alloc: Global,
+    key: &Key,
+    known: &Dialect,
+    links: &mut [L],
+    plan: RoutePlan,
+) -> Result<RouteEnd, RouteFault>
+    requires from { 1 ≤ length links.old }
+    requires to { length links.old ≤ 8 }
+    requires turns { plan.turns ≤ 1_000_000_000 }
+    ensures journal { IfOk result (λ end. IsJournal (record { key = key.now; known = known.now; ports = length links.old; plain = plan.plain }) [] end.journal.items) }
+    ensures ports { IfOk result (λ end. length end.ports.items ≡ length links.old) }
+    ensures each { IfOk result (λ end. (k : ℕ) (b c : _) (e : PortEnd) → slice_get links.old k ≡ Some b
+        → slice_get links.new k ≡ Some c → slice_get end.ports.items k ≡ Some e
+        → PortRun (record { key = key.now; known = known.now; ports = length links.old; plain = plan.plain }) end.journal.items plan.turns (k + 1) (L.state b) (L.state c) e) }
+    ensures kept { IfErr result (λ fault. IsJournal (record { key = key.now; known = known.now; ports = length links.old; plain = plan.plain }) [] fault.journal.items) }
+    ensures stopped { IfErr result (λ fault. RouteStopped L.state (record { key = key.now; known = known.now; ports = length links.old; plain = plan.plain }) fault.why fault.journal.items links.old links.new) }
+{
+    let Ok(mut switch) = Switch::new(alloc, *key, known, links.len() as u8, plan.plain) else {
+        return Err(RouteFault {
+            why: SwitchFault::NoMemory,
+            journal: Vec::new(alloc),
+        });
+    };
+    match route_switch(alloc, known, &mut switch, links, plan) {
+        Ok(ports) => Ok(RouteEnd {
+            journal: switch.into_journal(),
+            ports,
+        }),
+        Err(why) => Err(RouteFault {
+            why,
+            journal: switch.into_journal(),
+        }),
+    }
+}
+
+/// Routes between the ports on one thread, and returns what came in and what became of each port. In each round every
+/// port that is still read is read once, in the order of the ports, and then all that is waiting is written. A run that
+/// stops because memory is out, or because the journal is full, gives back its journal so far.
+pub fn route_one(
+    alloc: Global,
+    key: &Key,
+    known: &Dialect,
+    ports: &mut Vec<Box<dyn Link>>,
+    plan: RoutePlan,
+) -> Result<RouteEnd, RouteFault>
+    requires from { 1 ≤ length ports.old.items }
+    requires to { length ports.old.items ≤ 8 }
+    requires turns { plan.turns ≤ 1_000_000_000 }
+    ensures links { length ports.new.items ≡ length ports.old.items }
+    ensures journal { IfOk result (λ end. IsJournal (record { key = key.now; known = known.now; ports = length ports.old.items; plain = plan.plain }) [] end.journal.items) }
+    ensures ports { IfOk result (λ end. length end.ports.items ≡ length ports.old.items) }
+    // What was read from each port, and what was written to it.
+    ensures each { IfOk result (λ end. (k : ℕ) (b c : _) (e : PortEnd) → slice_get ports.old.items k ≡ Some b
+        → slice_get ports.new.items k ≡ Some c → slice_get end.ports.items k ≡ Some e
+        → PortRun (record { key = key.now; known = known.now; ports = length ports.old.items; plain = plan.plain }) end.journal.items plan.turns (k + 1) (state b) (state c) e) }
+    // A run that stopped, with its journal so far.
+    ensures kept { IfErr result (λ fault. IsJournal (record { key = key.now; known = known.now; ports = length ports.old.items; plain = plan.plain }) [] fault.journal.items) }
+    ensures stopped { IfErr result (λ fault. RouteStopped state (record { key = key.now; known = known.now; ports = length ports.old.items; plain = plan.plain }) fault.why fault.journal.items ports.old.items ports.new.items) }
+{
+    route_links(alloc, key, known, ports.as_mut_slice(), plan)
+}

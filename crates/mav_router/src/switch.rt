@@ -1,0 +1,290 @@
+// The switch.
+ghost use Rattle.std.specs.Prelude.{◌≡◌, ◌⊎◌, ◌+◌, ◌-◌, ◌<◌, ◌≤◌, ◌++◌, ◌∷◌, [], ℕ, List, length, vec_len, vec_capacity, take, slice_index, slice_get, Some, None, Err, IfOk, IfErr, OnOk, OnErr, OnSome, IfSome, IfNone, IsErrOf, true, false};
+ghost use Rattle.mav_sign.specs.Streams.{listed};
+ghost use Rattle.mav_sign.specs.History.{Entry as Tried, is_admitted};
+ghost use Rattle.mav_sign.specs.Kept.{Represents};
+ghost use Rattle.link_table.specs.Routing.{Learned, has_port, ways_of};
+ghost use Rattle.link_table.specs.Table.{Represents as StandsFor};
+ghost use Rattle.mav_router.specs.Journal.{Rules, SwitchState, target_by, verdict_on, tried_as, is_unsigned, ways_by, learned_at, entry_after, admit_after, IsJournal, frames_to, frames_at, given_to};
+ghost use Rattle.mav_router.specs.Faults.{IsSwitchFault};
+
+use crate::{Entry, NoMemory, SwitchFault};
+use dialect::Dialect;
+use link_table::{LinkTable, Ways};
+use mav_frame::Frame;
+use mav_names::Name;
+use mav_sign::{Admit, Key, Stamps};
+use std::alloc::Global;
+use std::marker::Model;
+
+// A journal has at most so many entries.
+const ENTRY_LIMIT: usize = 1_000_000;
+
+/// It admits the frames that come in at the ports of a router, keeps an entry of each, and gives each port the frames
+/// that go out there, in the order in which they came in.
+#[derive(Drop)]
+pub struct Switch<'a> {
+    key: Key,
+    known: &'a Dialect,
+    ports: u8,
+    plain: Ways,
+    stamps: Stamps,
+    table: LinkTable,
+    journal: Vec<Entry>,
+    seen: [usize; 8],
+}
+
+impl<'a> Model for Switch<'a> {
+    ghost use Rattle.std.specs.Prelude.{◌≡◌, ◌≤◌, [], ℕ, length, slice_index};
+    ghost use Rattle.mav_sign.specs.Kept.{Represents};
+    ghost use Rattle.link_table.specs.Table.{Represents as StandsFor};
+    ghost use Rattle.mav_router.specs.Journal.{SwitchState, Rules, learned_in, tried_in, IsJournal};
+
+    ghost Value = { SwitchState };
+
+    ghost view = { λ s. record {
+      rules = record { key = s.key; known = s.known.now; ports = s.ports; plain = s.plain };
+      journal = s.journal.items;
+      seen = s.seen;
+    } };
+
+    ghost invariant = { λ s. (1 ≤ s.ports) × (s.ports ≤ 8) × (s.table.ports ≡ s.ports)
+        × Represents s.stamps (tried_in s.journal.items)
+        × StandsFor s.table (learned_in s.journal.items)
+        × IsJournal (record { key = s.key; known = s.known.now; ports = s.ports; plain = s.plain }) [] s.journal.items
+        × ((k : ℕ) → slice_index s.seen k ≤ length s.journal.items)
+        × (length s.journal.items ≤ 1000000) };
+}
+
+// The node that a frame is for.
+fn target(known: &Dialect, frame: &Frame) -> Name
+    ensures { (key : List ℕ) (ports : ℕ) (plain : _) → result ≡ target_by (record { key = key; known = known.now; ports = ports; plain = plain }) frame.now }
+{
+    let Some(layout) = known.get(frame.id) else {
+        return Name { sys: 0, comp: 0 };
+    };
+    let payload = frame.payload_bytes();
+    if frame.old {
+        let base = usize::from(layout.base_len()).min(payload.len());
+        layout.target(&payload[..base])
+    } else {
+        layout.target(payload)
+    }
+}
+
+// The verdict on a frame at a port that is open or not.
+fn verdict(stamps: &mut Stamps, key: &Key, is_open: bool, frame: &Frame) -> Admit
+    ensures verdict { (history : List Tried) → Represents stamps.old history
+        → result ≡ verdict_on key.now is_open history frame.now }
+    ensures history { (history : List Tried) → Represents stamps.old history
+        → Represents stamps.new (history ++ listed (tried_as frame.now result)) }
+{
+    if frame.block.is_some() {
+        return stamps.admit(key, frame);
+    }
+    if is_open {
+        Admit::Admitted
+    } else {
+        Admit::Unsigned
+    }
+}
+
+// The ports that an admitted frame goes to, which teaches where its sender is.
+fn route(table: &mut LinkTable, plain: Ways, port: u8, target: Name, frame: &Frame) -> Ways
+    requires from { 1 ≤ port }
+    requires to { port ≤ table.old.ports }
+    ensures ports { table.new.ports ≡ table.old.ports }
+    ensures ways { (learned : List Learned) → StandsFor table.old learned
+        → result ≡ ways_by true (is_unsigned frame.now) plain (ways_of table.old.ports learned port target) }
+    ensures learned { (learned : List Learned) → StandsFor table.old learned
+        → StandsFor table.new (learned ++ listed (learned_at true port frame.now.from)) }
+{
+    let ways = table.ways(port, target);
+    table.learn(port, frame.from);
+    if frame.block.is_some() {
+        ways
+    } else {
+        ways.common(plain)
+    }
+}
+
+// The ports that a frame goes to by its verdict.
+fn route_by(
+    table: &mut LinkTable,
+    admit: Admit,
+    plain: Ways,
+    port: u8,
+    target: Name,
+    frame: &Frame,
+) -> Ways
+    requires from { 1 ≤ port }
+    requires to { port ≤ table.old.ports }
+    ensures ports { table.new.ports ≡ table.old.ports }
+    ensures ways { (learned : List Learned) → StandsFor table.old learned
+        → result ≡ ways_by (is_admitted admit) (is_unsigned frame.now) plain (ways_of table.old.ports learned port target) }
+    ensures learned { (learned : List Learned) → StandsFor table.old learned
+        → StandsFor table.new (learned ++ listed (learned_at (is_admitted admit) port frame.now.from)) }
+{
+    if let Admit::Admitted = admit {
+        route(table, plain, port, target, frame)
+    } else {
+        Ways::none()
+    }
+}
+
+fn entry_of(port: u8, frame: &Frame, admit: Admit, ways: Ways) -> Entry
+    ensures { result ≡ record { port = port; frame = frame.now; admit = admit; ways = ways } }
+{
+    Entry {
+        port,
+        frame: *frame,
+        admit,
+        ways,
+    }
+}
+
+// Appends an entry, for which there is room.
+fn keep(journal: &mut Vec<Entry>, entry: Entry)
+    requires { vec_len journal.old < vec_capacity journal.old }
+    ensures { journal.new.items ≡ journal.old.items ++ entry ∷ [] }
+{
+    journal.push(entry).unwrap();
+}
+
+// The index of the next entry that goes out at the port, or the number of entries.
+fn next_index(journal: &[Entry], from: usize, port: u8) -> usize
+    requires from { from ≤ length journal.now }
+    requires port { 1 ≤ port }
+    requires to { port ≤ 8 }
+    ensures from { from ≤ result }
+    ensures within { result ≤ length journal.now }
+    ensures none { frames_to port (take result journal.now) ≡ frames_to port (take from journal.now) }
+    ensures goes { (entry : _) → slice_get journal.now result ≡ Some entry → has_port entry.ways port ≡ true }
+{
+    let mut index = from;
+    while index < journal.len() {
+        if journal[index].ways.has(port) {
+            return index;
+        }
+        index += 1;
+    }
+    index
+}
+
+impl<'a> Switch<'a> {
+    /// Nothing came in yet. The ports of `plain` are open to frames without a signature block.
+    pub fn new(
+        alloc: Global,
+        key: Key,
+        known: &'a Dialect,
+        ports: u8,
+        plain: Ways,
+    ) -> Result<Switch<'a>, NoMemory>
+        requires from { 1 ≤ ports }
+        requires to { ports ≤ 8 }
+        ensures rules { IfOk result (λ s. s.rules ≡ record { key = key; known = known.now; ports = ports; plain = plain }) }
+        ensures journal { IfOk result (λ s. s.journal ≡ []) }
+        ensures given { IfOk result (λ s. (port : ℕ) → given_to s port ≡ []) }
+    {
+        let stamps = Stamps::new(alloc)?;
+        let table = LinkTable::new(alloc, ports)?;
+        Ok(Switch {
+            key,
+            known,
+            ports,
+            plain,
+            stamps,
+            table,
+            journal: Vec::new(alloc),
+            seen: [0, 0, 0, 0, 0, 0, 0, 0],
+        })
+    }
+
+    /// Tries a frame that came in at the port, and keeps its entry.
+    pub fn admit(&mut self, port: u8, frame: &Frame) -> Result<Admit, SwitchFault>
+        requires from { 1 ≤ port }
+        requires to { port ≤ self.old.rules.ports }
+        ensures verdict { IfOk result (λ verdict. verdict ≡ admit_after self.old.rules self.old.journal port frame.now) }
+        ensures journal { OnOk result (self.new.journal ≡ self.old.journal ++ entry_after self.old.rules self.old.journal port frame.now ∷ []) }
+        ensures same { (self.new.rules ≡ self.old.rules) × (self.new.seen ≡ self.old.seen) }
+        ensures given { (other : ℕ) → given_to self.new other ≡ given_to self.old other }
+        ensures unchanged { OnErr result (self.new.journal ≡ self.old.journal) }
+        ensures full { length self.old.journal ≡ 1_000_000 → IsErrOf result (SwitchFault.Full 1000000) }
+        ensures fault { IfErr result (λ fault. IsSwitchFault fault self.old.journal) }
+    {
+        if self.journal.len() >= ENTRY_LIMIT {
+            return Err(SwitchFault::Full { entries: 1_000_000 });
+        }
+        let Ok(()) = self.journal.reserve(1) else {
+            return Err(SwitchFault::NoMemory);
+        };
+        let is_open = self.plain.has(port);
+        let admit = verdict(&mut self.stamps, &self.key, is_open, frame);
+        let target = target(self.known, frame);
+        let ways = route_by(&mut self.table, admit, self.plain, port, target, frame);
+        keep(&mut self.journal, entry_of(port, frame, admit, ways));
+        Ok(admit)
+    }
+
+    /// The next frame that goes out at the port and wasn't taken yet.
+    pub fn take(&mut self, port: u8) -> Option<Frame>
+        requires from { 1 ≤ port }
+        requires to { port ≤ self.old.rules.ports }
+        ensures given { given_to self.new port ≡ given_to self.old port ++ listed result }
+        ensures none { IfNone result (given_to self.new port ≡ frames_to port self.old.journal) }
+        ensures same { (self.new.rules ≡ self.old.rules) × (self.new.journal ≡ self.old.journal) }
+        ensures others { (other : ℕ) → 1 ≤ other → (other ≡ port → ⊥) → given_to self.new other ≡ given_to self.old other }
+    {
+        let Some(index) = self.next(port) else {
+            return None;
+        };
+        Some(*self.frame(index))
+    }
+
+    /// The index of that frame's entry, so that the frame needn't be copied.
+    pub(crate) fn next(&mut self, port: u8) -> Option<usize>
+        requires from { 1 ≤ port }
+        requires to { port ≤ self.old.rules.ports }
+        ensures given { given_to self.new port ≡ given_to self.old port ++ frames_at self.old.journal result }
+        ensures within { IfSome result (λ index. index < length self.old.journal) }
+        ensures none { IfNone result (given_to self.new port ≡ frames_to port self.old.journal) }
+        ensures same { (self.new.rules ≡ self.old.rules) × (self.new.journal ≡ self.old.journal) }
+        ensures others { (other : ℕ) → 1 ≤ other → (other ≡ port → ⊥) → given_to self.new other ≡ given_to self.old other }
+        ensures moves { OnSome result ((slice_index self.old.seen (port - 1) < slice_index self.new.seen (port - 1))
+            × (slice_index self.new.seen (port - 1) ≤ length self.old.journal)) }
+    {
+        let at = usize::from(port - 1);
+        let index = next_index(&self.journal, self.seen[at], port);
+        if index == self.journal.len() {
+            self.seen[at] = index;
+            return None;
+        }
+        self.seen[at] = index + 1;
+        Some(index)
+    }
+
+    /// The frame of an entry.
+    pub(crate) fn frame(&self, index: usize) -> &Frame
+        requires { index < length self.now.journal }
+        ensures { frames_at self.now.journal (Some index) ≡ result.now ∷ [] }
+    {
+        &self.journal[index].frame
+    }
+
+    /// The entries so far.
+    pub fn journal(&self) -> &[Entry]
+        ensures entries { result.now ≡ self.now.journal }
+        ensures within { length self.now.journal ≤ 1000000 }
+    {
+        &self.journal
+    }
+
+    /// The entries, which are a journal by the switch's rules.
+    pub fn into_journal(self) -> Vec<Entry>
+        ensures journal { result.items ≡ self.entry.journal }
+        ensures legal { IsJournal self.entry.rules [] result.items }
+        ensures within { length result.items ≤ 1000000 }
+    {
+        self.journal
+    }
+}
