@@ -11,6 +11,8 @@ use Rattle.fleet_world.specs.Authentic.{Authentic}
 use Rattle.fleet_safety.proofs.Plays.{every_scenario}
 use Rattle.fleet_safety.proofs.ReportedLines.{every_line}
 use Rattle.fleet_liveness.proofs.Every as every
+use Rattle.fleet_commands.proofs.Once.{every_once}
+use Rattle.fleet_commands.proofs.Plays.{every_begins}
 use Rattle.fleet_command.specs.Spec.{fleet_spec}
 use Rattle.fleet_command.specs.Theorem.{MainTheorem, Carries}
 
@@ -19,6 +21,8 @@ main_theorem key ended bytes authentic = record {
   safe = every_scenario key ended bytes authentic;
   lines = every_line key ended bytes authentic;
   uploads = every.uploads key ended bytes authentic;
+  commands = every_once key ended bytes authentic;
+  accepted = every_begins key ended bytes authentic;
 }
 
 pub carried : (key : List ℕ) (frames : Bool) (o : PortOutcome) (left_before left_after sent_before sent_after : Option (List ℕ)) (code : ℕ) → ((end : Option RunEnd) × (code ≡ code_of end) × Run (fleet_spec key frames) o left_before left_after sent_before sent_after end) → Carries key frames o left_before left_after sent_before sent_after code

@@ -9,6 +9,8 @@ use Rattle.fleet_safety.specs.Actions.{actions_of}
 use Rattle.fleet_safety.specs.Safe.{nodes_of, Safe}
 use Rattle.fleet_safety.specs.Meaning.{LinesAreTrue}
 use Rattle.fleet_liveness.specs.Uncontended.{Lines, Upload, IsUncontended, IsInstalled}
+use Rattle.fleet_commands.specs.Once.{EachCommandOnce}
+use Rattle.fleet_commands.specs.Accepted.{EachLineBegins}
 use Rattle.fleet_command.specs.Spec.{fleet_spec}
 
 -- what holds of a scenario's bytes under a key, whether their input ended after them or not, if its foreign bytes
@@ -22,6 +24,11 @@ pub record MainTheorem (key : List ℕ) (ended : Bool) (bytes : List ℕ) : Type
   pub lines : LinesAreTrue (nodes_of (played key ended bytes).state.nodes) (played key ended bytes).events (actions_of key ended bytes)
   -- and each uncontended upload of a valid plan is installed and acknowledged within its flow line
   pub uploads : (lines : Lines) (upload : Upload) → IsUncontended key ended bytes lines upload → IsInstalled key ended bytes lines upload
+  -- and between two starts each drone does at most one command of each `command` line, and those of a station in the order of
+  -- its lines; a command that is given again is otherwise answered by the kept result
+  pub commands : EachCommandOnce key ended bytes
+  -- which are the lines that stations accepted
+  pub accepted : EachLineBegins key ended bytes
 
 -- one run: why it ended, the bytes that it took and what it wrote of them; and what holds of these bytes
 pub record Carries (key : List ℕ) (frames : Bool) (o : PortOutcome) (left_before left_after sent_before sent_after : Option (List ℕ)) (code : ℕ) : Type 0 where

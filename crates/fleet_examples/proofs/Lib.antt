@@ -1,4 +1,5 @@
 pub mod Scenarios
+pub mod Services
 pub mod Restarts
 pub mod TwoDrones
 pub mod Noise

@@ -5,7 +5,7 @@ use Rattle.std.proofs.lemmas.List.{length-append}
 use Rattle.std.proofs.lemmas.List.Elements.{All-nil}
 use Rattle.mav_names.specs.declared.names.Name.{Name}
 use Rattle.mav_nodes.specs.Links.{Done, Outcome}
-use Rattle.mav_nodes.specs.Nodes.{station_begins, station_cancels, station_clears, station_gets}
+use Rattle.mav_nodes.specs.Nodes.{station_begins, station_cancels, station_clears, station_gets, station_commands, station_lists_params}
 use Rattle.plan_ranges.specs.Ranges.{ItemInRange}
 use Rattle.fleet_world.specs.WorldState.{WorldState, Node, stream_of}
 use Rattle.fleet_world.specs.Steps.{most_frames, packets_in, node_does, node_receives, node_beats, node_ticks, as_station}
@@ -15,7 +15,7 @@ use Rattle.fleet_invariants.proofs.Tests.{by_test, at_most}
 use Rattle.fleet_invariants.proofs.Restated.{restated, steady_restated, restated_keeps}
 use Rattle.fleet_invariants.proofs.Moves.{steady_of, sound_of}
 use Rattle.fleet_invariants.proofs.Nodes.{NodeDoes, NodeGoes, advanced}
-use Rattle.fleet_invariants.proofs.Doing.{node_receiving, node_ticking, node_beating, station_beginning, station_cancelling, station_clearing, station_getting}
+use Rattle.fleet_invariants.proofs.Doing.{node_receiving, node_ticking, node_beating, station_beginning, station_cancelling, station_clearing, station_getting, station_commanding, station_listing}
 
 module _ (s : WorldState) (k : ℕ) (name : Name) where
   within : (d : Done Node) → NodeGoes s k d → length s.sent + length (packets_in d.events) ≤ most_frames → StepKeeps s (advanced s k d.node d.events)
@@ -62,5 +62,13 @@ sound_does s sound =
       gets = λ k n drone kind range small free name found.
           let o = as_station (station_gets s.clock (stream_of drone) kind n) in
           let h = station_getting s k g n found drone kind range small in
+          (keeps s k name o h, reads s k name o h);
+      commands = λ k n drone number word range small short free name found.
+          let o = as_station (station_commands s.clock (stream_of drone) number word n) in
+          let h = station_commanding s k g n found drone number word range small short in
+          (keeps s k name o h, reads s k name o h);
+      params = λ k n drone range free name found.
+          let o = as_station (station_lists_params s.clock (stream_of drone) n) in
+          let h = station_listing s k g n found drone range in
           (keeps s k name o h, reads s k name o h);
     }

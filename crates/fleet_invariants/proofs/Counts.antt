@@ -16,7 +16,7 @@ use Rattle.mav_sign.specs.Endpoints.{frames_of}
 use Rattle.scenario_lines.specs.declared.faults.Reason.{Reason}
 use Rattle.scenario_lines.specs.declared.faults.Reason.TheVariants.{Long}
 use Rattle.scenario_lines.specs.declared.lines.Line.{Line}
-use Rattle.scenario_lines.specs.declared.lines.Line.TheVariants.{Blank, Drone as DroneLine, Station as StationLine, Item as OneItem, Items, Empty, Begin, Cancel, Clear, Get, Heartbeat, Deliver, Flow, Noise, Tick, Clock, Restart}
+use Rattle.scenario_lines.specs.declared.lines.Line.TheVariants.{Blank, Drone as DroneLine, Station as StationLine, Item as OneItem, Items, Empty, Begin, Cancel, Clear, Get, Command, Params, Heartbeat, Deliver, Flow, Noise, Tick, Clock, Restart}
 use Rattle.scenario_lines.specs.Words.{is_space, words_of, word_at, bytes_word}
 use Rattle.scenario_lines.specs.LineContext.{LineContext}
 use Rattle.scenario_lines.specs.Grammar.{bytes_at, line_from, line_of, is_blank, most_line_bytes}
@@ -108,6 +108,8 @@ IsShort (Begin station drone kind) = Unit {0}
 IsShort (Cancel station) = Unit {0}
 IsShort (Clear station drone kind) = Unit {0}
 IsShort (Get station drone kind) = Unit {0}
+IsShort (Command station drone number word) = Unit {0}
+IsShort (Params station drone) = Unit {0}
 IsShort (Heartbeat node) = Unit {0}
 IsShort (Deliver number node) = Unit {0}
 IsShort (Flow k) = Unit {0}
@@ -127,13 +129,15 @@ words_short words few =
     by_test IsShort (bytes_eq w (codes "cancel")) _ _ (λ _. tt) (λ _.
     by_test IsShort (bytes_eq w (codes "clear")) _ _ (λ _. tt) (λ _.
     by_test IsShort (bytes_eq w (codes "get")) _ _ (λ _. tt) (λ _.
+    by_test IsShort (bytes_eq w (codes "command")) _ _ (λ _. tt) (λ _.
+    by_test IsShort (bytes_eq w (codes "params")) _ _ (λ _. tt) (λ _.
     by_test IsShort (bytes_eq w (codes "heartbeat")) _ _ (λ _. tt) (λ _.
     by_test IsShort (bytes_eq w (codes "deliver")) _ _ (λ _. tt) (λ _.
     by_test IsShort (bytes_eq w (codes "flow")) _ _ (λ _. tt) (λ _.
     by_test IsShort (bytes_eq w (codes "noise")) _ _ (λ _. few) (λ _.
     by_test IsShort (bytes_eq w (codes "tick")) _ _ (λ _. tt) (λ _.
     by_test IsShort (bytes_eq w (codes "clock")) _ _ (λ _. tt) (λ _.
-    by_test IsShort (bytes_eq w (codes "restart")) _ _ (λ _. tt) (λ _. tt))))))))))))))))
+    by_test IsShort (bytes_eq w (codes "restart")) _ _ (λ _. tt) (λ _. tt))))))))))))))))))
 
 not_long : (long : Bool) (r : Reason) (o : Option Reason) → (if long then Some r else o) ≡ None → long ≡ false
 not_long true r o e = absurd (let wrong : ◌≡◌ {A = Option Reason} (Some r) None = e in cc)

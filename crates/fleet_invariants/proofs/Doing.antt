@@ -1,5 +1,5 @@
 -- What a node does at a datagram, a tick, a heartbeat and an order.
-use Rattle.std.proofs.Common.{false, ◌≡◌, ℕ, ◌<◌, List, [], slice_get, Option, Some, None, IfSome, refl, sym, subst, ◌∙◌}
+use Rattle.std.proofs.Common.{false, ◌≡◌, ℕ, ◌<◌, ◌^◌, List, [], slice_get, Option, Some, None, IfSome, refl, sym, subst, ◌∙◌}
 use Rattle.std.specs.Prelude.{All}
 use Rattle.mav_names.specs.declared.names.Name.{Name}
 use Rattle.mav_names.specs.declared.names.Stream.{Stream}
@@ -7,14 +7,17 @@ use Rattle.mav_profile.specs.Messages.{extras_of}
 use Rattle.mav_profile.specs.Profile.{profile_definitions}
 use Rattle.plan_items.specs.declared.items.Item.{Item}
 use Rattle.plan_items.specs.declared.messages.PlanMsg.{PlanMsg}
+use Rattle.plan_upload.specs.Addresses.{node_of}
 use Rattle.plan_upload.specs.Drone.{DroneState, drone_tick}
+use Rattle.command_proto.specs.Commander.{commander_tick}
+use Rattle.param_proto.specs.Client.{client_tick}
 use Rattle.plan_upload.specs.Station.{StationState, station_tick, station_cancel, begin_upload, begin_clear, begin_get, operation_of, Uploads, Clears, Gets}
 use Rattle.plan_upload.specs.Refusals.{upload_refusal}
 use Rattle.mav_frame.specs.FinalParse.{final_parse}
 use Rattle.mav_sign.specs.Endpoints.{frames_of}
 use Rattle.mav_nodes.specs.Links.{Outcome, behind, sends}
-use Rattle.mav_nodes.specs.Steps.{Side, CoreStep, with_core}
-use Rattle.mav_nodes.specs.Nodes.{drone_receives, drone_waits, tick_answer, drone_ticks, drone_heartbeat, drone_beats, station_receives, station_ticks, station_heartbeat, station_beats, station_begins, station_cancels, station_clears, station_gets}
+use Rattle.mav_nodes.specs.Steps.{Side, CoreStep, with_core, steps}
+use Rattle.mav_nodes.specs.Nodes.{DroneSide, StationSide, drone_receives, drone_waits, tick_answer, drone_ticks, drone_heartbeat, drone_beats, station_receives, station_does, services_tick, station_ticks, station_heartbeat, station_beats, station_begins, station_cancels, station_clears, station_gets, station_commands, station_lists_params}
 use Rattle.mav_nodes.proofs.Sendings.{heartbeats_fit}
 use Rattle.plan_ranges.specs.Ranges.{InRange, ItemInRange, NameInRange, StreamInRange}
 use Rattle.plan_ranges.proofs.DroneRanges as drones
@@ -28,18 +31,20 @@ use Rattle.fleet_invariants.proofs.Moves.{Steady}
 use Rattle.fleet_invariants.specs.Sound.{has_heard}
 use Rattle.fleet_invariants.proofs.Rooms.{roomy_tick}
 use Rattle.fleet_invariants.proofs.Links.{link_sends}
-use Rattle.fleet_invariants.proofs.Nodes.{NodeDoes, as_node, drone_done, drone_steps, station_done}
-use Rattle.fleet_invariants.proofs.Hearing.{KnownFrames, drone_hears_all, station_hears_all, station_goes}
+use Rattle.fleet_invariants.proofs.Nodes.{advanced, NodeDoes, as_node, drone_done, drone_steps, station_done, then_next}
+use Rattle.fleet_invariants.proofs.Services.{station_waiting, command_asked, params_asked}
+use Rattle.fleet_invariants.proofs.Serving.{station_serves_so}
+use Rattle.fleet_invariants.proofs.Hearing.{KnownFrames, drone_hears_all, station_hears_all, station_goes, station_services}
 
-as_drone_is : (o : Outcome (Side DroneState)) → as_node Drone o ≡ as_drone o
+as_drone_is : (o : Outcome DroneSide) → as_node Drone o ≡ as_drone o
 as_drone_is None = refl
 as_drone_is (Some d) = refl
 
-as_station_is : (o : Outcome (Side StationState)) → as_node Station o ≡ as_station o
+as_station_is : (o : Outcome StationSide) → as_node Station o ≡ as_station o
 as_station_is None = refl
 as_station_is (Some d) = refl
 
-behind_none : {Core : Type 0} (o : Outcome (Side Core)) → behind [] o ≡ o
+behind_none : {Core Services : Type 0} (o : Outcome (Side Core Services)) → behind [] o ≡ o
 behind_none None = refl
 behind_none (Some d) = refl
 
@@ -52,8 +57,8 @@ ticks_say (Some sent) h = h.1
 
 module _ (s : WorldState) (k : ℕ) (g : Steady s) where
   -- ---- a drone
-  module _ (n : Side DroneState) (found : slice_get s.nodes k ≡ Some (Drone n)) where
-    a_drone : (o : Outcome (Side DroneState)) → NodeDoes s k (as_node Drone o) → NodeDoes s k (as_drone o)
+  module _ (n : DroneSide) (found : slice_get s.nodes k ≡ Some (Drone n)) where
+    a_drone : (o : Outcome DroneSide) → NodeDoes s k (as_node Drone o) → NodeDoes s k (as_drone o)
     a_drone o h = subst (NodeDoes s k) (as_drone_is o) h
 
     drone_receiving : (bytes : List ℕ) → Known s bytes → NodeDoes s k (as_drone (drone_receives s.clock bytes n))
@@ -71,13 +76,13 @@ module _ (s : WorldState) (k : ℕ) (g : Steady s) where
     drone_beating =
         let own = g.cores k (Drone n) found in
         let step : CoreStep DroneState = record { core = n.core; first = []; answer = None; last = [] } in
-        let said = sends s.clock drone_heartbeat n.link in
-        a_drone (drone_beats s.clock n) (subst (λ (o : Outcome (Side DroneState)). NodeDoes s k (as_node Drone o)) (behind_none (with_core n.core [] said))
-        (drone_done s k n g found step tt tt own.range refl own.roomy own.unstored said (link_sends s n.link (g.links k (Drone n) found) drone_heartbeat heartbeats_fit.drone)))
+        let said = sends s.clock (drone_heartbeat n.services.armed) n.link in
+        a_drone (drone_beats s.clock n) (subst (λ (o : Outcome DroneSide). NodeDoes s k (as_node Drone o)) (behind_none (with_core n.core n.services [] said))
+        (drone_done s k n g found step tt tt own.range refl own.roomy own.unstored said (link_sends s n.link (g.links k (Drone n) found) (drone_heartbeat n.services.armed) (heartbeats_fit.drone n.services.armed))))
 
   -- ---- a station
-  module _ (n : Side StationState) (found : slice_get s.nodes k ≡ Some (Station n)) where
-    a_station : (o : Outcome (Side StationState)) → NodeDoes s k (as_node Station o) → NodeDoes s k (as_station o)
+  module _ (n : StationSide) (found : slice_get s.nodes k ≡ Some (Station n)) where
+    a_station : (o : Outcome StationSide) → NodeDoes s k (as_node Station o) → NodeDoes s k (as_station o)
     a_station o h = subst (NodeDoes s k) (as_station_is o) h
 
     station_receiving : (bytes : List ℕ) → Known s bytes → NodeDoes s k (as_station (station_receives s.clock bytes n))
@@ -86,14 +91,18 @@ module _ (s : WorldState) (k : ℕ) (g : Steady s) where
 
     station_ticking : NodeDoes s k (as_station (station_ticks s.clock n))
     station_ticking =
-        a_station (station_ticks s.clock n) (station_goes s k n g found (station_tick n.core) (stations.ticks n.core (g.cores k (Station n) found).range) (station_tick_stays n.core))
+        a_station (station_ticks s.clock n)
+        (then_next Station s k (steps s.clock n.link n.services (station_does (station_tick n.core))) (services_tick s.clock)
+        (station_goes s k n g found (station_tick n.core) (stations.ticks n.core (g.cores k (Station n) found).range) (station_tick_stays n.core))
+        (λ d first. station_services (advanced s k (Station d.node) d.events) k first.steady d.node first.there (commander_tick d.node.services.commander) (client_tick d.node.services.client)
+        (station_waiting (node_of d.node.link.me) d.node.services (first.steady.cores k (Station d.node) first.there).services)))
 
     station_beating : NodeDoes s k (as_station (station_beats s.clock n))
     station_beating =
         let own = g.cores k (Station n) found in
         let step : CoreStep StationState = record { core = n.core; first = []; answer = None; last = [] } in
         let said = sends s.clock station_heartbeat n.link in
-        a_station (station_beats s.clock n) (subst (λ (o : Outcome (Side StationState)). NodeDoes s k (as_node Station o)) (behind_none (with_core n.core [] said))
+        a_station (station_beats s.clock n) (subst (λ (o : Outcome StationSide). NodeDoes s k (as_node Station o)) (behind_none (with_core n.core n.services [] said))
         (station_done s k n g found step tt tt own.range refl own.told said (link_sends s n.link (g.links k (Station n) found) station_heartbeat heartbeats_fit.station)))
 
     pub station_cancelling : NodeDoes s k (as_station (station_cancels s.clock n))
@@ -111,6 +120,16 @@ module _ (s : WorldState) (k : ℕ) (g : Steady s) where
     pub station_getting : (drone : Name) (kind : ℕ) → NameInRange drone → kind < 256 → NodeDoes s k (as_station (station_gets s.clock (stream_of drone) kind n))
     station_getting drone kind name small =
         a_station (station_gets s.clock (stream_of drone) kind n) (station_goes s k n g found (begin_get n.core (stream_of drone) kind) (stations.gets n.core (stream_of drone) kind (g.cores k (Station n) found).range name small) (begin_stays n.core (operation_of Gets (stream_of drone) kind [])))
+
+    pub station_commanding : (drone : Name) (number word : ℕ) → NameInRange drone → number < 65536 → word < 2 ^ 32 → NodeDoes s k (as_station (station_commands s.clock (stream_of drone) number word n))
+    station_commanding drone number word name small short =
+        a_station (station_commands s.clock (stream_of drone) number word n)
+        (station_serves_so s k g n found _ (command_asked (node_of n.link.me) n.services (g.cores k (Station n) found).services (stream_of drone) number word name small short) tt)
+
+    pub station_listing : (drone : Name) → NameInRange drone → NodeDoes s k (as_station (station_lists_params s.clock (stream_of drone) n))
+    station_listing drone name =
+        a_station (station_lists_params s.clock (stream_of drone) n)
+        (station_serves_so s k g n found _ (params_asked (node_of n.link.me) n.services (g.cores k (Station n) found).services (stream_of drone) name) tt)
 
   -- ---- either
   pub node_receiving : (bytes : List ℕ) → Known s bytes → (a : Node) → slice_get s.nodes k ≡ Some a → NodeDoes s k (node_receives s.clock bytes a)

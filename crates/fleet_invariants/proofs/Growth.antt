@@ -87,6 +87,7 @@ sent_kept s t k p q =
         stamp_fits = q.stamp_fits;
         fits = q.fits;
         item_fits = q.item_fits;
+        service_fits = q.service_fits;
       };
       stamp_is = refl;
     }

@@ -22,7 +22,7 @@ use Rattle.fleet_invariants.specs.Kept.{IsAmong}
 use Rattle.fleet_invariants.specs.Laws.{EachHeard, SentKnown, AuthenticKnown, SentAuthentic, UnsentForeign}
 use Rattle.fleet_invariants.proofs.Lists.{some_is, nowhere, within}
 use Rattle.fleet_invariants.proofs.Moves.{steady_of}
-use Rattle.fleet_invariants.proofs.Hearing.{from_in_range, carries}
+use Rattle.fleet_invariants.proofs.Hearing.{from_in_range, carries, serves_as}
 
 -- a table of CRC_EXTRA, without its entries
 abbrev frames_in : List (ℕ × ℕ) → List ℕ → List Packet
@@ -34,7 +34,7 @@ pub reads_alone : (s : WorldState) → Sound s → (p : Packet) (q : IsSent s p)
 reads_alone s sound p q =
     let range = from_in_range s (steady_of s sound) p q in
     let stream : IsStream (stream_of p.from) = record { sys = range.sys; comp = range.comp; link = small } in
-    subst (ReadsAlone (extras_of profile_definitions)) (sym q.is) (every_sending_reads_back s.key (stream_of p.from) q.seq q.stamp q.message stream q.seq_fits q.stamp_fits (record { values = q.fits; item = q.item_fits })).frame
+    subst (ReadsAlone (extras_of profile_definitions)) (sym q.is) (every_sending_reads_back s.key (stream_of p.from) q.seq q.stamp q.message stream q.seq_fits q.stamp_fits (record { values = q.fits; item = q.item_fits; service = q.service_fits })).frame
   where
     small : 0 < 256
     small = omega arith
@@ -56,6 +56,7 @@ heard_is s sound p q = record {
   block = ap (λ (x : Packet). x.block) q.is ∙ ap (λ (x : Packet). Some (record { link = 0; stamp = q.stamp; sig = signature_of s.key x 0 q.stamp })) (sym q.is);
   verifies = verifies s p q;
   plan = carries s p q;
+  service = serves_as s p q;
 }
 
 -- ---- the frames of bytes

@@ -6,6 +6,7 @@ use Rattle.mav_names.specs.declared.names.Stream.{Stream}
 use Rattle.mav_profile.specs.Messages.{extras_of}
 use Rattle.mav_profile.specs.Profile.{profile_definitions}
 use Rattle.mav_nodes.specs.Links.{new_link}
+use Rattle.mav_nodes.specs.Services.{Home}
 use Rattle.mav_nodes.specs.Nodes.{new_drone, new_station}
 use Rattle.scenario_lines.specs.LineContext.{is_called, has_name}
 use Rattle.scenario_lines.specs.LineContext as context
@@ -13,6 +14,7 @@ use Rattle.fleet_world.specs.WorldState.{WorldState, Node, Drone, Station, node_
 use Rattle.fleet_world.specs.Steps.{most_drones, most_stations}
 use Rattle.plan_upload.specs.Plans.{no_plans}
 use Rattle.fleet_invariants.proofs.Rooms.{roomy_fresh}
+use Rattle.fleet_invariants.proofs.Services.{drone_services_fresh, station_services_fresh}
 use Rattle.fleet_invariants.specs.Sound.{link_of, has_heard, SoundLink, SoundCore, Sound}
 use Rattle.fleet_invariants.specs.Kept.{Kept}
 use Rattle.fleet_invariants.proofs.Lists.{some_is, nowhere, more_there, at_end}
@@ -122,16 +124,17 @@ fresh_link s me h = record {
   near = omega arith;
 }
 
-pub drone_joins : (s : WorldState) (sys : ℕ) → Sound s → 1 ≤ sys → sys < 256 → has_name (names_of s.nodes) (record { sys = sys; comp = 1 }) ≡ false → drones_in s.nodes < most_drones → Sound (joined s (Drone (new_drone s.key sys)))
-drone_joins s sys g some small none few =
-    sound_joined s (Drone (new_drone s.key sys)) g (unnamed s.nodes (record { sys = sys; comp = 1 }) none) (fresh_link s (record { sys = sys; comp = 1; link = 0 }) (some, small, omega arith, omega arith, refl)) (record {
+pub drone_joins : (s : WorldState) (sys : ℕ) (home : Home) → Sound s → 1 ≤ sys → sys < 256 → has_name (names_of s.nodes) (record { sys = sys; comp = 1 }) ≡ false → drones_in s.nodes < most_drones → Sound (joined s (Drone (new_drone s.key sys home)))
+drone_joins s sys home g some small none few =
+    sound_joined s (Drone (new_drone s.key sys home)) g (unnamed s.nodes (record { sys = sys; comp = 1 }) none) (fresh_link s (record { sys = sys; comp = 1; link = 0 }) (some, small, omega arith, omega arith, refl)) (record {
       range = drones.fresh sys small;
       sys = refl;
       comp = refl;
       roomy = roomy_fresh (has_heard (new_link s.key (record { sys = sys; comp = 1; link = 0 }) (extras_of profile_definitions))) sys no_plans;
       unstored = λ none. refl;
+      services = drone_services_fresh (has_heard (new_link s.key (record { sys = sys; comp = 1; link = 0 }) (extras_of profile_definitions))) sys home;
     }) (omega (arith, few)) (let h = g.stations in omega (arith, h))
 
 pub station_joins : (s : WorldState) (name : Name) → Sound s → 1 ≤ name.sys → name.sys < 256 → 1 ≤ name.comp → name.comp < 256 → has_name (names_of s.nodes) name ≡ false → stations_in s.nodes < most_stations → Sound (joined s (Station (new_station s.key (stream_of name) 0)))
 station_joins s name g some small part short none few =
-    sound_joined s (Station (new_station s.key (stream_of name) 0)) g (unnamed s.nodes name none) (fresh_link s (stream_of name) (some, small, part, short, refl)) (record { range = stations.fresh name.sys name.comp 0 0 small short (omega arith) (omega arith); me = refl; told = refl; low = refl }) (let h = g.drones in omega (arith, h)) (omega (arith, few))
+    sound_joined s (Station (new_station s.key (stream_of name) 0)) g (unnamed s.nodes name none) (fresh_link s (stream_of name) (some, small, part, short, refl)) (record { range = stations.fresh name.sys name.comp 0 0 small short (omega arith) (omega arith); me = refl; told = refl; low = refl; services = station_services_fresh name }) (let h = g.drones in omega (arith, h)) (omega (arith, few))

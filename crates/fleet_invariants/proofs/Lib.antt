@@ -7,9 +7,12 @@ pub mod Rooms
 pub mod Growth
 pub mod Moves
 pub mod Messages
+pub mod Params
+pub mod Services
 pub mod Roles
 pub mod Links
 pub mod Nodes
+pub mod Serving
 pub mod Hearing
 pub mod Doing
 pub mod Restated
@@ -27,3 +30,4 @@ pub mod Quiet
 pub mod Counts
 pub mod Timestamps
 pub mod Unspent
+pub mod CommandRooms

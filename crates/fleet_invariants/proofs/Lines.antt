@@ -12,19 +12,21 @@ use Rattle.plan_items.specs.declared.kinds.PlanKind.TheVariants.{Mission, Fence,
 use Rattle.plan_upload.specs.declared.faults.OpFault.{OpFault}
 use Rattle.plan_upload.specs.Kinds.{clear_number}
 use Rattle.plan_upload.specs.Refusals.{upload_refusal, refusal}
-use Rattle.plan_upload.specs.Station.{StationState}
+use Rattle.plan_upload.specs.Addresses.{node_of}
+use Rattle.command_proto.specs.Commander.{open_command}
+use Rattle.param_proto.specs.Client.{Operation}
+use Rattle.fleet_report.specs.Events.{Event}
 use Rattle.mav_nodes.specs.Links.{Outcome}
-use Rattle.mav_nodes.specs.Steps.{Side}
-use Rattle.mav_nodes.specs.Nodes.{new_drone, new_station, station_cancels, station_clears, station_gets}
-use Rattle.plan_ranges.specs.Ranges.{Is8, NameInRange, ItemInRange}
+use Rattle.mav_nodes.specs.Nodes.{StationSide, new_drone, new_station, station_cancels, station_clears, station_gets, station_commands, station_lists_params}
+use Rattle.plan_ranges.specs.Ranges.{Is8, Is16, Is32, NameInRange, ItemInRange}
 use Rattle.scenario_lines.specs.declared.faults.Reason.{Reason}
 use Rattle.scenario_lines.specs.declared.lines.Line.{Line}
-use Rattle.scenario_lines.specs.declared.lines.Line.TheVariants.{Blank, Drone as DroneLine, Station as StationLine, Item as OneItem, Items, Empty, Begin, Cancel, Clear, Get, Heartbeat, Deliver, Flow, Noise, Tick, Clock, Restart}
+use Rattle.scenario_lines.specs.declared.lines.Line.TheVariants.{Blank, Drone as DroneLine, Station as StationLine, Item as OneItem, Items, Empty, Begin, Cancel, Clear, Get, Command, Params, Heartbeat, Deliver, Flow, Noise, Tick, Clock, Restart}
 use Rattle.scenario_lines.specs.LineContext.{is_in_role, has_name, has_drone}
 use Rattle.scenario_lines.specs.LineContext as context
 use Rattle.scenario_lines.specs.Grammar.{against, first_reason}
 use Rattle.fleet_world.specs.WorldState.{WorldState, Node, Drone, Station, node_name, names_of, stream_of, is_station_named, drones_in, stations_in}
-use Rattle.fleet_world.specs.Steps.{Step, StepError, rests, most_drones, most_stations, most_restarts, starts_again, restart_line, node_receives, node_beats, node_ticks, node_does, as_station, station_line, orders, upload_begins, orders_at, orders_found, orders_to, begins, cancels, clears, gets, delivers, items_from, after_line}
+use Rattle.fleet_world.specs.Steps.{Step, StepError, rests, most_drones, most_stations, most_restarts, starts_again, restart_line, node_receives, node_beats, node_ticks, node_does, as_station, station_line, orders, upload_begins, orders_at, orders_found, orders_to, begins, cancels, clears, gets, asks, command_busy, params_busy, commands, lists_params, delivers, items_from, after_line}
 use Rattle.fleet_invariants.specs.Sound.{link_of, Sound}
 use Rattle.fleet_invariants.specs.Kept.{StepKeeps, Keeps, names_joined, KeepsLine}
 use Rattle.fleet_invariants.specs.Laws.{EveryLineKeeps}
@@ -103,23 +105,23 @@ clear_small (Some kind) = kind_small kind
 
 -- ---- orders
 
-at_node : (s : WorldState) → Sound s → (order : ℕ → Side StationState → Result Step StepError) → ((k : ℕ) (node : Side StationState) → slice_get s.nodes k ≡ Some (Station node) → Keeps s (order k node)) → (k : ℕ) (o : Option Node) → slice_get s.nodes k ≡ o → Keeps s (orders_at s k o order)
+at_node : (s : WorldState) → Sound s → (order : ℕ → StationSide → Result Step StepError) → ((k : ℕ) (node : StationSide) → slice_get s.nodes k ≡ Some (Station node) → Keeps s (order k node)) → (k : ℕ) (o : Option Node) → slice_get s.nodes k ≡ o → Keeps s (orders_at s k o order)
 at_node s g order each k None found = rests_so s g
 at_node s g order each k (Some (Drone n)) found = rests_so s g
 at_node s g order each k (Some (Station n)) found = each k n found
 
-order_placed : (s : WorldState) → Sound s → (order : ℕ → Side StationState → Result Step StepError) → ((k : ℕ) (node : Side StationState) → slice_get s.nodes k ≡ Some (Station node) → Keeps s (order k node)) → (k : Option ℕ) → Keeps s (orders_found s k order)
+order_placed : (s : WorldState) → Sound s → (order : ℕ → StationSide → Result Step StepError) → ((k : ℕ) (node : StationSide) → slice_get s.nodes k ≡ Some (Station node) → Keeps s (order k node)) → (k : Option ℕ) → Keeps s (orders_found s k order)
 order_placed s g order each None = rests_so s g
 order_placed s g order each (Some k) = at_node s g order each k (slice_get s.nodes k) refl
 
-pub sound_orders : (s : WorldState) → Sound s → (order : ℕ → Side StationState → Result Step StepError) → ((k : ℕ) (node : Side StationState) → slice_get s.nodes k ≡ Some (Station node) → Keeps s (order k node)) → (name : Name) → Keeps s (orders_to s name order)
+pub sound_orders : (s : WorldState) → Sound s → (order : ℕ → StationSide → Result Step StepError) → ((k : ℕ) (node : StationSide) → slice_get s.nodes k ≡ Some (Station node) → Keeps s (order k node)) → (name : Name) → Keeps s (orders_to s name order)
 sound_orders s g order each name = order_placed s g order each (position (is_station_named name) s.nodes)
 
-refused_or : (s : WorldState) → Sound s → (k : ℕ) (node : Side StationState) (why : Option OpFault) (outcome : Outcome (Side StationState)) → (why ≡ None → Keeps s (node_does s k (node_name (Station node)) (as_station outcome))) → Keeps s (orders s k node why outcome)
+refused_or : (s : WorldState) → Sound s → (k : ℕ) (node : StationSide) (why : Option OpFault) (outcome : Outcome StationSide) → (why ≡ None → Keeps s (node_does s k (node_name (Station node)) (as_station outcome))) → Keeps s (orders s k node why outcome)
 refused_or s g k node (Some why) outcome h = rests_so s g
 refused_or s g k node None outcome h = h refl
 
-begin_or : (s : WorldState) → Sound s → (k : ℕ) (node : Side StationState) → slice_get s.nodes k ≡ Some (Station node) → (drone : Name) → NameInRange drone → (kind : ℕ) → Is8 kind → (why : Option OpFault) → upload_refusal node.core kind s.draft ≡ why → Keeps s (upload_begins s k node drone kind why)
+begin_or : (s : WorldState) → Sound s → (k : ℕ) (node : StationSide) → slice_get s.nodes k ≡ Some (Station node) → (drone : Name) → NameInRange drone → (kind : ℕ) → Is8 kind → (why : Option OpFault) → upload_refusal node.core kind s.draft ≡ why → Keeps s (upload_begins s k node drone kind why)
 begin_or s g k node found drone range kind small (Some why) e = rests_so s g
 begin_or s g k node found drone range kind small None e = ((sound_does s g).begins k node drone kind range small e (node_name (Station node)) found).0
 
@@ -148,6 +150,31 @@ sound_gets s g station drone kind range small =
     sound_orders s g (λ k node. orders s k node (refusal node.core) (station_gets s.clock (stream_of drone) kind node))
     (λ k node found. refused_or s g k node (refusal node.core) (station_gets s.clock (stream_of drone) kind node) (λ free. ((sound_does s g).gets k node drone kind range small free (node_name (Station node)) found).0)) station
 
+-- what a station's services are asked
+asked_or : (s : WorldState) → Sound s → (k : ℕ) (node : StationSide) (why : Option Event) (outcome : Outcome StationSide) → (why ≡ None → Keeps s (node_does s k (node_name (Station node)) (as_station outcome))) → Keeps s (asks s k node why outcome)
+asked_or s g k node (Some event) outcome h = rests_so s g
+asked_or s g k node None outcome h = h refl
+
+no_command : (station : Name) (given : Option ℕ) → command_busy station given ≡ None → given ≡ None
+no_command station None e = refl
+no_command station (Some number) e = absurd (cc)
+
+no_operation : (station : Name) (asked : Option Operation) → params_busy station asked ≡ None → asked ≡ None
+no_operation station None e = refl
+no_operation station (Some operation) e = absurd (cc)
+
+pub sound_commands : (s : WorldState) → Sound s → (station drone : Name) (number word : ℕ) → NameInRange drone → Is16 number → Is32 word → Keeps s (commands s station drone number word)
+sound_commands s g station drone number word range small short =
+    sound_orders s g (λ k node. asks s k node (command_busy (node_of node.link.me) (open_command node.services.commander)) (station_commands s.clock (stream_of drone) number word node))
+    (λ k node found. asked_or s g k node (command_busy (node_of node.link.me) (open_command node.services.commander)) (station_commands s.clock (stream_of drone) number word node) (λ free.
+    ((sound_does s g).commands k node drone number word range small short (no_command (node_of node.link.me) (open_command node.services.commander) free) (node_name (Station node)) found).0)) station
+
+pub sound_params : (s : WorldState) → Sound s → (station drone : Name) → NameInRange drone → Keeps s (lists_params s station drone)
+sound_params s g station drone range =
+    sound_orders s g (λ k node. asks s k node (params_busy (node_of node.link.me) node.services.client.operation) (station_lists_params s.clock (stream_of drone) node))
+    (λ k node found. asked_or s g k node (params_busy (node_of node.link.me) node.services.client.operation) (station_lists_params s.clock (stream_of drone) node) (λ free.
+    ((sound_does s g).params k node drone range (no_operation (node_of node.link.me) node.services.client.operation free) (node_name (Station node)) found).0)) station
+
 -- ---- lines
 
 drafts : (s : WorldState) → Sound s → (draft : _) → All ItemInRange draft → StepKeeps s (restated s s.given draft s.clock)
@@ -168,9 +195,9 @@ sound_line s g (DroneLine sys x y) permitted fits authentic =
     let free = not_against _ _ permitted.1 in
     by_test (KeepsLine s (DroneLine sys x y)) (nat_lt (drones_in s.nodes) most_drones) _ _
     (λ few. record {
-      sound = drone_joins s sys g permitted.0 fits free (less _ _ few);
-      kept = kept_joined s (Drone (new_drone s.key sys));
-      names = names_joined_are s (Drone (new_drone s.key sys));
+      sound = drone_joins s sys (record { x = x; y = y }) g permitted.0 fits free (less _ _ few);
+      kept = kept_joined s (Drone (new_drone s.key sys (record { x = x; y = y })));
+      names = names_joined_are s (Drone (new_drone s.key sys (record { x = x; y = y })));
     })
     (λ _. tt)
 sound_line s g (StationLine sys comp) permitted fits authentic =
@@ -198,6 +225,10 @@ sound_line s g (Clear station drone kind) permitted fits authentic =
     line_of_step s (Clear station drone kind) (after_line s (Clear station drone kind)) refl (from_line s _ (sound_clears (station_line s) (at_line s g) station drone (clear_number kind) (drone_range s g drone permitted.0.1) (clear_small kind)))
 sound_line s g (Get station drone kind) permitted fits authentic =
     line_of_step s (Get station drone kind) (after_line s (Get station drone kind)) refl (from_line s _ (sound_gets (station_line s) (at_line s g) station drone (number_of kind) (drone_range s g drone permitted.0.1) (kind_small kind)))
+sound_line s g (Command station drone number word) permitted fits authentic =
+    line_of_step s (Command station drone number word) (after_line s (Command station drone number word)) refl (from_line s _ (sound_commands (station_line s) (at_line s g) station drone number word (drone_range s g drone permitted.0.1) fits.0 fits.1))
+sound_line s g (Params station drone) permitted fits authentic =
+    line_of_step s (Params station drone) (after_line s (Params station drone)) refl (from_line s _ (sound_params (station_line s) (at_line s g) station drone (drone_range s g drone permitted.0.1)))
 sound_line s g (Heartbeat node) permitted fits authentic =
     line_of_step s (Heartbeat node) (after_line s (Heartbeat node)) refl (sound_calls s g (node_beats s.clock) (sound_does s g).beats node)
 sound_line s g (Deliver number node) permitted fits authentic =

@@ -160,6 +160,7 @@ module _ (s : WorldState) (link : Link) (l : SoundLink s link) where
         stamp_fits = below greatest_stamp stamp small refl;
         fits = fits.values;
         item_fits = fits.item;
+        service_fits = fits.service;
       }
 
   pub link_sends : (message : Message) → FitsMessage message → LinkDoes s link (sends s.clock message link)

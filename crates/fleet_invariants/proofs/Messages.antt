@@ -8,7 +8,7 @@ use Rattle.plan_items.specs.declared.messages.PlanMsg.TheVariants.{Count, Reques
 use Rattle.mav_messages.specs.declared.messages.Message.{Message}
 use Rattle.mav_messages.specs.Messages.{definition_of, values_of}
 use Rattle.mav_messages.specs.Plans.{message_of_plan, plan_of}
-use Rattle.mav_nodes.specs.Payloads.{ItemFits}
+use Rattle.mav_nodes.specs.Payloads.{ItemFits, ServiceFits}
 use Rattle.mav_nodes.specs.Laws.{FitsMessage}
 use Rattle.plan_ranges.specs.Ranges.{InRange, SignsFit}
 use Rattle.plan_ranges.proofs.MessageRanges as ranges
@@ -23,8 +23,17 @@ item_fits (Listing to kind) h = tt
 item_fits (Clear to kind) h = tt
 item_fits (Ping to usec seq) h = tt
 
+service_fits : (m : PlanMsg) → ServiceFits (message_of_plan m)
+service_fits (Count to count kind) = tt
+service_fits (Request to seq kind) = tt
+service_fits (Give to seq kind item) = tt
+service_fits (Ack to code kind) = tt
+service_fits (Listing to kind) = tt
+service_fits (Clear to kind) = tt
+service_fits (Ping to usec seq) = tt
+
 pub plan_fits : (m : PlanMsg) → InRange m → FitsMessage (message_of_plan m)
-plan_fits m h = record { values = ranges.fits m h; item = item_fits m h }
+plan_fits m h = record { values = ranges.fits m h; item = item_fits m h; service = service_fits m }
 
 -- what a message carries that fits
 item_signs : (o : Option PlanMsg) → ItemFits o → IfSome o SignsFit

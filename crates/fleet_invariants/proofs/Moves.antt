@@ -15,7 +15,7 @@ use Rattle.mav_messages.specs.Plans.{plan_of}
 use Rattle.mav_sign.specs.History.{Entry, last_of, low_of, local_of, previous_in, streams_of}
 use Rattle.mav_nodes.specs.LowBounds.{headroom, stored_low}
 use Rattle.mav_nodes.specs.Links.{Link}
-use Rattle.mav_nodes.specs.Payloads.{ItemFits}
+use Rattle.mav_nodes.specs.Payloads.{ItemFits, ServiceFits}
 use Rattle.mav_nodes.specs.Signed.{signed_packet}
 use Rattle.plan_ranges.specs.Ranges.{ItemInRange}
 use Rattle.scenario_lines.specs.declared.roster.Named.{Named}
@@ -61,6 +61,7 @@ pub record Sending (s : WorldState) (b : Link) (p : Packet) : Type 0 where
   pub stamp_fits : stamp < 2 ^ 48
   pub fits : FitsLayout (definition_of message) (values_of message)
   pub item_fits : ItemFits (plan_of message)
+  pub service_fits : ServiceFits message
 
 -- a node's end of the links goes on
 pub record LinkMoves (s : WorldState) (a b : Link) (packets : List Packet) : Type 0 where
@@ -225,6 +226,7 @@ module _ (s : WorldState) (k : ℕ) (a b : Node) (packets : List Packet) (found 
         stamp_fits = q.stamp_fits;
         fits = q.fits;
         item_fits = q.item_fits;
+        service_fits = q.service_fits;
       }
     where
       own_name : (n : Node) → node_name n ≡ (record { sys = (link_of n).me.sys; comp = (link_of n).me.comp })

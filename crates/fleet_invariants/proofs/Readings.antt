@@ -6,13 +6,13 @@ use Rattle.scenario_lines.specs.declared.lines.Line.{Line}
 use Rattle.scenario_lines.specs.declared.lines.Line.TheVariants.{Blank}
 use Rattle.scenario_lines.specs.Words.{words_of, word_at}
 use Rattle.scenario_lines.specs.LineContext.{LineContext}
-use Rattle.scenario_lines.specs.Grammar.{Form, form, Argument, Whole, Signed, Wire, A_station, A_drone, form_of, counts, arguments_at, misfit, item_words, first_reason, line_from, is_blank, most_line_bytes, whole_at}
+use Rattle.scenario_lines.specs.Grammar.{Form, form, Argument, Whole, Signed, Wire, A_station, A_drone, form_of, counts, arguments_at, misfit, item_words, first_reason, line_from, is_blank, most_line_bytes, whole_at, wire_at}
 use Rattle.scenario_lines.specs.Reasons.{words_reason, is_unbuilt}
 use Rattle.scenario_lines.proofs.Permitted.{read_is_permitted}
-use Rattle.plan_ranges.specs.Ranges.{Is8}
+use Rattle.plan_ranges.specs.Ranges.{Is8, Is16, Is32}
 use Rattle.fleet_invariants.specs.Kept.{LineFits}
 use Rattle.fleet_invariants.specs.Laws.{EveryReadLineFits}
-use Rattle.fleet_invariants.proofs.Words.{bytes_small, whole_within, item_in_range}
+use Rattle.fleet_invariants.proofs.Words.{bytes_small, wire_small, whole_within, item_in_range}
 
 -- ---- no reason of several
 
@@ -46,20 +46,10 @@ unbuilt : {A B : Type 0} (P : A → B → Type 0) (b : Bool) (x y : A) (v : B) �
 unbuilt P true x y v f g = f refl
 unbuilt P false x y v f g = g
 
-second : (a c d : Bool) → (a || (true || (c || d))) ≡ true
-second true c d = refl
-second false c d = refl
-
-third : (a b d : Bool) → (a || (b || (true || d))) ≡ true
-third true b d = refl
-third false true d = refl
-third false false d = refl
-
-fourth : (a b c : Bool) → (a || (b || (c || true))) ≡ true
-fourth true b c = refl
-fourth false true c = refl
-fourth false false true = refl
-fourth false false false = refl
+-- the second of two tests holds
+second : (a : Bool) → (a || true) ≡ true
+second true = refl
+second false = refl
 
 later : (b : Bool) (r : Reason) (m : Option Reason) → b ≡ true → (if b then Some r else m) ≡ None → ⊥
 later true r m e h = absurd (let wrong : ◌≡◌ {A = Option Reason} (Some r) None = h in cc)
@@ -73,6 +63,9 @@ Fits s words form line = words_reason s words form ≡ None → LineFits line
 
 small : (n : ℕ) → n ≤ 255 → n < 256
 small n h = omega arith
+
+narrow : (n : ℕ) → n ≤ 65535 → n < 65536
+narrow n h = omega arith
 
 module _ (s : LineContext) (words : List (List ℕ)) where
   of_drone : (further : List (List Argument)) → words_reason s words (Some (record { needed = Whole 1 255 ∷ []; further = further })) ≡ None → Is8 (whole_at words 1)
@@ -99,6 +92,13 @@ module _ (s : LineContext) (words : List (List ℕ)) where
       let command = fits_first _ _ _ frame.1 in
       (whole_within 0 255 words 2 frame.0, whole_within 0 65535 words 3 command.0)
 
+  of_command : words_reason s words (form (A_station ∷ A_drone ∷ Whole 0 65535 ∷ Wire ∷ [])) ≡ None → Is16 (whole_at words 3) × Is32 (wire_at words 4)
+  of_command h =
+      let station = fits_first _ _ _ (fitted s words (record { needed = A_station ∷ A_drone ∷ Whole 0 65535 ∷ Wire ∷ []; further = [] }) h) in
+      let drone = fits_first _ _ _ station.1 in
+      let number = fits_first _ _ _ drone.1 in
+      (narrow (whole_at words 3) (whole_within 0 65535 words 3 number.0), wire_small words 4)
+
   words_fit : words_reason s words (form_of (word_at words 0)) ≡ None → LineFits (line_from words)
   words_fit =
       let w = word_at words 0 in
@@ -111,8 +111,8 @@ module _ (s : LineContext) (words : List (List ℕ)) where
       (choose (Fits s words) (bytes_eq w (codes "cancel")) _ _ _ _ (λ h. tt)
       (choose (Fits s words) (bytes_eq w (codes "clear")) _ _ _ _ (λ h. tt)
       (choose (Fits s words) (bytes_eq w (codes "get")) _ _ _ _ (λ h. tt)
-      (unbuilt (Fits s words) (bytes_eq w (codes "command")) _ _ _ (λ is h. no_line s words (A_station ∷ A_drone ∷ Whole 0 65535 ∷ Wire ∷ []) _ (rw is refl) h)
-      (unbuilt (Fits s words) (bytes_eq w (codes "params")) _ _ _ (λ is h. no_line s words (A_station ∷ A_drone ∷ []) _ (rw is (second (bytes_eq w (codes "command")) (bytes_eq w (codes "sim")) (bytes_eq w (codes "where")))) h)
+      (choose (Fits s words) (bytes_eq w (codes "command")) _ _ _ _ of_command
+      (choose (Fits s words) (bytes_eq w (codes "params")) _ _ _ _ (λ h. tt)
       (choose (Fits s words) (bytes_eq w (codes "heartbeat")) _ _ _ _ (λ h. tt)
       (choose (Fits s words) (bytes_eq w (codes "deliver")) _ _ _ _ (λ h. tt)
       (choose (Fits s words) (bytes_eq w (codes "flow")) _ _ _ _ (λ h. tt)
@@ -120,8 +120,8 @@ module _ (s : LineContext) (words : List (List ℕ)) where
       (choose (Fits s words) (bytes_eq w (codes "tick")) _ _ _ _ (λ h. tt)
       (choose (Fits s words) (bytes_eq w (codes "clock")) _ _ _ _ (λ h. tt)
       (choose (Fits s words) (bytes_eq w (codes "restart")) _ _ _ _ (λ h. tt)
-      (unbuilt (Fits s words) (bytes_eq w (codes "sim")) _ _ Blank (λ is h. no_line s words (A_drone ∷ Whole 1 10000 ∷ []) _ (rw is (third (bytes_eq w (codes "command")) (bytes_eq w (codes "params")) (bytes_eq w (codes "where")))) h)
-      (unbuilt (Fits s words) (bytes_eq w (codes "where")) _ _ Blank (λ is h. no_line s words (A_drone ∷ []) _ (rw is (fourth (bytes_eq w (codes "command")) (bytes_eq w (codes "params")) (bytes_eq w (codes "sim")))) h)
+      (unbuilt (Fits s words) (bytes_eq w (codes "sim")) _ _ Blank (λ is h. no_line s words (A_drone ∷ Whole 1 10000 ∷ []) _ (rw is refl) h)
+      (unbuilt (Fits s words) (bytes_eq w (codes "where")) _ _ Blank (λ is h. no_line s words (A_drone ∷ []) _ (rw is (second (bytes_eq w (codes "sim")))) h)
       (λ h. tt))))))))))))))))))))
 
 text_fits : (s : LineContext) (text : List ℕ) (blank : Bool) → (if blank then None else words_reason s (words_of text) (form_of (word_at (words_of text) 0))) ≡ None → LineFits (if blank then Blank else line_from (words_of text))

@@ -7,11 +7,9 @@ use Rattle.mav_names.specs.declared.names.Stream.{Stream}
 use Rattle.mav_sign.specs.History.{local_of, previous_in}
 use Rattle.plan_upload.specs.Addresses.{node_of}
 use Rattle.plan_upload.specs.Plans.{no_plans}
-use Rattle.plan_upload.specs.Drone.{DroneState}
 use Rattle.mav_nodes.specs.LowBounds.{headroom, stored_low}
 use Rattle.mav_nodes.specs.Links.{Outcome}
-use Rattle.mav_nodes.specs.Steps.{Side}
-use Rattle.mav_nodes.specs.Nodes.{drone_beats}
+use Rattle.mav_nodes.specs.Nodes.{DroneSide, drone_beats}
 use Rattle.mav_nodes.specs.Restarts.{started_again, restarted_drone, drone_restarts}
 use Rattle.plan_ranges.proofs.DroneRanges as drones
 use Rattle.fleet_report.specs.Events.{Event, Restarted}
@@ -22,6 +20,7 @@ use Rattle.fleet_invariants.specs.Kept.{Kept, Keeps}
 use Rattle.fleet_invariants.proofs.Lists.{nowhere}
 use Rattle.fleet_invariants.proofs.Growth.{at_most_on, kept_still, kept_on, sent_kept, link_kept}
 use Rattle.fleet_invariants.proofs.Rooms.{roomy_fresh}
+use Rattle.fleet_invariants.proofs.Services.{drone_services_fresh}
 use Rattle.fleet_invariants.proofs.Moves.{Steady, steady_of, sound_of, Moves}
 use Rattle.fleet_invariants.proofs.Nodes.{NodeGoes, NodeDoes, advanced, node_goes, goes_on}
 use Rattle.fleet_invariants.proofs.Doing.{node_beating}
@@ -71,7 +70,7 @@ stored_within low = grind arith
 stored_near : (low : ℕ) → max 0 low ≤ max 0 (max 0 low) + headroom
 stored_near low = grind arith
 
-module _ (s : WorldState) (g : Steady s) (k : ℕ) (n : Side DroneState) (found : slice_get s.nodes k ≡ Some (Drone n)) where
+module _ (s : WorldState) (g : Steady s) (k : ℕ) (n : DroneSide) (found : slice_get s.nodes k ≡ Some (Drone n)) where
   own : SoundDrone n
   own = g.cores k (Drone n) found
 
@@ -91,7 +90,7 @@ module _ (s : WorldState) (g : Steady s) (k : ℕ) (n : Side DroneState) (found 
   near : (low : Option ℕ) → stored_low n.link.history ≡ low → unwrap_or low 0 ≤ local_of n.link.history + headroom
   near low is = subst (λ (o : Option ℕ). unwrap_or o 0 ≤ local_of n.link.history + headroom) is end.near
 
-  starts_by : (low : Option ℕ) → stored_low n.link.history ≡ low → Moves (restart_line s) (Drone n) (Drone (started_again s.key n.core.sys low n.core.plans)) []
+  starts_by : (low : Option ℕ) → stored_low n.link.history ≡ low → Moves (restart_line s) (Drone n) (Drone (started_again s.key n.core.sys n.services.home low n.core.plans)) []
   starts_by None is = record {
     named_is = named_is;
     link = record {
@@ -110,8 +109,9 @@ module _ (s : WorldState) (g : Steady s) (k : ℕ) (n : Side DroneState) (found 
       range = drones.fresh n.core.sys own.range.sys;
       sys = refl;
       comp = refl;
-      roomy = roomy_fresh (has_heard (started_again s.key n.core.sys None n.core.plans).link) n.core.sys no_plans;
+      roomy = roomy_fresh (has_heard (started_again s.key n.core.sys n.services.home None n.core.plans).link) n.core.sys no_plans;
       unstored = λ none. refl;
+      services = drone_services_fresh (has_heard (started_again s.key n.core.sys n.services.home None n.core.plans).link) n.core.sys n.services.home;
     };
   }
   starts_by (Some low) is = record {
@@ -132,8 +132,9 @@ module _ (s : WorldState) (g : Steady s) (k : ℕ) (n : Side DroneState) (found 
       range = drones.again n.core own.range;
       sys = refl;
       comp = refl;
-      roomy = roomy_fresh (has_heard (started_again s.key n.core.sys (Some low) n.core.plans).link) n.core.sys n.core.plans;
+      roomy = roomy_fresh (has_heard (started_again s.key n.core.sys n.services.home (Some low) n.core.plans).link) n.core.sys n.core.plans;
       unstored = λ none. absurd (no_low (max 0 low) none);
+      services = drone_services_fresh (has_heard (started_again s.key n.core.sys n.services.home (Some low) n.core.plans).link) n.core.sys n.services.home;
     };
   }
 

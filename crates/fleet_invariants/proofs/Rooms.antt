@@ -1,9 +1,10 @@
 -- A drone has results of streams that it has heard alone, so there is room for each of them.
 use Rattle.std.proofs.Common.{◌≡◌, ℕ, ◌+◌, ◌≤◌, ◌⊎◌, inl, inr, Bool, true, false, ◌==◌, ◌&&◌, ◌||◌, not, nat_lt, List, [], ◌∷◌, ◌++◌, length, map, Option, Some, None, refl, sym, ap, subst, arith, ◌∙◌}
-use Rattle.std.specs.Prelude.{slice_get, is_some, option_map, IfSome}
+use Rattle.std.specs.Prelude.{slice_get, is_some, option_map, IfSome, All}
 use Rattle.std.specs.List.{list_any, IsDistinct}
 use Rattle.std.proofs.lemmas.List.{length-map}
 use Rattle.std.proofs.lemmas.List.Folds.{list_any-append}
+use Rattle.std.proofs.lemmas.List.Elements.{All-head, All-tail}
 use Rattle.std.proofs.lemmas.Map.Keys.{IsDistinct-push}
 use Rattle.std.proofs.lemmas.Map.Made.{length-le_from_is_member}
 use Rattle.mav_names.specs.declared.names.Stream.{Stream}
@@ -20,6 +21,9 @@ use Rattle.plan_upload.specs.Drone.{DroneState, DroneStep, Upload, Download, Upl
 use Rattle.mav_sign.specs.declared.admission.Admit.TheVariants.{Admitted}
 use Rattle.mav_sign.specs.History.{Entry, tried, Stamped, stream_of, stamped, admitted_by, admitted_in, same_stream, stamps_of, greatest_of, last_of, streams_of}
 use Rattle.mav_sign.proofs.Histories.{admitted_more, admitted_same, has_last, same_self, same_is, is_kept}
+use Rattle.command_proto.specs.declared.commands.LastCommand.{LastCommand}
+use Rattle.command_proto.specs.Executor.{ExecutorState}
+use Rattle.command_proto.specs.Laws.{streams_in, ExecutorInRange}
 use Rattle.fleet_invariants.specs.Sound.{Roomy}
 use Rattle.fleet_invariants.proofs.Tests.{by_test, eq_true, both_true, differ}
 use Rattle.fleet_invariants.proofs.Streams.{laws}
@@ -218,3 +222,32 @@ pub room_for : (history : List Entry) (d : DroneState) → Roomy (λ q. is_some 
 room_for history d h =
     subst (λ n. n ≤ length (streams_of history)) (length-map d.results (λ (r : UploadResult). r.stream))
     (length-le_from_is_member laws (keys d.results) (streams_of history) h.apart (λ q e. is_kept q history ∙ h.results q e))
+
+-- ---- nor more last commands
+
+-- both tests for one stream are the same
+grouped : (a b c : Bool) → (a && (b && c)) ≡ ((a && b) && c)
+grouped true b c = refl
+grouped false b c = refl
+
+tests_agree : is_stream ≡ same_stream
+tests_agree = λ i a b. grouped (a.sys == b.sys) (a.comp == b.comp) (a.link == b.link) i
+
+abbrev is_known : List Entry → Stream → Type 0
+is_known history q = is_some (last_of q history) ≡ true
+
+one_known : (history : List Entry) (stream q : Stream) (b c : Bool) → same_stream q stream ≡ b → is_known history stream → (c ≡ true → is_known history q) → (b || c) ≡ true → is_known history q
+one_known history stream q true c same h on e = subst (is_known history) (sym (same_is q stream same)) h
+one_known history stream q false c same h on e = on e
+
+known_of : (history : List Entry) (ls : List LastCommand) → All (λ (l : LastCommand). is_known history l.stream) ls → (q : Stream) → list_any (same_stream q) (streams_in ls) ≡ true → is_known history q
+known_of history [] h q e = absurd (cc)
+known_of history (l ∷ ls) h q e =
+    one_known history l.stream q (same_stream q l.stream) (list_any (same_stream q) (streams_in ls)) refl (All-head (λ (l : LastCommand). is_known history l.stream) l ls h)
+    (known_of history ls (All-tail (λ (l : LastCommand). is_known history l.stream) l ls h) q) e
+
+pub commands_few : (history : List Entry) (e : ExecutorState) → ExecutorInRange e → All (λ (l : LastCommand). is_some (last_of l.stream history) ≡ true) e.last → length e.last ≤ length (streams_of history)
+commands_few history e h known =
+    subst (λ n. n ≤ length (streams_of history)) (length-map e.last (λ (l : LastCommand). l.stream))
+    (length-le_from_is_member laws (streams_in e.last) (streams_of history) (subst (λ (test : Stream → Stream → Bool). IsDistinct test (streams_in e.last)) tests_agree h.apart)
+    (λ q f. is_kept q history ∙ known_of history e.last known q f))

@@ -1,17 +1,15 @@
 -- No authentic scenario stops for want of a timestamp.
-use Rattle.std.proofs.Common.{◌≡◌, ◌≢◌, ℕ, zero, suc, ◌+◌, ◌-◌, ◌<◌, ◌≤◌, Bool, true, false, if◌then◌else◌, nat_lt, List, [], ◌∷◌, length, slice_get, Option, Some, None, Ok, Err, refl, sym, subst, arith}
+use Rattle.std.proofs.Common.{◌≡◌, ◌≢◌, ℕ, zero, suc, ◌+◌, ◌-◌, ◌*◌, ◌<◌, ◌≤◌, Bool, true, false, if◌then◌else◌, nat_lt, List, [], ◌∷◌, length, slice_get, Option, Some, None, Ok, Err, refl, sym, subst, arith}
 use Rattle.std.specs.Prelude.{nat_le, position}
 use Rattle.std.specs.declared.result.Result.{Result}
 use Rattle.mav_names.specs.declared.names.Name.{Name}
-use Rattle.mav_names.specs.declared.names.Stream.{Stream}
-use Rattle.plan_items.specs.declared.messages.PlanMsg.{PlanMsg}
 use Rattle.plan_items.specs.Kinds.{number_of}
 use Rattle.plan_upload.specs.declared.faults.OpFault.{OpFault}
 use Rattle.plan_upload.specs.Addresses.{node_of, same_name}
-use Rattle.plan_upload.specs.Drone.{DroneState, drone_tick}
+use Rattle.plan_upload.specs.Drone.{drone_tick}
 use Rattle.plan_upload.specs.Kinds.{clear_number}
 use Rattle.plan_upload.specs.Refusals.{upload_refusal, refusal}
-use Rattle.plan_upload.specs.Station.{StationState, StationStep, station_tick, station_cancel, begin_upload, begin_clear, begin_get}
+use Rattle.plan_upload.specs.Station.{StationStep, station_tick, station_cancel, begin_upload, begin_clear, begin_get}
 use Rattle.mav_profile.specs.Messages.{extras_of}
 use Rattle.mav_profile.specs.Profile.{profile_definitions}
 use Rattle.mav_frame.specs.Packet.{Packet}
@@ -21,19 +19,22 @@ use Rattle.mav_messages.specs.declared.messages.Message.{Message}
 use Rattle.mav_sign.specs.Endpoints.{frames_of}
 use Rattle.mav_sign.specs.History.{greatest_stamp}
 use Rattle.mav_nodes.specs.Links.{Link, Outcome, sends}
-use Rattle.mav_nodes.specs.Steps.{Side, CoreStep, with_core, steps, receives}
-use Rattle.mav_nodes.specs.Nodes.{drone_core, drone_waits, drone_heartbeat, drone_receives, drone_ticks, drone_beats, station_core, station_does, station_heartbeat, station_receives, station_ticks, station_beats, station_begins, station_cancels, station_clears, station_gets}
+use Rattle.mav_nodes.specs.Services.{ServiceStep, DroneServices, StationServices, station_waits, command_of, asks_command, asks_params}
+use Rattle.mav_nodes.specs.Steps.{Side, Rules, CoreStep, with_core, steps, serves, receives}
+use Rattle.command_proto.specs.Commander.{open_command, commands as gives, commander_step, commander_tick}
+use Rattle.param_proto.specs.Client.{client_step, client_tick, lists}
+use Rattle.mav_nodes.specs.Nodes.{DroneSide, StationSide, drone_rules, drone_waits, drone_heartbeat, drone_receives, drone_ticks, drone_beats, station_rules, station_does, station_heartbeat, station_receives, station_ticks, station_beats, station_begins, station_cancels, station_clears, station_gets, station_commands, station_lists_params}
 use Rattle.scenario_lines.specs.declared.faults.Reason.{Reason}
 use Rattle.scenario_lines.specs.declared.faults.Reason.TheVariants.{Long}
 use Rattle.scenario_lines.specs.declared.lines.Line.{Line}
-use Rattle.scenario_lines.specs.declared.lines.Line.TheVariants.{Blank, Drone as DroneLine, Station as StationLine, Item as OneItem, Items, Empty, Begin, Cancel, Clear, Get, Heartbeat, Deliver, Flow, Noise, Tick, Clock, Restart}
+use Rattle.scenario_lines.specs.declared.lines.Line.TheVariants.{Blank, Drone as DroneLine, Station as StationLine, Item as OneItem, Items, Empty, Begin, Cancel, Clear, Get, Command, Params, Heartbeat, Deliver, Flow, Noise, Tick, Clock, Restart}
 use Rattle.scenario_lines.specs.Grammar.{line_of, most_line_bytes}
 use Rattle.scenario_lines.specs.Reasons.{reason_against}
 use Rattle.mav_nodes.specs.Restarts.{restarted_drone, drone_restarts}
 use Rattle.std.proofs.lemmas.List.{append-nil}
 use Rattle.fleet_report.specs.Events.{Event, Restarted}
 use Rattle.fleet_world.specs.WorldState.{WorldState, Node, Drone, Station, node_name, is_named, is_drone_named, is_station_named, stream_of, context_of, drones_in, stations_in}
-use Rattle.fleet_world.specs.Steps.{Step, StepError, At_limit, Stamps_spent, most_frames, most_drones, most_stations, most_restarts, restarts_at, restarts_found, starts_again, restart_line, behind, and_then, packets_in, as_drone, as_station, node_receives, node_beats, node_ticks, node_does, calls_at, calls_found, calls, given_to, given_from, given_to_all, flow_next, flows, delivers, station_line, orders, upload_begins, orders_at, orders_found, orders_to, begins, cancels, clears, gets, after_line}
+use Rattle.fleet_world.specs.Steps.{Step, StepError, At_limit, Stamps_spent, most_frames, most_drones, most_stations, most_restarts, restarts_at, restarts_found, starts_again, restart_line, behind, and_then, packets_in, as_drone, as_station, node_receives, node_beats, node_ticks, node_does, calls_at, calls_found, calls, given_to, given_from, given_to_all, flow_next, flows, delivers, station_line, orders, upload_begins, orders_at, orders_found, orders_to, begins, cancels, clears, gets, asks, command_busy, params_busy, commands, lists_params, after_line}
 use Rattle.fleet_world.specs.Scenario.{ScenarioError, Bad, Too_many_lines, Not_done, Played, most_lines, whole_lines, unfinished, without_cr, stopped, goes_on, judged, line_played, unless_stopped, lines_played, at_start, last_played, rest_played, played}
 use Rattle.fleet_world.specs.Authentic.{AuthenticLine, line_read, line_done, AuthenticDone, UnlessStopped, AuthenticLines, AuthenticLast}
 use Rattle.fleet_invariants.specs.Sound.{ahead, link_of, Sound}
@@ -54,17 +55,25 @@ use Rattle.fleet_invariants.proofs.Gives.{sound_gives}
 use Rattle.fleet_invariants.proofs.Readings.{read_fits}
 use Rattle.fleet_invariants.proofs.Plays.{choosing, one_line, sound_start, sound_lines}
 use Rattle.fleet_invariants.proofs.Counts.{few_frames, IsShort, line_short}
-use Rattle.fleet_invariants.proofs.Timestamps.{IsDone, Near, near_done, beats_near, steps_near, NearFrame, all_done}
+use Rattle.fleet_invariants.proofs.Timestamps.{IsDone, Near, IsNear, SendsFew, ends_done, beats_near, steps_near, serves_near, both_done, NearFrame, all_done}
+use Rattle.fleet_invariants.specs.Services.{param_count}
+use Rattle.fleet_invariants.proofs.Services.{most_answers, drone_few, station_few}
 
 -- ---- what a node does
 
-drone_done : (o : Outcome (Side DroneState)) → IsDone o → IsDone (as_drone o)
+drone_done : (o : Outcome DroneSide) → IsDone o → IsDone (as_drone o)
 drone_done None h = h
 drone_done (Some d) h = tt
 
-station_done : (o : Outcome (Side StationState)) → IsDone o → IsDone (as_station o)
+station_done : (o : Outcome StationSide) → IsDone o → IsDone (as_station o)
 station_done None h = h
 station_done (Some d) h = tt
+
+pub drones_send_few : SendsFew drone_rules (λ (v : DroneServices). length v.server.params ≡ param_count)
+drones_send_few = record { few = λ core v from m h. (drone_few core v from m h).0; again = λ core v from m h. (drone_few core v from m h).1 }
+
+pub stations_send_few : SendsFew station_rules (λ (v : StationServices). Unit {0})
+stations_send_few = record { few = λ core v from m h. station_few (commander_step v.commander from m) (client_step v.client from m); again = λ core v from m h. tt }
 
 -- a datagram with no more frames than a line has bytes
 abbrev HasFew : List ℕ → Type 0
@@ -86,20 +95,35 @@ module _ (s : WorldState) (g : Sound s) where
   room : s.clock + (ahead s + 1) ≤ greatest_stamp
   room = let clock = g.clock in let frames = g.frames in let restarts = g.restarts in omega arith
 
-  steps_done : {Core : Type 0} (link : Link) (step : CoreStep Core) → NearNow link → IsDone (steps s.clock link step)
-  steps_done link step h = near_done s.clock s.key (ahead s + 1) (steps s.clock link step) (steps_near s.clock s.key (ahead s) link step h room)
+  room_for : (n : ℕ) → n ≤ 163840 → s.clock + (ahead s + n) ≤ greatest_stamp
+  room_for n few = let clock = g.clock in let frames = g.frames in let restarts = g.restarts in omega (arith, few)
 
-  beats_done : {Core : Type 0} (link : Link) (core : Core) (message : Message) → NearNow link → IsDone (with_core core [] (sends s.clock message link))
-  beats_done link core message h = near_done s.clock s.key (ahead s + 1) (with_core core [] (sends s.clock message link)) (beats_near s.clock s.key (ahead s) link core message h room)
+  more_room : s.clock + (ahead s + 1 + most_answers) ≤ greatest_stamp
+  more_room = let clock = g.clock in let frames = g.frames in let restarts = g.restarts in omega arith
 
-  room_for : (n : ℕ) → n ≤ 4096 → s.clock + (ahead s + n) ≤ greatest_stamp
-  room_for n few = let clock = g.clock in let frames = g.frames in let restarts = g.restarts in omega arith
+  -- whatever is known of the services
+  abbrev Any : {Services : Type 0} → Services → Type 0
+  Any v = Unit {0}
 
-  datagram_done : {Core : Type 0} (step : Core → Stream → PlanMsg → CoreStep Core) (node : Side Core) (bytes : List ℕ) → node.link.extras ≡ extras_of profile_definitions → NearNow node.link → Known s bytes → HasFew bytes → IsDone (receives step s.clock bytes node)
-  datagram_done step node bytes extras h known few =
+  steps_done : {Core Services : Type 0} (link : Link) (services : Services) (step : CoreStep Core) → NearNow link → IsDone (steps s.clock link services step)
+  steps_done {Core} {Services} link services step h =
+      ends_done (IsNear s.clock s.key Any (ahead s + 1)) (steps s.clock link services step) (steps_near s.clock s.key (λ (v : Services). Unit {0}) (ahead s) link services step tt h room)
+
+  beats_done : {Core Services : Type 0} (link : Link) (core : Core) (services : Services) (message : Message) → NearNow link → IsDone (with_core core services [] (sends s.clock message link))
+  beats_done {Core} {Services} link core services message h =
+      ends_done (IsNear s.clock s.key Any (ahead s + 1)) (with_core core services [] (sends s.clock message link)) (beats_near s.clock s.key (λ (v : Services). Unit {0}) (ahead s) link core services message tt h room)
+
+  serves_done : {Core Services : Type 0} (link : Link) (core : Core) (step : ServiceStep Services) → length step.answers ≤ most_answers → NearNow link → IsDone (serves s.clock link core step)
+  serves_done {Core} {Services} link core step few h =
+      ends_done (IsNear s.clock s.key Any (ahead s + most_answers)) (serves s.clock link core step) (serves_near s.clock s.key (λ (v : Services). Unit {0}) (ahead s) link core step tt few h (room_for most_answers (omega arith)))
+
+  datagram_done : {Core Services : Type 0} (Few : Services → Type 0) (rules : Rules Core Services) → SendsFew rules Few → (node : Side Core Services) (bytes : List ℕ) → Few node.services → node.link.extras ≡ extras_of profile_definitions → NearNow node.link → Known s bytes → HasFew bytes
+      → IsDone (receives rules s.clock bytes node)
+  datagram_done Few rules sends_few node bytes own extras h known few =
       let packets = frames_of (final_parse node.link.extras false bytes) in
-      all_done step s.clock s.key packets (ahead s) (ahead s) node (omega arith) h (near_known packets (known_frames s bytes node.link.extras extras known))
-      (room_for (length packets) (subst (λ (x : List (ℕ × ℕ)). length (frames_of (final_parse x false bytes)) ≤ 4096) (sym extras) few))
+      let short : length packets ≤ 4096 = subst (λ (x : List (ℕ × ℕ)). length (frames_of (final_parse x false bytes)) ≤ 4096) (sym extras) few in
+      all_done s.clock s.key Few rules sends_few packets (ahead s) (ahead s) node (omega arith) (h, own) (near_known packets (known_frames s bytes node.link.extras extras known))
+      (room_for (40 * length packets) (omega (arith, short)))
 
   -- ---- calls
 
@@ -107,23 +131,24 @@ module _ (s : WorldState) (g : Sound s) where
   EachDone call = (k : ℕ) (a : Node) → slice_get s.nodes k ≡ Some a → IsDone (call a)
 
   ticks_done : EachDone (node_ticks s.clock)
-  ticks_done k (Drone n) found = drone_done (drone_ticks s.clock n) (steps_done n.link (drone_waits (drone_tick n.core)) (near_at k (Drone n) found))
-  ticks_done k (Station n) found = station_done (station_ticks s.clock n) (steps_done n.link (station_does (station_tick n.core)) (near_at k (Station n) found))
+  ticks_done k (Drone n) found = drone_done (drone_ticks s.clock n) (steps_done n.link n.services (drone_waits (drone_tick n.core)) (near_at k (Drone n) found))
+  ticks_done k (Station n) found = station_done (station_ticks s.clock n)
+      (both_done s.clock s.key Any (ahead s) n.link n.services (station_does (station_tick n.core)) station_waits tt (λ v _. (tt, station_few (commander_tick v.commander) (client_tick v.client))) (near_at k (Station n) found) more_room)
 
   heartbeats_done : EachDone (node_beats s.clock)
-  heartbeats_done k (Drone n) found = drone_done (drone_beats s.clock n) (beats_done n.link n.core drone_heartbeat (near_at k (Drone n) found))
-  heartbeats_done k (Station n) found = station_done (station_beats s.clock n) (beats_done n.link n.core station_heartbeat (near_at k (Station n) found))
+  heartbeats_done k (Drone n) found = drone_done (drone_beats s.clock n) (beats_done n.link n.core n.services (drone_heartbeat n.services.armed) (near_at k (Drone n) found))
+  heartbeats_done k (Station n) found = station_done (station_beats s.clock n) (beats_done n.link n.core n.services station_heartbeat (near_at k (Station n) found))
 
   receives_done : (bytes : List ℕ) → Known s bytes → HasFew bytes → EachDone (node_receives s.clock bytes)
   receives_done bytes known few k (Drone n) found =
-      drone_done (drone_receives s.clock bytes n) (datagram_done drone_core n bytes (g.links k (Drone n) found).extras (near_at k (Drone n) found) known few)
+      drone_done (drone_receives s.clock bytes n) (datagram_done (λ (v : DroneServices). length v.server.params ≡ param_count) drone_rules drones_send_few n bytes (g.cores k (Drone n) found).services.count (g.links k (Drone n) found).extras (near_at k (Drone n) found) known few)
   receives_done bytes known few k (Station n) found =
-      station_done (station_receives s.clock bytes n) (datagram_done station_core n bytes (g.links k (Station n) found).extras (near_at k (Station n) found) known few)
+      station_done (station_receives s.clock bytes n) (datagram_done Any station_rules stations_send_few n bytes tt (g.links k (Station n) found).extras (near_at k (Station n) found) known few)
 
   sent_few : (i : ℕ) (p : Packet) → slice_get s.sent i ≡ Some p → HasFew (encoding p)
   sent_few i p found = subst (λ (ps : List Packet). length ps ≤ 4096) (sym (heard_is s g p (g.sent i p found)).frames) (omega arith)
 
-  sent_done : (i : ℕ) (p : Packet) → slice_get s.sent i ≡ Some p → EachDone (node_receives s.clock (encoding p))
+  pub sent_done : (i : ℕ) (p : Packet) → slice_get s.sent i ≡ Some p → EachDone (node_receives s.clock (encoding p))
   sent_done i p found = receives_done (encoding p) (sent_known s g i p found) (sent_few i p found)
 
 -- ---- steps
@@ -189,30 +214,30 @@ flows_unspent (suc k) s g = flow_unspent s g (slice_get s.sent s.given) refl (fl
 -- ---- orders
 
 module _ (s : WorldState) (g : Sound s) where
-  abbrev EachOrder : (ℕ → Side StationState → Result Step StepError) → Type 0
-  EachOrder order = (k : ℕ) (node : Side StationState) → slice_get s.nodes k ≡ Some (Station node) → Unspent (order k node)
+  abbrev EachOrder : (ℕ → StationSide → Result Step StepError) → Type 0
+  EachOrder order = (k : ℕ) (node : StationSide) → slice_get s.nodes k ≡ Some (Station node) → Unspent (order k node)
 
-  order_at : (order : ℕ → Side StationState → Result Step StepError) → EachOrder order → (k : ℕ) (o : Option Node) → slice_get s.nodes k ≡ o → Unspent (orders_at s k o order)
+  order_at : (order : ℕ → StationSide → Result Step StepError) → EachOrder order → (k : ℕ) (o : Option Node) → slice_get s.nodes k ≡ o → Unspent (orders_at s k o order)
   order_at order each k None found = tt
   order_at order each k (Some (Drone n)) found = tt
   order_at order each k (Some (Station n)) found = each k n found
 
-  order_placed : (order : ℕ → Side StationState → Result Step StepError) → EachOrder order → (k : Option ℕ) → Unspent (orders_found s k order)
+  order_placed : (order : ℕ → StationSide → Result Step StepError) → EachOrder order → (k : Option ℕ) → Unspent (orders_found s k order)
   order_placed order each None = tt
   order_placed order each (Some k) = order_at order each k (slice_get s.nodes k) refl
 
-  order_unspent : (order : ℕ → Side StationState → Result Step StepError) → EachOrder order → (name : Name) → Unspent (orders_to s name order)
+  order_unspent : (order : ℕ → StationSide → Result Step StepError) → EachOrder order → (name : Name) → Unspent (orders_to s name order)
   order_unspent order each name = order_placed order each (position (is_station_named name) s.nodes)
 
   -- a station's step is done
-  step_done : (k : ℕ) (node : Side StationState) → slice_get s.nodes k ≡ Some (Station node) → (step : StationStep) → IsDone (as_station (steps s.clock node.link (station_does step)))
-  step_done k node found step = station_done (steps s.clock node.link (station_does step)) (steps_done s g node.link (station_does step) (near_at s g k (Station node) found))
+  step_done : (k : ℕ) (node : StationSide) → slice_get s.nodes k ≡ Some (Station node) → (step : StationStep) → IsDone (as_station (steps s.clock node.link node.services (station_does step)))
+  step_done k node found step = station_done (steps s.clock node.link node.services (station_does step)) (steps_done s g node.link node.services (station_does step) (near_at s g k (Station node) found))
 
-  refused_or : (k : ℕ) (node : Side StationState) (why : Option OpFault) (outcome : Outcome (Side StationState)) → IsDone (as_station outcome) → Unspent (orders s k node why outcome)
+  refused_or : (k : ℕ) (node : StationSide) (why : Option OpFault) (outcome : Outcome StationSide) → IsDone (as_station outcome) → Unspent (orders s k node why outcome)
   refused_or k node (Some why) outcome h = tt
   refused_or k node None outcome h = does s k (node_of node.link.me) (as_station outcome) h
 
-  begun_or : (k : ℕ) (node : Side StationState) → slice_get s.nodes k ≡ Some (Station node) → (drone : Name) (kind : ℕ) (why : Option OpFault) → Unspent (upload_begins s k node drone kind why)
+  begun_or : (k : ℕ) (node : StationSide) → slice_get s.nodes k ≡ Some (Station node) → (drone : Name) (kind : ℕ) (why : Option OpFault) → Unspent (upload_begins s k node drone kind why)
   begun_or k node found drone kind (Some why) = tt
   begun_or k node found drone kind None =
       does (record s { draft = [] }) k (node_of node.link.me) (as_station (station_begins s.clock (stream_of drone) kind s.draft node)) (step_done k node found (begin_upload node.core (stream_of drone) kind s.draft))
@@ -235,10 +260,30 @@ module _ (s : WorldState) (g : Sound s) where
       order_unspent (λ k node. orders s k node (refusal node.core) (station_gets s.clock (stream_of drone) kind node))
       (λ k node found. refused_or k node (refusal node.core) (station_gets s.clock (stream_of drone) kind node) (step_done k node found (begin_get node.core (stream_of drone) kind))) station
 
+  asked_or : (k : ℕ) (node : StationSide) (why : Option Event) (outcome : Outcome StationSide) → IsDone (as_station outcome) → Unspent (asks s k node why outcome)
+  asked_or k node (Some event) outcome h = tt
+  asked_or k node None outcome h = does s k (node_of node.link.me) (as_station outcome) h
+
+  -- its services send one message
+  asked_done : (k : ℕ) (node : StationSide) → slice_get s.nodes k ≡ Some (Station node) → (step : ServiceStep StationServices) → length step.answers ≤ most_answers → IsDone (as_station (serves s.clock node.link node.core step))
+  asked_done k node found step few = station_done (serves s.clock node.link node.core step) (serves_done s g node.link node.core step few (near_at s g k (Station node) found))
+
+  commands_unspent : (station drone : Name) (number word : ℕ) → Unspent (commands s station drone number word)
+  commands_unspent station drone number word =
+      order_unspent (λ k node. asks s k node (command_busy (node_of node.link.me) (open_command node.services.commander)) (station_commands s.clock (stream_of drone) number word node))
+      (λ k node found. asked_or k node (command_busy (node_of node.link.me) (open_command node.services.commander)) (station_commands s.clock (stream_of drone) number word node)
+      (asked_done k node found (asks_command node.services (gives node.services.commander (stream_of drone) (command_of number word))) (omega arith))) station
+
+  params_unspent : (station drone : Name) → Unspent (lists_params s station drone)
+  params_unspent station drone =
+      order_unspent (λ k node. asks s k node (params_busy (node_of node.link.me) node.services.client.operation) (station_lists_params s.clock (stream_of drone) node))
+      (λ k node found. asked_or k node (params_busy (node_of node.link.me) node.services.client.operation) (station_lists_params s.clock (stream_of drone) node)
+      (asked_done k node found (asks_params node.services (lists node.services.client (stream_of drone))) (omega arith))) station
+
 -- ---- a drone that starts again
 
 module _ (s : WorldState) (g : Sound s) (few : s.restarts < most_restarts) where
-  starting : (k : ℕ) (n : Side DroneState) → slice_get s.nodes k ≡ Some (Drone n) → IsDone (as_drone (drone_restarts s.key s.clock n))
+  starting : (k : ℕ) (n : DroneSide) → slice_get s.nodes k ≡ Some (Drone n) → IsDone (as_drone (drone_restarts s.key s.clock n))
   starting k n found =
       let first = starts_anew s (steady_of s g) k n found few in
       let t = advanced (restart_line s) k (Drone (restarted_drone s.key n)) [] in
@@ -275,6 +320,8 @@ line_unspent s g (Begin station drone kind) fits authentic short = begins_unspen
 line_unspent s g (Cancel station) fits authentic short = cancels_unspent (station_line s) (at_line s g) station
 line_unspent s g (Clear station drone kind) fits authentic short = clears_unspent (station_line s) (at_line s g) station drone (clear_number kind)
 line_unspent s g (Get station drone kind) fits authentic short = gets_unspent (station_line s) (at_line s g) station drone (number_of kind)
+line_unspent s g (Command station drone number word) fits authentic short = commands_unspent (station_line s) (at_line s g) station drone number word
+line_unspent s g (Params station drone) fits authentic short = params_unspent (station_line s) (at_line s g) station drone
 line_unspent s g (Heartbeat node) fits authentic short = calls_unspent s g node (node_beats s.clock) (heartbeats_done s g)
 line_unspent s g (Deliver number node) fits authentic short = delivered s g number node (slice_get s.sent (number - 1)) refl
 line_unspent s g (Flow k) fits authentic short = flows_unspent k s g

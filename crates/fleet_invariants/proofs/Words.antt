@@ -74,7 +74,7 @@ or_none : {A : Type 0} (P : A → Type 0) (o : Option A) (d : A) → IfSome o P 
 or_none P None d h k = k
 or_none P (Some x) d h k = h
 
-wire_small : (words : List (List ℕ)) (k : ℕ) → Is32 (wire_at words k)
+pub wire_small : (words : List (List ℕ)) (k : ℕ) → Is32 (wire_at words k)
 wire_small words k =
     or_none Is32 (wire_word (word_at words k)) 0 (decoded_word (decode_of (word_at words k)) (decoded_small (word_at words k))) (omega arith)
 

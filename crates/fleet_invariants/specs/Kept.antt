@@ -10,14 +10,14 @@ use Rattle.mav_messages.specs.Plans.{plan_of}
 use Rattle.mav_sign.specs.Signing.{Verifies, signature_of}
 use Rattle.mav_sign.specs.History.{previous_in}
 use Rattle.mav_sign.specs.Endpoints.{frames_of}
-use Rattle.mav_nodes.specs.News.{NodeEvent, Sends, Installs, Empties, Drops, Ends}
+use Rattle.mav_nodes.specs.News.{NodeEvent, Sends, Installs, Empties, Drops, Ends, Ends_command, Gives_param, Ends_params}
 use Rattle.mav_nodes.specs.Links.{Outcome}
-use Rattle.mav_nodes.specs.Payloads.{plan_in}
+use Rattle.mav_nodes.specs.Payloads.{plan_in, service_in, service_of}
 use Rattle.scenario_lines.specs.declared.lines.Line.{Line}
-use Rattle.scenario_lines.specs.declared.lines.Line.TheVariants.{Blank, Drone as DroneLine, Station as StationLine, Item as OneItem, Items, Empty, Begin, Cancel, Clear, Get, Heartbeat, Deliver, Flow, Noise, Tick, Clock, Restart}
+use Rattle.scenario_lines.specs.declared.lines.Line.TheVariants.{Blank, Drone as DroneLine, Station as StationLine, Item as OneItem, Items, Empty, Begin, Cancel, Clear, Get, Command, Params, Heartbeat, Deliver, Flow, Noise, Tick, Clock, Restart}
 use Rattle.scenario_lines.specs.declared.roster.Named.{Named}
 use Rattle.scenario_lines.specs.declared.roster.Role.TheVariants.{Drone as DroneRole, Station as StationRole}
-use Rattle.plan_ranges.specs.Ranges.{Is8, ItemInRange}
+use Rattle.plan_ranges.specs.Ranges.{Is8, Is16, Is32, ItemInRange}
 use Rattle.fleet_world.specs.WorldState.{WorldState, Node, named, names_of}
 use Rattle.fleet_world.specs.Steps.{Step, StepError}
 use Rattle.fleet_invariants.specs.Sound.{link_of, IsSent, Sound}
@@ -39,6 +39,7 @@ pub record Heard (s : WorldState) (p : Packet) (sent : IsSent s p) : Type 0 wher
   pub block : p.block ≡ Some (record { link = 0; stamp = sent.stamp; sig = signature_of s.key p 0 sent.stamp })
   pub verifies : Verifies s.key p p.block
   pub plan : plan_in p.id p.payload ≡ plan_of sent.message
+  pub service : service_in p.id p.payload ≡ service_of sent.message
 
 -- a frame that is reported as sent carries the plan message of its message
 abbrev pub Reads : NodeEvent → Type 0
@@ -47,6 +48,9 @@ Reads (Installs kind items by) = Unit {0}
 Reads (Empties kind) = Unit {0}
 Reads (Drops answer) = Unit {0}
 Reads (Ends told) = Unit {0}
+Reads (Ends_command result) = Unit {0}
+Reads (Gives_param param) = Unit {0}
+Reads (Ends_params values) = Unit {0}
 
 abbrev pub AllRead : List NodeEvent → Type 0
 AllRead [] = Unit {0}
@@ -97,6 +101,8 @@ names_joined (Begin station drone kind) = []
 names_joined (Cancel station) = []
 names_joined (Clear station drone kind) = []
 names_joined (Get station drone kind) = []
+names_joined (Command station drone number word) = []
+names_joined (Params station drone) = []
 names_joined (Heartbeat node) = []
 names_joined (Deliver number node) = []
 names_joined (Flow k) = []
@@ -127,6 +133,8 @@ LineFits (Begin station drone kind) = Unit {0}
 LineFits (Cancel station) = Unit {0}
 LineFits (Clear station drone kind) = Unit {0}
 LineFits (Get station drone kind) = Unit {0}
+LineFits (Command station drone number word) = Is16 number × Is32 word
+LineFits (Params station drone) = Unit {0}
 LineFits (Heartbeat node) = Unit {0}
 LineFits (Deliver number node) = Unit {0}
 LineFits (Flow k) = Unit {0}

@@ -2,24 +2,25 @@
 use Rattle.std.specs.Prelude.{ℕ, ◌≡◌, ◌≢◌, Bool, false, List, [], slice_get, codes, All, Some, None}
 use Rattle.std.specs.Str.{bytes_eq}
 use Rattle.mav_names.specs.declared.names.Name.{Name}
+use Rattle.mav_names.specs.declared.names.Stream.{Stream}
 use Rattle.mav_profile.specs.Messages.{extras_of}
 use Rattle.mav_profile.specs.Profile.{profile_definitions}
 use Rattle.mav_frame.specs.Packet.{Packet, FitsFrame}
 use Rattle.mav_frame.specs.Encoding.{encoding, IsSealed}
 use Rattle.mav_sign.specs.Signing.{Verifies}
 use Rattle.plan_upload.specs.Refusals.{upload_refusal, refusal}
-use Rattle.plan_upload.specs.Station.{StationState}
-use Rattle.plan_ranges.specs.Ranges.{Is8, NameInRange}
+use Rattle.plan_ranges.specs.Ranges.{Is8, Is16, Is32, NameInRange}
+use Rattle.command_proto.specs.Commander.{open_command}
+use Rattle.command_proto.specs.Executor.{last_in, has_no_room}
 use Rattle.mav_nodes.specs.Links.{Outcome}
-use Rattle.mav_nodes.specs.Steps.{Side}
-use Rattle.mav_nodes.specs.Nodes.{station_begins, station_cancels, station_clears, station_gets}
+use Rattle.mav_nodes.specs.Nodes.{DroneSide, StationSide, station_begins, station_cancels, station_clears, station_gets, station_commands, station_lists_params}
 use Rattle.scenario_lines.specs.declared.lines.Line.{Line}
 use Rattle.scenario_lines.specs.Words.{words_of, word_at}
 use Rattle.scenario_lines.specs.LineContext.{LineContext}
 use Rattle.scenario_lines.specs.Grammar.{line_of}
 use Rattle.scenario_lines.specs.Reasons.{reason_against}
 use Rattle.scenario_lines.specs.Permits.{IsPermitted}
-use Rattle.fleet_world.specs.WorldState.{WorldState, Node, Station, stream_of, context_of}
+use Rattle.fleet_world.specs.WorldState.{WorldState, Node, Drone, Station, stream_of, context_of}
 use Rattle.fleet_world.specs.Steps.{node_receives, node_beats, node_ticks, node_does, as_station, given_to, given_from, given_to_all, flows, calls, after_line, Stamps_spent}
 use Rattle.fleet_world.specs.Scenario.{Played, Not_done, played, lines_played, whole_lines, unfinished, without_cr}
 use Rattle.fleet_world.specs.Authentic.{AuthenticBytes, AuthenticLine, AuthenticLines, Authentic}
@@ -56,7 +57,7 @@ CallKeeps s call =
     (k : ℕ) (node : Node) (name : Name) → slice_get s.nodes k ≡ Some node
     → Keeps s (node_does s k name (call node)) × OutcomeReads (call node)
 
-abbrev pub OrderKeeps : WorldState → WorldState → ℕ → Side StationState → Outcome (Side StationState) → Type 0
+abbrev pub OrderKeeps : WorldState → WorldState → ℕ → StationSide → Outcome StationSide → Type 0
 OrderKeeps s from k node outcome =
     (name : Name) → slice_get s.nodes k ≡ Some (Station node)
     → Keeps s (node_does from k name (as_station outcome)) × OutcomeReads (as_station outcome)
@@ -65,13 +66,17 @@ pub record EachCallKeeps (s : WorldState) : Type 0 where
   pub receives : (bytes : List ℕ) → Known s bytes → CallKeeps s (node_receives s.clock bytes)
   pub beats : CallKeeps s (node_beats s.clock)
   pub ticks : CallKeeps s (node_ticks s.clock)
-  pub begins : (k : ℕ) (node : Side StationState) (drone : Name) (kind : ℕ) → NameInRange drone → Is8 kind → upload_refusal node.core kind s.draft ≡ None
+  pub begins : (k : ℕ) (node : StationSide) (drone : Name) (kind : ℕ) → NameInRange drone → Is8 kind → upload_refusal node.core kind s.draft ≡ None
       → OrderKeeps s (record s { draft = [] }) k node (station_begins s.clock (stream_of drone) kind s.draft node)
-  pub cancels : (k : ℕ) (node : Side StationState) → OrderKeeps s s k node (station_cancels s.clock node)
-  pub clears : (k : ℕ) (node : Side StationState) (drone : Name) (kind : ℕ) → NameInRange drone → Is8 kind → refusal node.core ≡ None
+  pub cancels : (k : ℕ) (node : StationSide) → OrderKeeps s s k node (station_cancels s.clock node)
+  pub clears : (k : ℕ) (node : StationSide) (drone : Name) (kind : ℕ) → NameInRange drone → Is8 kind → refusal node.core ≡ None
       → OrderKeeps s s k node (station_clears s.clock (stream_of drone) kind node)
-  pub gets : (k : ℕ) (node : Side StationState) (drone : Name) (kind : ℕ) → NameInRange drone → Is8 kind → refusal node.core ≡ None
+  pub gets : (k : ℕ) (node : StationSide) (drone : Name) (kind : ℕ) → NameInRange drone → Is8 kind → refusal node.core ≡ None
       → OrderKeeps s s k node (station_gets s.clock (stream_of drone) kind node)
+  pub commands : (k : ℕ) (node : StationSide) (drone : Name) (number word : ℕ) → NameInRange drone → Is16 number → Is32 word → open_command node.services.commander ≡ None
+      → OrderKeeps s s k node (station_commands s.clock (stream_of drone) number word node)
+  pub params : (k : ℕ) (node : StationSide) (drone : Name) → NameInRange drone → node.services.client.operation ≡ None
+      → OrderKeeps s s k node (station_lists_params s.clock (stream_of drone) node)
 
 abbrev pub EveryCallKeeps : Type 0
 EveryCallKeeps = (s : WorldState) → Sound s → EachCallKeeps s
@@ -112,6 +117,12 @@ EveryStateSound = (key : List ℕ) (ended : Bool) (bytes : List ℕ) → Authent
 -- an authentic scenario never stops for want of a timestamp
 abbrev pub NoneSpent : Type 0
 NoneSpent = (key : List ℕ) (ended : Bool) (bytes : List ℕ) → Authentic key ended bytes → (played key ended bytes).stop ≢ Some (Not_done Stamps_spent)
+
+-- a drone has room for the last command of every stream: it rejects none for want of room
+abbrev pub EveryCommandHasRoom : Type 0
+EveryCommandHasRoom =
+    (s : WorldState) → Sound s → (k : ℕ) (d : DroneSide) → slice_get s.nodes k ≡ Some (Drone d) → (from : Stream)
+    → has_no_room (last_in d.services.executor.last from) d.services.executor.last ≡ false
 
 -- the first word of a line is `noise`
 abbrev pub is_noise : List ℕ → Bool

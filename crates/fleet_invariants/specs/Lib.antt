@@ -1,3 +1,4 @@
+pub mod Services
 pub mod Sound
 pub mod Kept
 pub mod Laws

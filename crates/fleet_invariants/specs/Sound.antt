@@ -1,6 +1,7 @@
 -- What holds of the state of every authentic scenario, after each step: names are distinct, numbers are in their
 -- ranges, what was sent is signed and reads back, and every timestamp that was admitted had been sent.
 use Rattle.std.specs.Prelude.{ℕ, ◌≡◌, ◌≤◌, ◌<◌, ◌+◌, ◌*◌, ◌^◌, Bool, true, List, length, map, slice_get, All, Some, None, IfSome, is_some, unwrap_or}
+use Rattle.mav_nodes.specs.Nodes.{DroneSide, StationSide}
 use Rattle.std.specs.List.{list_any, IsDistinct}
 use Rattle.mav_names.specs.declared.names.Name.{Name}
 use Rattle.mav_names.specs.declared.names.Stream.{Stream}
@@ -15,15 +16,14 @@ use Rattle.mav_sign.specs.History.{same_stream, last_of, low_of, local_of, previ
 use Rattle.plan_upload.specs.Addresses.{node_of}
 use Rattle.plan_upload.specs.Plans.{no_plans}
 use Rattle.plan_upload.specs.Drone.{UploadResult, DroneState}
-use Rattle.plan_upload.specs.Station.{StationState}
 use Rattle.plan_ranges.specs.Ranges.{ItemInRange, DroneInRange, StationInRange}
 use Rattle.mav_nodes.specs.LowBounds.{headroom, stored_low}
 use Rattle.mav_nodes.specs.Links.{Link}
-use Rattle.mav_nodes.specs.Steps.{Side}
-use Rattle.mav_nodes.specs.Payloads.{ItemFits}
+use Rattle.mav_nodes.specs.Payloads.{ItemFits, ServiceFits}
 use Rattle.mav_nodes.specs.Signed.{signed_packet}
 use Rattle.fleet_world.specs.WorldState.{WorldState, Node, Drone, Station, node_name, stream_of, drones_in, stations_in}
 use Rattle.fleet_world.specs.Steps.{most_frames, most_drones, most_stations, most_restarts}
+use Rattle.fleet_invariants.specs.Services.{SoundDroneServices, SoundStationServices}
 
 abbrev pub link_of : Node → Link
 link_of (Drone n) = n.link
@@ -49,6 +49,7 @@ pub record IsSent (s : WorldState) (p : Packet) : Type 0 where
   pub stamp_fits : stamp < 2 ^ 48
   pub fits : FitsLayout (definition_of message) (values_of message)
   pub item_fits : ItemFits (plan_of message)
+  pub service_fits : ServiceFits message
 
 -- a frame of this stream was sent at this timestamp
 pub record WasStamped (s : WorldState) (stream : Stream) (stamp : ℕ) : Type 0 where
@@ -89,22 +90,24 @@ pub record Roomy (known : Stream → Bool) (d : DroneState) : Type 0 where
 abbrev pub has_heard : Link → Stream → Bool
 has_heard link stream = is_some (last_of stream link.history)
 
--- a drone's core, beside its link
-pub record SoundDrone (n : Side DroneState) : Type 0 where
+-- a drone's core and its services, beside its link
+pub record SoundDrone (n : DroneSide) : Type 0 where
   pub range : DroneInRange n.core
   pub sys : n.core.sys ≡ n.link.me.sys
   pub comp : n.link.me.comp ≡ 1
   pub roomy : Roomy (has_heard n.link) n.core
   -- one that has stored nothing has no plan
   pub unstored : stored_low n.link.history ≡ None → n.core.plans ≡ no_plans
+  pub services : SoundDroneServices (has_heard n.link) (node_of n.link.me) n.services
 
 -- a station's
-pub record SoundStation (n : Side StationState) : Type 0 where
+pub record SoundStation (n : StationSide) : Type 0 where
   pub range : StationInRange n.core
   pub me : n.core.me ≡ node_of n.link.me
   pub told : n.core.outcome ≡ None
   -- no station is started with a low bound
   pub low : low_of n.link.history ≡ None
+  pub services : SoundStationServices (node_of n.link.me) n.services
 
 abbrev pub SoundCore : Node → Type 0
 SoundCore (Drone n) = SoundDrone n

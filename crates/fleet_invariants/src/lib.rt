@@ -13,5 +13,5 @@ mod steps;
 pub use frames::{
     every_authentic_frame, every_repeated_frame, every_sent_frame, every_unsent_frame,
 };
-pub use states::{every_authentic_scenario, every_quiet_scenario, every_state};
+pub use states::{every_authentic_scenario, every_command, every_quiet_scenario, every_state};
 pub use steps::{every_call, every_giving, every_line, every_read_line};

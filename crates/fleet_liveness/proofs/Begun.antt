@@ -13,7 +13,7 @@ use Rattle.plan_items.proofs.KindNumbers.{number_of-bound}
 use Rattle.plan_upload.specs.declared.faults.OpFault.{OpFault}
 use Rattle.plan_upload.specs.declared.faults.OpFault.TheVariants.{PingsSpent}
 use Rattle.plan_upload.specs.Addresses.{node_of, same_name}
-use Rattle.plan_upload.specs.Drone.{DroneState, is_other, has_no_room, result_of, most_results}
+use Rattle.plan_upload.specs.Drone.{is_other, has_no_room, result_of, most_results}
 use Rattle.plan_upload.specs.Station.{StationState, StationStep, Uploads, operation_of, is_synced, last_ping, pinging, sends as says, begin_upload, untold}
 use Rattle.plan_upload.specs.Refusals.{busy_with, first_of, spent, empty_plan, unfit, upload_refusal}
 use Rattle.plan_ranges.specs.Ranges.{NameInRange}
@@ -23,8 +23,8 @@ use Rattle.mav_sign.specs.History.{low_of, last_of, next_in, greatest_stamp}
 use Rattle.mav_nodes.specs.News.{Sends}
 use Rattle.mav_nodes.specs.Links.{Link, Outcome, done, behind, sent_at}
 use Rattle.mav_nodes.specs.Signed.{signed_packet}
-use Rattle.mav_nodes.specs.Steps.{Side, CoreStep, with_core, steps}
-use Rattle.mav_nodes.specs.Nodes.{station_does, station_begins, told_events}
+use Rattle.mav_nodes.specs.Steps.{CoreStep, with_core, steps}
+use Rattle.mav_nodes.specs.Nodes.{DroneSide, StationSide, station_does, station_begins, told_events}
 use Rattle.scenario_lines.specs.declared.roster.Named.{Named}
 use Rattle.scenario_lines.specs.declared.lines.Line.TheVariants.{Begin}
 use Rattle.scenario_lines.specs.LineContext.{drone_name}
@@ -117,20 +117,20 @@ heard_above (Some low) (Some last) stamp h most n e =
     omega arith
 
 -- what a node sends at an order
-data Says {Core : Type 0} (clock : ℕ) (link : Link) (r : CoreStep Core) (answer : PlanMsg) : Type 0 where
-  Spent : steps clock link r ≡ None → Says clock link r answer
+data Says {Core Services : Type 0} (clock : ℕ) (link : Link) (v : Services) (r : CoreStep Core) (answer : PlanMsg) : Type 0 where
+  Spent : steps clock link v r ≡ None → Says clock link v r answer
   Said : (packet : Packet) → packet ≡ signed_packet link.key link.extras link.me link.seq (next_in link.history clock) (message_of_plan answer)
-      → steps clock link r ≡ done (record { link = sent_at (next_in link.history clock) link; core = r.core }) (r.first ++ Sends packet (message_of_plan answer) ∷ r.last) → Says clock link r answer
+      → steps clock link v r ≡ done (record { link = sent_at (next_in link.history clock) link; core = r.core; services = v }) (r.first ++ Sends packet (message_of_plan answer) ∷ r.last) → Says clock link v r answer
 
-orders_say : {Core : Type 0} (clock : ℕ) (link : Link) (r : CoreStep Core) (answer : PlanMsg) → r.answer ≡ Some answer → Says clock link r answer
-orders_say clock link r answer is =
+orders_say : {Core Services : Type 0} (clock : ℕ) (link : Link) (v : Services) (r : CoreStep Core) (answer : PlanMsg) → r.answer ≡ Some answer → Says clock link v r answer
+orders_say clock link v r answer is =
     let stamp = next_in link.history clock in
-    by_test (λ (o : Outcome Link). steps clock link r ≡ behind r.first (with_core r.core r.last o) → Says clock link r answer) (nat_lt greatest_stamp stamp) _ _
+    by_test (λ (o : Outcome Link). steps clock link v r ≡ behind r.first (with_core r.core v r.last o) → Says clock link v r answer) (nat_lt greatest_stamp stamp) _ _
     (λ _ e. Spent e)
     (λ _ e. Said (signed_packet link.key link.extras link.me link.seq stamp (message_of_plan answer)) refl e)
-    (ap (λ z. steps clock link (record r { answer = z })) is)
+    (ap (λ z. steps clock link v (record r { answer = z })) is)
 
-module _ (s : WorldState) (g : Sound s) (dp sp : ℕ) (d : Side DroneState) (t : Side StationState) (d_there : slice_get s.nodes dp ≡ Some (Drone d)) (t_there : slice_get s.nodes sp ≡ Some (Station t))
+module _ (s : WorldState) (g : Sound s) (dp sp : ℕ) (d : DroneSide) (t : StationSide) (d_there : slice_get s.nodes dp ≡ Some (Drone d)) (t_there : slice_get s.nodes sp ≡ Some (Station t))
     (kind : PlanKind) (valid : IsValid (number_of kind) s.draft) (accepted : upload_refusal t.core (number_of kind) s.draft ≡ None) (free : is_other d.core.upload (stream_of t.core.me) ≡ false)
     (heard : HasHeard (low_of d.link.history) (last_of (stream_of (drone_name d.core.sys)) t.link.history)) where
   abbrev sys : ℕ
@@ -219,11 +219,11 @@ module _ (s : WorldState) (g : Sound s) (dp sp : ℕ) (d : Side DroneState) (t :
   abbrev does_so : StationStep
   does_so = begin_upload t.core (stream_of (drone_name sys)) number s.draft
 
-  abbrev call : Outcome (Side StationState)
+  abbrev call : Outcome StationSide
   call = station_begins s.clock (stream_of (drone_name sys)) number s.draft t
 
-  abbrev new : Side StationState
-  new = record { link = sent_at stamp t.link; core = untold does_so.station }
+  abbrev new : StationSide
+  new = record t { link = sent_at stamp t.link; core = untold does_so.station }
 
   differ_places : dp ≢ sp
   differ_places e = roles (same_place s.nodes dp sp (Drone d) (Station t) d_there t_there e)
@@ -283,7 +283,7 @@ module _ (s : WorldState) (g : Sound s) (dp sp : ℕ) (d : Side DroneState) (t :
         (lands sys me kind s.draft valid g.draft dp sp k after (length s.sent) b.stage w (omega arith) (omega arith)))
 
   -- its order
-  order_leads : (b : Begins does_so) → Says s.clock t.link (station_does does_so) (message_of sys me kind s.draft valid b.stage) → IfOk (node_does from sp (node_of t.link.me) (as_station call)) (λ u. LeadsOn u.state)
+  order_leads : (b : Begins does_so) → Says s.clock t.link t.services (station_does does_so) (message_of sys me kind s.draft valid b.stage) → IfOk (node_does from sp (node_of t.link.me) (as_station call)) (λ u. LeadsOn u.state)
   order_leads b (Spent e) = does_nothing (λ u. LeadsOn u.state) from sp (node_of t.link.me) (as_station call) (ap as_station e)
   order_leads b (Said packet made e) =
       let m = message_of sys me kind s.draft valid b.stage in
@@ -319,9 +319,9 @@ module _ (s : WorldState) (g : Sound s) (dp sp : ℕ) (d : Side DroneState) (t :
   pub begin_leads : IfOk (after_line s (Begin me (drone_name sys) kind)) (λ u. LeadsOn u.state)
   begin_leads =
       let P : Step → Type 0 = λ u. LeadsOn u.state in
-      let order = λ (k : ℕ) (node : Side StationState). upload_begins x k node (drone_name sys) number (upload_refusal node.core number x.draft) in
+      let order = λ (k : ℕ) (node : StationSide). upload_begins x k node (drone_name sys) number (upload_refusal node.core number x.draft) in
       let b = begin_is in
       subst (λ p. IfOk (orders_found x p order) P) (sym index_is)
       (subst (λ o. IfOk (orders_at x sp o order) P) (sym t_there)
       (subst (λ why. IfOk (upload_begins x sp t (drone_name sys) number why) P) (sym accepted)
-      (order_leads b (orders_say s.clock t.link (station_does does_so) (message_of sys me kind s.draft valid b.stage) b.answer))))
+      (order_leads b (orders_say s.clock t.link t.services (station_does does_so) (message_of sys me kind s.draft valid b.stage) b.answer))))

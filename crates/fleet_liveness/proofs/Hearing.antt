@@ -3,7 +3,6 @@ use Rattle.std.proofs.Common.{◌≡◌, ◌∙◌, ℕ, ◌+◌, ◌<◌, ◌�
 use Rattle.std.proofs.lemmas.Bool.{cond-true, cond-false}
 use Rattle.std.proofs.lemmas.List.{append-nil}
 use Rattle.std.specs.Str.{bytes_eq}
-use Rattle.mav_names.specs.declared.names.Stream.{Stream}
 use Rattle.mav_profile.specs.Messages.{extras_of}
 use Rattle.mav_profile.specs.Profile.{profile_definitions}
 use Rattle.mav_frame.specs.Packet.{Packet, SignatureBlock}
@@ -16,11 +15,11 @@ use Rattle.mav_sign.specs.declared.admission.Admit.TheVariants.{Admitted, Unsign
 use Rattle.mav_sign.specs.Signing.{signature_of}
 use Rattle.mav_sign.specs.Endpoints.{frames_of}
 use Rattle.mav_sign.specs.History.{Entry, answer_to, block_answer, stamp_answer, answer_after, unless_below, low_of, one_minute, stream_limit, last_of, local_of, streams_of, next_in, greatest_stamp}
-use Rattle.mav_nodes.specs.News.{NodeEvent, Sends, Installs, Empties, Drops, Ends}
-use Rattle.mav_nodes.specs.Payloads.{plan_in}
+use Rattle.mav_nodes.specs.News.{NodeEvent, Sends, Installs, Empties, Drops, Ends, Ends_command, Gives_param, Ends_params}
+use Rattle.mav_nodes.specs.Payloads.{plan_in, service_in}
 use Rattle.mav_nodes.specs.Links.{Link, Outcome, done, behind, and_then, tries, sent_at, sends}
 use Rattle.mav_nodes.specs.Signed.{signed_packet}
-use Rattle.mav_nodes.specs.Steps.{Side, CoreStep, with_core, steps, takes, admits, hears, hears_all, receives}
+use Rattle.mav_nodes.specs.Steps.{Side, Rules, CoreStep, with_core, steps, takes, admits, hears, hears_all, receives}
 use Rattle.fleet_world.specs.WorldState.{stream_of}
 use Rattle.fleet_world.specs.Steps.{packets_in}
 use Rattle.fleet_invariants.proofs.Tests.{by_test, number_same}
@@ -70,6 +69,9 @@ packets_append (Installs kind items by ∷ es) fs = packets_append es fs
 packets_append (Empties kind ∷ es) fs = packets_append es fs
 packets_append (Drops answer ∷ es) fs = packets_append es fs
 packets_append (Ends told ∷ es) fs = packets_append es fs
+packets_append (Ends_command result ∷ es) fs = packets_append es fs
+packets_append (Gives_param param ∷ es) fs = packets_append es fs
+packets_append (Ends_params values ∷ es) fs = packets_append es fs
 
 module _ (key : List ℕ) (p : Packet) (stamp : ℕ) (m : PlanMsg) (c : Carries key p stamp m) where
   abbrev block : SignatureBlock
@@ -84,51 +86,51 @@ module _ (key : List ℕ) (p : Packet) (stamp : ℕ) (m : PlanMsg) (c : Carries 
   pub admitted : (history : List Entry) → ((low : ℕ) → low_of history ≡ Some low → low < stamp) → ((l : ℕ) → last_of (stream_of p.from) history ≡ Some l → l < stamp) → length (streams_of history) < stream_limit → local_of history ≤ stamp + one_minute → answer_to key history p ≡ Admitted
   admitted history above later room recent = answer_is history ∙ above_low (low_of history) stamp _ above ∙ fresh_answer (last_of (stream_of p.from) history) (length (streams_of history)) (local_of history) stamp later room recent
 
-  module _ {Core : Type 0} (step : Core → Stream → PlanMsg → CoreStep Core) (clock : ℕ) (y : Side Core) (same_key : y.link.key ≡ key) (extras : y.link.extras ≡ extras_of profile_definitions) where
+  module _ {Core Services : Type 0} (rules : Rules Core Services) (clock : ℕ) (y : Side Core Services) (same_key : y.link.key ≡ key) (extras : y.link.extras ≡ extras_of profile_definitions) where
     abbrev after : Link
     after = tries p y.link
 
-    abbrev Received : Outcome (Side Core)
-    Received = receives step clock (encoding p) y
+    abbrev Received : Outcome (Side Core Services)
+    Received = receives rules clock (encoding p) y
 
-    received : Received ≡ and_then (hears step clock p y) (hears_all step clock [])
+    received : Received ≡ and_then (hears rules clock p y) (hears_all rules clock [])
     received =
-        ap (λ x. hears_all step clock (frames_of (final_parse x false (encoding p))) y) extras
-        ∙ ap (λ ps. hears_all step clock ps y) c.frames
+        ap (λ x. hears_all rules clock (frames_of (final_parse x false (encoding p))) y) extras
+        ∙ ap (λ ps. hears_all rules clock ps y) c.frames
 
-    heard : (a : Admit) → answer_to y.link.key y.link.history p ≡ a → hears step clock p y ≡ admits step clock (record y { link = after }) p a (Some block)
+    heard : (a : Admit) → answer_to y.link.key y.link.history p ≡ a → hears rules clock p y ≡ admits rules clock (record y { link = after }) p a (Some block)
     heard a is =
-        ap (λ x. admits step clock (record y { link = after }) p x p.block) is
-        ∙ ap (admits step clock (record y { link = after }) p a) c.block
+        ap (λ x. admits rules clock (record y { link = after }) p x p.block) is
+        ∙ ap (admits rules clock (record y { link = after }) p a) c.block
 
-    taken : answer_to y.link.key y.link.history p ≡ Admitted → Received ≡ and_then (steps clock after (step y.core (stream_of p.from) m)) (hears_all step clock [])
+    taken : answer_to y.link.key y.link.history p ≡ Admitted → Received ≡ and_then (steps clock after y.services (rules.take y.core (stream_of p.from) m)) (hears_all rules clock [])
     taken is =
         received
-        ∙ ap (λ o. and_then o (hears_all step clock [])) (heard Admitted is ∙ ap (takes step clock (record y { link = after }) (stream_of p.from)) c.plan)
+        ∙ ap (λ o. and_then o (hears_all rules clock [])) (heard Admitted is ∙ ap (λ o. takes rules clock (record y { link = after }) (stream_of p.from) o (service_in p.id p.payload)) c.plan)
 
     -- nothing is sent
     pub record Quiet (core : Core) : Type 0 where
       pub events : List NodeEvent
-      pub is : Received ≡ done (record { link = after; core = core }) events
+      pub is : Received ≡ done (record y { link = after; core = core }) events
       pub none : packets_in events ≡ []
 
-    dropped : (a : Admit) → answer_to y.link.key y.link.history p ≡ a → hears step clock p y ≡ done (record y { link = after }) (Drops a ∷ []) → Quiet y.core
+    dropped : (a : Admit) → answer_to y.link.key y.link.history p ≡ a → hears rules clock p y ≡ done (record y { link = after }) (Drops a ∷ []) → Quiet y.core
     dropped a is h = record {
       events = Drops a ∷ [];
-      is = received ∙ ap (λ o. and_then o (hears_all step clock [])) h;
+      is = received ∙ ap (λ o. and_then o (hears_all rules clock [])) h;
       none = refl;
     }
 
     pub none_of : (first last : List NodeEvent) → packets_in first ≡ [] → packets_in last ≡ [] → packets_in ((first ++ last) ++ []) ≡ []
     none_of first last f l = ap packets_in (append-nil (first ++ last)) ∙ packets_append first last ∙ ap (λ ps. ps ++ packets_in last) f ∙ l
 
-    pub ended : (r : CoreStep Core) → step y.core (stream_of p.from) m ≡ r → r.answer ≡ None → answer_to y.link.key y.link.history p ≡ Admitted → Received ≡ done (record { link = after; core = r.core }) ((r.first ++ r.last) ++ [])
+    pub ended : (r : CoreStep Core) → rules.take y.core (stream_of p.from) m ≡ r → r.answer ≡ None → answer_to y.link.key y.link.history p ≡ Admitted → Received ≡ done (record y { link = after; core = r.core }) ((r.first ++ r.last) ++ [])
     ended r is no_answer admitted =
         taken admitted
-        ∙ ap (λ z. and_then (steps clock after z) (hears_all step clock [])) is
-        ∙ ap (λ z. and_then (steps clock after (record r { answer = z })) (hears_all step clock [])) no_answer
+        ∙ ap (λ z. and_then (steps clock after y.services z) (hears_all rules clock [])) is
+        ∙ ap (λ z. and_then (steps clock after y.services (record r { answer = z })) (hears_all rules clock [])) no_answer
 
-    silent : (r : CoreStep Core) → step y.core (stream_of p.from) m ≡ r → r.answer ≡ None → packets_in r.first ≡ [] → packets_in r.last ≡ [] → answer_to y.link.key y.link.history p ≡ Admitted → Quiet r.core
+    silent : (r : CoreStep Core) → rules.take y.core (stream_of p.from) m ≡ r → r.answer ≡ None → packets_in r.first ≡ [] → packets_in r.last ≡ [] → answer_to y.link.key y.link.history p ≡ Admitted → Quiet r.core
     silent r is no_answer first last admitted = record {
       events = (r.first ++ r.last) ++ [];
       is = ended r is no_answer admitted;
@@ -148,24 +150,24 @@ module _ (key : List ℕ) (p : Packet) (stamp : ℕ) (m : PlanMsg) (c : Carries 
         by_answer (TooOld l) e = inr (dropped (TooOld l) e (heard (TooOld l) e))
         by_answer TooManyStreams e = inr (dropped TooManyStreams e (heard TooManyStreams e))
 
-    pub quiet : (r : CoreStep Core) → step y.core (stream_of p.from) m ≡ r → r.answer ≡ None → packets_in r.first ≡ [] → packets_in r.last ≡ [] → Quiet y.core ⊎ Quiet r.core
+    pub quiet : (r : CoreStep Core) → rules.take y.core (stream_of p.from) m ≡ r → r.answer ≡ None → packets_in r.first ≡ [] → packets_in r.last ≡ [] → Quiet y.core ⊎ Quiet r.core
     quiet r is no_answer first last = elim unless_dropped [ inl e ↦ inr (silent r is no_answer first last e) | inr q ↦ inl q ]
 
     -- a message is sent, or no timestamp was left for it
     pub data Says (r : CoreStep Core) (answer : PlanMsg) : Type 0 where
       Spent : Received ≡ None → Says r answer
       Said : (packet : Packet) → packet ≡ signed_packet y.link.key y.link.extras y.link.me y.link.seq (next_in after.history clock) (message_of_plan answer)
-          → Received ≡ done (record { link = sent_at (next_in after.history clock) after; core = r.core }) (r.first ++ Sends packet (message_of_plan answer) ∷ r.last) → Says r answer
+          → Received ≡ done (record y { link = sent_at (next_in after.history clock) after; core = r.core }) (r.first ++ Sends packet (message_of_plan answer) ∷ r.last) → Says r answer
 
-    pub says : (r : CoreStep Core) → step y.core (stream_of p.from) m ≡ r → (answer : PlanMsg) → r.answer ≡ Some answer → answer_to y.link.key y.link.history p ≡ Admitted → Says r answer
+    pub says : (r : CoreStep Core) → rules.take y.core (stream_of p.from) m ≡ r → (answer : PlanMsg) → r.answer ≡ Some answer → answer_to y.link.key y.link.history p ≡ Admitted → Says r answer
     says r is answer answers admitted =
         let stamp = next_in after.history clock in
         let packet = signed_packet y.link.key y.link.extras y.link.me y.link.seq stamp (message_of_plan answer) in
-        let whole : Received ≡ and_then (behind r.first (with_core r.core r.last (sends clock (message_of_plan answer) after))) (hears_all step clock []) =
+        let whole : Received ≡ and_then (behind r.first (with_core r.core y.services r.last (sends clock (message_of_plan answer) after))) (hears_all rules clock []) =
         taken admitted
-        ∙ ap (λ z. and_then (steps clock after z) (hears_all step clock [])) is
-        ∙ ap (λ z. and_then (steps clock after (record r { answer = z })) (hears_all step clock [])) answers in
-        by_test (λ (o : Outcome Link). Received ≡ and_then (behind r.first (with_core r.core r.last o)) (hears_all step clock []) → Says r answer) (nat_lt greatest_stamp stamp) _ _
+        ∙ ap (λ z. and_then (steps clock after y.services z) (hears_all rules clock [])) is
+        ∙ ap (λ z. and_then (steps clock after y.services (record r { answer = z })) (hears_all rules clock [])) answers in
+        by_test (λ (o : Outcome Link). Received ≡ and_then (behind r.first (with_core r.core y.services r.last o)) (hears_all rules clock []) → Says r answer) (nat_lt greatest_stamp stamp) _ _
         (λ _ e. Spent e)
-        (λ _ e. Said packet refl (e ∙ ap (done (record { link = sent_at stamp after; core = r.core })) (append-nil (r.first ++ Sends packet (message_of_plan answer) ∷ r.last))))
+        (λ _ e. Said packet refl (e ∙ ap (done (record y { link = sent_at stamp after; core = r.core })) (append-nil (r.first ++ Sends packet (message_of_plan answer) ∷ r.last))))
         whole

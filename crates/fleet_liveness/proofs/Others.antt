@@ -16,8 +16,8 @@ use Rattle.mav_frame.specs.Packet.{Packet}
 use Rattle.mav_frame.specs.Encoding.{encoding}
 use Rattle.mav_sign.specs.History.{answer_to, last_of, low_of, previous_in}
 use Rattle.mav_nodes.specs.Links.{Link, tries}
-use Rattle.mav_nodes.specs.Nodes.{drone_core, station_core, change_events, station_does, told_events}
-use Rattle.mav_nodes.specs.Steps.{Side, CoreStep}
+use Rattle.mav_nodes.specs.Nodes.{DroneSide, StationSide, drone_core, drone_rules, station_rules, change_events, station_does, told_events}
+use Rattle.mav_nodes.specs.Steps.{CoreStep}
 use Rattle.fleet_report.specs.Events.{Event}
 use Rattle.fleet_world.specs.WorldState.{WorldState, Node, Drone, Station, stream_of, names_of}
 use Rattle.fleet_world.specs.Steps.{Step, packets_in, node_receives, node_does}
@@ -110,8 +110,8 @@ module _ (sys : ℕ) (me : Name) (kind : PlanKind) (plan : List Item) (valid : I
 
     -- with these nodes and frames
     goes_on : (j : ℕ) (b : Node) (packets : List Packet) → Sound (moved s j b packets)
-        → (d : Side DroneState) → slice_get (slice_set s.nodes j b) dp ≡ Some (Drone d) → d.link.me ≡ w.drone.link.me → d.core ≡ w.drone.core
-        → (t : Side StationState) → slice_get (slice_set s.nodes j b) sp ≡ Some (Station t) → t.link.me ≡ w.station.link.me → StationIs sys me kind plan valid p t.core
+        → (d : DroneSide) → slice_get (slice_set s.nodes j b) dp ≡ Some (Drone d) → d.link.me ≡ w.drone.link.me → d.core ≡ w.drone.core
+        → (t : StationSide) → slice_get (slice_set s.nodes j b) sp ≡ Some (Station t) → t.link.me ≡ w.station.link.me → StationIs sys me kind plan valid p t.core
         → low_of d.link.history ≡ low_of w.drone.link.history → low_of t.link.history ≡ low_of w.station.link.history → previous_in t.link.history ≡ previous_in w.station.link.history
         → ((l : ℕ) → last_of (stream_of (sends_it (is_up p))) (hears_it (is_up p) d.link t.link).history ≡ Some l → l < w.flies.stamp)
         → ((q : Packet) → IsAt packets q → Aside s.key q) → IsWaiting (moved s j b packets) r p
@@ -159,37 +159,37 @@ module _ (sys : ℕ) (me : Name) (kind : PlanKind) (plan : List Item) (valid : I
       abbrev Given : ℕ → Node → ℕ → Type 0
       Given j y extra = IfOk (node_does s j name (node_receives s.clock (encoding f) y)) (Near s extra r p)
 
-      abbrev silent_drone : Side DroneState → CoreStep DroneState
+      abbrev silent_drone : DroneSide → CoreStep DroneState
       silent_drone y = record { core = y.core; first = []; answer = None; last = [] }
 
       one : {A : Type 0} → A ⊎ A → A
       one (inl a) = a
       one (inr a) = a
 
-      abbrev StillDrone : (j : ℕ) (y : Side DroneState) → slice_get s.nodes j ≡ Some (Drone y) → DroneState → Step → Type 0
-      StillDrone j y there core t = Still s w.sound i f found stamp m c drone_core drones j y there name core t
+      abbrev StillDrone : (j : ℕ) (y : DroneSide) → slice_get s.nodes j ≡ Some (Drone y) → DroneState → Step → Type 0
+      StillDrone j y there core t = Still s w.sound i f found stamp m c drone_rules drones j y there name core t
 
-      abbrev StillStation : (j : ℕ) (y : Side StationState) → slice_get s.nodes j ≡ Some (Station y) → StationState → Step → Type 0
-      StillStation j y there core t = Still s w.sound i f found stamp m c station_core stations j y there name core t
+      abbrev StillStation : (j : ℕ) (y : StationSide) → slice_get s.nodes j ≡ Some (Station y) → StationState → Step → Type 0
+      StillStation j y there core t = Still s w.sound i f found stamp m c station_rules stations j y there name core t
 
       -- a drone that leaves it alone
-      drone_still : (j : ℕ) (y : Side DroneState) (there : slice_get s.nodes j ≡ Some (Drone y)) → drone_step true y.core (stream_of f.from) m ≡ rests y.core
+      drone_still : (j : ℕ) (y : DroneSide) (there : slice_get s.nodes j ≡ Some (Drone y)) → drone_step true y.core (stream_of f.from) m ≡ rests y.core
           → IfOk (node_does s j name (node_receives s.clock (encoding f) (Drone y))) (StillDrone j y there y.core)
       drone_still j y there is =
           weaker (λ t. StillDrone j y there y.core t ⊎ StillDrone j y there y.core t) (StillDrone j y there y.core) (node_does s j name (node_receives s.clock (encoding f) (Drone y))) (λ t h. one h)
-          (still s w.sound i f found stamp m c drone_core drones j y there name (silent_drone y) (drone_core_rests y.core (stream_of f.from) m (rests y.core) is) refl refl refl)
+          (still s w.sound i f found stamp m c drone_rules drones j y there name (silent_drone y) (drone_core_rests y.core (stream_of f.from) m (rests y.core) is) refl refl refl)
 
-      station_still : (j : ℕ) (y : Side StationState) (there : slice_get s.nodes j ≡ Some (Station y)) → station_step y.core (stream_of f.from) m ≡ stays y.core
+      station_still : (j : ℕ) (y : StationSide) (there : slice_get s.nodes j ≡ Some (Station y)) → station_step y.core (stream_of f.from) m ≡ stays y.core
           → IfOk (node_does s j name (node_receives s.clock (encoding f) (Station y))) (λ t. StillStation j y there y.core t ⊎ StillStation j y there (untold y.core) t)
       station_still j y there is =
-          still s w.sound i f found stamp m c station_core stations j y there name (station_does (stays y.core)) (ap station_does is) refl refl (no_frames_reported y.core.outcome)
+          still s w.sound i f found stamp m c station_rules stations j y there name (station_does (stays y.core)) (ap station_does is) refl refl (no_frames_reported y.core.outcome)
 
-      pub other_drone : (j : ℕ) (y : Side DroneState) → slice_get s.nodes j ≡ Some (Drone y) → j ≢ dp → j ≢ sp → drone_step true y.core (stream_of f.from) m ≡ rests y.core → Given j (Drone y) 0
+      pub other_drone : (j : ℕ) (y : DroneSide) → slice_get s.nodes j ≡ Some (Drone y) → j ≢ dp → j ≢ sp → drone_step true y.core (stream_of f.from) m ≡ rests y.core → Given j (Drone y) 0
       other_drone j y there nd ns is =
           weaker (StillDrone j y there y.core) (Near s 0 r p) (node_does s j name (node_receives s.clock (encoding f) (Drone y)))
           (λ t h. near_other j _ [] h.events t nd ns h.moves (λ q at. absurd (no_packet q at))) (drone_still j y there is)
 
-      pub other_station : (j : ℕ) (y : Side StationState) → slice_get s.nodes j ≡ Some (Station y) → j ≢ dp → j ≢ sp → station_step y.core (stream_of f.from) m ≡ stays y.core → Given j (Station y) 0
+      pub other_station : (j : ℕ) (y : StationSide) → slice_get s.nodes j ≡ Some (Station y) → j ≢ dp → j ≢ sp → station_step y.core (stream_of f.from) m ≡ stays y.core → Given j (Station y) 0
       other_station j y there nd ns is =
           weaker (λ t. StillStation j y there y.core t ⊎ StillStation j y there (untold y.core) t) (Near s 0 r p) (node_does s j name (node_receives s.clock (encoding f) (Station y)))
           (λ t h. elim h [
@@ -209,7 +209,7 @@ module _ (sys : ℕ) (me : Name) (kind : PlanKind) (plan : List Item) (valid : I
       pub own_drone : f.from ≢ sends_it (is_up p) → drone_step true w.drone.core (stream_of f.from) m ≡ rests w.drone.core → Given dp (Drone w.drone) 0
       own_drone ne is =
           weaker (StillDrone dp w.drone w.drone_there w.drone.core) (Near s 0 r p) (node_does s dp name (node_receives s.clock (encoding f) (Drone w.drone)))
-          (λ t h. let d : Side DroneState = record { link = tries f w.drone.link; core = w.drone.core } in
+          (λ t h. let d : DroneSide = record w.drone { link = tries f w.drone.link; core = w.drone.core } in
           near_moved dp (Drone d) [] h.events t h.moves (λ sound.
           goes_on dp (Drone d) [] sound d (set_there s.nodes dp (Drone w.drone) (Drone d) w.drone_there) refl refl
           w.station (set_elsewhere s.nodes dp sp (Drone d) (λ e. apart_indices (sym e)) ∙ w.station_there) refl w.station_is (low_tried w.drone.link f) refl refl
@@ -218,7 +218,7 @@ module _ (sys : ℕ) (me : Name) (kind : PlanKind) (plan : List Item) (valid : I
 
       own_still : f.from ≢ sends_it (is_up p) → (core : StationState) → StationIs sys me kind plan valid p core → (t : Step) → StillStation sp w.station w.station_there core t → Near s 0 r p t
       own_still ne core is t h =
-          let y : Side StationState = record { link = tries f w.station.link; core = core } in
+          let y : StationSide = record w.station { link = tries f w.station.link; core = core } in
           near_moved sp (Station y) [] h.events t h.moves (λ sound.
           goes_on sp (Station y) [] sound w.drone (set_elsewhere s.nodes sp dp (Station y) apart_indices ∙ w.drone_there) refl refl
           y (set_there s.nodes sp (Station w.station) (Station y) w.station_there) refl is refl (low_tried w.station.link f) (trying_previous w.station.link.history f (answer_to w.station.link.key w.station.link.history f))

@@ -1,14 +1,14 @@
 -- What a sound state gives: who is at an index, which timestamps are fresh, and that they are admitted.
 use Rattle.std.proofs.Common.{◌≡◌, ◌≢◌, ◌∙◌, ℕ, ◌+◌, ◌<◌, ◌≤◌, max, Bool, true, List, [], ◌∷◌, length, slice_get, map, filter, fold, Option, Some, None, refl, sym, ap, subst, arith}
+use Rattle.mav_nodes.specs.Nodes.{DroneSide, StationSide}
 use Rattle.mav_names.specs.declared.names.Name.{Name}
 use Rattle.mav_names.specs.declared.names.Stream.{Stream}
 use Rattle.mav_frame.specs.Packet.{Packet}
 use Rattle.plan_items.specs.declared.messages.PlanMsg.{PlanMsg}
 use Rattle.plan_items.specs.declared.messages.PlanMsg.TheVariants.{Ping}
 use Rattle.plan_upload.specs.Addresses.{node_of, same_name, everyone, is_for_drone}
-use Rattle.plan_upload.specs.Drone.{DroneState, rests, drone_step}
-use Rattle.plan_upload.specs.Station.{StationState, stays, addressee, station_step}
-use Rattle.mav_nodes.specs.Steps.{Side}
+use Rattle.plan_upload.specs.Drone.{rests, drone_step}
+use Rattle.plan_upload.specs.Station.{stays, addressee, station_step}
 use Rattle.scenario_lines.specs.LineContext.{drone_name}
 use Rattle.mav_sign.specs.declared.admission.Admit.TheVariants.{Admitted}
 use Rattle.mav_sign.specs.History.{Entry, tried, sent, Stamped, same_stream, answer_to, admitted_in, stamps_of, low_of, last_of, previous_in, accepted_in, streams_of, next_in}
@@ -44,7 +44,7 @@ low_sent link stamp = low_same link.history (sent stamp) refl
 
 module _ (s : WorldState) (g : Sound s) where
   -- no station was started with a low bound
-  pub station_above : (i : ℕ) (y : Side StationState) → slice_get s.nodes i ≡ Some (Station y) → (stamp : ℕ) → IsAbove y.link.history stamp
+  pub station_above : (i : ℕ) (y : StationSide) → slice_get s.nodes i ≡ Some (Station y) → (stamp : ℕ) → IsAbove y.link.history stamp
   station_above i y there stamp low e = absurd (let bound : ◌≡◌ {A = Option ℕ} None (Some low) = sym (g.cores i (Station y) there).low ∙ e in cc)
 
   pub few_streams : (i : ℕ) (a : Node) → slice_get s.nodes i ≡ Some a → length (streams_of (link_of a).history) ≤ 32
@@ -76,7 +76,7 @@ module _ (s : WorldState) (g : Sound s) where
       own (Station n) h = (h.0, h.2)
 
   -- a message for a node is left alone at every other index
-  pub drone_leaves : (to : Name) (h : Holds s.nodes to) (j : ℕ) (y : Side DroneState) → slice_get s.nodes j ≡ Some (Drone y) → j ≢ h.index → (from : Stream) (m : PlanMsg) → addressee m ≡ to → drone_step true y.core from m ≡ rests y.core
+  pub drone_leaves : (to : Name) (h : Holds s.nodes to) (j : ℕ) (y : DroneSide) → slice_get s.nodes j ≡ Some (Drone y) → j ≢ h.index → (from : Stream) (m : PlanMsg) → addressee m ≡ to → drone_step true y.core from m ≡ rests y.core
   drone_leaves to h j y there ne from m is =
       let some = some_name to h in
       let core = g.cores j (Drone y) there in
@@ -86,13 +86,13 @@ module _ (s : WorldState) (g : Sound s) where
       (ap (is_for_drone y.core.sys) is ∙ not_for_drone y.core.sys to some.1 other)
       (ap (λ n. same_name n everyone) is ∙ not_everyone to some.0)
 
-  pub station_leaves : (to : Name) (h : Holds s.nodes to) (j : ℕ) (y : Side StationState) → slice_get s.nodes j ≡ Some (Station y) → j ≢ h.index → (from : Stream) (m : PlanMsg) → addressee m ≡ to → station_step y.core from m ≡ stays y.core
+  pub station_leaves : (to : Name) (h : Holds s.nodes to) (j : ℕ) (y : StationSide) → slice_get s.nodes j ≡ Some (Station y) → j ≢ h.index → (from : Stream) (m : PlanMsg) → addressee m ≡ to → station_step y.core from m ≡ stays y.core
   station_leaves to h j y there ne from m is =
       let core = g.cores j (Station y) there in
       station_rests y.core from m (ap (λ n. same_name n y.core.me) is ∙ names_apart to y.core.me (λ e. ne (g.apart j h.index (Station y) h.node there h.found (sym (h.name_is ∙ e ∙ core.me)))))
 
   -- so is what is for all, by stations
-  pub station_leaves_ping : (j : ℕ) (y : Side StationState) → slice_get s.nodes j ≡ Some (Station y) → (from : Stream) (boot number : ℕ) → station_step y.core from (Ping everyone boot number) ≡ stays y.core
+  pub station_leaves_ping : (j : ℕ) (y : StationSide) → slice_get s.nodes j ≡ Some (Station y) → (from : Stream) (boot number : ℕ) → station_step y.core from (Ping everyone boot number) ≡ stays y.core
   station_leaves_ping j y there from boot number =
       let core = g.cores j (Station y) there in
       let some = (g.links j (Station y) there).me.0 in

@@ -11,7 +11,7 @@ use Rattle.plan_items.specs.Validation.{IsValid}
 use Rattle.plan_upload.specs.Addresses.{everyone}
 use Rattle.plan_upload.specs.Changes.{change_by}
 use Rattle.plan_upload.specs.Drone.{DroneState}
-use Rattle.plan_upload.specs.Station.{StationState, StationStep, addressee, station_step, untold}
+use Rattle.plan_upload.specs.Station.{StationStep, addressee, station_step, untold}
 use Rattle.plan_ranges.specs.Ranges.{ItemInRange}
 use Rattle.mav_frame.specs.Packet.{Packet}
 use Rattle.mav_frame.specs.Encoding.{encoding}
@@ -19,8 +19,8 @@ use Rattle.mav_messages.specs.Plans.{message_of_plan, plan_of}
 use Rattle.mav_sign.specs.declared.admission.Admit.TheVariants.{Admitted}
 use Rattle.mav_sign.specs.History.{answer_to, last_of, next_in}
 use Rattle.mav_nodes.specs.Links.{Link, tries, sent_at}
-use Rattle.mav_nodes.specs.Nodes.{drone_core, station_core, change_events, station_does, told_events}
-use Rattle.mav_nodes.specs.Steps.{Side, CoreStep}
+use Rattle.mav_nodes.specs.Nodes.{DroneSide, StationSide, drone_core, drone_rules, station_core, station_rules, change_events, station_does, told_events}
+use Rattle.mav_nodes.specs.Steps.{CoreStep}
 use Rattle.fleet_report.specs.Events.{Event}
 use Rattle.fleet_world.specs.WorldState.{WorldState, Node, Drone, Station, node_name, stream_of, names_of}
 use Rattle.fleet_world.specs.Steps.{Step, packets_in, reported_by, node_receives, node_does}
@@ -89,12 +89,12 @@ module _ (sys : ℕ) (me : Name) (kind : PlanKind) (plan : List Item) (valid : I
           other_station sys me kind plan valid dp sp s r p w i f found stamp m c name j y there nd ns
           (station_leaves s w.sound (target_of up) (target_holds up) j y there (not_there up j nd ns) (stream_of f.from) m to)
 
-      module _ (j : ℕ) (y : Side DroneState) (there : slice_get s.nodes j ≡ Some (Drone y)) (nd : j ≢ dp) (ns : j ≢ sp) (boot ping : ℕ) where
+      module _ (j : ℕ) (y : DroneSide) (there : slice_get s.nodes j ≡ Some (Drone y)) (nd : j ≢ dp) (ns : j ≢ sp) (boot ping : ℕ) where
         abbrev reply : CoreStep DroneState
         reply = record { core = y.core; first = []; answer = Some (Ping me boot ping); last = [] }
 
         abbrev Replied : Step → Type 0
-        Replied t = Said s w.sound i f found stamp m c drone_core drones j y there name reply (Ping me boot ping) t
+        Replied t = Said s w.sound i f found stamp m c drone_rules drones j y there name reply (Ping me boot ping) t
 
         aside : (t : Step) → (h : Replied t) → Aside s.key h.packet
         aside t h = record {
@@ -109,14 +109,14 @@ module _ (sys : ℕ) (me : Name) (kind : PlanKind) (plan : List Item) (valid : I
         -- another drone answers a PING
         pub replies : f.from ≡ me → m ≡ Ping everyone boot ping → Given j (Drone y) 1
         replies from is =
-            unless_still s w.sound i f found stamp m c drone_core drones j y there name (Beside s 1 r p)
+            unless_still s w.sound i f found stamp m c drone_rules drones j y there name (Beside s 1 r p)
             (λ admitted. weaker Replied (Beside s 1 r p) (node_does s j name (node_receives s.clock (encoding f) (Drone y)))
-            (λ t h. near_other sys me kind plan valid dp sp s r p w j (Drone (record { link = sent_at (next_in (tries f y.link).history s.clock) (tries f y.link); core = y.core })) (h.packet ∷ []) t.events t nd ns
+            (λ t h. near_other sys me kind plan valid dp sp s r p w j (Drone (record y { link = sent_at (next_in (tries f y.link).history s.clock) (tries f y.link) })) (h.packet ∷ []) t.events t nd ns
             (record { is = h.moves.is; events_are = refl; keeps = h.moves.keeps }) (λ q at. subst (Aside s.key) (only_packet h.packet q at) (aside t h)))
-            (said s w.sound i f found stamp m c drone_core drones j y there name admitted reply
+            (said s w.sound i f found stamp m c drone_rules drones j y there name admitted reply
             (ap (drone_core y.core (stream_of f.from)) is ∙ ap (λ n. drone_core y.core (stream_of n) (Ping everyone boot ping)) from) (Ping me boot ping) refl refl refl refl))
             (λ t h. near_more sys me kind plan valid dp sp s 0 1 r p t (omega arith)
-            (near_other sys me kind plan valid dp sp s r p w j (Drone (record { link = tries f y.link; core = y.core })) [] h.events t nd ns h.moves (λ q at. absurd (no_packet q at))))
+            (near_other sys me kind plan valid dp sp s r p w j (Drone (record y { link = tries f y.link })) [] h.events t nd ns h.moves (λ q at. absurd (no_packet q at))))
 
     -- another node is given a message of the upload
     pub others : (q : Stage plan) (i : ℕ) (f : Packet) (found : slice_get s.sent i ≡ Some f) (stamp : ℕ) (c : Carries s.key f stamp (says q)) (name : Name) → f.from ≡ sends_it (is_up q)
@@ -185,10 +185,10 @@ module _ (sys : ℕ) (me : Name) (kind : PlanKind) (plan : List Item) (valid : I
       drone_takes_it = ap (λ n. drone_core w.drone.core (stream_of n) m) (w.flies.from ∙ ap sends_it up) ∙ drone_core_rests w.drone.core (stream_of me) m goes.step goes.is
 
       abbrev DroneSaid : Step → Type 0
-      DroneSaid t = Said s w.sound r f w.flies.found w.flies.stamp m w.flies.carries drone_core drones dp w.drone w.drone_there (node_name (Drone w.drone)) drone_took (says goes.next) t
+      DroneSaid t = Said s w.sound r f w.flies.found w.flies.stamp m w.flies.carries drone_rules drones dp w.drone w.drone_there (node_name (Drone w.drone)) drone_took (says goes.next) t
 
-      abbrev drone_new : Side DroneState
-      drone_new = record { link = sent_at drone_stamp drone_after; core = goes.step.drone }
+      abbrev drone_new : DroneSide
+      drone_new = record w.drone { link = sent_at drone_stamp drone_after; core = goes.step.drone }
 
       drone_waits : (t : Step) (h : DroneSaid t) → Sound (moved s dp (Drone drone_new) (h.packet ∷ [])) → IsWaiting (moved s dp (Drone drone_new) (h.packet ∷ [])) (length s.sent) goes.next
       drone_waits t h sound = record {
@@ -243,7 +243,7 @@ module _ (sys : ℕ) (me : Name) (kind : PlanKind) (plan : List Item) (valid : I
       pub drone_turn : IfOk (node_does s dp (node_name (Drone w.drone)) (node_receives s.clock (encoding f) (Drone w.drone))) Moved
       drone_turn =
           weaker DroneSaid Moved (node_does s dp (node_name (Drone w.drone)) (node_receives s.clock (encoding f) (Drone w.drone))) drone_moved
-          (said s w.sound r f w.flies.found w.flies.stamp m w.flies.carries drone_core drones dp w.drone w.drone_there (node_name (Drone w.drone))
+          (said s w.sound r f w.flies.found w.flies.stamp m w.flies.carries drone_rules drones dp w.drone w.drone_there (node_name (Drone w.drone))
           (is_admitted s w.sound dp (Drone w.drone) w.drone_there f w.flies.stamp m w.flies.carries w.flies.recent (fresh_at true up) (above_at true up))
           drone_took drone_takes_it (says goes.next) goes.answer (ap packets_in goes.event ∙ no_frames sys me kind plan valid goes.next) refl (carried goes.next))
 
@@ -269,10 +269,10 @@ module _ (sys : ℕ) (me : Name) (kind : PlanKind) (plan : List Item) (valid : I
         station_stamp = next_in station_after.history s.clock
 
         abbrev StationSaid : Step → Type 0
-        StationSaid t = Said s w.sound r f w.flies.found w.flies.stamp m w.flies.carries station_core stations sp w.station w.station_there (node_name (Station w.station)) (station_does does_it.step) (says does_it.next) t
+        StationSaid t = Said s w.sound r f w.flies.found w.flies.stamp m w.flies.carries station_rules stations sp w.station w.station_there (node_name (Station w.station)) (station_does does_it.step) (says does_it.next) t
 
-        abbrev station_new : Side StationState
-        station_new = record { link = sent_at station_stamp station_after; core = untold does_it.step.station }
+        abbrev station_new : StationSide
+        station_new = record w.station { link = sent_at station_stamp station_after; core = untold does_it.step.station }
 
         stamp_above : IsAbove w.drone.link.history station_stamp
         stamp_above low e =
@@ -328,7 +328,7 @@ module _ (sys : ℕ) (me : Name) (kind : PlanKind) (plan : List Item) (valid : I
         pub station_turn : IfOk (node_does s sp (node_name (Station w.station)) (node_receives s.clock (encoding f) (Station w.station))) Moved
         station_turn =
             weaker StationSaid Moved (node_does s sp (node_name (Station w.station)) (node_receives s.clock (encoding f) (Station w.station))) station_moved
-            (said s w.sound r f w.flies.found w.flies.stamp m w.flies.carries station_core stations sp w.station w.station_there (node_name (Station w.station)) station_admits
+            (said s w.sound r f w.flies.found w.flies.stamp m w.flies.carries station_rules stations sp w.station w.station_there (node_name (Station w.station)) station_admits
             (station_does does_it.step) (station_takes does_it.step does_it.is) (says does_it.next) does_it.answer refl (no_frames_reported does_it.step.station.outcome) (carried does_it.next))
 
   -- the acknowledgement ends it
@@ -340,5 +340,5 @@ module _ (sys : ℕ) (me : Name) (kind : PlanKind) (plan : List Item) (valid : I
       let told = reported_by name (length s.sent) (told_events x.step.station.outcome ++ []) in
       weaker (λ t. t.events ≡ told) (λ t. (es : List Event) → Goal sys me kind plan valid Acks (t.events ++ es)) (node_does s sp name (node_receives s.clock (encoding w.flies.frame) (Station w.station)))
       (λ t h es. reports_at (upload_of sys me kind plan valid) name w.station_named (length s.sent) x.step.station.outcome x.told t.events h es)
-      (ends_so s w.sound r w.flies.frame w.flies.found w.flies.stamp (says Acks) w.flies.carries station_core stations sp w.station w.station_there name (station_admits s r Acks w refl)
+      (ends_so s w.sound r w.flies.frame w.flies.found w.flies.stamp (says Acks) w.flies.carries station_rules stations sp w.station w.station_there name (station_admits s r Acks w refl)
       (station_does x.step) (station_takes s r Acks w refl x.step x.is) x.silent refl (no_frames_reported x.step.station.outcome))

@@ -1,17 +1,15 @@
 -- One frame of the upload is on its way, and what else is still to be given are replies of other drones.
 use Rattle.std.proofs.Common.{◌≡◌, ◌≢◌, ℕ, ◌<◌, ◌≤◌, Bool, true, false, List, slice_get, Some}
+use Rattle.mav_nodes.specs.Nodes.{DroneSide, StationSide}
 use Rattle.mav_names.specs.declared.names.Name.{Name}
 use Rattle.plan_items.specs.declared.items.Item.{Item}
 use Rattle.plan_items.specs.declared.kinds.PlanKind.{PlanKind}
 use Rattle.plan_items.specs.declared.messages.PlanMsg.TheVariants.{Ping}
 use Rattle.plan_items.specs.Kinds.{number_of}
 use Rattle.plan_items.specs.Validation.{IsValid}
-use Rattle.plan_upload.specs.Drone.{DroneState}
-use Rattle.plan_upload.specs.Station.{StationState}
 use Rattle.mav_frame.specs.Packet.{Packet}
 use Rattle.mav_sign.specs.History.{last_of, previous_in}
 use Rattle.mav_nodes.specs.Links.{Link}
-use Rattle.mav_nodes.specs.Steps.{Side}
 use Rattle.scenario_lines.specs.LineContext.{drone_name}
 use Rattle.fleet_world.specs.WorldState.{WorldState, Drone, Station, node_name, stream_of}
 use Rattle.fleet_invariants.specs.Sound.{Sound}
@@ -54,10 +52,10 @@ module _ (sys : ℕ) (me : Name) (kind : PlanKind) (plan : List Item) (valid : I
 
   pub record Waits (s : WorldState) (r : ℕ) (p : Stage plan) : Type 0 where
     pub sound : Sound s
-    pub drone : Side DroneState
+    pub drone : DroneSide
     pub drone_there : slice_get s.nodes dp ≡ Some (Drone drone)
     pub drone_named : node_name (Drone drone) ≡ drone_name sys
-    pub station : Side StationState
+    pub station : StationSide
     pub station_there : slice_get s.nodes sp ≡ Some (Station station)
     pub station_named : node_name (Station station) ≡ me
     pub drone_is : DroneIs sys me kind plan valid p drone.core

@@ -1,16 +1,16 @@
 -- An uncontended upload, as a scenario's bytes have it: a begin line of a valid plan, with a long enough
 -- flow as the very next line. And what then happens within that flow line.
 use Rattle.std.specs.Prelude.{◌≡◌, ℕ, ◌+◌, ◌*◌, ◌<◌, ◌≤◌, Bool, true, false, List, [], ◌∷◌, ◌++◌, length, slice_get, Option, Some, None}
+use Rattle.mav_nodes.specs.Nodes.{DroneSide, StationSide}
 use Rattle.mav_names.specs.declared.names.Name.{Name}
 use Rattle.plan_items.specs.declared.items.Item.{Item}
 use Rattle.plan_items.specs.declared.kinds.PlanKind.{PlanKind}
 use Rattle.plan_items.specs.Kinds.{number_of}
 use Rattle.plan_items.specs.Validation.{IsValid}
-use Rattle.plan_upload.specs.Drone.{DroneState, is_other}
-use Rattle.plan_upload.specs.Station.{StationState, Told_installed}
+use Rattle.plan_upload.specs.Drone.{is_other}
+use Rattle.plan_upload.specs.Station.{Told_installed}
 use Rattle.plan_upload.specs.Refusals.{upload_refusal}
 use Rattle.mav_sign.specs.History.{low_of, last_of}
-use Rattle.mav_nodes.specs.Steps.{Side}
 use Rattle.scenario_lines.specs.declared.lines.Line.TheVariants.{Begin, Flow}
 use Rattle.scenario_lines.specs.Grammar.{line_of}
 use Rattle.fleet_report.specs.Events.{Event, Installed, Ended}
@@ -62,7 +62,7 @@ flowed key l = next_played (begun key l) (length l.front + 2) l.flow
 -- the station accepts the upload: it has no operation, a PING number is left, and the plan fits
 pub record Accepts (s : WorldState) (u : Upload) : Type 0 where
   pub index : ℕ
-  pub station : Side StationState
+  pub station : StationSide
   pub found : slice_get s.nodes index ≡ Some (Station station)
   pub named : node_name (Station station) ≡ u.station
   pub accepted : upload_refusal station.core (number_of u.kind) u.plan ≡ None
@@ -70,7 +70,7 @@ pub record Accepts (s : WorldState) (u : Upload) : Type 0 where
 -- at the drone no upload of another stream is open
 pub record IsFree (s : WorldState) (u : Upload) : Type 0 where
   pub index : ℕ
-  pub drone : Side DroneState
+  pub drone : DroneSide
   pub found : slice_get s.nodes index ≡ Some (Drone drone)
   pub named : node_name (Drone drone) ≡ u.drone
   pub free : is_other drone.core.upload (stream_of u.station) ≡ false

@@ -1,2 +1,4 @@
 mod ItemLines
+mod ParamLines
+mod WireDigits
 mod WordDigits

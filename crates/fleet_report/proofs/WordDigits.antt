@@ -5,6 +5,7 @@ use Rattle.std.specs.Fmt.{digits, digits_onto, digit_glyph, padded_integral, for
 use Rattle.std.proofs.lemmas.Bool.{and_parts, cases_lt, eqb-true, ne_eqb}
 use Rattle.std.proofs.Math.ListN.{replicate}
 use Rattle.hex.specs.Hex.{encode_with, lower_digits}
+use Rattle.field_layout.specs.CharText.{byte_hex}
 use Rattle.fleet_report.specs.Texts.{word_text}
 
 -- ---- the digits of `fmt` and of `hex`
@@ -110,3 +111,22 @@ padded_word k w ds e small room = rw (← e) (padded_is 7 k w [] small room ∙ 
 pub word_padded : (w : ℕ) → w < 2 ^ 32
     → padded_integral (format_spec 32 0 4 8 (2 ^ 64 - 1)) false [] (digits 16 false w) ≡ word_text w
 word_padded w small = padded_zeros (digits 16 false w) ∙ padded_word 64 w (digits 16 false w) (digits_are w) small (omega arith)
+
+-- ---- two digits
+
+digits_of_byte : (b : ℕ) → b < 256 → last_digits 2 b [] ≡ byte_hex b
+digits_of_byte b small =
+    let high : b / 16 % 16 ≡ b / 16 = omega arith in
+    rw high refl
+
+padded_pair : (ds : List ℕ) → padded_integral (format_spec 32 0 4 2 (2 ^ 64 - 1)) false [] ds ≡ with_zeros 2 ds
+unfolding padded_integral char_count
+padded_pair ds = let width : 2 - length ds - 0 - 0 ≡ 2 - length ds = omega arith in rw (width, append-nil ds)
+
+padded_byte : (k b : ℕ) (ds : List ℕ) → digits_onto k 16 false b [] ≡ ds → b < 256 → 1 < k → with_zeros 2 ds ≡ byte_hex b
+padded_byte k b ds e small room = rw (← e) (padded_is 1 k b [] small room ∙ digits_of_byte b small)
+
+-- a byte that is padded to two digits
+pub byte_padded : (b : ℕ) → b < 256
+    → padded_integral (format_spec 32 0 4 2 (2 ^ 64 - 1)) false [] (digits 16 false b) ≡ byte_hex b
+byte_padded b small = padded_pair (digits 16 false b) ∙ padded_byte 64 b (digits 16 false b) (digits_are b) small (omega arith)

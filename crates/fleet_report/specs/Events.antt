@@ -1,5 +1,5 @@
 -- What happens in a scenario, and what the report prints of it.
-use Rattle.std.specs.Prelude.{ℕ, if◌then◌else◌, Bool, List, [], ◌∷◌, ◌++◌, length, codes}
+use Rattle.std.specs.Prelude.{ℕ, if◌then◌else◌, Bool, List, [], ◌∷◌, ◌++◌, length, codes, Option}
 use Rattle.std.specs.Fmt.{decimal}
 use Rattle.hex.specs.Hex.{encode_lower}
 use Rattle.mav_names.specs.declared.names.Name.{Name}
@@ -9,8 +9,9 @@ use Rattle.plan_upload.specs.Station.{Told}
 use Rattle.mav_frame.specs.Packet.{Packet}
 use Rattle.mav_frame.specs.Encoding.{encoding}
 use Rattle.mav_messages.specs.declared.messages.Message.{Message}
+use Rattle.param_proto.specs.declared.params.Param.{Param}
 use Rattle.mav_sign.specs.declared.admission.Admit.{Admit}
-use Rattle.fleet_report.specs.Texts.{space, newline, name_text, kind_text, message_text, items_text, code_of, refusal_text, outcome_text}
+use Rattle.fleet_report.specs.Texts.{space, newline, name_text, kind_text, message_text, items_text, code_of, refusal_text, outcome_text, param_text, result_text, values_text}
 
 pub data Event : Type 0 where
   Sent : (number : ℕ) (packet : Packet) (message : Message) → Event  -- the number-th frame of the scenario
@@ -21,6 +22,11 @@ pub data Event : Type 0 where
   Restarted : (drone : Name) → Event  -- it starts again
   Refused : (station : Name) (why : OpFault) → Event
   Ended : (station : Name) (outcome : Told) → Event
+  Command_ended : (station : Name) (result : Option ℕ) → Event  -- by the drone's result, or without an answer
+  Params_ended : (station : Name) (values : Option (List Param)) → Event  -- a list of all, or a request without an answer
+  Param_given : (station : Name) (param : Param) → Event  -- a read or a set ended
+  Command_refused : (station : Name) → Event  -- a command is open
+  Params_refused : (station : Name) → Event  -- a request for parameters is open
 
 -- the whole frame in hexadecimal digits, if frames are printed
 abbrev pub frame_text : Bool → Packet → List ℕ
@@ -39,6 +45,11 @@ event_text frames (Missing number) = codes "no frame " ++ decimal number ++ newl
 event_text frames (Restarted drone) = codes "restart " ++ name_text drone ++ newline
 event_text frames (Refused station why) = codes "refused " ++ name_text station ++ space ++ refusal_text why ++ newline
 event_text frames (Ended station outcome) = codes "outcome " ++ name_text station ++ space ++ outcome_text outcome
+event_text frames (Command_ended station result) = codes "command " ++ name_text station ++ space ++ result_text result ++ newline
+event_text frames (Params_ended station values) = codes "params " ++ name_text station ++ space ++ values_text station values
+event_text frames (Param_given station param) = param_text station param
+event_text frames (Command_refused station) = codes "refused " ++ name_text station ++ codes " command busy" ++ newline
+event_text frames (Params_refused station) = codes "refused " ++ name_text station ++ codes " params busy" ++ newline
 
 abbrev pub events_text : Bool → List Event → List ℕ
 events_text frames [] = []

@@ -13,10 +13,12 @@ use Rattle.plan_upload.specs.Plans.{every_kind}
 use Rattle.plan_upload.specs.Station.{Told, Told_installed, Told_not_installed, Told_unknown, Told_cleared, Told_got, Told_ended}
 use Rattle.field_layout.specs.Definition.{Definition, all_fields}
 use Rattle.field_layout.specs.Target.{is_target}
+use Rattle.field_layout.specs.CharText.{quoted_text}
 use Rattle.mav_messages.specs.declared.messages.Message.{Message}
 use Rattle.mav_messages.specs.Messages.{definition_of, values_of}
 use Rattle.mav_messages.specs.Plans.{plan_of}
 use Rattle.mav_messages.specs.Targets.{target_in}
+use Rattle.param_proto.specs.declared.params.Param.{Param}
 use Rattle.mav_sign.specs.declared.admission.Admit.{Admit}
 use Rattle.mav_sign.specs.declared.admission.Admit.TheVariants.{Admitted, Unsigned, BadSignature, BelowFloor, NotLater, TooOld, TooManyStreams}
 
@@ -114,6 +116,25 @@ abbrev pub items_text : ℕ → List Item → List ℕ
 items_text seq [] = []
 items_text seq (item ∷ items) = item_text seq item ++ items_text (seq + 1) items
 
+-- ---- parameters
+
+-- the four bytes of a word in wire order, lowest byte first
+abbrev pub little_endian : ℕ → List ℕ
+little_endian w = w % 256 ∷ w / 256 % 256 ∷ w / 65536 % 256 ∷ w / 16777216 ∷ []
+
+abbrev pub wire_text : ℕ → List ℕ
+wire_text w = encode_lower (little_endian w)
+
+-- a parameter's line: STATION ID TYPE WORD
+abbrev pub param_text : Name → Param → List ℕ
+param_text station param =
+    codes "param " ++ name_text station ++ space ++ quoted_text param.id ++ space ++ decimal param.ty ++ space ++ wire_text param.word ++ newline
+
+-- the lines of parameters
+abbrev pub params_text : Name → List Param → List ℕ
+params_text station [] = []
+params_text station (param ∷ params) = param_text station param ++ params_text station params
+
 -- ---- causes and outcomes
 
 -- the code of an answer to a frame (MAVLink guide, Message Signing: Accepting Signed Packets)
@@ -140,3 +161,13 @@ outcome_text Told_unknown = codes "unknown" ++ newline
 outcome_text Told_cleared = codes "cleared" ++ newline
 outcome_text (Told_got items) = codes "got " ++ decimal (length items) ++ newline ++ items_text 0 items
 outcome_text (Told_ended code) = codes "ended " ++ decimal code ++ newline
+
+-- how a command ended: by its result, or without an answer
+abbrev pub result_text : Option ℕ → List ℕ
+result_text (Some result) = codes "result " ++ decimal result
+result_text None = codes "no answer"
+
+-- how a list of parameters ended: how many there are and a line for each, or without an answer
+abbrev pub values_text : Name → Option (List Param) → List ℕ
+values_text station (Some values) = decimal (length values) ++ newline ++ params_text station values
+values_text station None = codes "no answer" ++ newline

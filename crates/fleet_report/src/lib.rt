@@ -5,6 +5,7 @@
 
 mod items;
 mod messages;
+mod params;
 mod report;
 mod texts;
 

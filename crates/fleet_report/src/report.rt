@@ -1,5 +1,5 @@
 // The text of what happens.
-ghost use Rattle.std.specs.Prelude.{◌≡◌, ◌++◌, List, [], length, string_bytes, OnOk, IfOk};
+ghost use Rattle.std.specs.Prelude.{◌≡◌, ◌++◌, List, [], length, string_bytes, Some, None, OnOk, IfOk};
 ghost use Rattle.plan_items.specs.declared.items.Item.{Item};
 ghost use Rattle.plan_items.specs.Kinds.{number_of};
 ghost use Rattle.plan_items.specs.Plans.{items_of};
@@ -8,17 +8,19 @@ ghost use Rattle.mav_frame.specs.Encoding.{encoding};
 ghost use Rattle.hex.specs.Hex.{encode_lower};
 ghost use Rattle.std.specs.Fmt.{decimal};
 ghost use Rattle.fleet_report.specs.Texts.{newline};
-ghost use Rattle.fleet_report.specs.Events.{Sent, Installed, Emptied, Dropped, Missing, Restarted, Refused, Ended, plan_text, frame_text};
+ghost use Rattle.fleet_report.specs.Events.{Sent, Installed, Emptied, Dropped, Missing, Restarted, Refused, Ended, Command_ended, Params_ended, Param_given, Command_refused, Params_refused, plan_text, frame_text};
 ghost use Rattle.fleet_report.specs.Reports.{reported, with_text};
 
 use crate::NoMemory;
 use crate::items::put_items;
 use crate::messages::MessageText;
-use crate::texts::{KindText, NameText, RefusalText, code};
+use crate::params::{put_param, put_params};
+use crate::texts::{KindText, NameText, RefusalText, ResultText, code};
 use mav_frame::{Frame, encode};
 use mav_messages::Message;
 use mav_names::Name;
 use mav_sign::Admit;
+use param_proto::Param;
 use plan_items::{Plan, PlanKind};
 use plan_upload::{OpFault, Outcome};
 use std::alloc::Global;
@@ -167,6 +169,50 @@ impl Report {
         ensures { OnOk result (self.new ≡ with_text self.old (words.now ++ decimal number ++ newline)) }
     {
         writeln!(self.text, "{words}{number}")
+    }
+
+    /// A station's command ended: by the drone's result, or without an answer.
+    pub fn command_ended(&mut self, station: Name, answer: Option<u8>) -> Result<(), NoMemory>
+        ensures { OnOk result (self.new ≡ reported self.old (Command_ended station answer)) }
+    {
+        let (station, answer) = (NameText(station), ResultText(answer));
+        writeln!(self.text, "command {station} {answer}")
+    }
+
+    /// A station's list of a drone's parameters ended with these values, in order of their indices.
+    pub fn params_listed(&mut self, station: Name, values: &[Param]) -> Result<(), NoMemory>
+        ensures { OnOk result (self.new ≡ reported self.old (Params_ended station (Some values.now))) }
+    {
+        writeln!(self.text, "params {} {}", NameText(station), values.len())?;
+        put_params(&mut self.text, station, values)
+    }
+
+    /// A station's read, set or list of parameters ended without an answer.
+    pub fn params_unanswered(&mut self, station: Name) -> Result<(), NoMemory>
+        ensures { OnOk result (self.new ≡ reported self.old (Params_ended station None)) }
+    {
+        writeln!(self.text, "params {} no answer", NameText(station))
+    }
+
+    /// A station's read or set of a parameter ended with its value.
+    pub fn param_given(&mut self, station: Name, param: &Param) -> Result<(), NoMemory>
+        ensures { OnOk result (self.new ≡ reported self.old (Param_given station param.now)) }
+    {
+        put_param(&mut self.text, station, param)
+    }
+
+    /// A station refused a command, since one is open.
+    pub fn command_refused(&mut self, station: Name) -> Result<(), NoMemory>
+        ensures { OnOk result (self.new ≡ reported self.old (Command_refused station)) }
+    {
+        writeln!(self.text, "refused {} command busy", NameText(station))
+    }
+
+    /// A station refused a request for parameters, since one is open.
+    pub fn params_refused(&mut self, station: Name) -> Result<(), NoMemory>
+        ensures { OnOk result (self.new ≡ reported self.old (Params_refused station)) }
+    {
+        writeln!(self.text, "refused {} params busy", NameText(station))
     }
 
     /// A plan of a drone at the end of a scenario.

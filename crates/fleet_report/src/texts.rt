@@ -1,6 +1,6 @@
 // How names, kinds and causes are written.
 ghost use Rattle.std.specs.Prelude.{◌≡◌, Some};
-ghost use Rattle.fleet_report.specs.Texts.{name_text, kind_text, refusal_text, code_of};
+ghost use Rattle.fleet_report.specs.Texts.{name_text, kind_text, refusal_text, code_of, result_text};
 
 use mav_names::Name;
 use mav_sign::Admit;
@@ -52,6 +52,21 @@ impl fmt::Display for RefusalText {
             OpFault::PingsSpent => f.write_str("pings spent"),
             OpFault::NotFit { limit } => write!(f, "not fit {limit}"),
             OpFault::NoMemory => Ok(()),
+        }
+    }
+}
+
+/// How a command ended.
+#[derive(Drop)]
+pub(crate) struct ResultText(pub(crate) Option<u8>);
+
+impl fmt::Display for ResultText {
+    ghost output = { λ text. Some (result_text text.0) };
+
+    fn fmt<W: fmt::Write>(&self, f: &mut fmt::Formatter<W>) -> fmt::Result {
+        match self.0 {
+            Some(result) => write!(f, "result {result}"),
+            None => f.write_str("no answer"),
         }
     }
 }

@@ -1,5 +1,5 @@
 -- The calls of each line are the events that it causes, and no others.
-use Rattle.std.proofs.Common.{false, ◌≡◌, ℕ, zero, suc, ◌+◌, ◌-◌, ◌⊎◌, inl, inr, Bool, true, not, cond, nat_lt, List, [], ◌∷◌, ◌++◌, length, position, slice_get, Option, Some, None, Ok, Err, refl, sym, ap, subst, arith, ◌∙◌}
+use Rattle.std.proofs.Common.{false, ◌≡◌, ℕ, zero, suc, ◌+◌, ◌-◌, ◌≤◌, ◌⊎◌, inl, inr, Bool, true, not, cond, nat_lt, List, [], ◌∷◌, ◌++◌, length, position, slice_get, Option, Some, None, Ok, Err, refl, sym, ap, subst, arith, ◌∙◌}
 use Rattle.std.specs.Prelude.{unwrap_or}
 use Rattle.std.specs.List.{position_or_len}
 use Rattle.std.specs.declared.result.Result.{Result}
@@ -19,29 +19,33 @@ use Rattle.plan_upload.specs.declared.faults.OpFault.{OpFault}
 use Rattle.plan_upload.specs.Addresses.{node_of, same_name}
 use Rattle.plan_upload.specs.Kinds.{clear_number}
 use Rattle.plan_upload.specs.Refusals.{upload_refusal, refusal}
-use Rattle.plan_upload.specs.Drone.{DroneState}
-use Rattle.plan_upload.specs.Station.{StationState}
 use Rattle.plan_safety.specs.World as world
-use Rattle.plan_safety.specs.World.{Begins, Clears, Gets, Cancels, Drone_ticks, Station_ticks, To_drone, To_station, Speaks}
+use Rattle.plan_safety.specs.World.{Begins, Clears, Gets, Cancels, Drone_ticks, Station_ticks, To_drone, To_station, Speaks, Drone_waits, Station_waits}
 use Rattle.plan_safety.proofs.Keys.{by_test, bool_split, name_eq}
 use Rattle.mav_nodes.specs.News.{NodeEvent}
-use Rattle.mav_nodes.specs.Links.{Link, Outcome, behind, tries}
+use Rattle.mav_nodes.specs.Links.{Link, Outcome, behind, and_then, tries, sends, sends_all}
 use Rattle.mav_nodes.specs.LowBounds.{stored_low}
 use Rattle.mav_nodes.specs.Restarts.{restarted_drone}
-use Rattle.mav_nodes.specs.Payloads.{plan_in}
-use Rattle.mav_nodes.specs.Steps.{Side, CoreStep, answers, with_core, takes, admits, hears}
-use Rattle.mav_nodes.specs.Nodes.{drone_core, station_core, station_cancels, station_clears, station_gets}
+use Rattle.mav_nodes.specs.Payloads.{plan_in, service_in}
+use Rattle.mav_nodes.specs.Services.{ServiceStep}
+use Rattle.mav_messages.specs.declared.messages.Message.{Message}
+use Rattle.mav_messages.specs.Plans.{message_of_plan}
+use Rattle.command_proto.specs.Commander.{open_command}
+use Rattle.mav_nodes.specs.Steps.{Side, Rules, CoreStep, answers, with_core, takes, admits, hears}
+use Rattle.mav_nodes.specs.Nodes.{DroneSide, StationSide, drone_rules, station_rules, drone_heartbeat, drone_beats, station_heartbeat, station_beats, station_cancels, station_clears, station_gets, station_commands, station_lists_params}
+use Rattle.fleet_report.specs.Events.{Event}
 use Rattle.scenario_lines.specs.declared.lines.Line.{Line}
 use Rattle.scenario_lines.specs.declared.lines.Line.TheVariants as line
 use Rattle.fleet_world.specs.WorldState.{WorldState, Node, Drone, Station, node_name, stream_of, is_named, is_drone_named, is_station_named}
-use Rattle.fleet_world.specs.Steps.{Step, StepError, as_drone, as_station, given_to, given_to_all, node_does, node_beats, node_ticks, station_line, restart_line, orders, upload_begins}
+use Rattle.fleet_world.specs.Steps.{Step, StepError, as_drone, as_station, given_to, given_to_all, node_does, node_beats, node_ticks, station_line, restart_line, orders, upload_begins, command_busy, params_busy, asks}
 use Rattle.fleet_invariants.specs.Sound.{link_of, Sound}
 use Rattle.fleet_invariants.proofs.Heard.{heard_is}
-use Rattle.fleet_safety.specs.Actions.{Action, Order, Accepts_upload, Accepts_clear, Accepts_get, moves, ticks, comes_to, accepted, cancelled, ticked, beaten, restarted_at, restarted, at_drone, if_drone, to_drone, upload_at, clear_at, get_at, cancel_at, if_admitted, if_plan, if_sent, hearing, index_of, ordering, node_hears, state_with, at_index, if_found, at_node, and_next, at_station, if_ordered, to_station, acts, hears_then, frames_heard, datagram_heard, frame_given, row_given, flown, flow_actions, delivered, calls_of}
+use Rattle.fleet_safety.specs.Actions.{Action, Order, Accepts_upload, Accepts_clear, Accepts_get, spoken, spoken_in, asking, command_at, params_at, moves, ticks, comes_to, accepted, cancelled, ticked, beaten, restarted_at, restarted, at_drone, if_drone, to_drone, upload_at, clear_at, get_at, cancel_at, if_admitted, if_plan, if_sent, hearing, index_of, ordering, node_hears, state_with, at_index, if_found, at_node, and_next, at_station, if_ordered, to_station, acts, hears_then, frames_heard, datagram_heard, frame_given, row_given, flown, flow_actions, delivered, calls_of}
 use Rattle.fleet_safety.specs.Safe.{events_of}
-use Rattle.fleet_safety.specs.Causes.{without_waits, AtMostOne, EachEvent, Of, Gives, StartsAgain, Causes}
+use Rattle.fleet_safety.specs.Causes.{without_waits, AtMostOne, EachEvent, Of, Gives, Talks, Hears, HearsOne, TicksOnce, StartsAgain, Causes}
 use Rattle.fleet_safety.proofs.Lists.{some_is}
 use Rattle.fleet_safety.proofs.Follows.{events_on}
+use Rattle.fleet_safety.proofs.Talks.{waits_on, each_on, each_maps, at_most_one, spoken_talks, outcome_talks, Few, drone_wait, station_wait, sends_few, commands_few, params_few, plan_silent, drone_ticks_silent, drone_few, station_few, station_ticks_few}
 
 -- ---- the node at the index of a name has that name
 
@@ -71,30 +75,6 @@ passes_at p xs k x is e =
 abbrev main : List Action → List world.Event
 main actions = without_waits (events_of actions)
 
-waits_on : (es fs : List world.Event) → without_waits (es ++ fs) ≡ without_waits es ++ without_waits fs
-waits_on [] fs = refl
-waits_on (Begins s d kind plan ∷ es) fs = ap (λ r. Begins s d kind plan ∷ r) (waits_on es fs)
-waits_on (Clears s d kind ∷ es) fs = ap (λ r. Clears s d kind ∷ r) (waits_on es fs)
-waits_on (Gets s d kind ∷ es) fs = ap (λ r. Gets s d kind ∷ r) (waits_on es fs)
-waits_on (Cancels s ∷ es) fs = ap (λ r. Cancels s ∷ r) (waits_on es fs)
-waits_on (world.Hands_out s ∷ es) fs = waits_on es fs
-waits_on (Drone_ticks d ∷ es) fs = ap (λ r. Drone_ticks d ∷ r) (waits_on es fs)
-waits_on (Station_ticks s ∷ es) fs = ap (λ r. Station_ticks s ∷ r) (waits_on es fs)
-waits_on (To_drone index d keeps ∷ es) fs = ap (λ r. To_drone index d keeps ∷ r) (waits_on es fs)
-waits_on (To_station index s ∷ es) fs = ap (λ r. To_station index s ∷ r) (waits_on es fs)
-waits_on (Speaks node ∷ es) fs = ap (λ r. Speaks node ∷ r) (waits_on es fs)
-waits_on (world.Drone_waits d t ∷ es) fs = waits_on es fs
-waits_on (world.Station_waits s t ∷ es) fs = waits_on es fs
-waits_on (world.Restarts d low ∷ es) fs = ap (λ r. world.Restarts d low ∷ r) (waits_on es fs)
-
-each_on : (P : world.Event → Type 0) (es fs : List world.Event) → EachEvent P es → EachEvent P fs → EachEvent P (es ++ fs)
-each_on P [] fs a b = b
-each_on P (e ∷ es) fs a b = (a.0, each_on P es fs a.1 b)
-
-each_maps : (P Q : world.Event → Type 0) → ((e : world.Event) → P e → Q e) → (es : List world.Event) → EachEvent P es → EachEvent Q es
-each_maps P Q f [] h = tt
-each_maps P Q f (e ∷ es) h = (f e h.0, each_maps P Q f es h.1)
-
 -- one list of actions and then another
 main_on : (P : world.Event → Type 0) (actions more : List Action) → EachEvent P (main actions) → EachEvent P (main more) → EachEvent P (main (actions ++ more))
 main_on P actions more a b =
@@ -109,7 +89,7 @@ acts_one : (P : List world.Event → Type 0) (number : ℕ) (es : List world.Eve
 acts_one P number es os (Ok t) none h = subst (λ fs. P (without_waits fs)) (sym (append-nil es)) h
 acts_one P number es os (Err error) none h = none
 
-ordering_one : (P : List world.Event → Type 0) (clock : ℕ) (a : Side StationState) (why : Option OpFault) (e : world.Event) → P (without_waits (e ∷ [])) → P (without_waits (moves clock (Station a) e)) → P (without_waits (ordering clock a why e))
+ordering_one : (P : List world.Event → Type 0) (clock : ℕ) (a : StationSide) (why : Option OpFault) (e : world.Event) → P (without_waits (e ∷ [])) → P (without_waits (moves clock (Station a) e)) → P (without_waits (ordering clock a why e))
 ordering_one P clock a (Some why) e h k = h
 ordering_one P clock a None e h k = k
 
@@ -132,7 +112,7 @@ at_placed_node P s name call none h = by_place (position (is_named name) s.nodes
 at_node_has : (P : List world.Event → Type 0) (s : WorldState) (name : Name) (call : WorldState → ℕ → Node → List Action) → P [] → ((k : ℕ) (a : Node) → node_of (link_of a).me ≡ name → P (main (call s k a))) → P (main (at_node s name call))
 at_node_has P s name call none h = at_placed_node P s name call none (λ k a there is. h k a is)
 
-to_station_has : (P : List world.Event → Type 0) (s : WorldState) (name : Name) (order : ℕ → Side StationState → List Action) → P [] → ((k : ℕ) (a : Side StationState) → node_of a.link.me ≡ name → P (main (order k a))) → P (main (to_station s name order))
+to_station_has : (P : List world.Event → Type 0) (s : WorldState) (name : Name) (order : ℕ → StationSide → List Action) → P [] → ((k : ℕ) (a : StationSide) → node_of a.link.me ≡ name → P (main (order k a))) → P (main (to_station s name order))
 to_station_has P s name order none h = by_place (position (is_station_named name) s.nodes) refl
   where
     by_node : (k : ℕ) (o : Option Node) → position (is_station_named name) s.nodes ≡ Some k → slice_get s.nodes k ≡ o → P (main (at_station k o order))
@@ -145,7 +125,7 @@ to_station_has P s name order none h = by_place (position (is_station_named name
     by_place (Some k) is = by_node k (slice_get s.nodes k) is refl
 
 -- and at the drone of a name
-to_drone_has : (P : List world.Event → Type 0) (number : ℕ) (s : WorldState) (name : Name) → P [] → ((k : ℕ) (a : Side DroneState) → node_of a.link.me ≡ name → P (main (restarted number s k a))) → P (main (to_drone number s name))
+to_drone_has : (P : List world.Event → Type 0) (number : ℕ) (s : WorldState) (name : Name) → P [] → ((k : ℕ) (a : DroneSide) → node_of a.link.me ≡ name → P (main (restarted number s k a))) → P (main (to_drone number s name))
 to_drone_has P number s name none h = by_place (position (is_drone_named name) s.nodes) refl
   where
     by_node : (k : ℕ) (o : Option Node) → position (is_drone_named name) s.nodes ≡ Some k → slice_get s.nodes k ≡ o → P (main (at_drone number s k o))
@@ -159,33 +139,56 @@ to_drone_has P number s name none h = by_place (position (is_drone_named name) s
 
 -- ---- a node that hears a frame signs as before
 
-module _ (Core : Type 0) (me : Stream) where
-  abbrev Keeps : Outcome (Side Core) → Type 0
-  Keeps None = Unit {0}
-  Keeps (Some d) = d.node.link.me ≡ me
-
+module _ (me : Stream) where
   abbrev LinkKeeps : Outcome Link → Type 0
   LinkKeeps None = Unit {0}
   LinkKeeps (Some d) = d.node.me ≡ me
 
+  link_sends : (clock : ℕ) (m : Message) (link : Link) → link.me ≡ me → LinkKeeps (sends clock m link)
+  link_sends clock m link h = by_test LinkKeeps (nat_lt greatest_stamp (next_in link.history clock)) _ _ (λ _. tt) (λ _. h)
+
+  then_sends : (o : Outcome Link) (next : Link → Outcome Link) → LinkKeeps o → ((link : Link) → link.me ≡ me → LinkKeeps (next link)) → LinkKeeps (and_then o next)
+  then_sends None next h k = tt
+  then_sends (Some d) next h k = after (next d.node) (k d.node h)
+    where
+      after : (o : Outcome Link) → LinkKeeps o → LinkKeeps (behind d.events o)
+      after None l = tt
+      after (Some e) l = l
+
+  all_sent : (clock : ℕ) (ms : List Message) (link : Link) → link.me ≡ me → LinkKeeps (sends_all clock ms link)
+  all_sent clock [] link h = h
+  all_sent clock (m ∷ ms) link h = then_sends (sends clock m link) (sends_all clock ms) (link_sends clock m link h) (all_sent clock ms)
+
   answers_keep : (clock : ℕ) (o : Option PlanMsg) (link : Link) → link.me ≡ me → LinkKeeps (answers clock o link)
   answers_keep clock None link h = h
-  answers_keep clock (Some m) link h = by_test LinkKeeps (nat_lt greatest_stamp (next_in link.history clock)) _ _ (λ _. tt) (λ _. h)
+  answers_keep clock (Some m) link h = link_sends clock (message_of_plan m) link h
 
-  steps_keep : (first last : List NodeEvent) (core : Core) (o : Outcome Link) → LinkKeeps o → Keeps (behind first (with_core core last o))
-  steps_keep first last core None h = tt
-  steps_keep first last core (Some d) h = h
+module _ {Core Services : Type 0} (me : Stream) where
+  abbrev Keeps : Outcome (Side Core Services) → Type 0
+  Keeps None = Unit {0}
+  Keeps (Some d) = d.node.link.me ≡ me
 
-  module _ (step : Core → Stream → PlanMsg → CoreStep Core) (clock : ℕ) where
-    takes_keep : (a : Side Core) (from : Stream) (o : Option PlanMsg) → a.link.me ≡ me → Keeps (takes step clock a from o)
-    takes_keep a from None h = h
-    takes_keep a from (Some m) h =
-        let done : CoreStep Core = step a.core from m in
-        steps_keep done.first done.last done.core (answers clock done.answer a.link) (answers_keep clock done.answer a.link h)
+  core_keeps : (core : Core) (services : Services) (last : List NodeEvent) (o : Outcome Link) → LinkKeeps me o → Keeps (with_core core services last o)
+  core_keeps core services last None h = tt
+  core_keeps core services last (Some d) h = h
 
-    admits_keep : (a : Side Core) (p : Packet) (answer : Admit) (block : Option SignatureBlock) → a.link.me ≡ me → Keeps (admits step clock a p answer block)
+  steps_keep : (first : List NodeEvent) (o : Outcome (Side Core Services)) → Keeps o → Keeps (behind first o)
+  steps_keep first None h = tt
+  steps_keep first (Some d) h = h
+
+  module _ (rules : Rules Core Services) (clock : ℕ) where
+    takes_keep : (a : Side Core Services) (from : Stream) (o : Option PlanMsg) (s : Option Message) → a.link.me ≡ me → Keeps (takes rules clock a from o s)
+    takes_keep a from None None h = h
+    takes_keep a from None (Some m) h =
+        let done : ServiceStep Services = rules.serve a.core a.services from m in
+        core_keeps a.core done.services done.last (sends_all clock done.answers a.link) (all_sent me clock done.answers a.link h)
+    takes_keep a from (Some m) s h =
+        let done : CoreStep Core = rules.take a.core from m in
+        steps_keep done.first (with_core done.core a.services done.last (answers clock done.answer a.link)) (core_keeps done.core a.services done.last (answers clock done.answer a.link) (answers_keep me clock done.answer a.link h))
+
+    admits_keep : (a : Side Core Services) (p : Packet) (answer : Admit) (block : Option SignatureBlock) → a.link.me ≡ me → Keeps (admits rules clock a p answer block)
     admits_keep a p Admitted None h = h
-    admits_keep a p Admitted (Some block) h = takes_keep a (signed_stream p block) (plan_in p.id p.payload) h
+    admits_keep a p Admitted (Some block) h = takes_keep a (signed_stream p block) (plan_in p.id p.payload) (service_in p.id p.payload) h
     admits_keep a p Unsigned block h = h
     admits_keep a p BadSignature block h = h
     admits_keep a p (BelowFloor floor) block h = h
@@ -193,7 +196,7 @@ module _ (Core : Type 0) (me : Stream) where
     admits_keep a p (TooOld local) block h = h
     admits_keep a p TooManyStreams block h = h
 
-    hears_keep : (p : Packet) (a : Side Core) → a.link.me ≡ me → Keeps (hears step clock p a)
+    hears_keep : (p : Packet) (a : Side Core Services) → a.link.me ≡ me → Keeps (hears rules clock p a)
     hears_keep p a h = admits_keep (record a { link = tries p a.link }) p (answer_to a.link.key a.link.history p) p.block h
 
 abbrev NodeKeeps : Stream → Outcome Node → Type 0
@@ -201,14 +204,14 @@ NodeKeeps me None = Unit {0}
 NodeKeeps me (Some d) = (link_of d.node).me ≡ me
 
 node_keeps : (clock : ℕ) (p : Packet) (a : Node) (me : Stream) → (link_of a).me ≡ me → NodeKeeps me (node_hears clock p a)
-node_keeps clock p (Drone a) me h = of_drone (hears drone_core clock p a) (hears_keep DroneState me drone_core clock p a h)
+node_keeps clock p (Drone a) me h = of_drone (hears drone_rules clock p a) (hears_keep me drone_rules clock p a h)
   where
-    of_drone : (o : Outcome (Side DroneState)) → Keeps DroneState me o → NodeKeeps me (as_drone o)
+    of_drone : (o : Outcome DroneSide) → Keeps me o → NodeKeeps me (as_drone o)
     of_drone None k = tt
     of_drone (Some d) k = k
-node_keeps clock p (Station a) me h = of_station (hears station_core clock p a) (hears_keep StationState me station_core clock p a h)
+node_keeps clock p (Station a) me h = of_station (hears station_rules clock p a) (hears_keep me station_rules clock p a h)
   where
-    of_station : (o : Outcome (Side StationState)) → Keeps StationState me o → NodeKeeps me (as_station o)
+    of_station : (o : Outcome StationSide) → Keeps me o → NodeKeeps me (as_station o)
     of_station None k = tt
     of_station (Some d) k = k
 
@@ -238,29 +241,72 @@ hearing_gives clock sent a p me h = by_answer (answer_to (link_of a).key (link_o
     by_answer (TooOld local) = tt
     by_answer TooManyStreams = tt
 
+-- and what is said in reply
+heard_hears : (clock : ℕ) (sent : List Packet) (a : Node) (p : Packet) (me : Stream) → (link_of a).me ≡ me → (es : List NodeEvent) → EachEvent (Hears me) (without_waits (hearing clock sent a p ++ spoken a es))
+heard_hears clock sent a p me h es =
+    subst (EachEvent (Hears me)) (sym (waits_on (hearing clock sent a p) (spoken a es)))
+    (each_on (Hears me) (without_waits (hearing clock sent a p)) (without_waits (spoken a es))
+    (each_maps (Gives me) (Hears me) (λ e g. inl g) (without_waits (hearing clock sent a p)) (hearing_gives clock sent a p me h))
+    (each_maps (Talks me) (Hears me) (λ e g. inr g) (without_waits (spoken a es)) (spoken_talks a me h es)))
+
+-- what a node says in a call of at most one message
+of_talks : (name : Name) (a : Node) → node_of (link_of a).me ≡ name → (o : Outcome Node) → EachEvent (Of name Talks) (without_waits (spoken_in a o))
+of_talks name a is o =
+    each_maps (Talks (link_of a).me) (Of name Talks) (λ e h. record { stream = (link_of a).me; name_is = is; is = h }) (without_waits (spoken_in a o)) (outcome_talks a (link_of a).me refl o)
+
+outcome_one : (name : Name) (a : Node) → node_of (link_of a).me ≡ name → (o : Outcome Node) → length (without_waits (spoken_in a o)) ≤ 1 → AtMostOne (Of name Talks) (without_waits (spoken_in a o))
+outcome_one name a is o few = at_most_one (Of name Talks) (without_waits (spoken_in a o)) (of_talks name a is o) few
+
+asked_one : (name : Name) (a : StationSide) → node_of a.link.me ≡ name → (refused : Option Event) (o : Outcome StationSide) → Few (Station_waits a.link.me) a.link.me 1 o → AtMostOne (Of name Talks) (without_waits (asking a refused o))
+asked_one name a is (Some event) o few = inl refl
+asked_one name a is None o few = outcome_one name (Station a) is (as_station o) (station_few a o 1 few)
+
+beats_few : (clock : ℕ) (a : Node) → length (without_waits (spoken_in a (node_beats clock a))) ≤ 1
+beats_few clock (Drone a) = drone_few a (drone_beats clock a) 1 (sends_few (Drone_waits a.link.me) a.link.me (drone_wait a.link.me) a.core a.services [] refl clock (drone_heartbeat a.services.armed) a.link)
+beats_few clock (Station a) = station_few a (station_beats clock a) 1 (sends_few (Station_waits a.link.me) a.link.me (station_wait a.link.me) a.core a.services [] refl clock station_heartbeat a.link)
+
+ticks_once : (clock : ℕ) (name : Name) (a : Node) → node_of (link_of a).me ≡ name → TicksOnce name (without_waits (moves clock a (ticks a) ++ spoken_in a (node_ticks clock a)))
+ticks_once clock name (Drone a) is = record {
+  stream = a.link.me;
+  name_is = is;
+  later = [];
+  is = inl (ap (λ es. Drone_ticks a.link.me ∷ without_waits es) (drone_ticks_silent clock a));
+  talks = tt;
+  few = omega arith;
+}
+ticks_once clock name (Station a) is = record {
+  stream = a.link.me;
+  name_is = is;
+  later = without_waits (spoken_in (Station a) (node_ticks clock (Station a)));
+  is = inr refl;
+  talks = outcome_talks (Station a) a.link.me refl (node_ticks clock (Station a));
+  few = station_ticks_few clock a;
+}
+
 module _ (number : ℕ) where
-  hears_then_gives : (k : ℕ) (s : WorldState) (a : Node) (p : Packet) (me : Stream) → (link_of a).me ≡ me → (next : WorldState → Node → List Action) → ((t : WorldState) (b : Node) → (link_of b).me ≡ me → EachEvent (Gives me) (main (next t b))) → (o : Outcome Node) → NodeKeeps me o → EachEvent (Gives me) (main (hears_then number s k a p o next))
+  hears_then_gives : (k : ℕ) (s : WorldState) (a : Node) (p : Packet) (me : Stream) → (link_of a).me ≡ me → (next : WorldState → Node → List Action) → ((t : WorldState) (b : Node) → (link_of b).me ≡ me → EachEvent (Hears me) (main (next t b))) → (o : Outcome Node) → NodeKeeps me o → EachEvent (Hears me) (main (hears_then number s k a p o next))
   hears_then_gives k s a p me h next rest None keeps = tt
   hears_then_gives k s a p me h next rest (Some d) keeps =
-      subst (EachEvent (Gives me)) (sym (waits_on (hearing s.clock s.sent a p) (events_of (next (state_with s k d) d.node))))
-      (each_on (Gives me) (without_waits (hearing s.clock s.sent a p)) (main (next (state_with s k d) d.node)) (hearing_gives s.clock s.sent a p me h) (rest (state_with s k d) d.node keeps))
+      let heard : List world.Event = hearing s.clock s.sent a p ++ spoken a d.events in
+      subst (EachEvent (Hears me)) (sym (waits_on heard (events_of (next (state_with s k d) d.node))))
+      (each_on (Hears me) (without_waits heard) (main (next (state_with s k d) d.node)) (heard_hears s.clock s.sent a p me h d.events) (rest (state_with s k d) d.node keeps))
 
-  frames_give : (k : ℕ) (ps : List Packet) (me : Stream) (s : WorldState) (a : Node) → (link_of a).me ≡ me → EachEvent (Gives me) (main (frames_heard number k ps s a))
+  frames_give : (k : ℕ) (ps : List Packet) (me : Stream) (s : WorldState) (a : Node) → (link_of a).me ≡ me → EachEvent (Hears me) (main (frames_heard number k ps s a))
   frames_give k [] me s a h = tt
   frames_give k (p ∷ ps) me s a h =
       hears_then_gives k s a p me h (frames_heard number k ps) (λ t b same. frames_give k ps me t b same) (node_hears s.clock p a) (node_keeps s.clock p a me h)
 
-  datagram_gives : (bytes : List ℕ) (s : WorldState) (k : ℕ) (a : Node) → EachEvent (Gives (link_of a).me) (main (datagram_heard number bytes s k a))
+  datagram_gives : (bytes : List ℕ) (s : WorldState) (k : ℕ) (a : Node) → EachEvent (Hears (link_of a).me) (main (datagram_heard number bytes s k a))
   datagram_gives bytes s k a = frames_give k (frames_of (final_parse (link_of a).extras false bytes)) (link_of a).me s a refl
 
-  datagram_of : (bytes : List ℕ) (s : WorldState) (name : Name) (k : ℕ) (a : Node) → node_of (link_of a).me ≡ name → EachEvent (Of name Gives) (main (datagram_heard number bytes s k a))
+  datagram_of : (bytes : List ℕ) (s : WorldState) (name : Name) (k : ℕ) (a : Node) → node_of (link_of a).me ≡ name → EachEvent (Of name Hears) (main (datagram_heard number bytes s k a))
   datagram_of bytes s name k a is =
-      each_maps (Gives (link_of a).me) (Of name Gives) (λ e h. record { stream = (link_of a).me; name_is = is; is = h }) (main (datagram_heard number bytes s k a)) (datagram_gives bytes s k a)
+      each_maps (Hears (link_of a).me) (Of name Hears) (λ e h. record { stream = (link_of a).me; name_is = is; is = h }) (main (datagram_heard number bytes s k a)) (datagram_gives bytes s k a)
 
   -- ---- flows
 
   abbrev Any : world.Event → Type 0
-  Any e = (me : Stream) × Gives me e
+  Any e = (me : Stream) × Hears me e
 
   next_give : (r : Result Step StepError) (actions : List Action) (next : WorldState → List Action) → EachEvent Any (main actions) → ((t : WorldState) → EachEvent Any (main (next t))) → EachEvent Any (main (and_next r actions next))
   next_give (Ok t) actions next a b = main_on Any actions (next t.state) a (b t.state)
@@ -270,7 +316,7 @@ module _ (number : ℕ) where
   frame_gives s k p None = tt
   frame_gives s k p (Some a) =
       by_test (λ actions. EachEvent Any (main actions)) (same_name (node_name a) p.from) _ _ (λ _. tt)
-      (λ _. each_maps (Gives (link_of a).me) Any (λ e h. ((link_of a).me, h)) (main (datagram_heard number (encoding p) s k a)) (datagram_gives (encoding p) s k a))
+      (λ _. each_maps (Hears (link_of a).me) Any (λ e h. ((link_of a).me, h)) (main (datagram_heard number (encoding p) s k a)) (datagram_gives (encoding p) s k a))
 
   row_gives : (s : WorldState) (k count : ℕ) (p : Packet) → EachEvent Any (main (row_given number s k count p))
   row_gives s k zero p = tt
@@ -288,9 +334,9 @@ module _ (number : ℕ) where
   flow_gives zero s = tt
   flow_gives (suc k) s = flown_gives s (slice_get s.sent s.given) (flow_actions number k) (λ t. flow_gives k t)
 
-  delivered_gives : (s : WorldState) (which : ℕ) (name : Name) (o : Option Packet) → EachEvent (Of name Gives) (main (delivered number s which name o))
+  delivered_gives : (s : WorldState) (which : ℕ) (name : Name) (o : Option Packet) → EachEvent (Of name Hears) (main (delivered number s which name o))
   delivered_gives s which name None = tt
-  delivered_gives s which name (Some p) = at_node_has (EachEvent (Of name Gives)) s name (datagram_heard number (encoding p)) tt (λ k a is. datagram_of (encoding p) s name k a is)
+  delivered_gives s which name (Some p) = at_node_has (EachEvent (Of name Hears)) s name (datagram_heard number (encoding p)) tt (λ k a is. datagram_of (encoding p) s name k a is)
 
   -- ---- each line
 
@@ -336,31 +382,39 @@ module _ (number : ℕ) where
       let h : AtMostOne P (e ∷ []) = one P e (record { stream = a.link.me; name_is = is; is = refl }) in
       acts_one (AtMostOne P) number (ordering s.clock a (refusal a.core) e) (accepted (refusal a.core) (Accepts_get a.link.me (stream_of drone) (number_of kind))) (orders from k a (refusal a.core) (station_gets s.clock (stream_of drone) (number_of kind) a)) (inl refl)
       (ordering_one (AtMostOne P) s.clock a (refusal a.core) e h h))
-  every_cause s (line.Heartbeat node) =
-      let P : world.Event → Type 0 = Of node (λ me e. e ≡ Speaks me) in
-      at_node_has (AtMostOne P) s node (beaten number) (inl refl)
+  every_cause s (line.Command station drone which word) =
+      let from : WorldState = station_line s in
+      to_station_has (AtMostOne (Of station Talks)) from station (command_at number from drone which word) (inl refl)
       (λ k a is.
-      acts_one (AtMostOne P) number (moves s.clock a (Speaks (link_of a).me)) [] (node_does s k (node_name a) (node_beats s.clock a)) (inl refl)
-      (beats P a (record { stream = (link_of a).me; name_is = is; is = refl })))
-    where
-      beats : (P : world.Event → Type 0) (a : Node) → P (Speaks (link_of a).me) → AtMostOne P (without_waits (moves s.clock a (Speaks (link_of a).me)))
-      beats P (Drone a) h = one P (Speaks a.link.me) h
-      beats P (Station a) h = one P (Speaks a.link.me) h
+      let refused : Option Event = command_busy (node_of a.link.me) (open_command a.services.commander) in
+      let outcome : Outcome StationSide = station_commands s.clock (stream_of drone) which word a in
+      acts_one (AtMostOne (Of station Talks)) number (asking a refused outcome) [] (asks from k a refused outcome) (inl refl)
+      (asked_one station a is refused outcome (commands_few s.clock (stream_of drone) which word a)))
+  every_cause s (line.Params station drone) =
+      let from : WorldState = station_line s in
+      to_station_has (AtMostOne (Of station Talks)) from station (params_at number from drone) (inl refl)
+      (λ k a is.
+      let refused : Option Event = params_busy (node_of a.link.me) a.services.client.operation in
+      let outcome : Outcome StationSide = station_lists_params s.clock (stream_of drone) a in
+      acts_one (AtMostOne (Of station Talks)) number (asking a refused outcome) [] (asks from k a refused outcome) (inl refl)
+      (asked_one station a is refused outcome (params_few s.clock (stream_of drone) a)))
+  every_cause s (line.Heartbeat node) =
+      at_node_has (AtMostOne (Of node Talks)) s node (beaten number) (inl refl)
+      (λ k a is.
+      acts_one (AtMostOne (Of node Talks)) number (spoken_in a (node_beats s.clock a)) [] (node_does s k (node_name a) (node_beats s.clock a)) (inl refl)
+      (outcome_one node a is (node_beats s.clock a) (beats_few s.clock a)))
   every_cause s (line.Deliver which node) = delivered_gives s which node (slice_get s.sent (which - 1))
   every_cause s (line.Flow k) = flow_gives k s
-  every_cause s (line.Noise node bytes) = at_node_has (EachEvent (Of node Gives)) s node (datagram_heard number bytes) tt (λ k a is. datagram_of bytes s node k a is)
+  every_cause s (line.Noise node bytes) = at_node_has (EachEvent (Of node Hears)) s node (datagram_heard number bytes) tt (λ k a is. datagram_of bytes s node k a is)
   every_cause s (line.Tick node) =
-      let P : world.Event → Type 0 = Of node (λ me e. (e ≡ Drone_ticks me) ⊎ (e ≡ Station_ticks me)) in
-      at_node_has (AtMostOne P) s node (ticked number) (inl refl)
-      (λ k a is. acts_one (AtMostOne P) number (moves s.clock a (ticks a)) [] (node_does s k (node_name a) (node_ticks s.clock a)) (inl refl) (ticking a is))
-    where
-      ticking : (a : Node) → node_of (link_of a).me ≡ node → AtMostOne (Of node (λ me e. (e ≡ Drone_ticks me) ⊎ (e ≡ Station_ticks me))) (without_waits (moves s.clock a (ticks a)))
-      ticking (Drone a) is = inr (Drone_ticks a.link.me, refl, record { stream = a.link.me; name_is = is; is = inl refl })
-      ticking (Station a) is = inr (Station_ticks a.link.me, refl, record { stream = a.link.me; name_is = is; is = inr refl })
+      at_node_has (λ es. (es ≡ []) ⊎ TicksOnce node es) s node (ticked number) (inl refl)
+      (λ k a is.
+      acts_one (λ es. (es ≡ []) ⊎ TicksOnce node es) number (moves s.clock a (ticks a) ++ spoken_in a (node_ticks s.clock a)) [] (node_does s k (node_name a) (node_ticks s.clock a)) (inl refl)
+      (inr (ticks_once s.clock node a is)))
   every_cause s (line.Clock n) = refl
   every_cause s (line.Restart drone) = to_drone_has (λ es. (es ≡ []) ⊎ StartsAgain drone es) number (restart_line s) drone (inl refl) (λ k a is. inr (starting (restart_line s) drone k a is))
     where
-      starting : (t : WorldState) (name : Name) (k : ℕ) (a : Side DroneState) → node_of a.link.me ≡ name → StartsAgain name (main (restarted number t k a))
+      starting : (t : WorldState) (name : Name) (k : ℕ) (a : DroneSide) → node_of a.link.me ≡ name → StartsAgain name (main (restarted number t k a))
       starting t name k a is = record {
         stream = a.link.me;
         name_is = is;
@@ -369,8 +423,11 @@ module _ (number : ℕ) where
         is = refl;
         beats =
             let P : world.Event → Type 0 = λ e. (me : Stream) × (e ≡ Speaks me) in
-            let b : Side DroneState = restarted_drone t.key a in
-            acts_one (AtMostOne P) number (moves t.clock (Drone b) (Speaks b.link.me)) [] (node_does (restarted_at t k a) k (node_name (Drone b)) (node_beats t.clock (Drone b))) (inl refl) (one P (Speaks b.link.me) (b.link.me, refl));
+            let b : DroneSide = restarted_drone t.key a in
+            acts_one (AtMostOne P) number (spoken_in (Drone b) (node_beats t.clock (Drone b))) [] (node_does (restarted_at t k a) k (node_name (Drone b)) (node_beats t.clock (Drone b))) (inl refl)
+            (at_most_one P (without_waits (spoken_in (Drone b) (node_beats t.clock (Drone b))))
+            (each_maps (Talks b.link.me) P (λ e h. (b.link.me, h)) (without_waits (spoken_in (Drone b) (node_beats t.clock (Drone b)))) (outcome_talks (Drone b) b.link.me refl (node_beats t.clock (Drone b))))
+            (beats_few t.clock (Drone b)));
       }
 
   -- ---- a sent frame is heard alone, so that it comes once
@@ -399,19 +456,43 @@ module _ (number : ℕ) where
       by_answer (TooOld local) = inl refl
       by_answer TooManyStreams = inl refl
 
-  one_heard : (k : ℕ) (s : WorldState) (a : Node) (p : Packet) (name : Name) → node_of (link_of a).me ≡ name → (o : Outcome Node) → AtMostOne (Of name Gives) (main (hears_then number s k a p o (λ t b. [])))
-  one_heard k s a p name is None = inl refl
-  one_heard k s a p name is (Some d) = subst (λ es. AtMostOne (Of name Gives) (without_waits es)) (sym (append-nil (hearing s.clock s.sent a p))) (hearing_one s.clock s.sent a p name is)
+  -- and if it is of the mission protocol, nothing is said
+  hears_one : (clock : ℕ) (sent : List Packet) (a : Node) (p : Packet) (name : Name) → node_of (link_of a).me ≡ name → HearsOne name (without_waits (hearing clock sent a p ++ spoken_in a (node_hears clock p a)))
+  hears_one clock sent a p name is = by_plan (plan_in p.id p.payload) refl
+    where
+      -- the frame as an event
+      comes : Option PlanMsg → List world.Event
+      comes o = if_admitted (answer_to (link_of a).key (link_of a).history p) (if_plan o (if_sent (index_of (encoding p) sent) (λ index. moves clock a (comes_to a index))))
+
+      nothing : (answer : Admit) → if_admitted answer [] ≡ []
+      nothing Admitted = refl
+      nothing Unsigned = refl
+      nothing BadSignature = refl
+      nothing (BelowFloor floor) = refl
+      nothing (NotLater last) = refl
+      nothing (TooOld local) = refl
+      nothing TooManyStreams = refl
+
+      by_plan : (o : Option PlanMsg) → plan_in p.id p.payload ≡ o → HearsOne name (without_waits (hearing clock sent a p ++ spoken_in a (node_hears clock p a)))
+      by_plan None e =
+          let alone : hearing clock sent a p ≡ [] = ap comes e ∙ nothing (answer_to (link_of a).key (link_of a).history p) in
+          inr (subst (λ es. EachEvent (Of name Talks) (without_waits (es ++ spoken_in a (node_hears clock p a)))) (sym alone) (of_talks name a is (node_hears clock p a)))
+      by_plan (Some m) e =
+          inl (subst (λ es. AtMostOne (Of name Gives) (without_waits es)) (sym (ap (λ r. hearing clock sent a p ++ r) (plan_silent clock a p m e) ∙ append-nil (hearing clock sent a p))) (hearing_one clock sent a p name is))
+
+  one_heard : (k : ℕ) (s : WorldState) (a : Node) (p : Packet) (name : Name) → (o : Outcome Node) → HearsOne name (without_waits (hearing s.clock s.sent a p ++ spoken_in a o)) → HearsOne name (main (hears_then number s k a p o (λ t b. [])))
+  one_heard k s a p name None h = inl (inl refl)
+  one_heard k s a p name (Some d) h = subst (λ es. HearsOne name (without_waits es)) (sym (append-nil (hearing s.clock s.sent a p ++ spoken a d.events))) h
 
   module _ (s : WorldState) (sound : Sound s) where
-    delivered_one : (which : ℕ) (name : Name) (i : ℕ) (o : Option Packet) → slice_get s.sent i ≡ o → AtMostOne (Of name Gives) (main (delivered number s which name o))
-    delivered_one which name i None e = inl refl
+    delivered_one : (which : ℕ) (name : Name) (i : ℕ) (o : Option Packet) → slice_get s.sent i ≡ o → HearsOne name (main (delivered number s which name o))
+    delivered_one which name i None e = inl (inl refl)
     delivered_one which name i (Some p) e =
-        at_placed_node (AtMostOne (Of name Gives)) s name (datagram_heard number (encoding p)) (inl refl)
+        at_placed_node (HearsOne name) s name (datagram_heard number (encoding p)) (inl (inl refl))
         (λ k a there is.
         let alone : frames_of (final_parse (link_of a).extras false (encoding p)) ≡ p ∷ [] =
         ap (λ extras. frames_of (final_parse extras false (encoding p))) (sound.links k a there).extras ∙ (heard_is s sound p (sound.sent i p e)).frames in
-        subst (λ ps. AtMostOne (Of name Gives) (main (frames_heard number k ps s a))) (sym alone) (one_heard k s a p name is (node_hears s.clock p a)))
+        subst (λ ps. HearsOne name (main (frames_heard number k ps s a))) (sym alone) (one_heard k s a p name (node_hears s.clock p a) (hears_one s.clock s.sent a p name is)))
 
-    pub every_delivery : (which : ℕ) (node : Name) → AtMostOne (Of node Gives) (main (calls_of number s (line.Deliver which node)))
+    pub every_delivery : (which : ℕ) (node : Name) → HearsOne node (main (calls_of number s (line.Deliver which node)))
     every_delivery which node = delivered_one which node (which - 1) (slice_get s.sent (which - 1)) refl

@@ -1,24 +1,23 @@
 -- The frames of a datagram, one after another, at one node.
 use Rattle.std.proofs.Common.{false, ◌≡◌, ℕ, suc, List, [], ◌∷◌, ◌++◌, length, slice_get, slice_set, Some, None, refl, sym, ap, subst, ◌∙◌, length-append}
 use Rattle.std.proofs.lemmas.List.{append_assoc, append-nil}
-use Rattle.plan_upload.specs.Drone.{DroneState}
-use Rattle.plan_upload.specs.Station.{StationState}
 use Rattle.plan_safety.specs.World as world
-use Rattle.plan_safety.specs.World.{Nodes, Distinct, World}
+use Rattle.plan_safety.specs.World.{Nodes, Distinct, World, Drone_waits, Station_waits}
 use Rattle.plan_safety.specs.History.{final}
 use Rattle.mav_frame.specs.Packet.{Packet}
 use Rattle.mav_frame.specs.FinalParse.{final_parse}
 use Rattle.mav_sign.specs.Signing.{Verifies}
 use Rattle.mav_sign.specs.Endpoints.{frames_of}
+use Rattle.mav_nodes.specs.News.{NodeEvent}
 use Rattle.mav_nodes.specs.Links.{Done, Outcome, done}
 use Rattle.mav_nodes.specs.Links as links
-use Rattle.mav_nodes.specs.Steps.{Side, hears, hears_all}
-use Rattle.mav_nodes.specs.Nodes.{drone_core, station_core}
+use Rattle.mav_nodes.specs.Steps.{hears, hears_all}
+use Rattle.mav_nodes.specs.Nodes.{DroneSide, StationSide, drone_rules, station_rules}
 use Rattle.fleet_world.specs.WorldState.{WorldState, Node, Drone, Station, node_name}
 use Rattle.fleet_world.specs.Steps.{packets_in, reported_by, as_drone, as_station, node_receives}
 use Rattle.fleet_invariants.specs.Sound.{link_of}
 use Rattle.fleet_invariants.specs.Kept.{AllRead}
-use Rattle.fleet_safety.specs.Actions.{Action, Order, node_hears, state_with, hearing, hears_then, frames_heard}
+use Rattle.fleet_safety.specs.Actions.{Action, Order, spoken, spoken_in, node_hears, state_with, hearing, hears_then, frames_heard}
 use Rattle.fleet_safety.specs.Safe.{events_of, report_of}
 use Rattle.fleet_safety.proofs.Lists.{set_there, set_twice, set_same}
 use Rattle.fleet_safety.proofs.Frames.{IsFirst, first_more}
@@ -26,18 +25,26 @@ use Rattle.fleet_safety.proofs.Names.{same_role, role_name, role_on}
 use Rattle.fleet_safety.proofs.Reports.{final_on, reported_by_on, packets_on}
 use Rattle.fleet_safety.proofs.Follows.{Follows}
 use Rattle.fleet_safety.proofs.Sendings.{read_first, read_second}
+use Rattle.fleet_safety.proofs.Spoken.{said}
 use Rattle.fleet_safety.proofs.Fits.{Fits, Alike, Led, Leads}
 use Rattle.fleet_safety.proofs.Drones as drones
 use Rattle.fleet_safety.proofs.Stations as stations
 
--- an outcome of a drone or a station as one of a node
-pub drone_outcome : (n : Nodes) (clock : ℕ) (nodes : List Node) (sent : List Packet) (w : World) (k : ℕ) (a : Node) (o : Outcome (Side DroneState)) (es : List world.Event) (os : List Order) → Leads n clock nodes sent w k a Drone o es os → Leads n clock nodes sent w k a (λ x. x) (as_drone o) es os
-drone_outcome n clock nodes sent w k a None es os h = tt
-drone_outcome n clock nodes sent w k a (Some d) es os h = h
-
-pub station_outcome : (n : Nodes) (clock : ℕ) (nodes : List Node) (sent : List Packet) (w : World) (k : ℕ) (a : Node) (o : Outcome (Side StationState)) (es : List world.Event) (os : List Order) → Leads n clock nodes sent w k a Station o es os → Leads n clock nodes sent w k a (λ x. x) (as_station o) es os
+-- an outcome of a station as one of a node
+pub station_outcome : (n : Nodes) (clock : ℕ) (nodes : List Node) (sent : List Packet) (w : World) (k : ℕ) (a : Node) (o : Outcome StationSide) (es : List world.Event) (os : List Order) → Leads n clock nodes sent w k a Station o es os → Leads n clock nodes sent w k a (λ x. x) (as_station o) es os
 station_outcome n clock nodes sent w k a None es os h = tt
 station_outcome n clock nodes sent w k a (Some d) es os h = h
+
+-- and what is said in it
+pub drone_saying : (n : Nodes) (clock : ℕ) (nodes : List Node) (sent : List Packet) (w : World) (k : ℕ) (a : DroneSide) (o : Outcome DroneSide) (es : List world.Event) (os : List Order) → Leads n clock nodes sent w k (Drone a) Drone o (es ++ said (Drone_waits a.link.me) a.link.me o) os
+    → Leads n clock nodes sent w k (Drone a) (λ x. x) (as_drone o) (es ++ spoken_in (Drone a) (as_drone o)) os
+drone_saying n clock nodes sent w k a None es os h = tt
+drone_saying n clock nodes sent w k a (Some d) es os h = h
+
+pub station_saying : (n : Nodes) (clock : ℕ) (nodes : List Node) (sent : List Packet) (w : World) (k : ℕ) (a : StationSide) (o : Outcome StationSide) (es : List world.Event) (os : List Order) → Leads n clock nodes sent w k (Station a) Station o (es ++ said (Station_waits a.link.me) a.link.me o) os
+    → Leads n clock nodes sent w k (Station a) (λ x. x) (as_station o) (es ++ spoken_in (Station a) (as_station o)) os
+station_saying n clock nodes sent w k a None es os h = tt
+station_saying n clock nodes sent w k a (Some d) es os h = h
 
 -- each frame that verifies was sent
 abbrev pub EachKnown : List ℕ → List Packet → List Packet → Type 0
@@ -58,29 +65,29 @@ abbrev pub node_hears_all : ℕ → List Packet → Node → Outcome Node
 node_hears_all clock [] a = done a []
 node_hears_all clock (p ∷ ps) a = links.and_then (node_hears clock p a) (node_hears_all clock ps)
 
-drone_then : (o : Outcome (Side DroneState)) (next : Side DroneState → Outcome (Side DroneState)) (after : Node → Outcome Node) → ((b : Side DroneState) → as_drone (next b) ≡ after (Drone b)) → as_drone (links.and_then o next) ≡ links.and_then (as_drone o) after
+drone_then : (o : Outcome DroneSide) (next : DroneSide → Outcome DroneSide) (after : Node → Outcome Node) → ((b : DroneSide) → as_drone (next b) ≡ after (Drone b)) → as_drone (links.and_then o next) ≡ links.and_then (as_drone o) after
 drone_then None next after same = refl
 drone_then (Some d) next after same = behind_is (next d.node) ∙ ap (links.behind d.events) (same d.node)
   where
-    behind_is : (o : Outcome (Side DroneState)) → as_drone (links.behind d.events o) ≡ links.behind d.events (as_drone o)
+    behind_is : (o : Outcome DroneSide) → as_drone (links.behind d.events o) ≡ links.behind d.events (as_drone o)
     behind_is None = refl
     behind_is (Some e) = refl
 
-station_then : (o : Outcome (Side StationState)) (next : Side StationState → Outcome (Side StationState)) (after : Node → Outcome Node) → ((b : Side StationState) → as_station (next b) ≡ after (Station b)) → as_station (links.and_then o next) ≡ links.and_then (as_station o) after
+station_then : (o : Outcome StationSide) (next : StationSide → Outcome StationSide) (after : Node → Outcome Node) → ((b : StationSide) → as_station (next b) ≡ after (Station b)) → as_station (links.and_then o next) ≡ links.and_then (as_station o) after
 station_then None next after same = refl
 station_then (Some d) next after same = behind_is (next d.node) ∙ ap (links.behind d.events) (same d.node)
   where
-    behind_is : (o : Outcome (Side StationState)) → as_station (links.behind d.events o) ≡ links.behind d.events (as_station o)
+    behind_is : (o : Outcome StationSide) → as_station (links.behind d.events o) ≡ links.behind d.events (as_station o)
     behind_is None = refl
     behind_is (Some e) = refl
 
-drone_all : (clock : ℕ) (ps : List Packet) (a : Side DroneState) → as_drone (hears_all drone_core clock ps a) ≡ node_hears_all clock ps (Drone a)
+drone_all : (clock : ℕ) (ps : List Packet) (a : DroneSide) → as_drone (hears_all drone_rules clock ps a) ≡ node_hears_all clock ps (Drone a)
 drone_all clock [] a = refl
-drone_all clock (p ∷ ps) a = drone_then (hears drone_core clock p a) (hears_all drone_core clock ps) (node_hears_all clock ps) (drone_all clock ps)
+drone_all clock (p ∷ ps) a = drone_then (hears drone_rules clock p a) (hears_all drone_rules clock ps) (node_hears_all clock ps) (drone_all clock ps)
 
-station_all : (clock : ℕ) (ps : List Packet) (a : Side StationState) → as_station (hears_all station_core clock ps a) ≡ node_hears_all clock ps (Station a)
+station_all : (clock : ℕ) (ps : List Packet) (a : StationSide) → as_station (hears_all station_rules clock ps a) ≡ node_hears_all clock ps (Station a)
 station_all clock [] a = refl
-station_all clock (p ∷ ps) a = station_then (hears station_core clock p a) (hears_all station_core clock ps) (node_hears_all clock ps) (station_all clock ps)
+station_all clock (p ∷ ps) a = station_then (hears station_rules clock p a) (hears_all station_rules clock ps) (node_hears_all clock ps) (station_all clock ps)
 
 pub receives_is : (clock : ℕ) (bytes : List ℕ) (a : Node) → node_receives clock bytes a ≡ node_hears_all clock (frames_of (final_parse (link_of a).extras false bytes)) a
 receives_is clock bytes (Drone a) = drone_all clock (frames_of (final_parse a.link.extras false bytes)) a
@@ -100,12 +107,19 @@ HearsAll n s w k a actions None = Unit {0}
 HearsAll n s w k a actions (Some d) = AllRead d.events → HeardAll n s w k a actions d
 
 module _ (number : ℕ) (n : Nodes) (distinct : Distinct n) (k : ℕ) where
+  -- a frame, and what is said in reply
+  abbrev heard : ℕ → List Packet → Node → Packet → List NodeEvent → List world.Event
+  heard clock sent a p es = hearing clock sent a p ++ spoken a es
+
+  abbrev heard_in : ℕ → List Packet → Node → Packet → Outcome Node → List world.Event
+  heard_in clock sent a p o = hearing clock sent a p ++ spoken_in a o
+
   -- one frame
-  frame_leads : (clock : ℕ) (nodes : List Node) (sent : List Packet) (w : World) → Fits n clock nodes sent w → (a : Node) → slice_get nodes k ≡ Some a → (p : Packet) → (Verifies (link_of a).key p p.block → IsFirst sent p) → Leads n clock nodes sent w k a (λ x. x) (node_hears clock p a) (hearing clock sent a p) []
+  frame_leads : (clock : ℕ) (nodes : List Node) (sent : List Packet) (w : World) → Fits n clock nodes sent w → (a : Node) → slice_get nodes k ≡ Some a → (p : Packet) → (Verifies (link_of a).key p p.block → IsFirst sent p) → Leads n clock nodes sent w k a (λ x. x) (node_hears clock p a) (heard_in clock sent a p (node_hears clock p a)) []
   frame_leads clock nodes sent w fits (Drone a) there p known =
-      drone_outcome n clock nodes sent w k (Drone a) (hears drone_core clock p a) (hearing clock sent (Drone a) p) [] (drones.frame_leads n distinct clock nodes sent w fits k a there p known)
+      drone_saying n clock nodes sent w k a (hears drone_rules clock p a) (hearing clock sent (Drone a) p) [] (drones.frame_leads n distinct clock nodes sent w fits k a there p known)
   frame_leads clock nodes sent w fits (Station a) there p known =
-      station_outcome n clock nodes sent w k (Station a) (hears station_core clock p a) (hearing clock sent (Station a) p) [] (stations.frame_leads n distinct clock nodes sent w fits k a there p known)
+      station_saying n clock nodes sent w k a (hears station_rules clock p a) (hearing clock sent (Station a) p) [] (stations.frame_leads n distinct clock nodes sent w fits k a there p known)
 
   -- nothing
   no_frame : (s : WorldState) (w : World) (a : Node) → Fits n s.clock s.nodes s.sent w → slice_get s.nodes k ≡ Some a → HeardAll n s w k a [] (record { node = a; events = [] })
@@ -117,9 +131,9 @@ module _ (number : ℕ) (n : Nodes) (distinct : Distinct n) (k : ℕ) where
   }
 
   -- one frame and then others
-  module _ (s : WorldState) (w : World) (a : Node) (p : Packet) (d : Done Node) (first : Led n s.clock s.nodes s.sent w k a d (hearing s.clock s.sent a p) []) (actions : List Action) (e : Done Node) (second : HeardAll n (state_with s k d) (final n w (hearing s.clock s.sent a p)) k d.node actions e) where
+  module _ (s : WorldState) (w : World) (a : Node) (p : Packet) (d : Done Node) (first : Led n s.clock s.nodes s.sent w k a d (heard s.clock s.sent a p d.events) []) (actions : List Action) (e : Done Node) (second : HeardAll n (state_with s k d) (final n w (heard s.clock s.sent a p d.events)) k d.node actions e) where
     abbrev action : Action
-    action = record { number = number; events = hearing s.clock s.sent a p; orders = []; report = reported_by (node_name a) (length s.sent) d.events; state = state_with s k d }
+    action = record { number = number; events = heard s.clock s.sent a p d.events; orders = []; report = reported_by (node_name a) (length s.sent) d.events; state = state_with s k d }
 
     join : HeardAll n s w k a (action ∷ actions) (record { node = e.node; events = d.events ++ e.events })
     join = record {
@@ -134,12 +148,12 @@ module _ (number : ℕ) (n : Nodes) (distinct : Distinct n) (k : ℕ) where
       fits =
           subst (λ ns. Fits n s.clock ns (s.sent ++ packets_in (d.events ++ e.events)) (final n w (events_of (action ∷ actions)))) (set_twice s.nodes k d.node e.node)
           (subst (λ ps. Fits n s.clock (slice_set (slice_set s.nodes k d.node) k e.node) ps (final n w (events_of (action ∷ actions)))) (append_assoc s.sent (packets_in d.events) (packets_in e.events) ∙ ap (λ ps. s.sent ++ ps) (sym (packets_on d.events e.events)))
-          (subst (Fits n s.clock (slice_set (slice_set s.nodes k d.node) k e.node) ((s.sent ++ packets_in d.events) ++ packets_in e.events)) (sym (final_on n w (hearing s.clock s.sent a p) (events_of actions))) second.fits));
+          (subst (Fits n s.clock (slice_set (slice_set s.nodes k d.node) k e.node) ((s.sent ++ packets_in d.events) ++ packets_in e.events)) (sym (final_on n w (heard s.clock s.sent a p d.events) (events_of actions))) second.fits));
     }
 
   -- what the first frame leads to, and then the others
-  then_hear : (s : WorldState) (w : World) (a : Node) (p : Packet) (o : Outcome Node) (next : WorldState → Node → List Action) (after : Node → Outcome Node) → Leads n s.clock s.nodes s.sent w k a (λ x. x) o (hearing s.clock s.sent a p) []
-      → ((d : Done Node) → Led n s.clock s.nodes s.sent w k a d (hearing s.clock s.sent a p) [] → HearsAll n (state_with s k d) (final n w (hearing s.clock s.sent a p)) k d.node (next (state_with s k d) d.node) (after d.node))
+  then_hear : (s : WorldState) (w : World) (a : Node) (p : Packet) (o : Outcome Node) (next : WorldState → Node → List Action) (after : Node → Outcome Node) → Leads n s.clock s.nodes s.sent w k a (λ x. x) o (heard_in s.clock s.sent a p o) []
+      → ((d : Done Node) → Led n s.clock s.nodes s.sent w k a d (heard s.clock s.sent a p d.events) [] → HearsAll n (state_with s k d) (final n w (heard s.clock s.sent a p d.events)) k d.node (next (state_with s k d) d.node) (after d.node))
       → HearsAll n s w k a (hears_then number s k a p o next) (links.and_then o after)
   then_hear s w a p None next after l m = tt
   then_hear s w a p (Some d) next after l m = behind_hears (after d.node) refl
@@ -147,14 +161,14 @@ module _ (number : ℕ) (n : Nodes) (distinct : Distinct n) (k : ℕ) where
       behind_hears : (o : Outcome Node) → after d.node ≡ o → HearsAll n s w k a (hears_then number s k a p (Some d) next) (links.behind d.events o)
       behind_hears None is = tt
       behind_hears (Some e) is = λ reads.
-          let first : Led n s.clock s.nodes s.sent w k a d (hearing s.clock s.sent a p) [] = l (read_first d.events e.events reads) in
+          let first : Led n s.clock s.nodes s.sent w k a d (heard s.clock s.sent a p d.events) [] = l (read_first d.events e.events reads) in
           join s w a p d first (next (state_with s k d) d.node) e
-          (subst (HearsAll n (state_with s k d) (final n w (hearing s.clock s.sent a p)) k d.node (next (state_with s k d) d.node)) is (m d first) (read_second d.events e.events reads))
+          (subst (HearsAll n (state_with s k d) (final n w (heard s.clock s.sent a p d.events)) k d.node (next (state_with s k d) d.node)) is (m d first) (read_second d.events e.events reads))
 
   pub frames_hear : (ps : List Packet) (s : WorldState) (w : World) (a : Node) → Fits n s.clock s.nodes s.sent w → slice_get s.nodes k ≡ Some a → EachKnown (link_of a).key s.sent ps → HearsAll n s w k a (frames_heard number k ps s a) (node_hears_all s.clock ps a)
   frames_hear [] s w a fits there known = λ _. no_frame s w a fits there
   frames_hear (p ∷ ps) s w a fits there known =
       then_hear s w a p (node_hears s.clock p a) (frames_heard number k ps) (node_hears_all s.clock ps) (frame_leads s.clock s.nodes s.sent w fits a there p known.0)
-      (λ d first. frames_hear ps (state_with s k d) (final n w (hearing s.clock s.sent a p)) d.node first.fits
+      (λ d first. frames_hear ps (state_with s k d) (final n w (heard s.clock s.sent a p d.events)) d.node first.fits
       (set_there s.nodes k a d.node there)
       (subst (λ key. EachKnown key (s.sent ++ packets_in d.events) ps) first.alike.key (known_more (link_of a).key s.sent (packets_in d.events) ps known.1)))

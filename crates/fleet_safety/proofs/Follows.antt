@@ -1,13 +1,12 @@
 -- What is shown of each action, one after another.
 use Rattle.std.proofs.Common.{◌≡◌, ℕ, List, [], ◌∷◌, ◌++◌, slice_get, Some, refl, sym, ap, subst, ◌∙◌}
+use Rattle.mav_nodes.specs.Nodes.{DroneSide}
 use Rattle.std.proofs.lemmas.List.{append_assoc, append-nil}
-use Rattle.plan_upload.specs.Drone.{DroneState}
 use Rattle.plan_safety.specs.World as world
 use Rattle.plan_safety.specs.World.{Nodes, World, happens}
 use Rattle.plan_safety.specs.Frames.{Frame}
 use Rattle.plan_safety.specs.Store.{StoreEvent}
 use Rattle.plan_safety.specs.History.{Step, step, steps_of, final, history}
-use Rattle.mav_nodes.specs.Steps.{Side}
 use Rattle.fleet_world.specs.WorldState.{WorldState, Drone}
 use Rattle.fleet_safety.specs.Reporting.{seen, reported}
 use Rattle.fleet_safety.specs.Actions.{Action}
@@ -19,7 +18,7 @@ use Rattle.fleet_safety.proofs.Own.{Own}
 pub record Acts (n : Nodes) (w : World) (a : Action) : Type 0 where
   pub report : seen a.report ≡ reported n w a.events
   pub own : Own n w a.events a.orders
-  pub drones : (index : ℕ) (d : Side DroneState) → slice_get a.state.nodes index ≡ Some (Drone d) → ((final n w a.events).drone d.link.me).state ≡ d.core
+  pub drones : (index : ℕ) (d : DroneSide) → slice_get a.state.nodes index ≡ Some (Drone d) → ((final n w a.events).drone d.link.me).state ≡ d.core
 
 abbrev pub Follows : Nodes → World → List Action → Type 0
 Follows n w [] = Unit {0}

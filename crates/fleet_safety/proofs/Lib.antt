@@ -8,6 +8,8 @@ pub mod StoreLines
 pub mod Own
 pub mod Fits
 pub mod Follows
+pub mod Services
+pub mod Spoken
 pub mod Begun
 pub mod Sendings
 pub mod Drones
@@ -19,4 +21,5 @@ pub mod Restarting
 pub mod Lines
 pub mod Plays
 pub mod ReportedLines
+pub mod Talks
 pub mod Caused

@@ -8,6 +8,7 @@ use Rattle.plan_safety.proofs.Keys.{by_test}
 use Rattle.plan_ranges.specs.Ranges.{Is8}
 use Rattle.plan_ranges.proofs.DroneRanges as drone_ranges
 use Rattle.plan_ranges.proofs.StationRanges as station_ranges
+use Rattle.mav_nodes.specs.Services.{Home}
 use Rattle.mav_nodes.specs.Nodes.{new_drone, new_station}
 use Rattle.scenario_lines.specs.declared.faults.Reason.{Reason}
 use Rattle.scenario_lines.specs.declared.faults.Reason.TheVariants.{Twice}
@@ -17,7 +18,7 @@ use Rattle.scenario_lines.specs.LineContext.{has_name}
 use Rattle.scenario_lines.specs.Grammar.{against}
 use Rattle.scenario_lines.specs.Permits.{IsPermitted}
 use Rattle.fleet_world.specs.WorldState.{WorldState, Node, Drone, Station, node_name, stream_of, names_of, context_of, drones_in, stations_in}
-use Rattle.fleet_world.specs.Steps.{Step, StepError, node_ticks, node_beats, node_receives, rests, joins, station_line, begins, cancels, clears, gets, calls, delivers, flows, after_line, items_from, most_drones, most_stations, most_restarts, starts_again, restart_line}
+use Rattle.fleet_world.specs.Steps.{Step, StepError, node_ticks, node_beats, node_receives, rests, joins, station_line, begins, cancels, clears, gets, commands, lists_params, calls, delivers, flows, after_line, items_from, most_drones, most_stations, most_restarts, starts_again, restart_line}
 use Rattle.fleet_world.specs.Authentic.{AuthenticLine}
 use Rattle.fleet_invariants.proofs.Restated.{sound_restated}
 use Rattle.fleet_invariants.specs.Sound.{Sound}
@@ -30,7 +31,7 @@ use Rattle.fleet_safety.proofs.Times.{KeepsTime, first_keeps}
 use Rattle.fleet_safety.proofs.Fits.{Stands, Fits, clock_fits}
 use Rattle.fleet_safety.proofs.States.{StateLeads, state_maps, state_rests, Goes, bytes_lead, calls_lead, delivers_lead, flows_lead}
 use Rattle.fleet_safety.proofs.Restarting.{restart_leads}
-use Rattle.fleet_safety.proofs.Orders.{ticks_lead, beats_lead, begins_lead, cancels_lead, clears_lead, gets_lead}
+use Rattle.fleet_safety.proofs.Orders.{ticks_lead, beats_lead, begins_lead, cancels_lead, clears_lead, gets_lead, commands_lead, params_lead}
 
 -- after a line: its nodes are those before and perhaps one more, and if the fleet has them, the state fits the world
 pub record Done (n : Nodes) (s t : WorldState) (v : World) : Type 0 where
@@ -72,10 +73,10 @@ module _ (number : ℕ) (n : Nodes) (distinct : Distinct n) (every_call : EveryC
         reached = fits.reached;
       }
 
-  drone_joins : (sys : ℕ) → Is8 sys → has_name (names_of s.nodes) (record { sys = sys; comp = 1 }) ≡ false → StateLeads n w (Done n s) (joins s (Drone (new_drone s.key sys))) []
-  drone_joins sys small none =
+  drone_joins : (sys : ℕ) (home : Home) → Is8 sys → has_name (names_of s.nodes) (record { sys = sys; comp = 1 }) ≡ false → StateLeads n w (Done n s) (joins s (Drone (new_drone s.key sys home))) []
+  drone_joins sys home small none =
       let fresh = (fits.unnamed (record { sys = sys; comp = 1 }) (unnamed s.nodes (record { sys = sys; comp = 1 }) none)).0 in
-      joins_lead (Drone (new_drone s.key sys)) none (refl, refl, record { sys = small; comp = omega arith })
+      joins_lead (Drone (new_drone s.key sys home)) none (refl, refl, record { sys = small; comp = omega arith })
       (ap (λ (y : DroneNode). y.state) fresh, subst (λ (y : DroneNode). KeepsTime s.clock [] y.last y.next) (sym fresh) (first_keeps s.clock), drone_ranges.fresh sys small)
 
   station_joins : (sys comp : ℕ) → Is8 sys → Is8 comp → 0 < comp → has_name (names_of s.nodes) (record { sys = sys; comp = comp }) ≡ false → StateLeads n w (Done n s) (joins s (Station (new_station s.key (stream_of (record { sys = sys; comp = comp })) 0))) []
@@ -100,7 +101,7 @@ module _ (number : ℕ) (n : Nodes) (distinct : Distinct n) (every_call : EveryC
   pub line_leads : (l : Line) → IsPermitted (context_of s) l → LineFits l → AuthenticLine s l → StateLeads n w (Done n s) (after_line s l) (calls_of number s l)
   line_leads line.Blank p f a = unmoved s refl fits
   line_leads (line.Drone sys x y) p f a =
-      by_test (λ r. StateLeads n w (Done n s) r []) (nat_lt (drones_in s.nodes) most_drones) _ _ (λ _. drone_joins sys f (no_reason _ Twice p.1)) (λ _. tt)
+      by_test (λ r. StateLeads n w (Done n s) r []) (nat_lt (drones_in s.nodes) most_drones) _ _ (λ _. drone_joins sys (record { x = x; y = y }) f (no_reason _ Twice p.1)) (λ _. tt)
   line_leads (line.Station sys comp) p f a =
       by_test (λ r. StateLeads n w (Done n s) r []) (nat_lt (stations_in s.nodes) most_stations) _ _ (λ _. station_joins sys comp f.0 f.1 (let z = p.0.1 in omega arith) (no_reason _ Twice p.1)) (λ _. tt)
   line_leads (line.Item item) p f a = unmoved (record s { draft = s.draft ++ item ∷ [] }) refl fits
@@ -114,6 +115,10 @@ module _ (number : ℕ) (n : Nodes) (distinct : Distinct n) (every_call : EveryC
       ordered (clears from station drone (clear_number kind)) (calls_of number s (line.Clear station drone kind)) (clears_lead number n distinct every_call from w from_sound fits drone p.0.1 station kind)
   line_leads (line.Get station drone kind) p f a =
       ordered (gets from station drone (number_of kind)) (calls_of number s (line.Get station drone kind)) (gets_lead number n distinct every_call from w from_sound fits drone p.0.1 station kind)
+  line_leads (line.Command station drone which word) p f a =
+      ordered (commands from station drone which word) (calls_of number s (line.Command station drone which word)) (commands_lead number n distinct every_call from w from_sound fits drone p.0.1 station which word f.0 f.1)
+  line_leads (line.Params station drone) p f a =
+      ordered (lists_params from station drone) (calls_of number s (line.Params station drone)) (params_lead number n distinct every_call from w from_sound fits drone p.0.1 station)
   line_leads (line.Heartbeat node) p f a =
       went (calls s node (node_beats s.clock)) (at_node s node (beaten number)) (calls_lead number n distinct every_call sent_known s w sound fits node (node_beats s.clock) (beaten number) (beats_lead number n distinct every_call s w sound fits))
   line_leads (line.Deliver which node) p f a =

@@ -1,11 +1,9 @@
 -- The nodes of a state: their names are distinct, and stay the same.
 use Rattle.std.proofs.Common.{◌≡◌, ◌≢◌, ℕ, zero, suc, ◌<◌, ◌⊎◌, inl, inr, Bool, true, false, ◌==◌, ◌||◌, ◌&&◌, List, [], ◌∷◌, ◌++◌, slice_get, slice_set, Some, refl, sym, ap, subst, arith, ◌∙◌}
+use Rattle.mav_nodes.specs.Nodes.{DroneSide, StationSide}
 use Rattle.mav_names.specs.declared.names.Name.{Name}
 use Rattle.mav_names.specs.declared.names.Stream.{Stream}
 use Rattle.plan_upload.specs.Addresses.{node_of, is_for_drone}
-use Rattle.plan_upload.specs.Drone.{DroneState}
-use Rattle.plan_upload.specs.Station.{StationState}
-use Rattle.mav_nodes.specs.Steps.{Side}
 use Rattle.plan_ranges.specs.Ranges.{StreamInRange}
 use Rattle.plan_safety.specs.World.{Nodes, Distinct}
 use Rattle.plan_safety.proofs.Keys.{bool_split, differ, both_true, either_true, eq_true, name_eq, name_same, not_true}
@@ -209,7 +207,7 @@ unnamed nodes name h = all nodes h
 
 pub record HoldsDrone (nodes : List Node) (name : Name) : Type 0 where
   pub index : ℕ
-  pub drone : Side DroneState
+  pub drone : DroneSide
   pub there : slice_get nodes index ≡ Some (DroneNode drone)
   pub name_is : node_of drone.link.me ≡ name
 
@@ -223,7 +221,7 @@ a_drone (StationNode t ∷ ns) name h = let z = a_drone ns name h in record { in
 
 pub record HoldsStation (nodes : List Node) (name : Name) : Type 0 where
   pub index : ℕ
-  pub station : Side StationState
+  pub station : StationSide
   pub there : slice_get nodes index ≡ Some (StationNode station)
   pub name_is : node_of station.link.me ≡ name
 
@@ -239,18 +237,18 @@ or_true : (b : Bool) → (b || true) ≡ true
 or_true true = refl
 or_true false = refl
 
-drone_held : (nodes : List Node) (i : ℕ) (d : Side DroneState) → slice_get nodes i ≡ Some (DroneNode d) → has_drone (names_of nodes) (node_of d.link.me) ≡ true
+drone_held : (nodes : List Node) (i : ℕ) (d : DroneSide) → slice_get nodes i ≡ Some (DroneNode d) → has_drone (names_of nodes) (node_of d.link.me) ≡ true
 drone_held [] zero d e = absurd (cc)
 drone_held [] (suc i) d e = absurd (cc)
-drone_held (DroneNode x ∷ ns) zero d e = let z : x ≡ d = cc in subst (λ (y : Side DroneState). (alike_names (node_of y.link.me) (node_of d.link.me) || has_drone (names_of ns) (node_of d.link.me)) ≡ true) (sym z) (rw (name_same_too (node_of d.link.me)) refl)
+drone_held (DroneNode x ∷ ns) zero d e = let z : x ≡ d = cc in subst (λ (y : DroneSide). (alike_names (node_of y.link.me) (node_of d.link.me) || has_drone (names_of ns) (node_of d.link.me)) ≡ true) (sym z) (rw (name_same_too (node_of d.link.me)) refl)
 drone_held (StationNode t ∷ ns) zero d e = absurd (cc)
 drone_held (DroneNode x ∷ ns) (suc i) d e = rw (drone_held ns i d e) (or_true (alike_names (node_of x.link.me) (node_of d.link.me)))
 drone_held (StationNode t ∷ ns) (suc i) d e = drone_held ns i d e
 
-station_held : (nodes : List Node) (i : ℕ) (t : Side StationState) → slice_get nodes i ≡ Some (StationNode t) → has_station (names_of nodes) (node_of t.link.me) ≡ true
+station_held : (nodes : List Node) (i : ℕ) (t : StationSide) → slice_get nodes i ≡ Some (StationNode t) → has_station (names_of nodes) (node_of t.link.me) ≡ true
 station_held [] zero t e = absurd (cc)
 station_held [] (suc i) t e = absurd (cc)
-station_held (StationNode x ∷ ns) zero t e = let z : x ≡ t = cc in subst (λ (y : Side StationState). (alike_names (node_of y.link.me) (node_of t.link.me) || has_station (names_of ns) (node_of t.link.me)) ≡ true) (sym z) (rw (name_same_too (node_of t.link.me)) refl)
+station_held (StationNode x ∷ ns) zero t e = let z : x ≡ t = cc in subst (λ (y : StationSide). (alike_names (node_of y.link.me) (node_of t.link.me) || has_station (names_of ns) (node_of t.link.me)) ≡ true) (sym z) (rw (name_same_too (node_of t.link.me)) refl)
 station_held (DroneNode d ∷ ns) zero t e = absurd (cc)
 station_held (StationNode x ∷ ns) (suc i) t e = rw (station_held ns i t e) (or_true (alike_names (node_of x.link.me) (node_of t.link.me)))
 station_held (DroneNode d ∷ ns) (suc i) t e = station_held ns i t e
@@ -312,5 +310,5 @@ own_distinct nodes named = record {
         let index : x.index ≡ y.index = named.apart x.index y.index (DroneNode x.drone) (StationNode y.station) x.there y.there alike in
         absurd (two x.drone y.station (sym x.there ∙ ap (slice_get nodes) index ∙ y.there))
       where
-        two : (d : Side DroneState) (t : Side StationState) → Some (DroneNode d) ≡ Some (StationNode t) → ⊥
+        two : (d : DroneSide) (t : StationSide) → Some (DroneNode d) ≡ Some (StationNode t) → ⊥
         two d t e = absurd (cc)

@@ -12,25 +12,28 @@ use Rattle.plan_upload.specs.declared.faults.OpFault.{OpFault}
 use Rattle.plan_upload.specs.Addresses.{node_of}
 use Rattle.plan_upload.specs.Kinds.{clear_number}
 use Rattle.plan_upload.specs.Refusals.{upload_refusal, refusal}
-use Rattle.plan_upload.specs.Station.{StationState}
 use Rattle.plan_safety.specs.History.{steps_of}
 use Rattle.plan_safety.specs.World as world
-use Rattle.plan_safety.specs.World.{Nodes, Distinct, World, Begins, Clears, Gets, Cancels, Speaks, happens, quiet}
-use Rattle.plan_ranges.specs.Ranges.{NameInRange, StreamInRange, Is8}
-use Rattle.mav_nodes.specs.Steps.{Side}
-use Rattle.mav_nodes.specs.Nodes.{drone_ticks, drone_beats, station_ticks, station_beats, station_begins, station_cancels, station_clears, station_gets}
+use Rattle.plan_safety.specs.World.{Nodes, Distinct, World, Begins, Clears, Gets, Cancels, Station_waits, happens, quiet}
+use Rattle.plan_ranges.specs.Ranges.{NameInRange, StreamInRange, Is8, Is16, Is32}
+use Rattle.command_proto.specs.Commander.{open_command}
+use Rattle.param_proto.specs.Client.{Operation as ParamOperation}
+use Rattle.mav_nodes.specs.Links.{Outcome}
+use Rattle.mav_nodes.specs.Nodes.{StationSide, drone_ticks, drone_beats, station_ticks, station_beats, station_begins, station_cancels, station_clears, station_gets, station_commands, station_lists_params}
 use Rattle.scenario_lines.specs.LineContext.{has_drone}
 use Rattle.fleet_world.specs.WorldState.{WorldState, Node, Drone, Station, node_name, stream_of, names_of, is_station_named}
-use Rattle.fleet_world.specs.Steps.{Step, StepError, node_ticks, node_beats, node_does, as_station, refuses, orders, upload_begins, orders_at, orders_found, orders_to, begins, cancels, clears, gets}
-use Rattle.fleet_invariants.specs.Sound.{link_of, Sound}
-use Rattle.fleet_invariants.specs.Laws.{EveryCallKeeps, EachCallKeeps}
-use Rattle.fleet_safety.specs.Reporting.{Refused, refused_reported, refusal_reported, step_reported}
-use Rattle.fleet_safety.specs.Actions.{Action, Order, Accepts_upload, Accepts_clear, Accepts_get, moves, ticks, cancelled, acts, ticked, beaten, at_station, if_ordered, to_station, upload_at, clear_at, get_at, cancel_at}
+use Rattle.fleet_world.specs.Steps.{Step, StepError, node_ticks, node_beats, node_does, as_station, refuses, orders, upload_begins, orders_at, orders_found, orders_to, begins, cancels, clears, gets, command_busy, params_busy, asks, commands, lists_params}
+use Rattle.fleet_report.specs.Events.{Event, Command_refused, Params_refused}
+use Rattle.fleet_invariants.specs.Sound.{Sound}
+use Rattle.fleet_invariants.specs.Laws.{OrderKeeps, EveryCallKeeps, EachCallKeeps}
+use Rattle.fleet_safety.specs.Reporting.{seen, Refused, refused_reported, refusal_reported, step_reported}
+use Rattle.fleet_safety.specs.Actions.{Action, Order, Accepts_upload, Accepts_clear, Accepts_get, spoken_in, moves, ticks, asking, cancelled, acts, ticked, beaten, at_station, if_ordered, to_station, upload_at, clear_at, get_at, cancel_at, command_at, params_at}
 use Rattle.fleet_safety.proofs.Names.{kept, HoldsDrone, a_drone, stream_named}
 use Rattle.fleet_safety.proofs.Reports.{silent_step}
 use Rattle.fleet_safety.proofs.Fits.{Stands, Reached, Fits, reached_on, Leads}
-use Rattle.fleet_safety.proofs.Own.{own_of, tame_nothing}
-use Rattle.fleet_safety.proofs.Datagrams.{drone_outcome, station_outcome}
+use Rattle.fleet_safety.proofs.Own.{own_of, own_nothing, tame_nothing}
+use Rattle.fleet_safety.proofs.Spoken.{said}
+use Rattle.fleet_safety.proofs.Datagrams.{station_outcome, drone_saying, station_saying}
 use Rattle.fleet_safety.proofs.Drones as drones
 use Rattle.fleet_safety.proofs.Stations as stations
 use Rattle.fleet_safety.proofs.States.{StateLeads, state_maps, state_rests, Goes, goes_still, does_leads}
@@ -67,31 +70,31 @@ module _ (number : ℕ) (n : Nodes) (distinct : Distinct n) (every_call : EveryC
   still = state_rests n w (Goes n s) s (goes_still n s w sound fits)
 
   -- ---- ticks and HEARTBEATs
-  tick_of : (k : ℕ) (a : Node) → slice_get s.nodes k ≡ Some a → Leads n s.clock s.nodes s.sent w k a (λ x. x) (node_ticks s.clock a) (moves s.clock a (ticks a)) []
-  tick_of k (Drone a) e = drone_outcome n s.clock s.nodes s.sent w k (Drone a) (drone_ticks s.clock a) (moves s.clock (Drone a) (ticks (Drone a))) [] (drones.ticks_lead n distinct s.clock s.nodes s.sent w fits k a e)
-  tick_of k (Station a) e = station_outcome n s.clock s.nodes s.sent w k (Station a) (station_ticks s.clock a) (moves s.clock (Station a) (ticks (Station a))) [] (stations.ticks_lead n distinct s.clock s.nodes s.sent w fits k a e)
+  tick_of : (k : ℕ) (a : Node) → slice_get s.nodes k ≡ Some a → Leads n s.clock s.nodes s.sent w k a (λ x. x) (node_ticks s.clock a) (moves s.clock a (ticks a) ++ spoken_in a (node_ticks s.clock a)) []
+  tick_of k (Drone a) e = drone_saying n s.clock s.nodes s.sent w k a (drone_ticks s.clock a) (moves s.clock (Drone a) (ticks (Drone a))) [] (drones.ticks_lead n distinct s.clock s.nodes s.sent w fits k a e)
+  tick_of k (Station a) e = station_saying n s.clock s.nodes s.sent w k a (station_ticks s.clock a) (moves s.clock (Station a) (ticks (Station a))) [] (stations.ticks_lead n distinct s.clock s.nodes s.sent w fits k a e)
 
-  beat_of : (k : ℕ) (a : Node) → slice_get s.nodes k ≡ Some a → Leads n s.clock s.nodes s.sent w k a (λ x. x) (node_beats s.clock a) (moves s.clock a (Speaks (link_of a).me)) []
-  beat_of k (Drone a) e = drone_outcome n s.clock s.nodes s.sent w k (Drone a) (drone_beats s.clock a) (moves s.clock (Drone a) (Speaks a.link.me)) [] (drones.beats_lead n distinct s.clock s.nodes s.sent w fits k a e)
-  beat_of k (Station a) e = station_outcome n s.clock s.nodes s.sent w k (Station a) (station_beats s.clock a) (moves s.clock (Station a) (Speaks a.link.me)) [] (stations.beats_lead n distinct s.clock s.nodes s.sent w fits k a e)
+  beat_of : (k : ℕ) (a : Node) → slice_get s.nodes k ≡ Some a → Leads n s.clock s.nodes s.sent w k a (λ x. x) (node_beats s.clock a) (spoken_in a (node_beats s.clock a)) []
+  beat_of k (Drone a) e = drone_saying n s.clock s.nodes s.sent w k a (drone_beats s.clock a) [] [] (drones.beats_lead n distinct s.clock s.nodes s.sent w fits k a e)
+  beat_of k (Station a) e = station_saying n s.clock s.nodes s.sent w k a (station_beats s.clock a) [] [] (stations.beats_lead n distinct s.clock s.nodes s.sent w fits k a e)
 
   pub ticks_lead : (k : ℕ) (a : Node) → slice_get s.nodes k ≡ Some a → StateLeads n w (Goes n s) (node_does s k (node_name a) (node_ticks s.clock a)) (ticked number s k a)
   ticks_lead k a e =
       let keeps = calls_keep.ticks k a (node_name a) e in
-      does_leads number n s s w k a e (λ i p h. h) (node_ticks s.clock a) (moves s.clock a (ticks a)) [] (tick_of k a e) keeps.1 keeps.0
+      does_leads number n s s w k a e (λ i p h. h) (node_ticks s.clock a) (moves s.clock a (ticks a) ++ spoken_in a (node_ticks s.clock a)) [] (tick_of k a e) keeps.1 keeps.0
 
   pub beats_lead : (k : ℕ) (a : Node) → slice_get s.nodes k ≡ Some a → StateLeads n w (Goes n s) (node_does s k (node_name a) (node_beats s.clock a)) (beaten number s k a)
   beats_lead k a e =
       let keeps = calls_keep.beats k a (node_name a) e in
-      does_leads number n s s w k a e (λ i p h. h) (node_beats s.clock a) (moves s.clock a (Speaks (link_of a).me)) [] (beat_of k a e) keeps.1 keeps.0
+      does_leads number n s s w k a e (λ i p h. h) (node_beats s.clock a) (spoken_in a (node_beats s.clock a)) [] (beat_of k a e) keeps.1 keeps.0
 
   -- ---- the station of a name
-  by_node : (order : ℕ → Side StationState → Result Step StepError) (does : ℕ → Side StationState → List Action) → ((k : ℕ) (a : Side StationState) → slice_get s.nodes k ≡ Some (Station a) → StateLeads n w (Goes n s) (order k a) (does k a)) → (k : ℕ) (o : Option Node) → slice_get s.nodes k ≡ o → StateLeads n w (Goes n s) (orders_at s k o order) (at_station k o does)
+  by_node : (order : ℕ → StationSide → Result Step StepError) (does : ℕ → StationSide → List Action) → ((k : ℕ) (a : StationSide) → slice_get s.nodes k ≡ Some (Station a) → StateLeads n w (Goes n s) (order k a) (does k a)) → (k : ℕ) (o : Option Node) → slice_get s.nodes k ≡ o → StateLeads n w (Goes n s) (orders_at s k o order) (at_station k o does)
   by_node order does lead k None e = still
   by_node order does lead k (Some (Drone a)) e = still
   by_node order does lead k (Some (Station a)) e = lead k a e
 
-  orders_lead : (name : Name) (order : ℕ → Side StationState → Result Step StepError) (does : ℕ → Side StationState → List Action) → ((k : ℕ) (a : Side StationState) → slice_get s.nodes k ≡ Some (Station a) → StateLeads n w (Goes n s) (order k a) (does k a)) → StateLeads n w (Goes n s) (orders_to s name order) (to_station s name does)
+  orders_lead : (name : Name) (order : ℕ → StationSide → Result Step StepError) (does : ℕ → StationSide → List Action) → ((k : ℕ) (a : StationSide) → slice_get s.nodes k ≡ Some (Station a) → StateLeads n w (Goes n s) (order k a) (does k a)) → StateLeads n w (Goes n s) (orders_to s name order) (to_station s name does)
   orders_lead name order does lead = by_place (position (is_station_named name) s.nodes)
     where
       by_place : (o : Option ℕ) → StateLeads n w (Goes n s) (orders_found s o order) (if_ordered s o does)
@@ -99,7 +102,7 @@ module _ (number : ℕ) (n : Nodes) (distinct : Distinct n) (every_call : EveryC
       by_place (Some k) = by_node order does lead k (slice_get s.nodes k) refl
 
   -- ---- an order that is refused
-  module _ (k : ℕ) (a : Side StationState) (there : slice_get s.nodes k ≡ Some (Station a)) where
+  module _ (k : ℕ) (a : StationSide) (there : slice_get s.nodes k ≡ Some (Station a)) where
     here : n.is_station a.link.me ≡ true
     here = fits.covers k (Station a) there
 
@@ -140,6 +143,39 @@ module _ (number : ℕ) (n : Nodes) (distinct : Distinct n) (every_call : EveryC
         let accepted_now : List Order = cancelled a.link.me a.core.operation in
         does_leads number n s s w k (Station a) there (λ i p h. h) (as_station (station_cancels s.clock a)) events accepted_now
         (station_outcome n s.clock s.nodes s.sent w k (Station a) (station_cancels s.clock a) events accepted_now (stations.cancels_lead n distinct s.clock s.nodes s.sent w fits k a there)) keeps.1 keeps.0
+
+    -- ---- an order to its services
+
+    -- refused: nothing happens in the world
+    asks_nothing : (refused : Event) (outcome : Outcome StationSide) → seen (refused ∷ []) ≡ [] → StateLeads n w (Goes n s) (asks s k a (Some refused) outcome) (acts number [] [] (asks s k a (Some refused) outcome))
+    asks_nothing refused outcome unseen = record {
+      follows = (record { report = unseen; own = own_nothing n w; drones = λ index d there. (fits.stands index (Drone d) there).0 }, tt);
+      report = refl;
+      holds = goes_still n s w sound fits;
+    }
+
+    -- or followed: what they say
+    asks_lead : (outcome : Outcome StationSide) → Leads n s.clock s.nodes s.sent w k (Station a) Station outcome (said (Station_waits a.link.me) a.link.me outcome) [] → OrderKeeps s s k a outcome
+        → StateLeads n w (Goes n s) (asks s k a None outcome) (acts number (spoken_in (Station a) (as_station outcome)) [] (asks s k a None outcome))
+    asks_lead outcome leads order =
+        let keeps = order (node_of a.link.me) there in
+        does_leads number n s s w k (Station a) there (λ i p h. h) (as_station outcome) (spoken_in (Station a) (as_station outcome)) []
+        (station_saying n s.clock s.nodes s.sent w k a outcome [] [] leads) keeps.1 keeps.0
+
+    command_leads : (drone : Name) (which word : ℕ) → NameInRange drone → Is16 which → Is32 word → (o : Option ℕ) → open_command a.services.commander ≡ o
+        → StateLeads n w (Goes n s) (asks s k a (command_busy (node_of a.link.me) o) (station_commands s.clock (stream_of drone) which word a))
+        (acts number (asking a (command_busy (node_of a.link.me) o) (station_commands s.clock (stream_of drone) which word a)) [] (asks s k a (command_busy (node_of a.link.me) o) (station_commands s.clock (stream_of drone) which word a)))
+    command_leads drone which word within small short (Some number) e = asks_nothing (Command_refused (node_of a.link.me)) (station_commands s.clock (stream_of drone) which word a) refl
+    command_leads drone which word within small short None e =
+        asks_lead (station_commands s.clock (stream_of drone) which word a) (stations.commands_lead n distinct s.clock s.nodes s.sent w fits k a there (stream_of drone) which word)
+        (calls_keep.commands k a drone which word within small short e)
+
+    params_leads : (drone : Name) → NameInRange drone → (o : Option ParamOperation) → a.services.client.operation ≡ o
+        → StateLeads n w (Goes n s) (asks s k a (params_busy (node_of a.link.me) o) (station_lists_params s.clock (stream_of drone) a))
+        (acts number (asking a (params_busy (node_of a.link.me) o) (station_lists_params s.clock (stream_of drone) a)) [] (asks s k a (params_busy (node_of a.link.me) o) (station_lists_params s.clock (stream_of drone) a)))
+    params_leads drone within (Some operation) e = asks_nothing (Params_refused (node_of a.link.me)) (station_lists_params s.clock (stream_of drone) a) refl
+    params_leads drone within None e =
+        asks_lead (station_lists_params s.clock (stream_of drone) a) (stations.params_lead n distinct s.clock s.nodes s.sent w fits k a there (stream_of drone)) (calls_keep.params k a drone within e)
 
     -- ---- an order that names a drone
     module _ (drone : Name) (known : n.is_drone (stream_of drone) ≡ true) (within : NameInRange drone) where
@@ -211,6 +247,16 @@ module _ (number : ℕ) (n : Nodes) (distinct : Distinct n) (every_call : EveryC
     gets_lead station kind =
         orders_lead station (λ k a. orders s k a (refusal a.core) (station_gets s.clock (stream_of drone) (number_of kind) a)) (λ k a. get_at number s drone kind (refusal a.core) k a)
         (λ k a e. get_leads k a e drone known within kind (refusal a.core) refl)
+
+    pub commands_lead : (station : Name) (which word : ℕ) → Is16 which → Is32 word → StateLeads n w (Goes n s) (commands s station drone which word) (to_station s station (command_at number s drone which word))
+    commands_lead station which word small short =
+        orders_lead station (λ k a. asks s k a (command_busy (node_of a.link.me) (open_command a.services.commander)) (station_commands s.clock (stream_of drone) which word a)) (command_at number s drone which word)
+        (λ k a e. command_leads k a e drone which word within small short (open_command a.services.commander) refl)
+
+    pub params_lead : (station : Name) → StateLeads n w (Goes n s) (lists_params s station drone) (to_station s station (params_at number s drone))
+    params_lead station =
+        orders_lead station (λ k a. asks s k a (params_busy (node_of a.link.me) a.services.client.operation) (station_lists_params s.clock (stream_of drone) a)) (params_at number s drone)
+        (λ k a e. params_leads k a e drone within a.services.client.operation refl)
 
   pub cancels_lead : (station : Name) → StateLeads n w (Goes n s) (cancels s station) (to_station s station (cancel_at number s))
   cancels_lead station = orders_lead station (λ k a. orders s k a None (station_cancels s.clock a)) (cancel_at number s) (λ k a e. cancel_leads k a e)

@@ -1,5 +1,6 @@
 -- A whole scenario, line by line, up to the line at which it stops.
 use Rattle.std.proofs.Common.{◌≡◌, ℕ, zero, suc, ◌+◌, Bool, true, false, if◌then◌else◌, nat_lt, List, [], ◌∷◌, ◌++◌, length, slice_get, Option, Some, None, Ok, Err, refl, sym, ap, subst, arith, ◌∙◌}
+use Rattle.mav_nodes.specs.Nodes.{DroneSide}
 use Rattle.std.specs.Prelude.{◌↔◌}
 use Rattle.std.specs.declared.result.Result.{Result}
 use Rattle.std.proofs.lemmas.List.{append_assoc, append-nil}
@@ -10,7 +11,6 @@ use Rattle.plan_safety.specs.History.{IsHistory, IsHeld, Uploaded, final}
 use Rattle.plan_safety.proofs.Keys.{by_test}
 use Rattle.plan_safety.proofs.Induction as induction
 use Rattle.plan_safety.proofs.Histories as histories
-use Rattle.mav_nodes.specs.Steps.{Side}
 use Rattle.scenario_lines.specs.declared.faults.Reason.{Reason}
 use Rattle.scenario_lines.specs.declared.faults.Reason.TheVariants.{Long}
 use Rattle.scenario_lines.specs.declared.lines.Line.{Line}
@@ -194,7 +194,7 @@ module _ (key : List ℕ) (p : Played) (actions : List Action) (h : Runs key p a
   each before a later is =
       let it : Acts n (world_after n before) a = each_follows n (first_world start) before a later (subst (Follows n (first_world start)) is follows) in
       let there : world_after n (before ++ a ∷ []) ≡ final n (world_after n before) a.events = final_after n (first_world start) before (a ∷ []) ∙ ap (final n (world_after n before)) (one_events a) in
-      let state : (d : Side DroneState) → ((final n (world_after n before) a.events).drone d.link.me).state ≡ d.core → ((world_after n (before ++ a ∷ [])).drone d.link.me).state ≡ d.core = λ d same. ap (λ (v : World). (v.drone d.link.me).state) there ∙ same in
+      let state : (d : DroneSide) → ((final n (world_after n before) a.events).drone d.link.me).state ≡ d.core → ((world_after n (before ++ a ∷ [])).drone d.link.me).state ≡ d.core = λ d same. ap (λ (v : World). (v.drone d.link.me).state) there ∙ same in
       record {
         report = it.report;
         orders = it.own.orders_are;

@@ -1,5 +1,6 @@
 -- A drone that starts again, in both worlds.
 use Rattle.std.proofs.Common.{◌≡◌, ℕ, ◌+◌, ◌<◌, ◌≤◌, max, inl, true, nat_le, cond, List, [], ◌∷◌, ◌++◌, length, position, slice_get, slice_set, Option, Some, None, Ok, Err, refl, sym, ap, subst, arith, ◌∙◌}
+use Rattle.mav_nodes.specs.Nodes.{DroneSide}
 use Rattle.std.specs.Prelude.{unwrap_or}
 use Rattle.std.specs.declared.result.Result.{Result}
 use Rattle.std.proofs.lemmas.List.{append-nil}
@@ -7,7 +8,7 @@ use Rattle.mav_names.specs.declared.names.Name.{Name}
 use Rattle.mav_names.specs.declared.names.Stream.{Stream}
 use Rattle.mav_frame.specs.Packet.{Packet}
 use Rattle.plan_upload.specs.Addresses.{node_of}
-use Rattle.plan_upload.specs.Drone.{DroneState, fresh_drone, restored}
+use Rattle.plan_upload.specs.Drone.{fresh_drone, restored}
 use Rattle.plan_safety.specs.Store as store
 use Rattle.plan_safety.specs.Store.{at}
 use Rattle.plan_safety.specs.World.{Nodes, Distinct, World, DroneNode, Restarts, happens, restarted}
@@ -17,7 +18,6 @@ use Rattle.plan_ranges.specs.Ranges.{DroneInRange}
 use Rattle.mav_sign.specs.History.{local_of}
 use Rattle.mav_nodes.specs.LowBounds.{stored_low}
 use Rattle.mav_nodes.specs.Links.{Outcome}
-use Rattle.mav_nodes.specs.Steps.{Side}
 use Rattle.mav_nodes.specs.Restarts.{started_again, restarted_drone}
 use Rattle.fleet_report.specs.Events.{Restarted}
 use Rattle.fleet_world.specs.declared.faults.Bound.TheVariants.{Frames}
@@ -47,11 +47,11 @@ module _ (number : ℕ) (n : Nodes) (distinct : Distinct n) (every_call : EveryC
   still : Goes n s t w
   still = record { sound = sound_counted s sound few; fits = fits; kept = kept s.nodes; sent = λ i p e. e }
 
-  module _ (k : ℕ) (a : Side DroneState) (there : slice_get s.nodes k ≡ Some (Drone a)) where
+  module _ (k : ℕ) (a : DroneSide) (there : slice_get s.nodes k ≡ Some (Drone a)) where
     abbrev x : Stream
     x = a.link.me
 
-    abbrev r : Side DroneState
+    abbrev r : DroneSide
     r = restarted_drone s.key a
 
     abbrev bound : ℕ
@@ -91,10 +91,10 @@ module _ (number : ℕ) (n : Nodes) (distinct : Distinct n) (every_call : EveryC
     step_is = ap (λ (es : List ProtocolEvent). report.Restarted (node_of x) ∷ (es ++ [])) (frames_before (length w.sent) w.sent (omega arith))
 
     -- the drone as it is then
-    abbrev Same : Side DroneState → ℕ → Type 0
+    abbrev Same : DroneSide → ℕ → Type 0
     Same b low = (restored (w.drone x).state ≡ b.core) × KeepsTime s.clock b.link.history (λ q. max ((w.drone x).last q) low) (max (w.drone x).next (low + 1))
 
-    by_low : (low : Option ℕ) → stored_low a.link.history ≡ low → Same (started_again s.key a.core.sys low a.core.plans) (unwrap_or low 0)
+    by_low : (low : Option ℕ) → stored_low a.link.history ≡ low → Same (started_again s.key a.core.sys a.services.home low a.core.plans) (unwrap_or low 0)
     by_low None is =
         let own : SoundDrone a = sound.cores k (Drone a) there in
         let end = sound.links k (Drone a) there in (

@@ -5,7 +5,7 @@ use Rattle.std.specs.declared.result.Result.{Result}
 use Rattle.std.specs.Str.{bytes_eq}
 use Rattle.mav_names.specs.declared.names.Name.{Name}
 use Rattle.mav_names.specs.declared.names.Stream.{Stream}
-use Rattle.mav_frame.specs.Packet.{Packet}
+use Rattle.mav_frame.specs.Packet.{Packet, SignatureBlock}
 use Rattle.mav_frame.specs.Encoding.{encoding}
 use Rattle.mav_frame.specs.FinalParse.{final_parse}
 use Rattle.mav_sign.specs.declared.admission.Admit.{Admit}
@@ -16,25 +16,27 @@ use Rattle.plan_items.specs.declared.items.Item.{Item}
 use Rattle.plan_items.specs.declared.kinds.PlanKind.{PlanKind}
 use Rattle.plan_items.specs.declared.messages.PlanMsg.{PlanMsg}
 use Rattle.plan_items.specs.Kinds.{number_of}
+use Rattle.mav_messages.specs.Plans.{plan_of}
+use Rattle.command_proto.specs.Commander.{open_command}
 use Rattle.plan_upload.specs.declared.faults.OpFault.{OpFault}
 use Rattle.plan_upload.specs.Addresses.{node_of, same_name}
 use Rattle.plan_upload.specs.Kinds.{clear_number}
 use Rattle.plan_upload.specs.Refusals.{upload_refusal, refusal}
-use Rattle.plan_upload.specs.Drone.{DroneState}
-use Rattle.plan_upload.specs.Station.{StationState, Operation}
+use Rattle.plan_upload.specs.Station.{Operation}
 use Rattle.plan_safety.specs.World as world
 use Rattle.plan_safety.specs.World.{Begins, Clears, Gets, Cancels, Hands_out, Drone_ticks, Station_ticks, To_drone, To_station, Speaks, Drone_waits, Station_waits, Restarts}
 use Rattle.mav_nodes.specs.Links.{Done, Outcome}
 use Rattle.mav_nodes.specs.LowBounds.{stored_low}
 use Rattle.mav_nodes.specs.Restarts.{restarted_drone}
 use Rattle.mav_nodes.specs.Payloads.{plan_in}
-use Rattle.mav_nodes.specs.Steps.{Side, hears}
-use Rattle.mav_nodes.specs.Nodes.{drone_core, station_core, station_cancels, station_clears, station_gets}
+use Rattle.mav_nodes.specs.Steps.{hears}
+use Rattle.mav_nodes.specs.News.{NodeEvent, Sends, Installs, Empties, Drops, Ends, Ends_command, Gives_param, Ends_params}
+use Rattle.mav_nodes.specs.Nodes.{DroneSide, StationSide, drone_rules, station_rules, station_cancels, station_clears, station_gets, station_commands, station_lists_params}
 use Rattle.scenario_lines.specs.declared.lines.Line.{Line}
 use Rattle.scenario_lines.specs.declared.lines.Line.TheVariants as line
 use Rattle.fleet_report.specs.Events.{Event, Restarted}
 use Rattle.fleet_world.specs.WorldState.{WorldState, Node, Drone, Station, stream_of, node_name, is_named, is_drone_named, is_station_named}
-use Rattle.fleet_world.specs.Steps.{Step, StepError, packets_in, reported_by, as_drone, as_station, node_beats, node_ticks, node_does, given_to, given_to_all, delivers, station_line, restart_line, orders, upload_begins, after_line}
+use Rattle.fleet_world.specs.Steps.{Step, StepError, packets_in, reported_by, as_drone, as_station, node_beats, node_ticks, node_does, given_to, given_to_all, delivers, station_line, restart_line, orders, upload_begins, asks, command_busy, params_busy, after_line}
 use Rattle.fleet_world.specs.Scenario.{ScenarioError, Played, at_start, line_played, lines_played, whole_lines, unfinished, without_cr}
 use Rattle.fleet_world.specs.Authentic.{line_done}
 use Rattle.fleet_invariants.specs.Sound.{link_of}
@@ -76,6 +78,46 @@ abbrev pub index_of : List ℕ → List Packet → Option ℕ
 index_of bytes [] = None
 index_of bytes (q ∷ qs) = if bytes_eq (encoding q) bytes then Some (length qs) else index_of bytes qs
 
+-- ---- messages of other services
+
+-- the node waits until a timestamp
+abbrev pub waits : Node → ℕ → world.Event
+waits (Drone a) = Drone_waits a.link.me
+waits (Station a) = Station_waits a.link.me
+
+-- the timestamp that a frame is signed at
+abbrev pub signed_at : Option SignatureBlock → ℕ
+signed_at None = 0
+signed_at (Some block) = block.stamp
+
+-- a frame that the node of this stream sends, and the message of the mission protocol that it carries, if any: one that
+-- carries none is an event of its own, and the node waits until the timestamp that it is signed at
+abbrev pub speaks : (ℕ → world.Event) → Stream → Packet → Option PlanMsg → List world.Event
+speaks wait me packet None = wait (signed_at packet.block) ∷ Speaks me ∷ []
+speaks wait me packet (Some message) = []
+
+-- each such frame among what happened in the node
+abbrev pub speaks_all : (ℕ → world.Event) → Stream → List NodeEvent → List world.Event
+speaks_all wait me [] = []
+speaks_all wait me (Sends packet message ∷ es) = speaks wait me packet (plan_of message) ++ speaks_all wait me es
+speaks_all wait me (Installs kind items by ∷ es) = speaks_all wait me es
+speaks_all wait me (Empties kind ∷ es) = speaks_all wait me es
+speaks_all wait me (Drops answer ∷ es) = speaks_all wait me es
+speaks_all wait me (Ends told ∷ es) = speaks_all wait me es
+speaks_all wait me (Ends_command result ∷ es) = speaks_all wait me es
+speaks_all wait me (Gives_param param ∷ es) = speaks_all wait me es
+speaks_all wait me (Ends_params values ∷ es) = speaks_all wait me es
+
+-- the messages of other services that a node sends in a call, if it is done
+abbrev pub spoken : Node → List NodeEvent → List world.Event
+spoken a es = speaks_all (waits a) (link_of a).me es
+
+abbrev pub spoken_in : Node → Outcome Node → List world.Event
+spoken_in a None = []
+spoken_in a (Some d) = spoken a d.events
+
+-- ---- a frame at a node
+
 -- a frame is an event only if it is admitted,
 abbrev pub if_admitted : Admit → List world.Event → List world.Event
 if_admitted Admitted events = events
@@ -96,16 +138,21 @@ abbrev pub if_sent : Option ℕ → (ℕ → List world.Event) → List world.Ev
 if_sent None events = []
 if_sent (Some index) events = events index
 
--- a frame at a node, after these frames were sent
+-- a frame at a node, after these frames were sent, without what the node's services send in reply
 abbrev pub hearing : ℕ → List Packet → Node → Packet → List world.Event
 hearing clock sent a p =
     if_admitted (answer_to (link_of a).key (link_of a).history p)
     (if_plan (plan_in p.id p.payload) (if_sent (index_of (encoding p) sent) (λ index. moves clock a (comes_to a index))))
 
 -- an order to a station; a refused one changes nothing
-abbrev pub ordering : ℕ → Side StationState → Option OpFault → world.Event → List world.Event
+abbrev pub ordering : ℕ → StationSide → Option OpFault → world.Event → List world.Event
 ordering clock a (Some why) e = e ∷ []
 ordering clock a None e = moves clock (Station a) e
+
+-- an order to a station's services is what they send; a refused one is nothing
+abbrev pub asking : StationSide → Option Event → Outcome StationSide → List world.Event
+asking a (Some refused) outcome = []
+asking a None outcome = spoken_in (Station a) (as_station outcome)
 
 -- it is accepted if there is no cause to refuse it
 abbrev pub accepted : Option OpFault → Order → List Order
@@ -121,15 +168,15 @@ cancelled station (Some operation) = Accepts_cancel station ∷ []
 
 -- one frame at a node
 abbrev pub node_hears : ℕ → Packet → Node → Outcome Node
-node_hears clock p (Drone a) = as_drone (hears drone_core clock p a)
-node_hears clock p (Station a) = as_station (hears station_core clock p a)
+node_hears clock p (Drone a) = as_drone (hears drone_rules clock p a)
+node_hears clock p (Station a) = as_station (hears station_rules clock p a)
 
 -- the state after the node at index `k` has done this
 abbrev pub state_with : WorldState → ℕ → Done Node → WorldState
 state_with s k d = record s { nodes = slice_set s.nodes k d.node; sent = s.sent ++ packets_in d.events }
 
 -- the state after the drone at index `k` has started again, before it sends anything
-abbrev pub restarted_at : WorldState → ℕ → Side DroneState → WorldState
+abbrev pub restarted_at : WorldState → ℕ → DroneSide → WorldState
 restarted_at s k a = record s { nodes = slice_set s.nodes k (Drone (restarted_drone s.key a)) }
 
 -- the node at an index, and the one of a name, if there is one
@@ -150,16 +197,16 @@ and_next (Ok t) actions next = actions ++ next t.state
 and_next (Err error) actions next = []
 
 -- the station at an index, and the one of a name, if there is one
-abbrev pub at_station : ℕ → Option Node → (ℕ → Side StationState → List Action) → List Action
+abbrev pub at_station : ℕ → Option Node → (ℕ → StationSide → List Action) → List Action
 at_station k None order = []
 at_station k (Some (Drone a)) order = []
 at_station k (Some (Station a)) order = order k a
 
-abbrev pub if_ordered : WorldState → Option ℕ → (ℕ → Side StationState → List Action) → List Action
+abbrev pub if_ordered : WorldState → Option ℕ → (ℕ → StationSide → List Action) → List Action
 if_ordered s None order = []
 if_ordered s (Some k) order = at_station k (slice_get s.nodes k) order
 
-abbrev pub to_station : WorldState → Name → (ℕ → Side StationState → List Action) → List Action
+abbrev pub to_station : WorldState → Name → (ℕ → StationSide → List Action) → List Action
 to_station s name order = if_ordered s (position (is_station_named name) s.nodes) order
 
 -- ---- the actions of line `number`
@@ -176,7 +223,7 @@ module _ (number : ℕ) where
   hears_then s k a p None next = []
   hears_then s k a p (Some d) next = record {
     number = number;
-    events = hearing s.clock s.sent a p;
+    events = hearing s.clock s.sent a p ++ spoken a d.events;
     orders = [];
     report = reported_by (node_name a) (length s.sent) d.events;
     state = state_with s k d;
@@ -193,15 +240,16 @@ module _ (number : ℕ) where
 
   -- a tick, and a HEARTBEAT
   abbrev pub ticked : WorldState → ℕ → Node → List Action
-  ticked s k a = acts (moves s.clock a (ticks a)) [] (node_does s k (node_name a) (node_ticks s.clock a))
+  ticked s k a =
+      acts (moves s.clock a (ticks a) ++ spoken_in a (node_ticks s.clock a)) [] (node_does s k (node_name a) (node_ticks s.clock a))
 
   abbrev pub beaten : WorldState → ℕ → Node → List Action
-  beaten s k a = acts (moves s.clock a (Speaks (link_of a).me)) [] (node_does s k (node_name a) (node_beats s.clock a))
+  beaten s k a = acts (spoken_in a (node_beats s.clock a)) [] (node_does s k (node_name a) (node_beats s.clock a))
 
   -- ---- of a drone that starts again
 
   -- with the low bound that it has stored; and then it sends HEARTBEAT
-  abbrev pub restarted : WorldState → ℕ → Side DroneState → List Action
+  abbrev pub restarted : WorldState → ℕ → DroneSide → List Action
   restarted s k a = record {
     number = number;
     events = Restarts a.link.me (unwrap_or (stored_low a.link.history) 0) ∷ [];
@@ -254,29 +302,42 @@ module _ (number : ℕ) where
   -- ---- of orders
 
   -- an upload, of the draft that the state holds
-  abbrev pub upload_at : WorldState → Name → PlanKind → Option OpFault → ℕ → Side StationState → List Action
+  abbrev pub upload_at : WorldState → Name → PlanKind → Option OpFault → ℕ → StationSide → List Action
   upload_at s drone kind why k a =
       acts (ordering s.clock a why (Begins a.link.me (stream_of drone) kind s.draft))
       (accepted why (Accepts_upload a.link.me (stream_of drone) (number_of kind) s.draft))
       (upload_begins s k a drone (number_of kind) why)
 
   -- a clear, a download, and a cancel
-  abbrev pub clear_at : WorldState → Name → Option PlanKind → Option OpFault → ℕ → Side StationState → List Action
+  abbrev pub clear_at : WorldState → Name → Option PlanKind → Option OpFault → ℕ → StationSide → List Action
   clear_at s drone kind why k a =
       acts (ordering s.clock a why (Clears a.link.me (stream_of drone) kind))
       (accepted why (Accepts_clear a.link.me (stream_of drone) (world.clear_number kind)))
       (orders s k a why (station_clears s.clock (stream_of drone) (clear_number kind) a))
 
-  abbrev pub get_at : WorldState → Name → PlanKind → Option OpFault → ℕ → Side StationState → List Action
+  abbrev pub get_at : WorldState → Name → PlanKind → Option OpFault → ℕ → StationSide → List Action
   get_at s drone kind why k a =
       acts (ordering s.clock a why (Gets a.link.me (stream_of drone) kind))
       (accepted why (Accepts_get a.link.me (stream_of drone) (number_of kind)))
       (orders s k a why (station_gets s.clock (stream_of drone) (number_of kind) a))
 
-  abbrev pub cancel_at : WorldState → ℕ → Side StationState → List Action
+  abbrev pub cancel_at : WorldState → ℕ → StationSide → List Action
   cancel_at s k a =
       acts (moves s.clock (Station a) (Cancels a.link.me)) (cancelled a.link.me a.core.operation)
       (orders s k a None (station_cancels s.clock a))
+
+  -- a command, and a list of parameters: orders to the station's services
+  abbrev pub command_at : WorldState → Name → ℕ → ℕ → ℕ → StationSide → List Action
+  command_at s drone which word k a =
+      let refused : Option Event = command_busy (node_of a.link.me) (open_command a.services.commander) in
+      let outcome : Outcome StationSide = station_commands s.clock (stream_of drone) which word a in
+      acts (asking a refused outcome) [] (asks s k a refused outcome)
+
+  abbrev pub params_at : WorldState → Name → ℕ → StationSide → List Action
+  params_at s drone k a =
+      let refused : Option Event = params_busy (node_of a.link.me) a.services.client.operation in
+      let outcome : Outcome StationSide = station_lists_params s.clock (stream_of drone) a in
+      acts (asking a refused outcome) [] (asks s k a refused outcome)
 
   -- ---- of lines
 
@@ -295,6 +356,8 @@ module _ (number : ℕ) where
       to_station (station_line s) station (λ k a. clear_at (station_line s) drone kind (refusal a.core) k a)
   calls_of s (line.Get station drone kind) =
       to_station (station_line s) station (λ k a. get_at (station_line s) drone kind (refusal a.core) k a)
+  calls_of s (line.Command station drone which word) = to_station (station_line s) station (command_at (station_line s) drone which word)
+  calls_of s (line.Params station drone) = to_station (station_line s) station (params_at (station_line s) drone)
   calls_of s (line.Heartbeat node) = at_node s node beaten
   calls_of s (line.Deliver which node) = delivered s which node (slice_get s.sent (which - 1))
   calls_of s (line.Flow k) = flow_actions k s

@@ -1,5 +1,5 @@
 -- Which events each line of a scenario is in the world of messages, and that its calls are no others.
-use Rattle.std.specs.Prelude.{ℕ, ◌≡◌, ◌⊎◌, true, List, [], ◌∷◌}
+use Rattle.std.specs.Prelude.{ℕ, ◌≡◌, ◌≤◌, ◌⊎◌, true, List, [], ◌∷◌, length}
 use Rattle.mav_names.specs.declared.names.Name.{Name}
 use Rattle.mav_names.specs.declared.names.Stream.{Stream}
 use Rattle.plan_upload.specs.Addresses.{node_of}
@@ -44,6 +44,28 @@ pub record Of (name : Name) (P : Stream → Event → Type 0) (e : Event) : Type
 abbrev pub Gives : Stream → Event → Type 0
 Gives me e = (index : ℕ) × ((e ≡ To_drone index me true) ⊎ (e ≡ To_station index me))
 
+-- the node that signs this stream sends a message of another service
+abbrev pub Talks : Stream → Event → Type 0
+Talks me e = e ≡ Speaks me
+
+-- a sent frame comes to it, or it sends a message of another service in reply
+abbrev pub Hears : Stream → Event → Type 0
+Hears me e = Gives me e ⊎ Talks me e
+
+-- a sent frame comes to a node of this name, once; or, if the frame isn't of the mission protocol, the node sends messages
+-- of other services in reply
+abbrev pub HearsOne : Name → List Event → Type 0
+HearsOne name es = AtMostOne (Of name Gives) es ⊎ EachEvent (Of name Talks) es
+
+-- a drone of this name ticks; or a station ticks, and then sends at most two messages of other services
+pub record TicksOnce (name : Name) (es : List Event) : Type 0 where
+  pub stream : Stream
+  pub name_is : node_of stream ≡ name
+  pub later : List Event
+  pub is : (es ≡ Drone_ticks stream ∷ []) ⊎ (es ≡ Station_ticks stream ∷ later)
+  pub talks : EachEvent (Talks stream) later
+  pub few : length later ≤ 2
+
 -- a drone of this name starts again, and the new node sends HEARTBEAT
 pub record StartsAgain (name : Name) (es : List Event) : Type 0 where
   pub stream : Stream
@@ -60,13 +82,16 @@ Causes s (line.Begin station drone kind) es = AtMostOne (Of station (λ me e. e 
 Causes s (line.Cancel station) es = AtMostOne (Of station (λ me e. e ≡ Cancels me)) es
 Causes s (line.Clear station drone kind) es = AtMostOne (Of station (λ me e. e ≡ Clears me (stream_of drone) kind)) es
 Causes s (line.Get station drone kind) es = AtMostOne (Of station (λ me e. e ≡ Gets me (stream_of drone) kind)) es
+-- an order to its services: one message of theirs
+Causes s (line.Command station drone number word) es = AtMostOne (Of station Talks) es
+Causes s (line.Params station drone) es = AtMostOne (Of station Talks) es
 -- one tick, and one HEARTBEAT
-Causes s (line.Tick node) es = AtMostOne (Of node (λ me e. (e ≡ Drone_ticks me) ⊎ (e ≡ Station_ticks me))) es
-Causes s (line.Heartbeat node) es = AtMostOne (Of node (λ me e. e ≡ Speaks me)) es
--- sent frames come to the node, and in a flow to any nodes
-Causes s (line.Deliver number node) es = EachEvent (Of node Gives) es
-Causes s (line.Noise node bytes) es = EachEvent (Of node Gives) es
-Causes s (line.Flow k) es = EachEvent (λ e. (me : Stream) × Gives me e) es
+Causes s (line.Tick node) es = (es ≡ []) ⊎ TicksOnce node es
+Causes s (line.Heartbeat node) es = AtMostOne (Of node Talks) es
+-- sent frames come to the node, and in a flow to any nodes, and their services reply
+Causes s (line.Deliver number node) es = EachEvent (Of node Hears) es
+Causes s (line.Noise node bytes) es = EachEvent (Of node Hears) es
+Causes s (line.Flow k) es = EachEvent (λ e. (me : Stream) × Hears me e) es
 -- the drone starts again, once, and sends one HEARTBEAT
 Causes s (line.Restart drone) es = (es ≡ []) ⊎ StartsAgain drone es
 -- nothing

@@ -19,7 +19,7 @@ use Rattle.plan_safety.specs.World as world
 use Rattle.plan_safety.specs.World.{Nodes, World, happens}
 use Rattle.mav_messages.specs.Plans.{plan_of}
 use Rattle.fleet_report.specs.Events as report
-use Rattle.fleet_report.specs.Events.{Dropped, Missing}
+use Rattle.fleet_report.specs.Events.{Dropped, Missing, Command_ended, Params_ended, Param_given, Command_refused, Params_refused}
 
 -- what a report says of the mission protocol
 pub data ProtocolEvent : Type 0 where
@@ -35,7 +35,8 @@ abbrev pub sent_seen : ℕ → Name → Option PlanMsg → List ProtocolEvent
 sent_seen number from None = []
 sent_seen number from (Some m) = Sent number from m ∷ []
 
--- what is seen of an event. Frames that were dropped or are missing, and those with another message, aren't of the protocol
+-- what is seen of an event. Frames that were dropped or are missing, those with another message, and what is reported of
+-- commands and parameters aren't of the protocol
 abbrev pub event_seen : report.Event → List ProtocolEvent
 event_seen (report.Sent number packet message) = sent_seen number packet.from (plan_of message)
 event_seen (report.Installed drone kind items by) = Installed drone kind items by ∷ []
@@ -45,6 +46,11 @@ event_seen (Missing number) = []
 event_seen (report.Restarted drone) = Restarted drone ∷ []
 event_seen (report.Refused station why) = Refused station why ∷ []
 event_seen (report.Ended station told) = Ended station told ∷ []
+event_seen (Command_ended station result) = []
+event_seen (Params_ended station values) = []
+event_seen (Param_given station param) = []
+event_seen (Command_refused station) = []
+event_seen (Params_refused station) = []
 
 abbrev pub seen : List report.Event → List ProtocolEvent
 seen [] = []

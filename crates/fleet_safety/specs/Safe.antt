@@ -1,17 +1,16 @@
 -- The main theorem over scenarios: the actions of a scenario are an execution of the world of messages, and so one of the
 -- abstract mission store.
 use Rattle.std.specs.Prelude.{ℕ, ◌≡◌, ◌<◌, ◌+◌, ◌==◌, ◌&&◌, ◌↔◌, if◌then◌else◌, List, [], ◌∷◌, ◌++◌, Some, slice_get}
+use Rattle.mav_nodes.specs.Nodes.{DroneSide}
 use Rattle.mav_names.specs.declared.names.Stream.{Stream}
 use Rattle.plan_items.specs.declared.items.Item.{Item}
 use Rattle.plan_upload.specs.Addresses.{node_of, same_stream}
 use Rattle.plan_upload.specs.Plans.{plan_at}
-use Rattle.plan_upload.specs.Drone.{DroneState}
 use Rattle.plan_safety.specs.World as world
 use Rattle.plan_safety.specs.World.{Nodes, Start, World, first_world}
 use Rattle.plan_safety.specs.Store.{StoreEvent, first_store, Upload_begun, Installed, Clear_begun, Cleared, Get_begun, Shown, Cancelled, Ended, Restarted}
 use Rattle.plan_safety.specs.Safety.{IsExecution}
 use Rattle.plan_safety.specs.History.{Step, store_of, IsHistory, IsHeld, Uploaded, final, history}
-use Rattle.mav_nodes.specs.Steps.{Side}
 use Rattle.scenario_lines.specs.LineContext.{has_drone, has_station}
 use Rattle.fleet_report.specs.Events.{Event}
 use Rattle.fleet_world.specs.WorldState.{Node, Drone, WorldState, empty_state, names_of}
@@ -112,10 +111,10 @@ pub record IsSafe (n : Nodes) (before : List Action) (a : Action) : Type 0 where
   -- what the store begins or cancels in it is the order that a station accepts there, if any;
   pub orders : orders_in (steps_in n before a) ≡ a.orders
   -- the plans that the drones of the state have after it are the store's;
-  pub plans : (index : ℕ) (d : Side DroneState) (kind : ℕ) → slice_get a.state.nodes index ≡ Some (Drone d) → kind < 3
+  pub plans : (index : ℕ) (d : DroneSide) (kind : ℕ) → slice_get a.state.nodes index ≡ Some (Drone d) → kind < 3
       → plan_at d.core.plans kind ≡ (store_of (history_of n (before ++ a ∷ []))).plan d.link.me kind
   -- and each is empty, or exactly the plan of one upload for that drone and kind, which was installed
-  pub held : (index : ℕ) (d : Side DroneState) (kind : ℕ) → slice_get a.state.nodes index ≡ Some (Drone d) → kind < 3
+  pub held : (index : ℕ) (d : DroneSide) (kind : ℕ) → slice_get a.state.nodes index ≡ Some (Drone d) → kind < 3
       → IsHeld (history_of n (before ++ a ∷ [])) d.link.me kind (plan_at d.core.plans kind)
 
 -- What a scenario leads to under a key is safe, and these are its actions:

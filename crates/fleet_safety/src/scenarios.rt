@@ -10,7 +10,7 @@ ghost use Rattle.fleet_invariants.specs.Laws.{IsQuiet};
 ghost use Rattle.fleet_invariants.specs.Sound.{Sound};
 ghost use Rattle.fleet_safety.specs.Reporting.{seen, plan_lines, steps_reported};
 ghost use Rattle.fleet_safety.specs.Actions.{calls_of, actions_of};
-ghost use Rattle.fleet_safety.specs.Causes.{without_waits, AtMostOne, Of, Gives, Causes};
+ghost use Rattle.fleet_safety.specs.Causes.{without_waits, HearsOne, Causes};
 ghost use Rattle.fleet_safety.specs.Safe.{nodes_of, events_of, history_of, Safe};
 
 /// For all bytes of an authentic scenario under any key, whether its input ended after them or not.
@@ -31,13 +31,13 @@ pub fn every_report()
 
 /// The calls of a line, in any state, are the events that it causes, and no others: a `begin` line is
 /// one begin of the draft, a `tick` line one tick, frames come to the nodes of a `deliver`, `flow` or
-/// `noise` line, and the drone of a `restart` line starts again.
+/// `noise` line, whose services may reply, and the drone of a `restart` line starts again.
 pub fn every_cause()
     ensures { (number : ℕ) → (s : WorldState) → (line : Line) → Causes s line (without_waits (events_of (calls_of number s line))) }
 {}
 
 /// In the states of authentic scenarios a `deliver` line is one giving of a sent frame to that node, or
-/// nothing.
+/// messages of other services that the node sends, or nothing.
 pub fn every_delivery()
-    ensures { (number : ℕ) → (s : WorldState) → Sound s → (which : ℕ) → (node : Name) → AtMostOne (Of node Gives) (without_waits (events_of (calls_of number s (Deliver which node)))) }
+    ensures { (number : ℕ) → (s : WorldState) → Sound s → (which : ℕ) → (node : Name) → HearsOne node (without_waits (events_of (calls_of number s (Deliver which node)))) }
 {}

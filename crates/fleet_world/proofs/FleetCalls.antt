@@ -8,17 +8,17 @@ use Rattle.mav_nodes.specs.Links.{Outcome}
 use Rattle.mav_nodes.specs.declared.news.News.{News}
 use Rattle.fleet_world.specs.declared.nodes.Node.{Node as ViewNode}
 use Rattle.std.proofs.Math.Seq.{set-get_or}
-use Rattle.mav_nodes.specs.Steps.{Side}
-use Rattle.mav_nodes.specs.Nodes.{station_obeys, order_refusal}
+use Rattle.mav_nodes.specs.Nodes.{StationSide, station_obeys}
 use Rattle.mav_nodes.specs.declared.orders.Order.{Order}
 use Rattle.mav_nodes.specs.declared.faults.OrderFault.{OrderFault}
-use Rattle.mav_nodes.specs.declared.faults.OrderFault.TheVariants.{Begin as BeginFails, Op as OpFails, Node as StationFails}
-use Rattle.plan_upload.specs.Station.{StationState}
+use Rattle.mav_nodes.specs.declared.faults.OrderFault.TheVariants.{Begin as BeginFails, Op as OpFails, Command as CommandFails, Param as ParamFails, Node as StationFails}
 use Rattle.fleet_world.specs.WorldState.{Node, Station, named}
 use Rattle.fleet_world.specs.Steps.{as_station}
 use Rattle.fleet_world.specs.WorldView.{IsNode, Fleet, IsFleet}
-use Rattle.fleet_world.specs.Promises.{NodeOutcome, Moved, FleetOutcome, CallFails, Refuses}
+use Rattle.fleet_world.specs.Promises.{NodeOutcome, Moved, FleetOutcome, CallFails, Follows, Refuses}
 use Rattle.fleet_world.specs.StoredDrones.{FailsBy}
+use Rattle.param_proto.specs.declared.params.Param.{Param}
+use Rattle.fleet_world.specs.ParamLists.{params_of}
 use Rattle.fleet_world.proofs.NodeLists.{AtPlace, none, one, at_index, fleet_set, fleet_push}
 use Rattle.fleet_world.proofs.KeptNames.{KeepsName, obeys_keeps}
 
@@ -96,9 +96,11 @@ fleet_joined inside seen after node view (Ok t) same is more names = fleet_added
 
 -- ---- an order to a station
 
-refuses_weaker : (clock : ℕ) (node : Side StationState) (order : Order) (P Q : Type 0) (fault : OrderFault) → (P → Q) → Refuses clock node order P fault → Refuses clock node order Q fault
+refuses_weaker : (clock : ℕ) (node : StationSide) (order : Order) (P Q : Type 0) (fault : OrderFault) → (P → Q) → Refuses clock node order P fault → Refuses clock node order Q fault
 refuses_weaker clock node order P Q (BeginFails fault) f h = (h.0, h.1, f h.2)
 refuses_weaker clock node order P Q (OpFails why) f h = (h.0, f h.1)
+refuses_weaker clock node order P Q (CommandFails busy) f h = (h.0, f h.1)
+refuses_weaker clock node order P Q (ParamFails busy) f h = (h.0, f h.1)
 refuses_weaker clock node order P Q (StationFails fault) f h = h
 
 module _ (inside seen after : Fleet) (k n : ℕ) (view new : ViewNode) (order : Order) (same : inside ≡ seen) (size : n ≡ length inside.nodes) (within : k < n) (read : view ≡ get_or inside.nodes k view) (e : after ≡ record inside { nodes = slice_set inside.nodes k new }) where
@@ -108,7 +110,7 @@ module _ (inside seen after : Fleet) (k n : ℕ) (view new : ViewNode) (order : 
   after_seen : after ≡ record seen { nodes = slice_set seen.nodes k new }
   after_seen = e ∙ ap (λ (z : Fleet). record z { nodes = slice_set z.nodes k new }) same
 
-  station_there : (nodes : List Node) (node : Side StationState) → AtPlace nodes seen.nodes k → slice_get nodes k ≡ Some (Station node) → IsNode (Station node) view
+  station_there : (nodes : List Node) (node : StationSide) → AtPlace nodes seen.nodes k → slice_get nodes k ≡ Some (Station node) → IsNode (Station node) view
   station_there nodes node (none a b) found = cc
   station_there nodes node (one m v a b is) found =
       let one_node : m ≡ Station node = cc in
@@ -116,12 +118,12 @@ module _ (inside seen after : Fleet) (k n : ℕ) (view new : ViewNode) (order : 
       let one_view : v ≡ view = cc in
       subst (IsNode (Station node)) one_view (subst (λ (x : Node). IsNode x v) one_node is)
 
-  obeyed : (nodes : List Node) (node : Side StationState) (news : List News) → IsFleet nodes seen → slice_get nodes k ≡ Some (Station node) → NodeOutcome (as_station (station_obeys inside.clock order node)) new news → Moved nodes k (as_station (station_obeys seen.clock order node)) after news
+  obeyed : (nodes : List Node) (node : StationSide) (news : List News) → IsFleet nodes seen → slice_get nodes k ≡ Some (Station node) → NodeOutcome (as_station (station_obeys inside.clock order node)) new news → Moved nodes k (as_station (station_obeys seen.clock order node)) after news
   obeyed nodes node news f found did =
       moved nodes seen after k (λ x. as_station (station_obeys seen.clock order node)) view new news (Station node) (as_station (station_obeys seen.clock order node)) (obeys_keeps seen.clock order node) f found after_seen
       (subst (λ (z : Fleet). NodeOutcome (as_station (station_obeys z.clock order node)) new news) same did)
 
-  pub order_done : (result : Result (Vec News Global) OrderFault) → IfOk result (λ news. (node : Side StationState) → IsNode (Station node) view → (order_refusal node.core order ≡ None) × NodeOutcome (as_station (station_obeys inside.clock order node)) new news.items) → IfOk result (λ news. (nodes : List Node) → (node : Side StationState) → IsFleet nodes seen → slice_get nodes k ≡ Some (Station node) → (order_refusal node.core order ≡ None) × Moved nodes k (as_station (station_obeys seen.clock order node)) after news.items)
+  pub order_done : (result : Result (Vec News Global) OrderFault) → IfOk result (λ news. (node : StationSide) → IsNode (Station node) view → Follows node order × NodeOutcome (as_station (station_obeys inside.clock order node)) new news.items) → IfOk result (λ news. (nodes : List Node) → (node : StationSide) → IsFleet nodes seen → slice_get nodes k ≡ Some (Station node) → Follows node order × Moved nodes k (as_station (station_obeys seen.clock order node)) after news.items)
   order_done (Ok news) did = λ nodes node f found.
       let does = did node (station_there nodes node (at_index nodes seen.nodes k f.are) found) in
       (does.0, obeyed nodes node news.items f found does.1)
@@ -132,7 +134,7 @@ module _ (inside seen after : Fleet) (k n : ℕ) (view new : ViewNode) (order : 
       let nodes_same : slice_set inside.nodes k new ≡ inside.nodes = ap (slice_set inside.nodes k) (left ∙ read) ∙ set-get_or inside.nodes k view in
       subst (IsFleet nodes) (sym (e ∙ ap (λ (l : List ViewNode). record inside { nodes = l }) nodes_same ∙ same)) f
 
-  pub order_refused : (result : Result (Vec News Global) OrderFault) → IfErr result (λ fault. (node : Side StationState) → IsNode (Station node) view → Refuses inside.clock node order (new ≡ view) fault) → IfErr result (λ fault. (nodes : List Node) → (node : Side StationState) → IsFleet nodes seen → slice_get nodes k ≡ Some (Station node) → Refuses seen.clock node order (IsFleet nodes after) fault)
+  pub order_refused : (result : Result (Vec News Global) OrderFault) → IfErr result (λ fault. (node : StationSide) → IsNode (Station node) view → Refuses inside.clock node order (new ≡ view) fault) → IfErr result (λ fault. (nodes : List Node) → (node : StationSide) → IsFleet nodes seen → slice_get nodes k ≡ Some (Station node) → Refuses seen.clock node order (IsFleet nodes after) fault)
   order_refused (Ok news) refused = tt
   order_refused (Err fault) refused = λ nodes node f found.
       refuses_weaker seen.clock node order (new ≡ view) (IsFleet nodes after) fault (unchanged nodes f)
@@ -142,8 +144,31 @@ nothing_there : {A : Type 0} (nodes : List Node) (seen : List ViewNode) (k : ℕ
 nothing_there nodes seen k node (none a b) past found = cc
 nothing_there nodes seen k node (one m v a b is) past found = cc
 
-pub no_station : {A : Type 0} (inside seen : Fleet) (k n : ℕ) (nodes : List Node) (node : Side StationState) → inside ≡ seen → n ≡ length inside.nodes → n ≤ k → IsFleet nodes seen → slice_get nodes k ≡ Some (Station node) → A
+pub no_station : {A : Type 0} (inside seen : Fleet) (k n : ℕ) (nodes : List Node) (node : StationSide) → inside ≡ seen → n ≡ length inside.nodes → n ≤ k → IsFleet nodes seen → slice_get nodes k ≡ Some (Station node) → A
 no_station inside seen k n nodes node same size past f found =
     let beyond : length inside.nodes ≤ k = omega arith in
     nothing_there nodes seen.nodes k (Station node) (at_index nodes seen.nodes k f.are)
     (ap (λ (z : Fleet). slice_get z.nodes k) (sym same) ∙ slice_get_past inside.nodes k beyond) found
+
+-- ---- the parameters that a node knows
+
+values_there : (nodes : List Node) (seen : List ViewNode) (k : ℕ) (view : ViewNode) (values : List Param) → AtPlace nodes seen k → slice_get seen k ≡ Some view → ((node : Node) → IsNode node view → values ≡ params_of (Some node)) → values ≡ params_of (slice_get nodes k)
+values_there nodes seen k view values (none a b) found known = cc
+values_there nodes seen k view values (one node v a b is) found known =
+    let same : v ≡ view = cc in
+    known node (subst (IsNode node) same is) ∙ ap params_of (sym a)
+
+no_values : (nodes : List Node) (seen : List ViewNode) (k : ℕ) → AtPlace nodes seen k → slice_get seen k ≡ None → ◌≡◌ {A = List Param} [] (params_of (slice_get nodes k))
+no_values nodes seen k (none a b) past = ap params_of (sym a)
+no_values nodes seen k (one node v a b is) past = cc
+
+module _ (inside seen : Fleet) (k n : ℕ) (same : inside ≡ seen) (size : n ≡ length inside.nodes) where
+  pub params_found : (view : ViewNode) (values : List Param) → k < n → view ≡ get_or inside.nodes k view → ((node : Node) → IsNode node view → values ≡ params_of (Some node)) → (nodes : List Node) → IsFleet nodes seen → values ≡ params_of (slice_get nodes k)
+  params_found view values within read known nodes f =
+      values_there nodes seen.nodes k view values (at_index nodes seen.nodes k f.are)
+      (ap (λ (z : Fleet). slice_get z.nodes k) (sym same) ∙ slice_get_read inside.nodes n k view size within read) known
+
+  pub no_params : n ≤ k → (nodes : List Node) → IsFleet nodes seen → ◌≡◌ {A = List Param} [] (params_of (slice_get nodes k))
+  no_params past nodes f =
+      let beyond : length inside.nodes ≤ k = omega arith in
+      no_values nodes seen.nodes k (at_index nodes seen.nodes k f.are) (ap (λ (z : Fleet). slice_get z.nodes k) (sym same) ∙ slice_get_past inside.nodes k beyond)

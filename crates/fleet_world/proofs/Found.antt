@@ -1,13 +1,11 @@
 -- The node that a search by name finds.
 use Rattle.std.proofs.Common.{◌≡◌, ℕ, suc, ◌+◌, ◌<◌, Bool, true, false, not, cond, ◌==◌, nat_lt, List, [], ◌∷◌, length, position, slice_get, Some, None, refl, sym, ap, ◌∙◌, subst, arith}
+use Rattle.mav_nodes.specs.Nodes.{DroneSide, StationSide}
 use Rattle.std.specs.List.{position_or_len}
 use Rattle.std.proofs.lemmas.Bool.{and_parts, eqb-true}
 use borrow.Author.Tests.{ltb-true}
 use Rattle.mav_names.specs.declared.names.Name.{Name}
 use Rattle.plan_upload.specs.Addresses.{node_of, same_name}
-use Rattle.plan_upload.specs.Drone.{DroneState}
-use Rattle.plan_upload.specs.Station.{StationState}
-use Rattle.mav_nodes.specs.Steps.{Side}
 use Rattle.fleet_world.specs.WorldState.{Node, Drone, Station, is_drone_named, is_station_named}
 
 pub record FoundBy (p : Node → Bool) (nodes : List Node) (k : ℕ) : Type 0 where
@@ -50,7 +48,7 @@ same_is a b e =
 
 -- the drone of a name
 pub record FoundDrone (name : Name) (nodes : List Node) (k : ℕ) : Type 0 where
-  pub node : Side DroneState
+  pub node : DroneSide
   pub there : slice_get nodes k ≡ Some (Drone node)
   pub called : node_of node.link.me ≡ name
 
@@ -63,7 +61,7 @@ found_drone name nodes k e = let f = found_by (is_drone_named name) nodes k e in
 
 -- and the station
 pub record FoundStation (name : Name) (nodes : List Node) (k : ℕ) : Type 0 where
-  pub node : Side StationState
+  pub node : StationSide
   pub there : slice_get nodes k ≡ Some (Station node)
   pub called : node_of node.link.me ≡ name
 

@@ -10,15 +10,18 @@ use Rattle.mav_sign.specs.declared.admission.Admit.{Admit}
 use Rattle.mav_sign.specs.declared.admission.Admit.TheVariants.{Admitted, Unsigned, BadSignature, BelowFloor, NotLater, TooOld, TooManyStreams}
 use Rattle.mav_sign.specs.History.{stream_of, answer_to}
 use Rattle.mav_sign.specs.Endpoints.{frames_of}
-use Rattle.mav_nodes.specs.Payloads.{plan_in}
+use Rattle.mav_nodes.specs.Payloads.{plan_in, service_in}
+use Rattle.mav_nodes.specs.Services.{ServiceStep, StationServices, station_waits, asks_command, asks_params, command_of}
+use Rattle.command_proto.specs.Commander.{commands}
+use Rattle.param_proto.specs.Client.{reads, sets, lists}
 use Rattle.mav_nodes.specs.News.{NodeEvent}
-use Rattle.mav_nodes.specs.Links.{Link, Outcome, done, behind, and_then, tries, sends}
-use Rattle.mav_nodes.specs.Steps.{Side, CoreStep, answers, with_core, steps, takes, admits, hears, hears_all, receives}
-use Rattle.mav_nodes.specs.Nodes.{drone_core, drone_receives, drone_beats, drone_ticks, drone_heartbeat, drone_waits, station_core, station_heartbeat, station_does, station_obeys}
+use Rattle.mav_nodes.specs.Links.{Link, Outcome, done, behind, and_then, tries, sends, sends_all}
+use Rattle.mav_nodes.specs.Steps.{Side, Rules, CoreStep, answers, with_core, steps, serves, serves_if, takes, admits, hears, hears_all, receives}
+use Rattle.mav_nodes.specs.Nodes.{DroneSide, StationSide, drone_rules, drone_receives, drone_beats, drone_ticks, drone_heartbeat, drone_waits, station_rules, station_heartbeat, services_tick, station_does, station_obeys}
 use Rattle.mav_nodes.specs.LowBounds.{stored_low}
 use Rattle.mav_nodes.specs.Restarts.{started_again, restarted_drone, drone_restarts}
 use Rattle.mav_nodes.specs.declared.orders.Order.{Order}
-use Rattle.mav_nodes.specs.declared.orders.Order.TheVariants.{Begin, Cancel, Clear, Get}
+use Rattle.mav_nodes.specs.declared.orders.Order.TheVariants.{Begin, Cancel, Clear, Get, Command, ParamRead, ParamSet, ParamList}
 use Rattle.plan_items.specs.Kinds.{number_of}
 use Rattle.plan_items.specs.Plans.{items_of}
 use Rattle.plan_upload.specs.Kinds.{clear_number}
@@ -40,7 +43,7 @@ LinkKeeps me None = Unit {0}
 LinkKeeps me (Some d) = d.node.me ≡ me
 
 -- the node's link has it, and its core is of that system
-abbrev pub SideKeeps : {Core : Type 0} → (Core → ℕ) → Stream → ℕ → Outcome (Side Core) → Type 0
+abbrev pub SideKeeps : {Core Services : Type 0} → (Core → ℕ) → Stream → ℕ → Outcome (Side Core Services) → Type 0
 SideKeeps of me sys None = Unit {0}
 SideKeeps of me sys (Some d) = (d.node.link.me ≡ me) × (of d.node.core ≡ sys)
 
@@ -55,25 +58,54 @@ answers-keep : (clock : ℕ) (answer : Option PlanMsg) (link : Link) → LinkKee
 answers-keep clock None link = refl
 answers-keep clock (Some message) link = sends-keep clock (message_of_plan message) link
 
-module _ {Core : Type 0} (of : Core → ℕ) where
-  with_core-keep : (me : Stream) (sys : ℕ) (core : Core) (last : List NodeEvent) (o : Outcome Link) → LinkKeeps me o → of core ≡ sys → SideKeeps of me sys (with_core core last o)
-  with_core-keep me sys core last None h e = tt
-  with_core-keep me sys core last (Some d) h e = (h, e)
+links-keep : (me : Stream) (o : Outcome Link) (next : Link → Outcome Link) → LinkKeeps me o → ((link : Link) → LinkKeeps link.me (next link)) → LinkKeeps me (and_then o next)
+links-keep me None next h rest = tt
+links-keep me (Some d) next h rest = moved (next d.node) (rest d.node)
+  where
+    moved : (o : Outcome Link) → LinkKeeps d.node.me o → LinkKeeps me (behind d.events o)
+    moved None k = tt
+    moved (Some e) k = k ∙ h
 
-  behind-keep : (me : Stream) (sys : ℕ) (events : List NodeEvent) (o : Outcome (Side Core)) → SideKeeps of me sys o → SideKeeps of me sys (behind events o)
+sends_all-keep : (clock : ℕ) (messages : List Message) (link : Link) → LinkKeeps link.me (sends_all clock messages link)
+sends_all-keep clock [] link = refl
+sends_all-keep clock (message ∷ messages) link =
+    links-keep link.me (sends clock message link) (sends_all clock messages) (sends-keep clock message link) (sends_all-keep clock messages)
+
+module _ {Core Services : Type 0} (of : Core → ℕ) where
+  with_core-keep : (me : Stream) (sys : ℕ) (core : Core) (services : Services) (last : List NodeEvent) (o : Outcome Link) → LinkKeeps me o → of core ≡ sys → SideKeeps of me sys (with_core core services last o)
+  with_core-keep me sys core services last None h e = tt
+  with_core-keep me sys core services last (Some d) h e = (h, e)
+
+  behind-keep : (me : Stream) (sys : ℕ) (events : List NodeEvent) (o : Outcome (Side Core Services)) → SideKeeps of me sys o → SideKeeps of me sys (behind events o)
   behind-keep me sys events None h = tt
   behind-keep me sys events (Some d) h = h
 
-  steps-keep : (clock : ℕ) (link : Link) (sys : ℕ) (step : CoreStep Core) → of step.core ≡ sys → SideKeeps of link.me sys (steps clock link step)
-  steps-keep clock link sys step e = behind-keep link.me sys step.first _ (with_core-keep link.me sys step.core step.last _ (answers-keep clock step.answer link) e)
+  steps-keep : (clock : ℕ) (link : Link) (services : Services) (sys : ℕ) (step : CoreStep Core) → of step.core ≡ sys → SideKeeps of link.me sys (steps clock link services step)
+  steps-keep clock link services sys step e =
+      behind-keep link.me sys step.first _ (with_core-keep link.me sys step.core services step.last _ (answers-keep clock step.answer link) e)
 
-  module _ (step : Core → Stream → PlanMsg → CoreStep Core) (clock : ℕ) (stays : (core : Core) (from : Stream) (message : PlanMsg) → of (step core from message).core ≡ of core) where
-    takes-keep : (node : Side Core) (from : Stream) (message : Option PlanMsg) → SideKeeps of node.link.me (of node.core) (takes step clock node from message)
-    takes-keep node from None = (refl, refl)
-    takes-keep node from (Some message) = steps-keep clock node.link (of node.core) (step node.core from message) (stays node.core from message)
+  serves-keep : (clock : ℕ) (link : Link) (core : Core) (step : ServiceStep Services) → SideKeeps of link.me (of core) (serves clock link core step)
+  serves-keep clock link core step = with_core-keep link.me (of core) core step.services step.last _ (sends_all-keep clock step.answers link) refl
 
-    admits-keep : (node : Side Core) (packet : Packet) (answer : Admit) (block : Option SignatureBlock) → SideKeeps of node.link.me (of node.core) (admits step clock node packet answer block)
-    admits-keep node packet Admitted (Some block) = takes-keep node (stream_of packet block) (plan_in packet.id packet.payload)
+  and_then-keep : (me : Stream) (sys : ℕ) (first : Outcome (Side Core Services)) (next : Side Core Services → Outcome (Side Core Services)) → SideKeeps of me sys first → ((node : Side Core Services) → SideKeeps of node.link.me (of node.core) (next node)) → SideKeeps of me sys (and_then first next)
+  and_then-keep me sys None next h rest = tt
+  and_then-keep me sys (Some d) next h rest = behind-keep me sys d.events (next d.node) (moved (next d.node) (rest d.node))
+    where
+      moved : (o : Outcome (Side Core Services)) → SideKeeps of d.node.link.me (of d.node.core) o → SideKeeps of me sys o
+      moved None k = tt
+      moved (Some e) k = (k.0 ∙ h.0, k.1 ∙ h.1)
+
+  module _ (rules : Rules Core Services) (clock : ℕ) (stays : (core : Core) (from : Stream) (message : PlanMsg) → of (rules.take core from message).core ≡ of core) where
+    serves_if-keep : (node : Side Core Services) (from : Stream) (message : Option Message) → SideKeeps of node.link.me (of node.core) (serves_if rules clock node from message)
+    serves_if-keep node from None = (refl, refl)
+    serves_if-keep node from (Some message) = serves-keep clock node.link node.core (rules.serve node.core node.services from message)
+
+    takes-keep : (node : Side Core Services) (from : Stream) (message : Option PlanMsg) (other : Option Message) → SideKeeps of node.link.me (of node.core) (takes rules clock node from message other)
+    takes-keep node from None other = serves_if-keep node from other
+    takes-keep node from (Some message) other = steps-keep clock node.link node.services (of node.core) (rules.take node.core from message) (stays node.core from message)
+
+    admits-keep : (node : Side Core Services) (packet : Packet) (answer : Admit) (block : Option SignatureBlock) → SideKeeps of node.link.me (of node.core) (admits rules clock node packet answer block)
+    admits-keep node packet Admitted (Some block) = takes-keep node (stream_of packet block) (plan_in packet.id packet.payload) (service_in packet.id packet.payload)
     admits-keep node packet Admitted None = (refl, refl)
     admits-keep node packet Unsigned block = (refl, refl)
     admits-keep node packet BadSignature block = (refl, refl)
@@ -82,23 +114,15 @@ module _ {Core : Type 0} (of : Core → ℕ) where
     admits-keep node packet (TooOld local) block = (refl, refl)
     admits-keep node packet TooManyStreams block = (refl, refl)
 
-    hears-keep : (packet : Packet) (node : Side Core) → SideKeeps of node.link.me (of node.core) (hears step clock packet node)
+    hears-keep : (packet : Packet) (node : Side Core Services) → SideKeeps of node.link.me (of node.core) (hears rules clock packet node)
     hears-keep packet node = admits-keep (record node { link = tries packet node.link }) packet (answer_to node.link.key node.link.history packet) packet.block
 
-    and_then-keep : (me : Stream) (sys : ℕ) (first : Outcome (Side Core)) (next : Side Core → Outcome (Side Core)) → SideKeeps of me sys first → ((node : Side Core) → SideKeeps of node.link.me (of node.core) (next node)) → SideKeeps of me sys (and_then first next)
-    and_then-keep me sys None next h rest = tt
-    and_then-keep me sys (Some d) next h rest = behind-keep me sys d.events (next d.node) (moved (next d.node) (rest d.node))
-      where
-        moved : (o : Outcome (Side Core)) → SideKeeps of d.node.link.me (of d.node.core) o → SideKeeps of me sys o
-        moved None k = tt
-        moved (Some e) k = (k.0 ∙ h.0, k.1 ∙ h.1)
-
-    hears_all-keep : (packets : List Packet) (node : Side Core) → SideKeeps of node.link.me (of node.core) (hears_all step clock packets node)
+    hears_all-keep : (packets : List Packet) (node : Side Core Services) → SideKeeps of node.link.me (of node.core) (hears_all rules clock packets node)
     hears_all-keep [] node = (refl, refl)
     hears_all-keep (packet ∷ packets) node =
-        and_then-keep node.link.me (of node.core) (hears step clock packet node) (hears_all step clock packets) (hears-keep packet node) (hears_all-keep packets)
+        and_then-keep node.link.me (of node.core) (hears rules clock packet node) (hears_all rules clock packets) (hears-keep packet node) (hears_all-keep packets)
 
-    receives-keep : (datagram : List ℕ) (node : Side Core) → SideKeeps of node.link.me (of node.core) (receives step clock datagram node)
+    receives-keep : (datagram : List ℕ) (node : Side Core Services) → SideKeeps of node.link.me (of node.core) (receives rules clock datagram node)
     receives-keep datagram node = hears_all-keep (frames_of (final_parse node.link.extras false datagram)) node
 
 -- ---- drones and stations
@@ -110,14 +134,14 @@ sys_of d = d.sys
 abbrev none_of : StationState → ℕ
 none_of s = 0
 
-pub drone_receiving : (clock : ℕ) (datagram : List ℕ) (n : Side DroneState) → SideKeeps sys_of n.link.me n.core.sys (drone_receives clock datagram n)
-drone_receiving clock datagram n = receives-keep sys_of drone_core clock (λ core from message. drone_stays true from core message) datagram n
+pub drone_receiving : (clock : ℕ) (datagram : List ℕ) (n : DroneSide) → SideKeeps sys_of n.link.me n.core.sys (drone_receives clock datagram n)
+drone_receiving clock datagram n = receives-keep sys_of drone_rules clock (λ core from message. drone_stays true from core message) datagram n
 
-pub drone_beating : (clock : ℕ) (n : Side DroneState) → SideKeeps sys_of n.link.me n.core.sys (drone_beats clock n)
-drone_beating clock n = with_core-keep sys_of n.link.me n.core.sys n.core [] _ (sends-keep clock drone_heartbeat n.link) refl
+pub drone_beating : (clock : ℕ) (n : DroneSide) → SideKeeps sys_of n.link.me n.core.sys (drone_beats clock n)
+drone_beating clock n = with_core-keep sys_of n.link.me n.core.sys n.core n.services [] _ (sends-keep clock (drone_heartbeat n.services.armed) n.link) refl
 
-pub drone_ticking : (clock : ℕ) (n : Side DroneState) → SideKeeps sys_of n.link.me n.core.sys (drone_ticks clock n)
-drone_ticking clock n = steps-keep sys_of clock n.link n.core.sys (drone_waits (drone_tick n.core)) (drone_tick_stays n.core)
+pub drone_ticking : (clock : ℕ) (n : DroneSide) → SideKeeps sys_of n.link.me n.core.sys (drone_ticks clock n)
+drone_ticking clock n = steps-keep sys_of clock n.link n.services n.core.sys (drone_waits (drone_tick n.core)) (drone_tick_stays n.core)
 
 -- ---- nodes
 
@@ -126,32 +150,34 @@ abbrev pub KeepsName : Node → Outcome Node → Type 0
 KeepsName node None = Unit {0}
 KeepsName node (Some d) = named d.node ≡ named node
 
-drone-keeps : (n : Side DroneState) (o : Outcome (Side DroneState)) → SideKeeps sys_of n.link.me n.core.sys o → KeepsName (Drone n) (as_drone o)
+drone-keeps : (n : DroneSide) (o : Outcome DroneSide) → SideKeeps sys_of n.link.me n.core.sys o → KeepsName (Drone n) (as_drone o)
 drone-keeps n None h = tt
 drone-keeps n (Some d) h = ap (λ (me : Stream). named (Drone (record n { link = record n.link { me = me } }))) h.0
 
-station-keeps : (n : Side StationState) (o : Outcome (Side StationState)) → SideKeeps none_of n.link.me 0 o → KeepsName (Station n) (as_station o)
+station-keeps : (n : StationSide) (o : Outcome StationSide) → SideKeeps none_of n.link.me 0 o → KeepsName (Station n) (as_station o)
 station-keeps n None h = tt
 station-keeps n (Some d) h = ap (λ (me : Stream). named (Station (record n { link = record n.link { me = me } }))) h.0
 
 pub receives_keeps : (clock : ℕ) (datagram : List ℕ) (node : Node) → KeepsName node (node_receives clock datagram node)
 receives_keeps clock datagram (Drone n) = drone-keeps n _ (drone_receiving clock datagram n)
-receives_keeps clock datagram (Station n) = station-keeps n _ (receives-keep none_of station_core clock (λ core from message. refl) datagram n)
+receives_keeps clock datagram (Station n) = station-keeps n _ (receives-keep none_of station_rules clock (λ core from message. refl) datagram n)
 
 pub beats_keep : (clock : ℕ) (node : Node) → KeepsName node (node_beats clock node)
 beats_keep clock (Drone n) = drone-keeps n _ (drone_beating clock n)
-beats_keep clock (Station n) = station-keeps n _ (with_core-keep none_of n.link.me 0 n.core [] _ (sends-keep clock station_heartbeat n.link) refl)
+beats_keep clock (Station n) = station-keeps n _ (with_core-keep none_of n.link.me 0 n.core n.services [] _ (sends-keep clock station_heartbeat n.link) refl)
 
 pub ticks_keep : (clock : ℕ) (node : Node) → KeepsName node (node_ticks clock node)
 ticks_keep clock (Drone n) = drone-keeps n _ (drone_ticking clock n)
-ticks_keep clock (Station n) = station-keeps n _ (steps-keep none_of clock n.link 0 (station_does (station_tick n.core)) refl)
+ticks_keep clock (Station n) =
+    station-keeps n _ (and_then-keep none_of n.link.me 0 (steps clock n.link n.services (station_does (station_tick n.core))) (services_tick clock)
+    (steps-keep none_of clock n.link n.services 0 (station_does (station_tick n.core)) refl) (λ node. serves-keep none_of clock node.link node.core (station_waits node.services)))
 
 -- a drone that starts again, on the stream of its system
-restarted_keeps : (key : List ℕ) (n : Side DroneState) → n.link.me ≡ record { sys = n.core.sys; comp = 1; link = 0 }
+restarted_keeps : (key : List ℕ) (n : DroneSide) → n.link.me ≡ record { sys = n.core.sys; comp = 1; link = 0 }
     → ((restarted_drone key n).link.me ≡ n.link.me) × ((restarted_drone key n).core.sys ≡ n.core.sys)
 restarted_keeps key n me = by_low (stored_low n.link.history)
   where
-    by_low : (low : Option ℕ) → ((started_again key n.core.sys low n.core.plans).link.me ≡ n.link.me) × ((started_again key n.core.sys low n.core.plans).core.sys ≡ n.core.sys)
+    by_low : (low : Option ℕ) → ((started_again key n.core.sys n.services.home low n.core.plans).link.me ≡ n.link.me) × ((started_again key n.core.sys n.services.home low n.core.plans).core.sys ≡ n.core.sys)
     by_low None = (sym me, refl)
     by_low (Some low) = (sym me, refl)
 
@@ -170,12 +196,19 @@ calls_keep Heartbeat datagram clock node view is = beats_keep clock node
 calls_keep Tick datagram clock node view is = ticks_keep clock node
 calls_keep (Restart key) datagram clock node view is = restarts_keep key clock node view is
 
--- a station's step
-pub step_keeps : (clock : ℕ) (n : Side StationState) (step : CoreStep StationState) → KeepsName (Station n) (as_station (steps clock n.link step))
-step_keeps clock n step = station-keeps n _ (steps-keep none_of clock n.link 0 step refl)
+-- a station's step, of its core and of its services
+step_keeps : (clock : ℕ) (n : StationSide) (step : CoreStep StationState) → KeepsName (Station n) (as_station (steps clock n.link n.services step))
+step_keeps clock n step = station-keeps n _ (steps-keep none_of clock n.link n.services 0 step refl)
 
-pub obeys_keeps : (clock : ℕ) (order : Order) (n : Side StationState) → KeepsName (Station n) (as_station (station_obeys clock order n))
+service_keeps : (clock : ℕ) (n : StationSide) (step : ServiceStep StationServices) → KeepsName (Station n) (as_station (serves clock n.link n.core step))
+service_keeps clock n step = station-keeps n _ (serves-keep none_of clock n.link n.core step)
+
+pub obeys_keeps : (clock : ℕ) (order : Order) (n : StationSide) → KeepsName (Station n) (as_station (station_obeys clock order n))
 obeys_keeps clock (Begin drone kind plan) n = step_keeps clock n (station_does (begin_upload n.core drone (number_of kind) (items_of plan)))
 obeys_keeps clock Cancel n = step_keeps clock n (station_does (station_cancel n.core))
 obeys_keeps clock (Clear drone kind) n = step_keeps clock n (station_does (begin_clear n.core drone (clear_number kind)))
 obeys_keeps clock (Get drone kind) n = step_keeps clock n (station_does (begin_get n.core drone (number_of kind)))
+obeys_keeps clock (Command drone number word) n = service_keeps clock n (asks_command n.services (commands n.services.commander drone (command_of number word)))
+obeys_keeps clock (ParamRead drone id) n = service_keeps clock n (asks_params n.services (reads n.services.client drone id))
+obeys_keeps clock (ParamSet drone param) n = service_keeps clock n (asks_params n.services (sets n.services.client drone param))
+obeys_keeps clock (ParamList drone) n = service_keeps clock n (asks_params n.services (lists n.services.client drone))

@@ -2,6 +2,7 @@ pub mod CutBytes
 pub mod NodeLists
 pub mod Systems
 pub mod KeptNames
+pub mod ListedValues
 pub mod FleetCalls
 pub mod Lookups
 pub mod Found

@@ -1,19 +1,21 @@
 -- News, one piece after another, and what is reported of them.
-use Rattle.std.proofs.Common.{◌≡◌, ℕ, suc, ◌+◌, ◌<◌, List, [], ◌∷◌, ◌++◌, length, map, take, get_or, Result, Ok, Err, refl, sym, ap, ◌∙◌, subst, append_assoc, arith, length-append}
+use Rattle.std.proofs.Common.{◌≡◌, ℕ, suc, ◌+◌, ◌<◌, List, [], ◌∷◌, ◌++◌, length, map, take, get_or, Bool, true, false, cond, Option, Some, None, Result, Ok, Err, refl, sym, ap, ◌∙◌, subst, append_assoc, arith, length-append}
 use Rattle.std.specs.Prelude.{OnOk}
 use Rattle.std.proofs.lemmas.List.{append-nil, take_more, map-append, length-map}
 use Rattle.mav_names.specs.declared.names.Name.{Name}
+use Rattle.param_proto.specs.declared.params.Param.{Param}
 use Rattle.mav_frame.specs.Packet.{Packet}
 use Rattle.mav_messages.specs.declared.messages.Message.{Message}
-use Rattle.mav_nodes.specs.News.{NodeEvent, Sends, Installs, Empties, Drops, Ends, Shown, Shows_sent, shown, said_by, events_of}
+use Rattle.mav_nodes.specs.News.{NodeEvent, Sends, Installs, Empties, Drops, Ends, Ends_command, Gives_param, Ends_params, Shown, Shows_sent, Shows_installed, Shows_emptied, Shows_dropped, Shows_ended, Shows_command, Shows_param, Shows_params, shown, said_by, events_of}
 use Rattle.mav_nodes.specs.declared.news.News.{News}
-use Rattle.mav_nodes.specs.declared.news.News.TheVariants.{Sent, Installed, Emptied, Dropped, Outcome}
-use Rattle.fleet_report.specs.Events.{Event, Sent as SentEvent}
+use Rattle.mav_nodes.specs.declared.news.News.TheVariants.{Sent, Installed, Emptied, Dropped, Outcome, Command, Param as Told_param, Params}
+use Rattle.fleet_report.specs.Events.{Event, Sent as SentEvent, Command_ended, Params_ended, Param_given}
 use Rattle.fleet_report.specs.Reports.{ReportState, reported}
 use Rattle.fleet_world.specs.WorldView.{Kept, kept_as}
 use Rattle.fleet_world.specs.Counts.{is_frame, counted}
 use Rattle.fleet_world.specs.Steps.{packets_in, reported_by}
 use Rattle.fleet_world.specs.NodeSteps.{reports}
+use Rattle.fleet_world.specs.ParamLists.{HaveValues}
 use Rattle.fleet_world.specs.Promises.{Reported}
 use Rattle.fleet_world.proofs.Reporting.{reports-none, reports-both, reports-one}
 
@@ -26,6 +28,9 @@ packets-append (Installs kind items by ∷ xs) ys = packets-append xs ys
 packets-append (Empties kind ∷ xs) ys = packets-append xs ys
 packets-append (Drops answer ∷ xs) ys = packets-append xs ys
 packets-append (Ends outcome ∷ xs) ys = packets-append xs ys
+packets-append (Ends_command result ∷ xs) ys = packets-append xs ys
+packets-append (Gives_param param ∷ xs) ys = packets-append xs ys
+packets-append (Ends_params values ∷ xs) ys = packets-append xs ys
 
 behind_event : (event : Event) {xs ys : List Event} → xs ≡ ys → event ∷ xs ≡ event ∷ ys
 behind_event event e = ap (λ (l : List Event). event ∷ l) e
@@ -40,6 +45,9 @@ reported_by-append name before after (Installs kind items by ∷ xs) ys e = behi
 reported_by-append name before after (Empties kind ∷ xs) ys e = behind_event _ (reported_by-append name before after xs ys e)
 reported_by-append name before after (Drops answer ∷ xs) ys e = behind_event _ (reported_by-append name before after xs ys e)
 reported_by-append name before after (Ends outcome ∷ xs) ys e = behind_event _ (reported_by-append name before after xs ys e)
+reported_by-append name before after (Ends_command result ∷ xs) ys e = behind_event _ (reported_by-append name before after xs ys e)
+reported_by-append name before after (Gives_param param ∷ xs) ys e = behind_event _ (reported_by-append name before after xs ys e)
+reported_by-append name before after (Ends_params values ∷ xs) ys e = behind_event _ (reported_by-append name before after xs ys e)
 
 -- ---- reported
 
@@ -90,29 +98,35 @@ split (n ∷ ns) piece (x ∷ xs) e = longer (split ns piece xs (tails _ _ _ _ e
     }
 
 -- what was reported of the news so far
-abbrev pub ReportedOf : Name → List News → List Kept → List Kept → ReportState → ReportState → Type 0
-ReportedOf name news kept now start mid = (events : List NodeEvent) → events_of news ≡ map shown events → Reported name events kept now start mid
+abbrev pub ReportedOf : Name → List Param → List News → List Kept → List Kept → ReportState → ReportState → Type 0
+ReportedOf name values news kept now start mid =
+    (events : List NodeEvent) → events_of news ≡ map shown events → HaveValues values events → Reported name events kept now start mid
 
-pub reported_start : (name : Name) (kept : List Kept) (report : ReportState) → ReportedOf name [] kept kept report report
-reported_start name kept report [] e = told_none name kept report
-reported_start name kept report (x ∷ xs) e = cc
+pub reported_start : (name : Name) (values : List Param) (kept : List Kept) (report : ReportState) → ReportedOf name values [] kept kept report report
+reported_start name values kept report [] e have = told_none name kept report
+reported_start name values kept report (x ∷ xs) e have = cc
 
-reported_split : (name : Name) (news : List News) (piece : News) (events : List NodeEvent) (kept now more : List Kept) (start mid end : ReportState) → Split news piece events → ReportedOf name news kept now start mid → ((event : NodeEvent) → said_by piece ≡ shown event → Reported name (event ∷ []) now more mid end) → Reported name events kept more start end
-reported_split name news piece events kept now more start mid end s front one =
+have_both : (values : List Param) (xs ys : List NodeEvent) → HaveValues values (xs ++ ys) → HaveValues values xs × HaveValues values ys
+have_both values [] ys h = (tt, h)
+have_both values (x ∷ xs) ys h = let rest = have_both values xs ys h.1 in ((h.0, rest.0), rest.1)
+
+reported_split : (name : Name) (values : List Param) (news : List News) (piece : News) (events : List NodeEvent) (kept now more : List Kept) (start mid end : ReportState) → Split news piece events → HaveValues values events → ReportedOf name values news kept now start mid → ((event : NodeEvent) → said_by piece ≡ shown event → HaveValues values (event ∷ []) → Reported name (event ∷ []) now more mid end) → Reported name events kept more start end
+reported_split name values news piece events kept now more start mid end s have front one =
+    let parts = have_both values s.front (s.event ∷ []) (subst (HaveValues values) s.whole have) in
     subst (λ (l : List NodeEvent). Reported name l kept more start end) (sym s.whole)
-    (reported_both name s.front (s.event ∷ []) kept now more start mid end (front s.front s.before) (one s.event s.last))
+    (reported_both name s.front (s.event ∷ []) kept now more start mid end (front s.front s.before parts.0) (one s.event s.last parts.1))
 
-pub told_more : (name : Name) (news : List News) (i : ℕ) (piece : News) (kept now more : List Kept) (start mid end : ReportState) → i < length news → piece ≡ get_or news i piece → ReportedOf name (take i news) kept now start mid → ((event : NodeEvent) → said_by piece ≡ shown event → Reported name (event ∷ []) now more mid end) → ReportedOf name (take (i + 1) news) kept more start end
-told_more name news i piece kept now more start mid end within is front one events e =
+pub told_more : (name : Name) (values : List Param) (news : List News) (i : ℕ) (piece : News) (kept now more : List Kept) (start mid end : ReportState) → i < length news → piece ≡ get_or news i piece → ReportedOf name values (take i news) kept now start mid → ((event : NodeEvent) → said_by piece ≡ shown event → HaveValues values (event ∷ []) → Reported name (event ∷ []) now more mid end) → ReportedOf name values (take (i + 1) news) kept more start end
+told_more name values news i piece kept now more start mid end within is front one events e have =
     let longer : take (i + 1) news ≡ take i news ++ piece ∷ [] = take_more news i piece within ∙ ap (λ (n : News). take i news ++ n ∷ []) (sym is) in
-    reported_split name (take i news) piece events kept now more start mid end (split (take i news) piece events (ap events_of (sym longer) ∙ e)) front one
+    reported_split name values (take i news) piece events kept now more start mid end (split (take i news) piece events (ap events_of (sym longer) ∙ e)) have front one
 
 -- ---- a frame
 
 -- a frame that was kept and reported
-pub frame_reported : {T E : Type 0} (r : Result T E) (piece : News) (name : Name) (kept more : List Kept) (number : ℕ) (packet : Packet) (message : Message) (before after : ReportState) → piece ≡ Sent packet message → more ≡ kept ++ kept_as packet ∷ [] → number ≡ length more → OnOk r (after ≡ reported before (SentEvent number packet message)) → OnOk r ((event : NodeEvent) → said_by piece ≡ shown event → Reported name (event ∷ []) kept more before after)
-frame_reported (Err e) piece name kept more number packet message before after is pushed counted is_reported = tt
-frame_reported (Ok t) piece name kept more number packet message before after is pushed counted is_reported = λ event e. by_event event (sym (ap said_by is) ∙ e)
+pub frame_reported : {T E : Type 0} (r : Result T E) (piece : News) (name : Name) (values : List Param) (kept more : List Kept) (number : ℕ) (packet : Packet) (message : Message) (before after : ReportState) → piece ≡ Sent packet message → more ≡ kept ++ kept_as packet ∷ [] → number ≡ length more → OnOk r (after ≡ reported before (SentEvent number packet message)) → OnOk r ((event : NodeEvent) → said_by piece ≡ shown event → HaveValues values (event ∷ []) → Reported name (event ∷ []) kept more before after)
+frame_reported (Err e) piece name values kept more number packet message before after is pushed counted is_reported = tt
+frame_reported (Ok t) piece name values kept more number packet message before after is pushed counted is_reported = λ event e have. by_event event (sym (ap said_by is) ∙ e)
   where
     number_is : number ≡ length kept + 1
     number_is = counted ∙ (ap length pushed ∙ length-append kept (kept_as packet ∷ []))
@@ -136,6 +150,89 @@ frame_reported (Ok t) piece name kept more number packet message before after is
     by_event (Empties kind) e = cc
     by_event (Drops answer) e = cc
     by_event (Ends outcome) e = cc
+    by_event (Ends_command result) e = cc
+    by_event (Gives_param param) e = cc
+    by_event (Ends_params values) e = cc
+
+-- ---- what ended
+
+-- one event without a frame
+event_reported : (event : Event) (kept more : List Kept) (before after : ReportState) → more ≡ kept → after ≡ reported before event → (more ≡ kept ++ []) × (after ≡ reports before (event ∷ []))
+event_reported event kept more before after same is_reported = (same ∙ sym (append-nil kept), is_reported ∙ reports-one before event)
+
+module _ {T E : Type 0} (r : Result T E) (piece : News) (name : Name) (values : List Param) (kept more : List Kept) (before after : ReportState) (same : more ≡ kept) where
+  abbrev Told : Type 0
+  Told = OnOk r ((event : NodeEvent) → said_by piece ≡ shown event → HaveValues values (event ∷ []) → Reported name (event ∷ []) kept more before after)
+
+  by_result : (P : Type 0) (s : Result T E) → OnOk s P → (P → (event : NodeEvent) → said_by piece ≡ shown event → HaveValues values (event ∷ []) → Reported name (event ∷ []) kept more before after)
+      → OnOk s ((event : NodeEvent) → said_by piece ≡ shown event → HaveValues values (event ∷ []) → Reported name (event ∷ []) kept more before after)
+  by_result P (Ok t) h tell = tell h
+  by_result P (Err e) h tell = tt
+
+  pub command_reported : (result : Option ℕ) → piece ≡ Command result → OnOk r (after ≡ reported before (Command_ended name result)) → Told
+  command_reported result is did = by_result (after ≡ reported before (Command_ended name result)) r did (λ h event e have. by_event h event (sym (ap said_by is) ∙ e))
+    where
+      by_event : after ≡ reported before (Command_ended name result) → (event : NodeEvent) → Shows_command result ≡ shown event → Reported name (event ∷ []) kept more before after
+      by_event h (Sends p m) e = cc
+      by_event h (Installs kind items by) e = cc
+      by_event h (Empties kind) e = cc
+      by_event h (Drops answer) e = cc
+      by_event h (Ends outcome) e = cc
+      by_event h (Ends_command other) e =
+          let e_is : result ≡ other = cc in
+          let one = event_reported (Command_ended name other) kept more before after same (h ∙ ap (λ (o : Option ℕ). reported before (Command_ended name o)) e_is) in
+          record { sent = one.0; report = one.1 }
+      by_event h (Gives_param param) e = cc
+      by_event h (Ends_params listed) e = cc
+
+  pub param_reported : (param : Param) → piece ≡ Told_param param → OnOk r (after ≡ reported before (Param_given name param)) → Told
+  param_reported param is did = by_result (after ≡ reported before (Param_given name param)) r did (λ h event e have. by_event h event (sym (ap said_by is) ∙ e))
+    where
+      by_event : after ≡ reported before (Param_given name param) → (event : NodeEvent) → Shows_param param ≡ shown event → Reported name (event ∷ []) kept more before after
+      by_event h (Sends p m) e = cc
+      by_event h (Installs kind items by) e = cc
+      by_event h (Empties kind) e = cc
+      by_event h (Drops answer) e = cc
+      by_event h (Ends outcome) e = cc
+      by_event h (Ends_command other) e = cc
+      by_event h (Gives_param other) e =
+          let e_is : param ≡ other = cc in
+          let one = event_reported (Param_given name other) kept more before after same (h ∙ ap (λ (p : Param). reported before (Param_given name p)) e_is) in
+          record { sent = one.0; report = one.1 }
+      by_event h (Ends_params listed) e = cc
+
+  -- the values of a list, which news don't have, are those that the node knows
+  pub list_reported : (count : ℕ) → piece ≡ Params (Some count) → OnOk r (after ≡ reported before (Params_ended name (Some values))) → Told
+  list_reported count is did = by_result (after ≡ reported before (Params_ended name (Some values))) r did (λ h event e have. by_event h event (sym (ap said_by is) ∙ e) have)
+    where
+      by_event : after ≡ reported before (Params_ended name (Some values)) → (event : NodeEvent) → Shows_params (Some count) ≡ shown event → HaveValues values (event ∷ []) → Reported name (event ∷ []) kept more before after
+      by_event h (Sends p m) e have = cc
+      by_event h (Installs kind items by) e have = cc
+      by_event h (Empties kind) e have = cc
+      by_event h (Drops answer) e have = cc
+      by_event h (Ends outcome) e have = cc
+      by_event h (Ends_command other) e have = cc
+      by_event h (Gives_param other) e have = cc
+      by_event h (Ends_params None) e have = cc
+      by_event h (Ends_params (Some listed)) e have =
+          let one = event_reported (Params_ended name (Some listed)) kept more before after same (h ∙ ap (λ (l : List Param). reported before (Params_ended name (Some l))) (sym have.0)) in
+          record { sent = one.0; report = one.1 }
+
+  pub unanswered_reported : piece ≡ Params None → OnOk r (after ≡ reported before (Params_ended name None)) → Told
+  unanswered_reported is did = by_result (after ≡ reported before (Params_ended name None)) r did (λ h event e have. by_event h event (sym (ap said_by is) ∙ e))
+    where
+      by_event : after ≡ reported before (Params_ended name None) → (event : NodeEvent) → Shows_params None ≡ shown event → Reported name (event ∷ []) kept more before after
+      by_event h (Sends p m) e = cc
+      by_event h (Installs kind items by) e = cc
+      by_event h (Empties kind) e = cc
+      by_event h (Drops answer) e = cc
+      by_event h (Ends outcome) e = cc
+      by_event h (Ends_command other) e = cc
+      by_event h (Gives_param other) e = cc
+      by_event h (Ends_params None) e =
+          let one = event_reported (Params_ended name None) kept more before after same h in
+          record { sent = one.0; report = one.1 }
+      by_event h (Ends_params (Some listed)) e = cc
 
 -- ---- how many frames are among news
 
@@ -145,32 +242,40 @@ one_more n = omega arith
 none_more : (n : ℕ) → 0 + n ≡ n
 none_more n = omega arith
 
+abbrev is_sent : Shown → Bool
+is_sent (Shows_sent packet message) = true
+is_sent (Shows_installed kind count by) = false
+is_sent (Shows_emptied kind) = false
+is_sent (Shows_dropped answer) = false
+is_sent (Shows_ended told) = false
+is_sent (Shows_command result) = false
+is_sent (Shows_param param) = false
+is_sent (Shows_params count) = false
+
+piece_sent : (piece : News) → is_frame piece ≡ is_sent (said_by piece)
+piece_sent (Sent frame message) = refl
+piece_sent (Installed kind count by) = refl
+piece_sent (Emptied kind) = refl
+piece_sent (Dropped answer) = refl
+piece_sent (Outcome outcome) = refl
+piece_sent (Command result) = refl
+piece_sent (Told_param param) = refl
+piece_sent (Params count) = refl
+
+event_sent : (event : NodeEvent) (xs : List NodeEvent) → cond (is_sent (shown event)) 1 0 + length (packets_in xs) ≡ length (packets_in (event ∷ xs))
+event_sent (Sends packet message) xs = one_more _
+event_sent (Installs kind items by) xs = none_more _
+event_sent (Empties kind) xs = none_more _
+event_sent (Drops answer) xs = none_more _
+event_sent (Ends told) xs = none_more _
+event_sent (Ends_command result) xs = none_more _
+event_sent (Gives_param param) xs = none_more _
+event_sent (Ends_params values) xs = none_more _
+
 frames_counted : (ns : List News) (xs : List NodeEvent) (piece : News) (event : NodeEvent) → counted is_frame ns ≡ length (packets_in xs) → said_by piece ≡ shown event → counted is_frame (piece ∷ ns) ≡ length (packets_in (event ∷ xs))
-frames_counted ns xs (Sent frame message) (Sends p m) more e = ap (λ (n : ℕ). 1 + n) more ∙ one_more (length (packets_in xs))
-frames_counted ns xs (Sent frame message) (Installs kind items by) more e = cc
-frames_counted ns xs (Sent frame message) (Empties kind) more e = cc
-frames_counted ns xs (Sent frame message) (Drops answer) more e = cc
-frames_counted ns xs (Sent frame message) (Ends outcome) more e = cc
-frames_counted ns xs (Installed k count from) (Sends p m) more e = cc
-frames_counted ns xs (Installed k count from) (Installs kind items by) more e = none_more _ ∙ more
-frames_counted ns xs (Installed k count from) (Empties kind) more e = none_more _ ∙ more
-frames_counted ns xs (Installed k count from) (Drops answer) more e = none_more _ ∙ more
-frames_counted ns xs (Installed k count from) (Ends outcome) more e = none_more _ ∙ more
-frames_counted ns xs (Emptied k) (Sends p m) more e = cc
-frames_counted ns xs (Emptied k) (Installs kind items by) more e = none_more _ ∙ more
-frames_counted ns xs (Emptied k) (Empties kind) more e = none_more _ ∙ more
-frames_counted ns xs (Emptied k) (Drops answer) more e = none_more _ ∙ more
-frames_counted ns xs (Emptied k) (Ends outcome) more e = none_more _ ∙ more
-frames_counted ns xs (Dropped a) (Sends p m) more e = cc
-frames_counted ns xs (Dropped a) (Installs kind items by) more e = none_more _ ∙ more
-frames_counted ns xs (Dropped a) (Empties kind) more e = none_more _ ∙ more
-frames_counted ns xs (Dropped a) (Drops answer) more e = none_more _ ∙ more
-frames_counted ns xs (Dropped a) (Ends outcome) more e = none_more _ ∙ more
-frames_counted ns xs (Outcome o) (Sends p m) more e = cc
-frames_counted ns xs (Outcome o) (Installs kind items by) more e = none_more _ ∙ more
-frames_counted ns xs (Outcome o) (Empties kind) more e = none_more _ ∙ more
-frames_counted ns xs (Outcome o) (Drops answer) more e = none_more _ ∙ more
-frames_counted ns xs (Outcome o) (Ends outcome) more e = none_more _ ∙ more
+frames_counted ns xs piece event more e =
+    ap (λ (b : Bool). cond b 1 0 + counted is_frame ns) (piece_sent piece ∙ ap is_sent e)
+    ∙ ap (λ (n : ℕ). cond (is_sent (shown event)) 1 0 + n) more ∙ event_sent event xs
 
 pub frames_among : (news : List News) (events : List NodeEvent) → events_of news ≡ map shown events → counted is_frame news ≡ length (packets_in events)
 frames_among [] [] e = refl

@@ -10,12 +10,12 @@ use Rattle.mav_nodes.specs.declared.news.News.{News}
 use Rattle.mav_nodes.specs.declared.faults.NodeFault.{NodeFault}
 use Rattle.mav_nodes.specs.LowBounds.{stored_low}
 use Rattle.mav_nodes.specs.Links.{Outcome}
-use Rattle.mav_nodes.specs.Steps.{Side}
 use Rattle.mav_nodes.specs.Stores.{Holds}
 use Rattle.mav_nodes.specs.Images.{IsStored, StoreHolds}
 use Rattle.mav_nodes.specs.Starts.{StartedFrom}
+use Rattle.mav_nodes.specs.Services.{Home, DroneServices}
 use Rattle.mav_nodes.specs.Restarts.{stored_drone, started_again, restarted_drone, drone_restarts}
-use Rattle.mav_nodes.specs.Nodes.{DroneView, IsDrone, new_drone}
+use Rattle.mav_nodes.specs.Nodes.{DroneSide, DroneView, IsDrone, new_drone}
 use Rattle.mav_nodes.specs.Promises.{Did, DroneDid}
 use Rattle.fleet_report.specs.Events.{Event, Restarted}
 use Rattle.fleet_report.specs.Reports.{ReportState, reported}
@@ -36,18 +36,18 @@ use Rattle.fleet_world.proofs.Reporting.{reports-none, reports-both, reports-one
 -- ---- a drone and its store
 
 -- what a call of the drone leaves
-stored_did : (o : Outcome (Side DroneState)) (node : Side DroneState) (view new : StoredView) (news : List News) → IsStoredDrone node view → SideKeeps sys_of node.link.me node.core.sys o
+stored_did : (o : Outcome DroneSide) (node : DroneSide) (view new : StoredView) (news : List News) → IsStoredDrone node view → SideKeeps sys_of node.link.me node.core.sys o
     → DroneDid o new.node [] news → StoreHolds (Some new.store.contents) new.node → new.store.fails ≡ [] → Did o (λ n. IsStoredDrone n new) [] news
 stored_did None node view new news is keeps did holds infallible = absurd did
 stored_did (Some d) node view new news is keeps did holds infallible =
     (record { drone = did.0; me = keeps.0 ∙ is.me ∙ ap (λ (sys : ℕ). record { sys = sys; comp = 1; link = 0 }) (sym keeps.1); holds = holds; infallible = infallible }, did.1)
 
 -- as a call says it
-pub stored_done : (r : Result (Vec News Global) NodeFault) (does : Side DroneState → Outcome (Side DroneState)) (before view new : StoredView) → before ≡ view → ((node : Side DroneState) → SideKeeps sys_of node.link.me node.core.sys (does node))
-    → IfOk r (λ news. (node : Side DroneState) → IsDrone node before.node → before.store.fails ≡ [] → DroneDid (does node) new.node [] news.items)
+pub stored_done : (r : Result (Vec News Global) NodeFault) (does : DroneSide → Outcome DroneSide) (before view new : StoredView) → before ≡ view → ((node : DroneSide) → SideKeeps sys_of node.link.me node.core.sys (does node))
+    → IfOk r (λ news. (node : DroneSide) → IsDrone node before.node → before.store.fails ≡ [] → DroneDid (does node) new.node [] news.items)
     → OnOk r (StoreHolds (Some before.store.contents) before.node → StoreHolds (Some new.store.contents) new.node)
     → (before.store.fails ≡ [] → new.store.fails ≡ [])
-    → IfOk r (λ news. (node : Side DroneState) → IsStoredDrone node view → Did (does node) (λ n. IsStoredDrone n new) [] news.items)
+    → IfOk r (λ news. (node : DroneSide) → IsStoredDrone node view → Did (does node) (λ n. IsStoredDrone n new) [] news.items)
 stored_done (Err fault) does before view new same keeps did holds infallible = tt
 stored_done (Ok news) does before view new same keeps did holds infallible = λ node seen.
     let is = subst (IsStoredDrone node) (sym same) seen in
@@ -60,15 +60,15 @@ holds_of : (new : DroneView) (low : Option ℕ) (drone : DroneState) (contents :
 holds_of new low drone contents is_low is_drone h =
     subst (λ (l : Option ℕ). Holds contents (IsStored new.drone) l) (sym is_low) (subst (λ (d : DroneState). Holds contents (IsStored d) low) (sym is_drone) h)
 
-module _ (key : List ℕ) (view : StoredView) (new : DroneView) (store : MemStore) (same : ◌≡◌ {A = Option (List ℕ)} (Some store.contents) (Some view.store.contents)) (infallible : store.fails ≡ []) where
-  by_low : (sys : ℕ) (plans : Plans) (drone : DroneState) (low : Option ℕ) → drone.sys ≡ sys → drone.plans ≡ plans → Holds (Some view.store.contents) (IsStored drone) low → StartedFrom key sys view.store.contents new
-      → IsStoredDrone (started_again key sys low plans) (record { node = new; store = store })
+module _ (key : List ℕ) (home : Home) (view : StoredView) (new : DroneView) (store : MemStore) (same : ◌≡◌ {A = Option (List ℕ)} (Some store.contents) (Some view.store.contents)) (infallible : store.fails ≡ []) where
+  by_low : (sys : ℕ) (plans : Plans) (drone : DroneState) (low : Option ℕ) → drone.sys ≡ sys → drone.plans ≡ plans → Holds (Some view.store.contents) (IsStored drone) low → StartedFrom key sys home view.store.contents new
+      → IsStoredDrone (started_again key sys home low plans) (record { node = new; store = store })
   by_low sys plans drone None is_sys is_plans holds from =
       let is = from.anew holds in
       record {
         drone = is;
         me = refl;
-        holds = subst (λ (o : Option (List ℕ)). StoreHolds o new) (sym same) (holds_of new None (new_drone key sys).core (Some view.store.contents) is.link.low is.drone holds);
+        holds = subst (λ (o : Option (List ℕ)). StoreHolds o new) (sym same) (holds_of new None (new_drone key sys home).core (Some view.store.contents) is.link.low is.drone holds);
         infallible = infallible;
       }
   by_low sys plans drone (Some low) is_sys is_plans holds from =
@@ -78,16 +78,28 @@ module _ (key : List ℕ) (view : StoredView) (new : DroneView) (store : MemStor
         drone = is;
         me = refl;
         holds = subst (λ (o : Option (List ℕ)). StoreHolds o new) (sym same)
-            (holds_of new (Some low) (stored_drone key sys low plans).core (Some view.store.contents) (is.link.low ∙ ap Some (at_least_none low)) is.drone image);
+            (holds_of new (Some low) (stored_drone key sys home low plans).core (Some view.store.contents) (is.link.low ∙ ap Some (at_least_none low)) is.drone image);
         infallible = infallible;
       }
 
-  -- it starts again as what is stored
-  pub starts_stored : (node : Side DroneState) → IsStoredDrone node view → StartedFrom key view.node.drone.sys view.store.contents new → IsStoredDrone (restarted_drone key node) (record { node = new; store = store })
-  starts_stored node is from =
-      by_low node.core.sys node.core.plans node.core (stored_low node.link.history) refl refl
-      (subst (λ (l : Option ℕ). Holds (Some view.store.contents) (IsStored node.core) l) is.drone.link.low (subst (λ (d : DroneState). Holds (Some view.store.contents) (IsStored d) view.node.link.low) is.drone.drone is.holds))
-      (subst (λ (d : DroneState). StartedFrom key d.sys view.store.contents new) is.drone.drone from)
+-- it starts with nothing stored
+pub starts_new : (key : List ℕ) (sys : ℕ) (home : Home) (new : DroneView) (store : MemStore) → ◌≡◌ {A = Option (List ℕ)} (Some store.contents) (Some []) → store.fails ≡ [] → StartedFrom key sys home [] new → IsStoredDrone (new_drone key sys home) (record { node = new; store = store })
+starts_new key sys home new store same infallible from =
+    let is = from.anew refl in
+    record {
+      drone = is;
+      me = refl;
+      holds = subst (λ (o : Option (List ℕ)). StoreHolds o new) (sym same) (holds_of new None (new_drone key sys home).core (Some []) is.link.low is.drone refl);
+      infallible = infallible;
+    }
+
+-- it starts again as what is stored
+pub starts_stored : (key : List ℕ) (view : StoredView) (new : DroneView) (store : MemStore) → ◌≡◌ {A = Option (List ℕ)} (Some store.contents) (Some view.store.contents) → store.fails ≡ [] → (node : DroneSide) → IsStoredDrone node view → StartedFrom key view.node.drone.sys view.node.services.home view.store.contents new → IsStoredDrone (restarted_drone key node) (record { node = new; store = store })
+starts_stored key view new store same infallible node is from =
+    by_low key node.services.home view new store same infallible node.core.sys node.core.plans node.core (stored_low node.link.history) refl refl
+    (subst (λ (l : Option ℕ). Holds (Some view.store.contents) (IsStored node.core) l) is.drone.link.low (subst (λ (d : DroneState). Holds (Some view.store.contents) (IsStored d) view.node.link.low) is.drone.drone is.holds))
+    (subst (λ (v : DroneServices). StartedFrom key node.core.sys v.home view.store.contents new) is.drone.services
+    (subst (λ (d : DroneState). StartedFrom key d.sys view.node.services.home view.store.contents new) is.drone.drone from))
 
 -- ---- the world
 
@@ -106,20 +118,20 @@ behind_fails events r NoMemory h = tt
 
 -- a drone that starts again, after that was reported
 module _ (w last : WorldView) (key : List ℕ) (k : ℕ) (name : Name) (start now end : ReportState) (is_key : key ≡ w.fleet.key) (text : now ≡ reported start (Restarted name)) where
-  call_is : (state : WorldState) (node : Side DroneState) → IsState state w.frames w → slice_get state.nodes k ≡ Some (Drone node)
+  call_is : (state : WorldState) (node : DroneSide) → IsState state w.frames w → slice_get state.nodes k ≡ Some (Drone node)
       → calls_at state k (slice_get state.nodes k) (node_restarts key w.fleet.clock) ≡ node_does state k (node_of node.link.me) (as_drone (drone_restarts state.key state.clock node))
   call_is state node is there =
       let e : key ≡ state.key = is_key ∙ is.key in
       ap (λ (o : Option Node). calls_at state k o (node_restarts key w.fleet.clock)) there
       ∙ (λ i. node_does state k (node_of node.link.me) (as_drone (drone_restarts (e i) (is.clock i) node)))
 
-  restart_did : (state : WorldState) (node : Side DroneState) → IsState state w.frames w → slice_get state.nodes k ≡ Some (Drone node)
+  restart_did : (state : WorldState) (node : DroneSide) → IsState state w.frames w → slice_get state.nodes k ≡ Some (Drone node)
       → WorldOutcome (calls_at state k (slice_get state.nodes k) (node_restarts key w.fleet.clock)) w.frames last now end → WorldOutcome (restarts_as state k name node) w.frames last start end
   restart_did state node is there did =
       behind_outcome (Restarted name ∷ []) (node_does state k (node_of node.link.me) (as_drone (drone_restarts state.key state.clock node))) w.frames last start now end (text ∙ reports-one start (Restarted name))
       (subst (λ (r : Result Step StepError). WorldOutcome r w.frames last now end) (call_is state node is there) did)
 
-  restart_failed : (state : WorldState) (node : Side DroneState) → IsState state w.frames w → slice_get state.nodes k ≡ Some (Drone node) → (fault : WorldFault)
+  restart_failed : (state : WorldState) (node : DroneSide) → IsState state w.frames w → slice_get state.nodes k ≡ Some (Drone node) → (fault : WorldFault)
       → IsStepError (calls_at state k (slice_get state.nodes k) (node_restarts key w.fleet.clock)) fault → IsStepError (restarts_as state k name node) fault
   restart_failed state node is there fault h =
       behind_fails (Restarted name ∷ []) (node_does state k (node_of node.link.me) (as_drone (drone_restarts state.key state.clock node))) fault
@@ -128,13 +140,13 @@ module _ (w last : WorldView) (key : List ℕ) (k : ℕ) (name : Name) (start no
   -- as a call says it
   pub restart_at_done : {T E : Type 0} (r : Result T E)
       → OnOk r ((state : WorldState) → IsState state w.frames w → WorldOutcome (calls_at state k (slice_get state.nodes k) (node_restarts key w.fleet.clock)) w.frames last now end)
-      → OnOk r ((state : WorldState) (node : Side DroneState) → IsState state w.frames w → slice_get state.nodes k ≡ Some (Drone node) → WorldOutcome (restarts_as state k name node) w.frames last start end)
+      → OnOk r ((state : WorldState) (node : DroneSide) → IsState state w.frames w → slice_get state.nodes k ≡ Some (Drone node) → WorldOutcome (restarts_as state k name node) w.frames last start end)
   restart_at_done (Err e) did = tt
   restart_at_done (Ok t) did = λ state node is there. restart_did state node is there (did state is)
 
   pub restart_at_error : {T : Type 0} (r : Result T WorldFault)
       → IfErr r (λ fault. (state : WorldState) → IsState state w.frames w → IsStepError (calls_at state k (slice_get state.nodes k) (node_restarts key w.fleet.clock)) fault)
-      → IfErr r (λ fault. (state : WorldState) (node : Side DroneState) → IsState state w.frames w → slice_get state.nodes k ≡ Some (Drone node) → IsStepError (restarts_as state k name node) fault)
+      → IfErr r (λ fault. (state : WorldState) (node : DroneSide) → IsState state w.frames w → slice_get state.nodes k ≡ Some (Drone node) → IsStepError (restarts_as state k name node) fault)
   restart_at_error (Ok t) did = tt
   restart_at_error (Err fault) did = λ state node is there. restart_failed state node is there fault (did state is)
 
@@ -182,7 +194,7 @@ module _ (state : WorldState) (w : WorldView) (drone : Name) (is : IsState state
 -- as a call says it
 module _ (inside w last : WorldView) (drone : Name) (same : inside ≡ w) (few : inside.restarts < 1000) where
   pub restart_done : {T E : Type 0} (r : Result T E) (k : ℕ) (start end : ReportState) → ((nodes : List Node) → IsFleet nodes inside.fleet → Some k ≡ position (is_drone_named drone) nodes)
-      → OnOk r ((state : WorldState) (node : Side DroneState) → IsState state inside.frames (counted inside) → slice_get state.nodes k ≡ Some (Drone node) → WorldOutcome (restarts_as state k drone node) inside.frames last start end)
+      → OnOk r ((state : WorldState) (node : DroneSide) → IsState state inside.frames (counted inside) → slice_get state.nodes k ≡ Some (Drone node) → WorldOutcome (restarts_as state k drone node) inside.frames last start end)
       → OnOk r ((state : WorldState) → IsState state w.frames w → WorldOutcome (restarts_line state drone) w.frames last start end)
   restart_done (Err e) k start end index did = tt
   restart_done (Ok t) k start end index did =
@@ -194,7 +206,7 @@ module _ (inside w last : WorldView) (drone : Name) (same : inside ≡ w) (few :
       (did (restart_line state) f.node (is_counted state inside drone is few) f.there))
 
   pub restart_error : {T : Type 0} (r : Result T WorldFault) (k : ℕ) → ((nodes : List Node) → IsFleet nodes inside.fleet → Some k ≡ position (is_drone_named drone) nodes)
-      → IfErr r (λ fault. (state : WorldState) (node : Side DroneState) → IsState state inside.frames (counted inside) → slice_get state.nodes k ≡ Some (Drone node) → IsStepError (restarts_as state k drone node) fault)
+      → IfErr r (λ fault. (state : WorldState) (node : DroneSide) → IsState state inside.frames (counted inside) → slice_get state.nodes k ≡ Some (Drone node) → IsStepError (restarts_as state k drone node) fault)
       → IfErr r (λ fault. (state : WorldState) → IsState state w.frames w → IsStepError (restarts_line state drone) fault)
   restart_error (Ok t) k index did = tt
   restart_error (Err fault) k index did =

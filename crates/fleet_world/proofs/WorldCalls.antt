@@ -7,7 +7,7 @@ use Rattle.mav_names.specs.declared.names.Name.{Name}
 use Rattle.mav_frame.specs.Packet.{Packet}
 use Rattle.mav_frame.specs.Encoding.{encoding}
 use Rattle.mav_nodes.specs.News.{NodeEvent, shown, events_of}
-use Rattle.mav_nodes.specs.Links.{Outcome}
+use Rattle.mav_nodes.specs.Links.{Done, Outcome}
 use Rattle.mav_nodes.specs.declared.news.News.{News}
 use Rattle.fleet_report.specs.Events.{Missing}
 use Rattle.fleet_report.specs.Reports.{ReportState, reported}
@@ -19,7 +19,9 @@ use Rattle.fleet_world.specs.Steps.{Step, StepError, rests, node_does, node_rece
 use Rattle.fleet_world.specs.Flowing.{IsSender}
 use Rattle.fleet_world.specs.NodeSteps.{reports_news, called}
 use Rattle.fleet_world.specs.Promises.{Moved, FleetOutcome, WorldOutcome, IsStepError}
+use Rattle.fleet_world.specs.ParamLists.{params_of, HaveValues}
 use Rattle.fleet_world.proofs.Reporting.{reports-none, reports-one}
+use Rattle.fleet_world.proofs.ListedValues.{ListsKnown}
 
 -- ---- what a node has reported
 
@@ -27,6 +29,11 @@ pub sent_length : (state : WorldState) (frames : Bool) (w : WorldView) → IsSta
 sent_length state frames w is = ap length is.sent ∙ length-map state.sent kept_as
 
 -- ---- a node that did something
+
+set_there : (nodes : List Node) (k : ℕ) (node new : Node) → slice_get nodes k ≡ Some node → slice_get (slice_set nodes k new) k ≡ Some new
+set_there [] k node new found = cc
+set_there (n ∷ ns) zero node new found = refl
+set_there (n ∷ ns) (suc k) node new found = set_there ns k node new found
 
 -- only the nodes of the fleet are others
 abbrev pub NodesOnly : WorldView → WorldView → Type 0
@@ -48,23 +55,29 @@ module _ (state : WorldState) (w after : WorldView) (index : ℕ) (news : List N
   frames_same : after.frames ≡ w.frames
   frames_same = ap (λ (z : WorldView). z.frames) e
 
-  pub moved_outcome : (name : Name) (outcome : Outcome Node) (last : WorldView) (start end : ReportState) → Moved state.nodes index outcome after.fleet news → ((s : WorldState) (events : List NodeEvent) → IsState s after.frames after → events_of news ≡ map shown events → WorldOutcome (reports_news s name events) after.frames last start end) → WorldOutcome (node_does state index name outcome) w.frames last start end
-  moved_outcome name None last start end moved reporting = absurd moved
-  moved_outcome name (Some d) last start end moved reporting =
+  -- the node at the index is what it was moved to
+  known_there : (node : Node) (outcome : Outcome Node) (d : Done Node) → slice_get state.nodes index ≡ Some node → outcome ≡ Some d → ListsKnown outcome → HaveValues (params_of (slice_get (slice_set state.nodes index d.node) index)) d.events
+  known_there node outcome d found does known =
+      subst (λ (o : Option Node). HaveValues (params_of o) d.events) (sym (set_there state.nodes index node d.node found)) (subst ListsKnown does known)
+
+  pub moved_outcome : (name : Name) (node : Node) (outcome : Outcome Node) (last : WorldView) (start end : ReportState) → slice_get state.nodes index ≡ Some node → ListsKnown outcome → Moved state.nodes index outcome after.fleet news → ((s : WorldState) (events : List NodeEvent) → IsState s after.frames after → events_of news ≡ map shown events → HaveValues (params_of (slice_get s.nodes index)) events → WorldOutcome (reports_news s name events) after.frames last start end) → WorldOutcome (node_does state index name outcome) w.frames last start end
+  moved_outcome name node None last start end found known moved reporting = absurd moved
+  moved_outcome name node (Some d) last start end found known moved reporting =
       subst (λ (f : Bool). WorldOutcome (node_does state index name (Some d)) f last start end) frames_same
-      (reporting (record state { nodes = slice_set state.nodes index d.node }) d.events (moved_state state (slice_set state.nodes index d.node) w after is moved.0 e) moved.1)
+      (reporting (record state { nodes = slice_set state.nodes index d.node }) d.events (moved_state state (slice_set state.nodes index d.node) w after is moved.0 e) moved.1
+      (known_there node (Some d) d found refl known))
 
   pub moved_error : (name : Name) (outcome : Outcome Node) (fault : WorldFault) → Moved state.nodes index outcome after.fleet news → ((s : WorldState) (events : List NodeEvent) → IsState s after.frames after → events_of news ≡ map shown events → IsStepError (reports_news s name events) fault) → IsStepError (node_does state index name outcome) fault
   moved_error name None fault moved reporting = absurd moved
   moved_error name (Some d) fault moved reporting =
       reporting (record state { nodes = slice_set state.nodes index d.node }) d.events (moved_state state (slice_set state.nodes index d.node) w after is moved.0 e) moved.1
 
-  called_outcome : (name : Name) (o : Option Node) (call : Node → Outcome Node) (last : WorldView) (start end : ReportState) → Some name ≡ option_map node_name o → FleetOutcome state.nodes index o call after.fleet news → ((s : WorldState) (events : List NodeEvent) → IsState s after.frames after → events_of news ≡ map shown events → WorldOutcome (reports_news s name events) after.frames last start end) → WorldOutcome (calls_at state index o call) w.frames last start end
-  called_outcome name None call last start end named did reporting = cc
-  called_outcome name (Some node) call last start end named did reporting =
+  called_outcome : (name : Name) (o : Option Node) (call : Node → Outcome Node) (last : WorldView) (start end : ReportState) → slice_get state.nodes index ≡ o → ((node : Node) → ListsKnown (call node)) → Some name ≡ option_map node_name o → FleetOutcome state.nodes index o call after.fleet news → ((s : WorldState) (events : List NodeEvent) → IsState s after.frames after → events_of news ≡ map shown events → HaveValues (params_of (slice_get s.nodes index)) events → WorldOutcome (reports_news s name events) after.frames last start end) → WorldOutcome (calls_at state index o call) w.frames last start end
+  called_outcome name None call last start end found known named did reporting = cc
+  called_outcome name (Some node) call last start end found known named did reporting =
       let same : name ≡ node_name node = cc in
       subst (λ (n : Name). WorldOutcome (node_does state index n (call node)) w.frames last start end) same
-      (moved_outcome name (call node) last start end did reporting)
+      (moved_outcome name node (call node) last start end found (known node) did reporting)
 
   called_error : (name : Name) (o : Option Node) (call : Node → Outcome Node) (fault : WorldFault) → Some name ≡ option_map node_name o → FleetOutcome state.nodes index o call after.fleet news → ((s : WorldState) (events : List NodeEvent) → IsState s after.frames after → events_of news ≡ map shown events → IsStepError (reports_news s name events) fault) → IsStepError (calls_at state index o call) fault
   called_error name None call fault named did reporting = cc
@@ -73,10 +86,10 @@ module _ (state : WorldState) (w after : WorldView) (index : ℕ) (news : List N
       subst (λ (n : Name). IsStepError (node_does state index n (call node)) fault) same (moved_error name (call node) fault did reporting)
 
 -- as a call says it
-pub call_outcome : {T E : Type 0} (r : Result T E) (w after last : WorldView) (index : ℕ) (name : Name) (call : Node → Outcome Node) (news items : List News) (start end : ReportState) → news ≡ items → ((nodes : List Node) → IsFleet nodes w.fleet → Some name ≡ option_map node_name (slice_get nodes index)) → ((nodes : List Node) → IsFleet nodes w.fleet → FleetOutcome nodes index (slice_get nodes index) call after.fleet items) → NodesOnly w after → OnOk r ((s : WorldState) (events : List NodeEvent) → IsState s after.frames after → events_of news ≡ map shown events → WorldOutcome (reports_news s name events) after.frames last start end) → OnOk r ((state : WorldState) → IsState state w.frames w → WorldOutcome (calls_at state index (slice_get state.nodes index) call) w.frames last start end)
-call_outcome (Err x) w after last index name call news items start end as_items named did e reporting = tt
-call_outcome (Ok t) w after last index name call news items start end as_items named did e reporting = λ state is.
-    called_outcome state w after index news is e name (slice_get state.nodes index) call last start end (named state.nodes is.fleet)
+pub call_outcome : {T E : Type 0} (r : Result T E) (w after last : WorldView) (index : ℕ) (name : Name) (call : Node → Outcome Node) (news items : List News) (start end : ReportState) → ((node : Node) → ListsKnown (call node)) → news ≡ items → ((nodes : List Node) → IsFleet nodes w.fleet → Some name ≡ option_map node_name (slice_get nodes index)) → ((nodes : List Node) → IsFleet nodes w.fleet → FleetOutcome nodes index (slice_get nodes index) call after.fleet items) → NodesOnly w after → OnOk r ((s : WorldState) (events : List NodeEvent) → IsState s after.frames after → events_of news ≡ map shown events → HaveValues (params_of (slice_get s.nodes index)) events → WorldOutcome (reports_news s name events) after.frames last start end) → OnOk r ((state : WorldState) → IsState state w.frames w → WorldOutcome (calls_at state index (slice_get state.nodes index) call) w.frames last start end)
+call_outcome (Err x) w after last index name call news items start end known as_items named did e reporting = tt
+call_outcome (Ok t) w after last index name call news items start end known as_items named did e reporting = λ state is.
+    called_outcome state w after index news is e name (slice_get state.nodes index) call last start end refl known (named state.nodes is.fleet)
     (subst (FleetOutcome state.nodes index (slice_get state.nodes index) call after.fleet) (sym as_items) (did state.nodes is.fleet)) reporting
 
 pub call_error : {T : Type 0} (r : Result T WorldFault) (w after : WorldView) (index : ℕ) (name : Name) (call : Node → Outcome Node) (news items : List News) → news ≡ items → ((nodes : List Node) → IsFleet nodes w.fleet → Some name ≡ option_map node_name (slice_get nodes index)) → ((nodes : List Node) → IsFleet nodes w.fleet → FleetOutcome nodes index (slice_get nodes index) call after.fleet items) → NodesOnly w after → IfErr r (λ fault. (s : WorldState) (events : List NodeEvent) → IsState s after.frames after → events_of news ≡ map shown events → IsStepError (reports_news s name events) fault) → IfErr r (λ fault. (state : WorldState) → IsState state w.frames w → IsStepError (calls_at state index (slice_get state.nodes index) call) fault)

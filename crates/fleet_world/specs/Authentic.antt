@@ -10,7 +10,7 @@ use Rattle.mav_sign.specs.Signing.{Verifies}
 use Rattle.mav_sign.specs.Endpoints.{frames_of}
 use Rattle.scenario_lines.specs.declared.faults.Reason.{Reason}
 use Rattle.scenario_lines.specs.declared.lines.Line.{Line}
-use Rattle.scenario_lines.specs.declared.lines.Line.TheVariants.{Blank, Drone, Station, Item as OneItem, Items, Empty, Begin, Cancel, Clear, Get, Heartbeat, Deliver, Flow, Noise, Tick, Clock, Restart}
+use Rattle.scenario_lines.specs.declared.lines.Line.TheVariants.{Blank, Drone, Station, Item as OneItem, Items, Empty, Begin, Cancel, Clear, Get, Command, Params, Heartbeat, Deliver, Flow, Noise, Tick, Clock, Restart}
 use Rattle.scenario_lines.specs.Grammar.{line_of, most_line_bytes}
 use Rattle.scenario_lines.specs.Reasons.{reason_against}
 use Rattle.fleet_world.specs.WorldState.{WorldState, context_of}
@@ -39,6 +39,8 @@ AuthenticLine s (Begin station drone kind) = Unit {0}
 AuthenticLine s (Cancel station) = Unit {0}
 AuthenticLine s (Clear station drone kind) = Unit {0}
 AuthenticLine s (Get station drone kind) = Unit {0}
+AuthenticLine s (Command station drone number word) = Unit {0}
+AuthenticLine s (Params station drone) = Unit {0}
 AuthenticLine s (Heartbeat node) = Unit {0}
 AuthenticLine s (Deliver number node) = Unit {0}
 AuthenticLine s (Flow k) = Unit {0}

@@ -1,7 +1,7 @@
 -- Drones among what contracts see of nodes, and frames among news.
 use Rattle.std.specs.Prelude.{ℕ, ◌+◌, Bool, true, false, if◌then◌else◌, List, [], ◌∷◌}
 use Rattle.mav_nodes.specs.declared.news.News.{News}
-use Rattle.mav_nodes.specs.declared.news.News.TheVariants.{Sent, Installed, Emptied, Dropped, Outcome}
+use Rattle.mav_nodes.specs.declared.news.News.TheVariants.{Sent, Installed, Emptied, Dropped, Outcome, Command, Param, Params}
 use Rattle.fleet_world.specs.declared.nodes.Node.{Node}
 use Rattle.fleet_world.specs.declared.nodes.Node.TheVariants.{Drone, Station}
 
@@ -15,6 +15,9 @@ is_frame (Installed kind count by) = false
 is_frame (Emptied kind) = false
 is_frame (Dropped answer) = false
 is_frame (Outcome outcome) = false
+is_frame (Command result) = false
+is_frame (Param param) = false
+is_frame (Params count) = false
 
 -- how many pass a test
 abbrev pub counted : {A : Type 0} → (A → Bool) → List A → ℕ

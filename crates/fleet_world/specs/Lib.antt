@@ -7,6 +7,7 @@ pub mod WorldView
 pub mod Counts
 pub mod Cuts
 pub mod NodeSteps
+pub mod ParamLists
 pub mod Promises
 pub mod Flowing
 pub mod Closing

@@ -1,20 +1,17 @@
 -- What a node does at a call or an order, and what the world reports of it.
-use Rattle.std.specs.Prelude.{ℕ, ◌+◌, nat_le, if◌then◌else◌, List, [], ◌∷◌, ◌++◌, length, slice_get, Option, Some, None, Ok, Err}
+use Rattle.std.specs.Prelude.{ℕ, ◌+◌, nat_le, if◌then◌else◌, Bool, true, false, List, [], ◌∷◌, ◌++◌, length, slice_get, Option, Some, None, Ok, Err}
 use Rattle.std.specs.declared.result.Result.{Result}
 use Rattle.mav_names.specs.declared.names.Name.{Name}
 use Rattle.mav_nodes.specs.News.{NodeEvent}
 use Rattle.mav_nodes.specs.Links.{Outcome, done}
 use Rattle.mav_nodes.specs.Restarts.{drone_restarts}
-use Rattle.mav_nodes.specs.Steps.{Side}
-use Rattle.mav_nodes.specs.Nodes.{station_obeys, order_refusal, order_plan}
+use Rattle.mav_nodes.specs.Nodes.{DroneSide, StationSide, station_obeys, order_refusal, command_refusal, params_refusal, order_plan}
 use Rattle.mav_nodes.specs.declared.orders.Order.{Order}
 use Rattle.plan_items.specs.declared.plans.Plan.{Plan}
 use Rattle.plan_items.specs.Plans.{items_of}
 use Rattle.plan_upload.specs.declared.faults.OpFault.{OpFault}
 use Rattle.plan_upload.specs.Addresses.{node_of}
-use Rattle.plan_upload.specs.Drone.{DroneState}
-use Rattle.plan_upload.specs.Station.{StationState}
-use Rattle.fleet_report.specs.Events.{Event, Refused, Restarted, events_text}
+use Rattle.fleet_report.specs.Events.{Event, Refused, Command_refused, Params_refused, Restarted, events_text}
 use Rattle.fleet_report.specs.Reports.{ReportState, with_text}
 use Rattle.fleet_world.specs.declared.faults.Bound.TheVariants.{Frames}
 use Rattle.fleet_world.specs.declared.calls.Call.{Call}
@@ -66,14 +63,18 @@ abbrev pub handed_back : WorldState → Option Plan → WorldState
 handed_back s None = s
 handed_back s (Some plan) = record s { draft = items_of plan }
 
--- an order that a station refuses, or follows
-abbrev pub obeys_or : WorldState → ℕ → Name → Side StationState → Order → Option OpFault → Result Step StepError
-obeys_or s k name node order (Some why) = Ok (record { state = handed_back s (order_plan order); events = Refused name why ∷ [] })
-obeys_or s k name node order None = node_does s k name (as_station (station_obeys s.clock order node))
+-- an order that a station's core refuses for that fault, that its services refuse since this command is open or since
+-- something is asked of parameters, or that it follows
+abbrev pub obeys_or : WorldState → ℕ → Name → StationSide → Order → Option OpFault → Option ℕ → Bool → Result Step StepError
+obeys_or s k name node order (Some why) command params = Ok (record { state = handed_back s (order_plan order); events = Refused name why ∷ [] })
+obeys_or s k name node order None (Some number) params = Ok (record { state = s; events = Command_refused name ∷ [] })
+obeys_or s k name node order None None true = Ok (record { state = s; events = Params_refused name ∷ [] })
+obeys_or s k name node order None None false = node_does s k name (as_station (station_obeys s.clock order node))
 
-abbrev pub obeys : WorldState → ℕ → Name → Side StationState → Order → Result Step StepError
-obeys s k name node order = obeys_or s k name node order (order_refusal node.core order)
+abbrev pub obeys : WorldState → ℕ → Name → StationSide → Order → Result Step StepError
+obeys s k name node order =
+    obeys_or s k name node order (order_refusal node.core order) (command_refusal node.services order) (params_refusal node.services order)
 
 -- a drone starts again, and is reported by this name
-abbrev pub restarts_as : WorldState → ℕ → Name → Side DroneState → Result Step StepError
+abbrev pub restarts_as : WorldState → ℕ → Name → DroneSide → Result Step StepError
 restarts_as s k name node = behind (Restarted name ∷ []) (node_does s k (node_of node.link.me) (as_drone (drone_restarts s.key s.clock node)))

@@ -1,24 +1,22 @@
 -- What calls of a world promise: which state it is in after them, and what they report.
-use Rattle.std.specs.Prelude.{ℕ, ◌≡◌, ◌≢◌, Bool, List, [], ◌++◌, length, map, slice_set, Option, Some, None, Ok, Err}
+use Rattle.std.specs.Prelude.{ℕ, ◌≡◌, ◌≢◌, Bool, true, false, List, [], ◌++◌, length, map, slice_set, Option, Some, None, Ok, Err}
 use Rattle.std.specs.declared.result.Result.{Result}
 use Rattle.mav_names.specs.declared.names.Name.{Name}
 use Rattle.mav_nodes.specs.News.{NodeEvent, shown, events_of}
 use Rattle.mav_nodes.specs.Links.{Outcome}
 use Rattle.mav_nodes.specs.Promises.{Did}
 use Rattle.mav_nodes.specs.declared.news.News.{News}
-use Rattle.mav_nodes.specs.Steps.{Side}
-use Rattle.mav_nodes.specs.Nodes.{station_obeys, order_refusal, order_fault, order_plan}
+use Rattle.mav_nodes.specs.Nodes.{StationSide, station_obeys, order_refusal, order_fault, command_refusal, params_refusal, order_plan}
 use Rattle.mav_nodes.specs.declared.orders.Order.{Order}
 use Rattle.mav_nodes.specs.declared.faults.OrderFault.{OrderFault}
-use Rattle.mav_nodes.specs.declared.faults.OrderFault.TheVariants.{Begin as BeginFails, Op as OpFails, Node as StationFails}
+use Rattle.mav_nodes.specs.declared.faults.OrderFault.TheVariants.{Begin as BeginFails, Op as OpFails, Command as CommandFails, Param as ParamFails, Node as StationFails}
 use Rattle.mav_nodes.specs.declared.faults.NodeFault.{NodeFault}
 use Rattle.mav_nodes.specs.declared.faults.StartFault.{StartFault}
 use Rattle.mav_nodes.specs.declared.faults.StartFault.TheVariants.{Store as StartStore, BadKept, NoMemory as NoStartMemory}
 use Rattle.mav_nodes.specs.declared.faults.NodeFault.TheVariants.{StampsSpent, Store as NodeStore, NoMemory as NoNodeMemory}
-use Rattle.plan_upload.specs.Station.{StationState}
 use Rattle.plan_items.specs.Plans.{items_of}
 use Rattle.plan_upload.specs.declared.faults.OpFault.TheVariants.{NoMemory as NoOpMemory}
-use Rattle.fleet_report.specs.Events.{Refused, events_text}
+use Rattle.fleet_report.specs.Events.{Refused, Command_refused, Params_refused, events_text}
 use Rattle.fleet_report.specs.Reports.{ReportState, reported}
 use Rattle.fleet_world.specs.declared.nodes.Node.{Node as ViewNode}
 use Rattle.fleet_world.specs.declared.faults.WorldFault.{WorldFault}
@@ -50,11 +48,19 @@ CallFails NoNodeMemory found call = Unit {0}
 CallFails fault None call = ⊥
 CallFails fault (Some node) call = FailsBy fault (call node)
 
+-- neither the core of a station nor its services refuse an order
+pub record Follows (node : StationSide) (order : Order) : Type 0 where
+  pub plan : order_refusal node.core order ≡ None
+  pub command : command_refusal node.services order ≡ None
+  pub params : params_refusal node.services order ≡ false
+
 -- a station refused an order or had no timestamp left for it: `Left` is what holds if nothing changed
-abbrev pub Refuses : ℕ → Side StationState → Order → Type 0 → OrderFault → Type 0
+abbrev pub Refuses : ℕ → StationSide → Order → Type 0 → OrderFault → Type 0
 Refuses clock node order Left (BeginFails fault) = (order_refusal node.core order ≡ Some fault.why) × (order_plan order ≡ Some fault.plan) × Left
 Refuses clock node order Left (OpFails why) = (order_fault node.core order ≡ Some why) × Left
-Refuses clock node order Left (StationFails fault) = (order_refusal node.core order ≡ None) × FailsBy fault (station_obeys clock order node)
+Refuses clock node order Left (CommandFails busy) = (command_refusal node.services order ≡ Some busy.command) × Left
+Refuses clock node order Left (ParamFails busy) = (params_refusal node.services order ≡ true) × Left
+Refuses clock node order Left (StationFails fault) = Follows node order × FailsBy fault (station_obeys clock order node)
 
 -- ---- of what a node did
 
@@ -87,12 +93,16 @@ IsStep (Err error) frames world report = ⊥
 abbrev pub RefusalReported : Name → OrderFault → WorldView → WorldView → ReportState → ReportState → Type 0
 RefusalReported station (BeginFails fault) w after before report = (after ≡ record w { draft = items_of fault.plan }) × (report ≡ reported before (Refused station fault.why))
 RefusalReported station (OpFails why) w after before report = (after ≡ w) × (report ≡ reported before (Refused station why)) × (why ≢ NoOpMemory)
+RefusalReported station (CommandFails busy) w after before report = (after ≡ w) × (report ≡ reported before (Command_refused station))
+RefusalReported station (ParamFails busy) w after before report = (after ≡ w) × (report ≡ reported before (Params_refused station))
 RefusalReported station (StationFails fault) w after before report = ⊥
 
 -- why a refusal isn't reported
 abbrev pub IsGivenUp : OrderFault → WorldFault → Type 0
 IsGivenUp (BeginFails fault) e = e ≡ NoMemory
 IsGivenUp (OpFails why) e = e ≡ NoMemory
+IsGivenUp (CommandFails busy) e = e ≡ NoMemory
+IsGivenUp (ParamFails busy) e = e ≡ NoMemory
 IsGivenUp (StationFails fault) e = e ≡ NodeFails fault
 
 -- the same without an event

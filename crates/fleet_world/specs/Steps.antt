@@ -9,17 +9,16 @@ use Rattle.plan_items.specs.Kinds.{number_of}
 use Rattle.plan_upload.specs.Kinds.{clear_number}
 use Rattle.plan_upload.specs.declared.faults.OpFault.{OpFault}
 use Rattle.plan_upload.specs.Addresses.{node_of, same_name}
-use Rattle.plan_upload.specs.Drone.{DroneState}
-use Rattle.plan_upload.specs.Station.{StationState}
 use Rattle.plan_upload.specs.Refusals.{upload_refusal, refusal}
-use Rattle.mav_nodes.specs.News.{NodeEvent, Sends, Installs, Empties, Drops, Ends}
+use Rattle.mav_nodes.specs.News.{NodeEvent, Sends, Installs, Empties, Drops, Ends, Ends_command, Gives_param, Ends_params}
 use Rattle.mav_nodes.specs.Links.{Outcome, done}
-use Rattle.mav_nodes.specs.Steps.{Side}
+use Rattle.command_proto.specs.Commander.{open_command}
+use Rattle.param_proto.specs.Client.{Operation as ParamOperation}
 use Rattle.mav_nodes.specs.Restarts.{drone_restarts}
-use Rattle.mav_nodes.specs.Nodes.{new_drone, drone_receives, drone_beats, drone_ticks, new_station, station_receives, station_beats, station_ticks, station_begins, station_cancels, station_clears, station_gets}
+use Rattle.mav_nodes.specs.Nodes.{DroneSide, StationSide, new_drone, drone_receives, drone_beats, drone_ticks, new_station, station_receives, station_beats, station_ticks, station_begins, station_cancels, station_clears, station_gets, station_commands, station_lists_params}
 use Rattle.scenario_lines.specs.declared.lines.Line.{Line}
-use Rattle.scenario_lines.specs.declared.lines.Line.TheVariants.{Blank, Drone as DroneLine, Station as StationLine, Item as OneItem, Items, Empty, Begin, Cancel, Clear, Get, Heartbeat, Deliver, Flow, Noise, Tick, Clock, Restart}
-use Rattle.fleet_report.specs.Events.{Event, Sent, Installed, Emptied, Dropped, Missing, Restarted, Refused, Ended, plan_text}
+use Rattle.scenario_lines.specs.declared.lines.Line.TheVariants.{Blank, Drone as DroneLine, Station as StationLine, Item as OneItem, Items, Empty, Begin, Cancel, Clear, Get, Command, Params, Heartbeat, Deliver, Flow, Noise, Tick, Clock, Restart}
+use Rattle.fleet_report.specs.Events.{Event, Sent, Installed, Emptied, Dropped, Missing, Restarted, Refused, Ended, Command_ended, Params_ended, Param_given, Command_refused, Params_refused, plan_text}
 use Rattle.fleet_world.specs.declared.faults.Bound.{Bound}
 use Rattle.fleet_world.specs.declared.faults.Bound.TheVariants.{Frames, Drones, Stations, Restarts}
 use Rattle.fleet_world.specs.WorldState.{WorldState, Node, Drone, Station, stream_of, node_name, is_named, is_drone_named, is_station_named, drones_in, stations_in}
@@ -69,6 +68,9 @@ packets_in (Installs kind items by ∷ es) = packets_in es
 packets_in (Empties kind ∷ es) = packets_in es
 packets_in (Drops answer ∷ es) = packets_in es
 packets_in (Ends outcome ∷ es) = packets_in es
+packets_in (Ends_command result ∷ es) = packets_in es
+packets_in (Gives_param param ∷ es) = packets_in es
+packets_in (Ends_params values ∷ es) = packets_in es
 
 -- what is reported of what happened in a node, after so many frames were sent
 abbrev pub reported_by : Name → ℕ → List NodeEvent → List Event
@@ -78,12 +80,15 @@ reported_by node before (Installs kind items by ∷ es) = Installed node (number
 reported_by node before (Empties kind ∷ es) = Emptied node (number_of kind) ∷ reported_by node before es
 reported_by node before (Drops answer ∷ es) = Dropped node answer ∷ reported_by node before es
 reported_by node before (Ends outcome ∷ es) = Ended node outcome ∷ reported_by node before es
+reported_by node before (Ends_command result ∷ es) = Command_ended node result ∷ reported_by node before es
+reported_by node before (Gives_param param ∷ es) = Param_given node param ∷ reported_by node before es
+reported_by node before (Ends_params values ∷ es) = Params_ended node values ∷ reported_by node before es
 
-abbrev pub as_drone : Outcome (Side DroneState) → Outcome Node
+abbrev pub as_drone : Outcome DroneSide → Outcome Node
 as_drone None = None
 as_drone (Some d) = done (Drone d.node) d.events
 
-abbrev pub as_station : Outcome (Side StationState) → Outcome Node
+abbrev pub as_station : Outcome StationSide → Outcome Node
 as_station None = None
 as_station (Some d) = done (Station d.node) d.events
 
@@ -179,31 +184,31 @@ restart_line s = record s { restarts = s.restarts + 1 }
 abbrev pub station_line : WorldState → WorldState
 station_line s = record s { given = length s.sent }
 
-abbrev pub refuses : WorldState → Side StationState → OpFault → Result Step StepError
+abbrev pub refuses : WorldState → StationSide → OpFault → Result Step StepError
 refuses s node why = Ok (record { state = s; events = Refused (node_of node.link.me) why ∷ [] })
 
 -- an order that the station refuses, or does
-abbrev pub orders : WorldState → ℕ → Side StationState → Option OpFault → Outcome (Side StationState) → Result Step StepError
+abbrev pub orders : WorldState → ℕ → StationSide → Option OpFault → Outcome StationSide → Result Step StepError
 orders s k node (Some why) outcome = refuses s node why
 orders s k node None outcome = node_does s k (node_of node.link.me) (as_station outcome)
 
 -- an upload of the draft, which becomes empty; a refused one leaves it
-abbrev pub upload_begins : WorldState → ℕ → Side StationState → Name → ℕ → Option OpFault → Result Step StepError
+abbrev pub upload_begins : WorldState → ℕ → StationSide → Name → ℕ → Option OpFault → Result Step StepError
 upload_begins s k node drone kind (Some why) = refuses s node why
 upload_begins s k node drone kind None =
     node_does (record s { draft = [] }) k (node_of node.link.me) (as_station (station_begins s.clock (stream_of drone) kind s.draft node))
 
 -- the station at an index, and the one of a name, if there is one
-abbrev pub orders_at : WorldState → ℕ → Option Node → (ℕ → Side StationState → Result Step StepError) → Result Step StepError
+abbrev pub orders_at : WorldState → ℕ → Option Node → (ℕ → StationSide → Result Step StepError) → Result Step StepError
 orders_at s k None order = rests s
 orders_at s k (Some (Drone n)) order = rests s
 orders_at s k (Some (Station n)) order = order k n
 
-abbrev pub orders_found : WorldState → Option ℕ → (ℕ → Side StationState → Result Step StepError) → Result Step StepError
+abbrev pub orders_found : WorldState → Option ℕ → (ℕ → StationSide → Result Step StepError) → Result Step StepError
 orders_found s None order = rests s
 orders_found s (Some k) order = orders_at s k (slice_get s.nodes k) order
 
-abbrev pub orders_to : WorldState → Name → (ℕ → Side StationState → Result Step StepError) → Result Step StepError
+abbrev pub orders_to : WorldState → Name → (ℕ → StationSide → Result Step StepError) → Result Step StepError
 orders_to s name order = orders_found s (position (is_station_named name) s.nodes) order
 
 abbrev pub begins : WorldState → Name → Name → ℕ → Result Step StepError
@@ -220,6 +225,31 @@ abbrev pub gets : WorldState → Name → Name → ℕ → Result Step StepError
 gets s station drone kind =
     orders_to s station (λ k node. orders s k node (refusal node.core) (station_gets s.clock (stream_of drone) kind node))
 
+-- an order to a station's services, which they refuse, as this event reports, or which is followed
+abbrev pub asks : WorldState → ℕ → StationSide → Option Event → Outcome StationSide → Result Step StepError
+asks s k node (Some refused) outcome = Ok (record { state = s; events = refused ∷ [] })
+asks s k node None outcome = node_does s k (node_of node.link.me) (as_station outcome)
+
+-- a command is refused while one is open
+abbrev pub command_busy : Name → Option ℕ → Option Event
+command_busy station None = None
+command_busy station (Some number) = Some (Command_refused station)
+
+-- and a list of parameters while something is asked of them
+abbrev pub params_busy : Name → Option ParamOperation → Option Event
+params_busy station None = None
+params_busy station (Some operation) = Some (Params_refused station)
+
+abbrev pub commands : WorldState → Name → Name → ℕ → ℕ → Result Step StepError
+commands s station drone number word =
+    orders_to s station (λ k node. asks s k node (command_busy (node_of node.link.me) (open_command node.services.commander))
+    (station_commands s.clock (stream_of drone) number word node))
+
+abbrev pub lists_params : WorldState → Name → Name → Result Step StepError
+lists_params s station drone =
+    orders_to s station (λ k node. asks s k node (params_busy (node_of node.link.me) node.services.client.operation)
+    (station_lists_params s.clock (stream_of drone) node))
+
 -- ---- lines
 
 -- n items, the i-th from 0 with the x of the first plus i
@@ -235,7 +265,7 @@ joins s node = rests (record s { nodes = s.nodes ++ node ∷ [] })
 abbrev pub after_line : WorldState → Line → Result Step StepError
 after_line s Blank = rests s
 after_line s (DroneLine sys x y) =
-    if nat_lt (drones_in s.nodes) most_drones then joins s (Drone (new_drone s.key sys)) else Err (At_limit Drones)
+    if nat_lt (drones_in s.nodes) most_drones then joins s (Drone (new_drone s.key sys (record { x = x; y = y }))) else Err (At_limit Drones)
 after_line s (StationLine sys comp) =
     if nat_lt (stations_in s.nodes) most_stations
     then joins s (Station (new_station s.key (stream_of (record { sys = sys; comp = comp })) 0))
@@ -247,6 +277,8 @@ after_line s (Begin station drone kind) = begins (station_line s) station drone 
 after_line s (Cancel station) = cancels (station_line s) station
 after_line s (Clear station drone kind) = clears (station_line s) station drone (clear_number kind)
 after_line s (Get station drone kind) = gets (station_line s) station drone (number_of kind)
+after_line s (Command station drone number word) = commands (station_line s) station drone number word
+after_line s (Params station drone) = lists_params (station_line s) station drone
 after_line s (Heartbeat node) = calls s node (node_beats s.clock)
 after_line s (Deliver number node) = delivers s number node (slice_get s.sent (number - 1))
 after_line s (Flow k) = flows k s

@@ -1,12 +1,10 @@
 -- Drones of a scenario: each keeps its plans in a store in memory that never fails.
 use Rattle.std.specs.Prelude.{◌≡◌, [], Some, None}
-use Rattle.plan_upload.specs.Drone.{DroneState}
 use Rattle.plan_store.specs.MemStores.{MemStore}
 use Rattle.mav_nodes.specs.declared.faults.NodeFault.{NodeFault}
 use Rattle.mav_nodes.specs.declared.faults.NodeFault.TheVariants.{StampsSpent, Store, NoMemory}
 use Rattle.mav_nodes.specs.Links.{Outcome}
-use Rattle.mav_nodes.specs.Steps.{Side}
-use Rattle.mav_nodes.specs.Nodes.{DroneView, IsDrone}
+use Rattle.mav_nodes.specs.Nodes.{DroneSide, DroneView, IsDrone}
 use Rattle.mav_nodes.specs.Images.{StoreHolds}
 
 -- what contracts see of a drone and its store
@@ -15,7 +13,7 @@ pub record StoredView : Type 0 where
   pub store : MemStore
 
 -- it is this drone, on the stream of its system, the store has what the drone has stored, and no call of it fails
-pub record IsStoredDrone (node : Side DroneState) (view : StoredView) : Type 0 where
+pub record IsStoredDrone (node : DroneSide) (view : StoredView) : Type 0 where
   pub drone : IsDrone node view.node
   pub me : node.link.me ≡ record { sys = node.core.sys; comp = 1; link = 0 }
   pub holds : StoreHolds (Some view.store.contents) view.node

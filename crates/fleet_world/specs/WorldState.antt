@@ -5,16 +5,14 @@ use Rattle.mav_names.specs.declared.names.Stream.{Stream}
 use Rattle.mav_frame.specs.Packet.{Packet}
 use Rattle.plan_items.specs.declared.items.Item.{Item}
 use Rattle.plan_upload.specs.Addresses.{node_of, same_name}
-use Rattle.plan_upload.specs.Drone.{DroneState}
-use Rattle.plan_upload.specs.Station.{StationState}
-use Rattle.mav_nodes.specs.Steps.{Side}
+use Rattle.mav_nodes.specs.Nodes.{DroneSide, StationSide}
 use Rattle.scenario_lines.specs.declared.roster.Named.{Named}
 use Rattle.scenario_lines.specs.declared.roster.Role.TheVariants.{Drone as DroneRole, Station as StationRole}
 use Rattle.scenario_lines.specs.LineContext.{LineContext}
 
 pub data Node : Type 0 where
-  Drone : (node : Side DroneState) → Node
-  Station : (node : Side StationState) → Node
+  Drone : (node : DroneSide) → Node
+  Station : (node : StationSide) → Node
 
 pub record WorldState : Type 0 where
   pub key : List ℕ  -- of all nodes

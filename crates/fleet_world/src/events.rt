@@ -4,6 +4,7 @@ ghost use Rattle.mav_nodes.specs.News.{NodeEvent, shown, said_by, events_of};
 ghost use Rattle.plan_upload.specs.Addresses.{node_of};
 ghost use Rattle.fleet_world.specs.Counts.{is_frame, counted};
 ghost use Rattle.fleet_world.specs.Steps.{packets_in};
+ghost use Rattle.fleet_world.specs.ParamLists.{HaveValues};
 ghost use Rattle.fleet_world.specs.Promises.{Reported};
 
 use crate::NoMemory;
@@ -11,6 +12,7 @@ use crate::sent::SentFrames;
 use fleet_report::Report;
 use mav_names::{Name, Stream};
 use mav_nodes::News;
+use param_proto::Param;
 
 // The node that a stream comes from.
 fn sender(stream: Stream) -> Name
@@ -49,14 +51,15 @@ pub(crate) fn frames_in(news: &[News]) -> usize
     count_frames(news)
 }
 
-// One piece of news of a node.
+// One piece of news of a node; a list that has ended has these values.
 fn report_one(
     sent: &mut SentFrames,
     name: Name,
+    values: &[Param],
     piece: &News,
     report: &mut Report,
 ) -> Result<(), NoMemory>
-    ensures { OnOk result ((event : NodeEvent) → said_by piece.now ≡ shown event
+    ensures { OnOk result ((event : NodeEvent) → said_by piece.now ≡ shown event → HaveValues values.now (event ∷ [])
         → Reported name (event ∷ []) sent.old sent.new report.old report.new) }
 {
     match piece {
@@ -70,21 +73,26 @@ fn report_one(
         News::Emptied { kind } => report.emptied(name, *kind),
         News::Dropped(answer) => report.dropped(name, *answer),
         News::Outcome(outcome) => report.ended(name, outcome),
+        News::Command(result) => report.command_ended(name, *result),
+        News::Param(param) => report.param_given(name, param),
+        News::Params(Some(_)) => report.params_listed(name, values),
+        News::Params(None) => report.params_unanswered(name),
     }
 }
 
-/// The news of a node, one after another.
+/// The news of a node, one after another. Each list of parameters that has ended has these values.
 pub(crate) fn report_all(
     sent: &mut SentFrames,
     name: Name,
+    values: &[Param],
     news: &[News],
     report: &mut Report,
 ) -> Result<(), NoMemory>
-    ensures { OnOk result ((events : List NodeEvent) → events_of news.now ≡ map shown events
+    ensures { OnOk result ((events : List NodeEvent) → events_of news.now ≡ map shown events → HaveValues values.now events
         → Reported name events sent.old sent.new report.old report.new) }
 {
     for piece in news {
-        report_one(sent, name, piece, report)?;
+        report_one(sent, name, values, piece, report)?;
     }
     Ok(())
 }

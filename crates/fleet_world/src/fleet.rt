@@ -1,13 +1,12 @@
 // The nodes of a world: their names, their key and their clock.
 ghost use Rattle.std.specs.Prelude.{◌≡◌, if◌then◌else◌, ◌+◌, ◌<◌, ◌^◌, ◌++◌, ◌∷◌, None, Some, [], List, length, position, option_map, slice_get, IfOk, IfErr, OnOk};
-ghost use Rattle.mav_nodes.specs.Steps.{Side};
-ghost use Rattle.mav_nodes.specs.Nodes.{new_drone, new_station, order_refusal, station_obeys};
-ghost use Rattle.plan_upload.specs.Station.{StationState};
+ghost use Rattle.mav_nodes.specs.Nodes.{StationSide, new_drone, new_station, station_obeys};
 ghost use Rattle.fleet_world.specs.WorldState.{Node as StateNode, Drone as StateDrone, Station as StateStation, node_name, is_named, is_drone_named, is_station_named, drones_in, stations_in, stream_of};
 ghost use Rattle.fleet_world.specs.WorldView.{no_fleet, IsFleet};
 ghost use Rattle.fleet_world.specs.Steps.{as_station};
 ghost use Rattle.fleet_world.specs.NodeSteps.{node_called};
-ghost use Rattle.fleet_world.specs.Promises.{FleetOutcome, Moved, CallFails, Refuses};
+ghost use Rattle.fleet_world.specs.ParamLists.{params_of};
+ghost use Rattle.fleet_world.specs.Promises.{FleetOutcome, Moved, CallFails, Follows, Refuses};
 ghost use Rattle.fleet_world.specs.Counts.{is_drone_view, counted};
 
 use crate::NoMemory;
@@ -17,6 +16,7 @@ use crate::stored_drone::StoredDrone;
 use mav_names::{Name, Stream};
 use mav_nodes::{News, NodeFault, Order, OrderFault, StartFault, StationNode};
 use mav_sign::Key;
+use param_proto::Param;
 use scenario_lines::{Named, Role, Roster};
 use std::alloc::Global;
 use std::marker::Model;
@@ -121,7 +121,7 @@ impl Fleet {
     /// A drone of this system is added, at x and y in units of 1e-7 degrees.
     pub(crate) fn add_drone(&mut self, sys: u8, x: i32, y: i32) -> Result<(), StartFault>
         ensures joins { OnOk result ((nodes : List StateNode) → IsFleet nodes self.old
-            → IsFleet (nodes ++ StateDrone (new_drone self.old.key sys) ∷ []) self.new) }
+            → IsFleet (nodes ++ StateDrone (new_drone self.old.key sys (record { x = x; y = y })) ∷ []) self.new) }
         ensures kept { OnOk result (self.new ≡ record self.old { nodes = self.new.nodes; roster = self.new.roster }) }
         ensures fault { IfErr result (λ fault. fault ≡ StartFault.NoMemory) }
     {
@@ -184,11 +184,11 @@ impl Fleet {
 
     // The station at an index follows an order, or refuses it.
     pub(crate) fn order_at(&mut self, index: usize, order: Order) -> Result<Vec<News>, OrderFault>
-        ensures done { IfOk result (λ news. (nodes : List StateNode) → (node : Side StationState) → IsFleet nodes self.old
+        ensures done { IfOk result (λ news. (nodes : List StateNode) → (node : StationSide) → IsFleet nodes self.old
             → slice_get nodes index ≡ Some (StateStation node)
-            → (order_refusal node.core order ≡ None)
+            → Follows node order
             × Moved nodes index (as_station (station_obeys self.old.clock order node)) self.new news.items) }
-        ensures fault { IfErr result (λ fault. (nodes : List StateNode) → (node : Side StationState) → IsFleet nodes self.old
+        ensures fault { IfErr result (λ fault. (nodes : List StateNode) → (node : StationSide) → IsFleet nodes self.old
             → slice_get nodes index ≡ Some (StateStation node)
             → Refuses self.old.clock node order (IsFleet nodes self.new) fault) }
         ensures kept { self.new ≡ record self.old { nodes = self.new.nodes } }
@@ -197,6 +197,17 @@ impl Fleet {
             self.nodes[index].order(self.alloc, order, self.clock)
         } else {
             Ok(Vec::new(self.alloc))
+        }
+    }
+
+    /// The values of the latest list of parameters of the station at an index.
+    pub(crate) fn params_at(&self, index: usize) -> &[Param]
+        ensures { (nodes : List StateNode) → IsFleet nodes self.now → result.now ≡ params_of (slice_get nodes index) }
+    {
+        if index < self.nodes.len() {
+            self.nodes[index].params()
+        } else {
+            &[]
         }
     }
 

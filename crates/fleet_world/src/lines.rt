@@ -56,6 +56,13 @@ impl World {
                 drone,
                 kind,
             } => self.get(station, drone, kind, report),
+            Line::Command {
+                station,
+                drone,
+                number,
+                word,
+            } => self.command(station, drone, number, word, report),
+            Line::Params { station, drone } => self.list_params(station, drone, report),
             Line::Heartbeat { node } => self.call(node, &Call::Heartbeat, report),
             Line::Deliver { i, node } => self.deliver(i, node, report),
             Line::Flow { k } => self.flow(k, report),

@@ -1,12 +1,12 @@
 // Calls of nodes, and what is reported of them.
 ghost use Rattle.std.specs.Prelude.{◌≡◌, ◌-◌, ◌+◌, nat_le, List, [], Some, map, length, option_map, slice_get, OnOk, IfOk, IfErr};
+ghost use Rattle.mav_nodes.specs.Nodes.{DroneSide};
 ghost use Rattle.mav_nodes.specs.News.{NodeEvent, shown, events_of};
-ghost use Rattle.mav_nodes.specs.Steps.{Side};
-ghost use Rattle.plan_upload.specs.Drone.{DroneState};
 ghost use Rattle.fleet_world.specs.WorldState.{WorldState, Node as StateNode, Drone as StateDrone};
 ghost use Rattle.fleet_world.specs.WorldView.{IsFleet, IsState};
 ghost use Rattle.fleet_world.specs.Steps.{most_frames, calls, calls_at, delivers};
 ghost use Rattle.fleet_world.specs.NodeSteps.{called, datagram_of, reports_news, restarts_as};
+ghost use Rattle.fleet_world.specs.ParamLists.{params_of, HaveValues};
 ghost use Rattle.fleet_world.specs.Promises.{FleetOutcome, CallFails, WorldOutcome, IsStepError};
 
 use crate::calls::Call;
@@ -38,15 +38,17 @@ fn datagram_of<'a>(sent: &'a SentFrames, call: &'a Call) -> &'a [u8]
 }
 
 impl World {
-    // Reports the news of the node of this name: its frames are the next of the scenario.
+    // Reports the news of the node at an index, of this name: its frames are the next of the scenario, and a list of
+    // parameters that has ended has the values that the node knows now.
     pub(crate) fn report_news(
         &mut self,
+        index: usize,
         name: Name,
         news: &[News],
         report: &mut Report,
     ) -> Result<(), WorldFault>
         ensures done { OnOk result ((state : WorldState) → (events : List NodeEvent) → IsState state self.old.frames self.old
-            → events_of news.now ≡ map shown events
+            → events_of news.now ≡ map shown events → HaveValues (params_of (slice_get state.nodes index)) events
             → WorldOutcome (reports_news state name events) self.old.frames self.new report.old report.new) }
         ensures error { IfErr result (λ fault. (state : WorldState) → (events : List NodeEvent) → IsState state self.old.frames self.old
             → events_of news.now ≡ map shown events → IsStepError (reports_news state name events) fault) }
@@ -54,7 +56,8 @@ impl World {
         if !has_room(self.sent.len(), frames_in(news)) {
             return Err(WorldFault::Limit(Bound::Frames));
         }
-        report_all(&mut self.sent, name, news, report)?;
+        let values = self.fleet.params_at(index);
+        report_all(&mut self.sent, name, values, news, report)?;
         Ok(())
     }
 
@@ -86,7 +89,7 @@ impl World {
             return Ok(());
         };
         let news = self.news_of(index, call)?;
-        self.report_news(name, news.as_slice(), report)
+        self.report_news(index, name, news.as_slice(), report)
     }
 
     // The drone at an index, of this name, starts again.
@@ -96,10 +99,10 @@ impl World {
         drone: Name,
         report: &mut Report,
     ) -> Result<(), WorldFault>
-        ensures done { OnOk result ((state : WorldState) → (node : Side DroneState) → IsState state self.old.frames self.old
+        ensures done { OnOk result ((state : WorldState) → (node : DroneSide) → IsState state self.old.frames self.old
             → slice_get state.nodes index ≡ Some (StateDrone node)
             → WorldOutcome (restarts_as state index drone node) self.old.frames self.new report.old report.new) }
-        ensures error { IfErr result (λ fault. (state : WorldState) → (node : Side DroneState) → IsState state self.old.frames self.old
+        ensures error { IfErr result (λ fault. (state : WorldState) → (node : DroneSide) → IsState state self.old.frames self.old
             → slice_get state.nodes index ≡ Some (StateDrone node) → IsStepError (restarts_as state index drone node) fault) }
     {
         report.restarted(drone)?;

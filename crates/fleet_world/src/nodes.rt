@@ -1,18 +1,18 @@
 // A node, whichever it is.
 ghost use Rattle.std.specs.Prelude.{◌≡◌, None, Some, [], IfOk, IfErr};
-ghost use Rattle.mav_nodes.specs.Steps.{Side};
-ghost use Rattle.mav_nodes.specs.Nodes.{order_refusal, station_obeys};
-ghost use Rattle.plan_upload.specs.Station.{StationState};
+ghost use Rattle.mav_nodes.specs.Nodes.{StationSide, station_obeys};
 ghost use Rattle.fleet_world.specs.WorldState.{Node as StateNode, Station as StateStation};
 ghost use Rattle.fleet_world.specs.StoredDrones.{FailsBy};
 ghost use Rattle.fleet_world.specs.WorldView.{IsNode};
 ghost use Rattle.fleet_world.specs.Steps.{as_station};
 ghost use Rattle.fleet_world.specs.NodeSteps.{node_called};
-ghost use Rattle.fleet_world.specs.Promises.{NodeOutcome, Refuses};
+ghost use Rattle.fleet_world.specs.ParamLists.{params_of};
+ghost use Rattle.fleet_world.specs.Promises.{NodeOutcome, Follows, Refuses};
 
 use crate::calls::Call;
 use crate::stored_drone::StoredDrone;
 use mav_nodes::{News, NodeFault, Order, OrderFault, StationNode};
+use param_proto::Param;
 use std::alloc::Global;
 
 #[derive(Drop)]
@@ -56,14 +56,24 @@ impl Node {
         order: Order,
         clock: u64,
     ) -> Result<Vec<News>, OrderFault>
-        ensures done { IfOk result (λ news. (node : Side StationState) → IsNode (StateStation node) self.old
-            → (order_refusal node.core order ≡ None) × NodeOutcome (as_station (station_obeys clock order node)) self.new news.items) }
-        ensures fault { IfErr result (λ fault. (node : Side StationState) → IsNode (StateStation node) self.old
+        ensures done { IfOk result (λ news. (node : StationSide) → IsNode (StateStation node) self.old
+            → Follows node order × NodeOutcome (as_station (station_obeys clock order node)) self.new news.items) }
+        ensures fault { IfErr result (λ fault. (node : StationSide) → IsNode (StateStation node) self.old
             → Refuses clock node order (self.new ≡ self.old) fault) }
     {
         match self {
             Node::Drone(_) => Ok(Vec::new(alloc)),
             Node::Station(station) => station.order(order, clock),
+        }
+    }
+
+    /// The values of a station's latest list of parameters; a drone lists none.
+    pub(crate) fn params(&self) -> &[Param]
+        ensures { (node : StateNode) → IsNode node self.now → result.now ≡ params_of (Some node) }
+    {
+        match self {
+            Node::Drone(_) => &[],
+            Node::Station(station) => station.params(),
         }
     }
 }

@@ -1,17 +1,15 @@
 // Orders to stations.
 ghost use Rattle.std.specs.Prelude.{◌≡◌, List, [], None, Some, OnOk, IfOk, IfErr, slice_get};
-ghost use Rattle.mav_nodes.specs.Steps.{Side};
-ghost use Rattle.mav_nodes.specs.Nodes.{station_obeys, order_refusal};
+ghost use Rattle.mav_nodes.specs.Nodes.{StationSide, station_obeys};
 ghost use Rattle.plan_items.specs.Kinds.{number_of};
 ghost use Rattle.plan_items.specs.Plans.{items_of};
 ghost use Rattle.plan_upload.specs.Kinds.{clear_number};
 ghost use Rattle.plan_upload.specs.Addresses.{node_of};
-ghost use Rattle.plan_upload.specs.Station.{StationState};
 ghost use Rattle.fleet_world.specs.WorldState.{WorldState, Node as StateNode, Station as StateStation};
 ghost use Rattle.fleet_world.specs.WorldView.{IsFleet, IsState};
-ghost use Rattle.fleet_world.specs.Steps.{as_station, station_line, orders_to, begins, clears, gets};
+ghost use Rattle.fleet_world.specs.Steps.{as_station, station_line, orders_to, begins, clears, gets, commands, lists_params};
 ghost use Rattle.fleet_world.specs.NodeSteps.{obeys};
-ghost use Rattle.fleet_world.specs.Promises.{Moved, Refuses, WorldOutcome, IsStepError, RefusalReported, IsGivenUp};
+ghost use Rattle.fleet_world.specs.Promises.{Moved, Follows, Refuses, WorldOutcome, IsStepError, RefusalReported, IsGivenUp};
 
 use crate::fleet::stream;
 use crate::{World, WorldFault};
@@ -58,17 +56,25 @@ impl World {
                 report.refused(station, why)?;
                 Ok(())
             }
+            OrderFault::Command(_) => {
+                report.command_refused(station)?;
+                Ok(())
+            }
+            OrderFault::Param(_) => {
+                report.params_refused(station)?;
+                Ok(())
+            }
             OrderFault::Node(fault) => Err(WorldFault::Node(fault)),
         }
     }
 
     // The news of the station at an index at an order.
     fn news_of_order(&mut self, index: usize, order: Order) -> Result<Vec<News>, OrderFault>
-        ensures done { IfOk result (λ news. (nodes : List StateNode) → (node : Side StationState) → IsFleet nodes self.old.fleet
+        ensures done { IfOk result (λ news. (nodes : List StateNode) → (node : StationSide) → IsFleet nodes self.old.fleet
             → slice_get nodes index ≡ Some (StateStation node)
-            → (order_refusal node.core order ≡ None)
+            → Follows node order
             × Moved nodes index (as_station (station_obeys self.old.fleet.clock order node)) self.new.fleet news.items) }
-        ensures fault { IfErr result (λ fault. (nodes : List StateNode) → (node : Side StationState) → IsFleet nodes self.old.fleet
+        ensures fault { IfErr result (λ fault. (nodes : List StateNode) → (node : StationSide) → IsFleet nodes self.old.fleet
             → slice_get nodes index ≡ Some (StateStation node)
             → Refuses self.old.fleet.clock node order (IsFleet nodes self.new.fleet) fault) }
         ensures kept { self.new ≡ record self.old { fleet = record self.old.fleet { nodes = self.new.fleet.nodes } } }
@@ -84,14 +90,14 @@ impl World {
         order: Order,
         report: &mut Report,
     ) -> Result<(), WorldFault>
-        ensures done { OnOk result ((state : WorldState) → (node : Side StationState) → IsState state self.old.frames self.old
+        ensures done { OnOk result ((state : WorldState) → (node : StationSide) → IsState state self.old.frames self.old
             → slice_get state.nodes index ≡ Some (StateStation node)
             → WorldOutcome (obeys state index station node order) self.old.frames self.new report.old report.new) }
-        ensures error { IfErr result (λ fault. (state : WorldState) → (node : Side StationState) → IsState state self.old.frames self.old
+        ensures error { IfErr result (λ fault. (state : WorldState) → (node : StationSide) → IsState state self.old.frames self.old
             → slice_get state.nodes index ≡ Some (StateStation node) → IsStepError (obeys state index station node order) fault) }
     {
         match self.news_of_order(index, order) {
-            Ok(news) => self.report_news(station, news.as_slice(), report),
+            Ok(news) => self.report_news(index, station, news.as_slice(), report),
             Err(fault) => self.refuse(station, fault, report),
         }
     }
@@ -147,6 +153,45 @@ impl World {
     {
         let drone = stream(drone);
         self.order(station, Order::Get { drone, kind }, report)
+    }
+
+    // A command is given to a drone, whose first parameter is the float of this word.
+    pub(crate) fn command(
+        &mut self,
+        station: Name,
+        drone: Name,
+        number: u16,
+        word: u32,
+        report: &mut Report,
+    ) -> Result<(), WorldFault>
+        ensures done { OnOk result ((state : WorldState) → IsState state self.old.frames self.old
+            → WorldOutcome (commands (station_line state) station drone number word) self.old.frames self.new report.old report.new) }
+        ensures error { IfErr result (λ fault. (state : WorldState) → IsState state self.old.frames self.old
+            → IsStepError (commands (station_line state) station drone number word) fault) }
+    {
+        let drone = stream(drone);
+        let order = Order::Command {
+            drone,
+            command: number,
+            word,
+        };
+        self.order(station, order, report)
+    }
+
+    // A list of a drone's parameters begins.
+    pub(crate) fn list_params(
+        &mut self,
+        station: Name,
+        drone: Name,
+        report: &mut Report,
+    ) -> Result<(), WorldFault>
+        ensures done { OnOk result ((state : WorldState) → IsState state self.old.frames self.old
+            → WorldOutcome (lists_params (station_line state) station drone) self.old.frames self.new report.old report.new) }
+        ensures error { IfErr result (λ fault. (state : WorldState) → IsState state self.old.frames self.old
+            → IsStepError (lists_params (station_line state) station drone) fault) }
+    {
+        let drone = stream(drone);
+        self.order(station, Order::ParamList { drone }, report)
     }
 
     // An upload of the draft begins; one that is refused leaves it.

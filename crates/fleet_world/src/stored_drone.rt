@@ -1,8 +1,6 @@
 // A drone of a scenario, over a store in memory that never fails.
 ghost use Rattle.std.specs.Prelude.{◌≡◌, [], IfOk, IfErr, OnOk};
-ghost use Rattle.plan_upload.specs.Drone.{DroneState};
-ghost use Rattle.mav_nodes.specs.Steps.{Side};
-ghost use Rattle.mav_nodes.specs.Nodes.{new_drone, drone_receives, drone_ticks, drone_beats};
+ghost use Rattle.mav_nodes.specs.Nodes.{DroneSide, new_drone, drone_receives, drone_ticks, drone_beats};
 ghost use Rattle.mav_nodes.specs.Promises.{Did};
 ghost use Rattle.mav_nodes.specs.Restarts.{restarted_drone, drone_restarts};
 ghost use Rattle.fleet_world.specs.StoredDrones.{IsStoredDrone, FailsBy};
@@ -14,12 +12,9 @@ use plan_upload::Drone;
 use std::alloc::Global;
 use std::marker::Model;
 
-/// A drone's node and the store that it was started with, which contracts see, and where it starts: at x and y in units
-/// of 1e-7 degrees.
+/// A drone's node and the store that it was started with.
 #[derive(Drop)]
 pub struct StoredDrone {
-    x: i32,
-    y: i32,
     node: DroneNode,
     store: MemKeeper,
 }
@@ -41,12 +36,12 @@ impl StoredDrone {
         x: i32,
         y: i32,
     ) -> Result<StoredDrone, StartFault>
-        ensures started { IfOk result (λ drone. IsStoredDrone (new_drone key sys) drone) }
+        ensures started { IfOk result (λ drone. IsStoredDrone (new_drone key sys (record { x = x; y = y })) drone) }
         ensures fault { IfErr result (λ fault. fault ≡ StartFault.NoMemory) }
     {
         let mut store = MemKeeper::new(alloc, Vec::new(alloc), Vec::new(alloc));
         let node = DroneNode::start(alloc, key, sys, x, y, &mut store)?;
-        Ok(StoredDrone { x, y, node, store })
+        Ok(StoredDrone { node, store })
     }
 
     /// The drone's plans.
@@ -58,9 +53,9 @@ impl StoredDrone {
 
     /// Takes a datagram.
     pub(crate) fn receive(&mut self, datagram: &[u8], clock: u64) -> Result<Vec<News>, NodeFault>
-        ensures done { IfOk result (λ news. (node : Side DroneState) → IsStoredDrone node self.old
+        ensures done { IfOk result (λ news. (node : DroneSide) → IsStoredDrone node self.old
             → Did (drone_receives clock datagram.now node) (λ n. IsStoredDrone n self.new) [] news.items) }
-        ensures fault { IfErr result (λ fault. (node : Side DroneState) → IsStoredDrone node self.old
+        ensures fault { IfErr result (λ fault. (node : DroneSide) → IsStoredDrone node self.old
             → FailsBy fault (drone_receives clock datagram.now node)) }
     {
         self.node.receive(datagram, clock, &mut self.store)
@@ -68,9 +63,9 @@ impl StoredDrone {
 
     /// One tick.
     pub(crate) fn tick(&mut self, clock: u64) -> Result<Vec<News>, NodeFault>
-        ensures done { IfOk result (λ news. (node : Side DroneState) → IsStoredDrone node self.old
+        ensures done { IfOk result (λ news. (node : DroneSide) → IsStoredDrone node self.old
             → Did (drone_ticks clock node) (λ n. IsStoredDrone n self.new) [] news.items) }
-        ensures fault { IfErr result (λ fault. (node : Side DroneState) → IsStoredDrone node self.old
+        ensures fault { IfErr result (λ fault. (node : DroneSide) → IsStoredDrone node self.old
             → FailsBy fault (drone_ticks clock node)) }
     {
         self.node.tick(clock, &mut self.store)
@@ -78,9 +73,9 @@ impl StoredDrone {
 
     /// Sends HEARTBEAT.
     pub(crate) fn heartbeat(&mut self, clock: u64) -> Result<Vec<News>, NodeFault>
-        ensures done { IfOk result (λ news. (node : Side DroneState) → IsStoredDrone node self.old
+        ensures done { IfOk result (λ news. (node : DroneSide) → IsStoredDrone node self.old
             → Did (drone_beats clock node) (λ n. IsStoredDrone n self.new) [] news.items) }
-        ensures fault { IfErr result (λ fault. (node : Side DroneState) → IsStoredDrone node self.old
+        ensures fault { IfErr result (λ fault. (node : DroneSide) → IsStoredDrone node self.old
             → FailsBy fault (drone_beats clock node)) }
     {
         self.node.heartbeat(clock, &mut self.store)
@@ -88,11 +83,12 @@ impl StoredDrone {
 
     // The node ends, and one starts from what the store has.
     fn start_again(&mut self, alloc: Global, key: Key) -> Result<(), StartFault>
-        ensures done { OnOk result ((node : Side DroneState) → IsStoredDrone node self.old → IsStoredDrone (restarted_drone key node) self.new) }
-        ensures fault { IfErr result (λ fault. (node : Side DroneState) → IsStoredDrone node self.old → fault ≡ StartFault.NoMemory) }
+        ensures done { OnOk result ((node : DroneSide) → IsStoredDrone node self.old → IsStoredDrone (restarted_drone key node) self.new) }
+        ensures fault { IfErr result (λ fault. (node : DroneSide) → IsStoredDrone node self.old → fault ≡ StartFault.NoMemory) }
     {
         let sys = self.node.plans().sys();
-        self.node = DroneNode::start(alloc, key, sys, self.x, self.y, &mut self.store)?;
+        let (x, y) = self.node.home();
+        self.node = DroneNode::start(alloc, key, sys, x, y, &mut self.store)?;
         Ok(())
     }
 
@@ -103,9 +99,9 @@ impl StoredDrone {
         key: Key,
         clock: u64,
     ) -> Result<Vec<News>, NodeFault>
-        ensures done { IfOk result (λ news. (node : Side DroneState) → IsStoredDrone node self.old
+        ensures done { IfOk result (λ news. (node : DroneSide) → IsStoredDrone node self.old
             → Did (drone_restarts key clock node) (λ n. IsStoredDrone n self.new) [] news.items) }
-        ensures fault { IfErr result (λ fault. (node : Side DroneState) → IsStoredDrone node self.old
+        ensures fault { IfErr result (λ fault. (node : DroneSide) → IsStoredDrone node self.old
             → FailsBy fault (drone_restarts key clock node)) }
     {
         match self.start_again(alloc, key) {

@@ -14,18 +14,19 @@ use Rattle.mav_sign.specs.Endpoints.{AnswerIs, HeardIs}
 use Rattle.mav_sign.specs.declared.heard.Heard.TheVariants.{Message as HeardMessage, Other as HeardOther, Dropped as HeardDropped}
 use Rattle.field_layout.specs.Payload.{Represents}
 use Rattle.mav_messages.specs.Messages.{profile_definition, definition_of, values_of}
-use Rattle.mav_nodes.proofs.PlanPayloads.{none_carried}
+use Rattle.mav_nodes.proofs.PlanPayloads.{none_carried, no_service_carried}
 use Rattle.mav_nodes.specs.declared.news.News.{News}
-use Rattle.mav_nodes.specs.declared.link.Tried.TheVariants.{Plan, Other, Dropped}
+use Rattle.mav_nodes.specs.declared.link.Tried.TheVariants.{Plan, Service, Other, Dropped}
 use Rattle.mav_nodes.specs.declared.faults.NodeFault.{NodeFault}
 use Rattle.mav_nodes.specs.declared.faults.NodeFault.TheVariants.{NoMemory}
 use Rattle.mav_nodes.specs.News.{NodeEvent, Drops, Shown, shown, events_of}
-use Rattle.mav_nodes.specs.Payloads.{plan_in}
-use Rattle.mav_nodes.specs.Links.{LinkView, Link, IsLink, Done, Outcome, done, behind, tries, sends}
-use Rattle.mav_nodes.specs.Steps.{Side, CoreStep, answers, with_core, steps, takes, admits, hears}
+use Rattle.mav_nodes.specs.Payloads.{plan_in, service_in}
+use Rattle.mav_nodes.specs.Links.{LinkView, Link, IsLink, Done, Outcome, done, behind, and_then, tries, sends, sends_all}
+use Rattle.mav_nodes.specs.Services.{ServiceStep}
+use Rattle.mav_nodes.specs.Steps.{Side, Rules, CoreStep, answers, with_core, steps, serves, takes, admits, hears}
 use Rattle.mav_nodes.specs.declared.steps.Step.{Step}
 use Rattle.mav_nodes.specs.Cores.{IsStep, IsNode, NodeDid, ends, says}
-use Rattle.mav_nodes.specs.Promises.{Fails, Did, LinkDid, IsAnswer, IsTried}
+use Rattle.mav_nodes.specs.Promises.{Fails, Did, LinkDid, Carries, IsAnswer, IsTried}
 
 pub if_ok : {A E : Type 0} {P Q : A → Type 0} (r : Result A E) → ((a : A) → P a → Q a) → IfOk r P → IfOk r Q
 if_ok (Ok a) f h = f a h
@@ -40,9 +41,9 @@ pub fails_for_memory : {A B : Type 0} (fault : NodeFault) (Is : A → Type 0) (d
 fails_for_memory fault Is does failed is = subst (λ (f : NodeFault). Fails f Is does failed) (sym is) tt
 
 -- a link's part was done, and nothing follows it
-pub core_did : {Core : Type 0} (core : Core) (outcome : Outcome Link) (endpoint : LinkView) (Is : Side Core → Type 0) (before after : List News) → LinkDid outcome endpoint before after → ((link : Link) → IsLink link endpoint → Is (record { link = link; core = core })) → Did (with_core core [] outcome) Is before after
-core_did core None endpoint Is before after h f = h
-core_did core (Some d) endpoint Is before after h f =
+pub core_did : {Core Services : Type 0} (core : Core) (services : Services) (outcome : Outcome Link) (endpoint : LinkView) (Is : Side Core Services → Type 0) (before after : List News) → LinkDid outcome endpoint before after → ((link : Link) → IsLink link endpoint → Is (record { link = link; core = core; services = services })) → Did (with_core core services [] outcome) Is before after
+core_did core services None endpoint Is before after h f = h
+core_did core services (Some d) endpoint Is before after h f =
     (f d.node h.0, h.1 ∙ ap (λ (l : List NodeEvent). events_of before ++ map shown l) (sym (append-nil d.events)))
 
 -- news, a reply and news again
@@ -60,20 +61,33 @@ said_in_turn clock link first last answer endpoint one two three four e h f =
         (h.0, f ∙ (ap (λ (l : List Shown). l ++ L) (h.1 ∙ ap (λ (l : List Shown). l ++ D) e) ∙ (append_assoc (A ++ F) D L ∙ (append_assoc A F (D ++ L) ∙ ap (λ (l : List Shown). A ++ l) (ap (λ (l : List Shown). F ++ l) (sym (map-append shown d.events last)) ∙ sym (map-append shown first (d.events ++ last)))))))
 
 -- a core did a step, and the link did what it asks for
-pub stepped : {Core : Type 0} (clock : ℕ) (link : Link) (did : CoreStep Core) (view : Core) (given : Step) (endpoint : LinkView) (before after : List News) → IsStep did view given → LinkDid (says clock did.first given.answer did.last link) endpoint before after → NodeDid (steps clock link did) endpoint view before after
-stepped {Core} clock link did view given endpoint before after is h =
+pub stepped : {Core Services : Type 0} (clock : ℕ) (link : Link) (services seen : Services) (did : CoreStep Core) (view : Core) (given : Step) (endpoint : LinkView) (before after : List News) → seen ≡ services → IsStep did view given → LinkDid (says clock did.first given.answer did.last link) endpoint before after → NodeDid (steps clock link services did) endpoint view seen before after
+stepped {Core} {Services} clock link services seen did view given endpoint before after same is h =
     with_view did.core did.first did.last (answers clock did.answer link) is.core (subst (λ (a : Option PlanMsg). LinkDid (says clock did.first a did.last link) endpoint before after) is.answer h)
   where
-    with_view : (core : Core) (first last : List NodeEvent) (outcome : Outcome Link) → view ≡ core → LinkDid (behind first (ends last outcome)) endpoint before after → Did (behind first (with_core core last outcome)) (λ (node : Side Core). IsNode node endpoint view) before after
+    with_view : (core : Core) (first last : List NodeEvent) (outcome : Outcome Link) → view ≡ core → LinkDid (behind first (ends last outcome)) endpoint before after → Did (behind first (with_core core services last outcome)) (λ (node : Side Core Services). IsNode node endpoint view seen) before after
     with_view core first last None e h = h
-    with_view core first last (Some d) e h = (record { link = h.0; core = e }, h.1)
+    with_view core first last (Some d) e h = (record { link = h.0; core = e; served = same }, h.1)
+
+-- services did a step, and the link sent what they reply
+pub answered_all : {Core Services : Type 0} (clock : ℕ) (link : Link) (core view : Core) (did : ServiceStep Services) (services : Services) (endpoint : LinkView) (one two three : List News) → view ≡ core → services ≡ did.services → LinkDid (sends_all clock did.answers link) endpoint one two → events_of three ≡ events_of two ++ map shown did.last → NodeDid (serves clock link core did) endpoint view services one three
+answered_all {Core} {Services} clock link core view did services endpoint one two three same is h e =
+    with_last did.services did.last (sends_all clock did.answers link) is e h
+  where
+    with_last : (v : Services) (last : List NodeEvent) (outcome : Outcome Link) → services ≡ v → events_of three ≡ events_of two ++ map shown last → LinkDid outcome endpoint one two → Did (with_core core v last outcome) (λ (node : Side Core Services). IsNode node endpoint view services) one three
+    with_last v last None is e h = h
+    with_last v last (Some d) is e h =
+        (record { link = h.0; core = same; served = is }, e ∙ (ap (λ (l : List Shown). l ++ map shown last) h.1 ∙ (append_assoc (events_of one) (map shown d.events) (map shown last) ∙ ap (λ (l : List Shown). events_of one ++ l) (sym (map-append shown d.events last)))))
+
+pub serves_none : {Core Services : Type 0} (clock : ℕ) (link : Link) (core : Core) (did : ServiceStep Services) → sends_all clock did.answers link ≡ None → serves clock link core did ≡ None
+serves_none {Core} {Services} clock link core did h = ap (with_core core did.services did.last) h
 
 -- what nothing more is done about
-pub steps_none : {Core : Type 0} (clock : ℕ) (link : Link) (did : CoreStep Core) (view : Core) (given : Step) → IsStep did view given → says clock did.first given.answer did.last link ≡ None → steps clock link did ≡ None
-steps_none {Core} clock link did view given is h =
+pub steps_none : {Core Services : Type 0} (clock : ℕ) (link : Link) (services : Services) (did : CoreStep Core) (view : Core) (given : Step) → IsStep did view given → says clock did.first given.answer did.last link ≡ None → steps clock link services did ≡ None
+steps_none {Core} {Services} clock link services did view given is h =
     with_none did.core did.first did.last (answers clock did.answer link) (ap (λ (a : Option PlanMsg). says clock did.first a did.last link) (sym is.answer) ∙ h)
   where
-    with_none : (core : Core) (first last : List NodeEvent) (outcome : Outcome Link) → behind first (ends last outcome) ≡ None → behind first (with_core core last outcome) ≡ None
+    with_none : (core : Core) (first last : List NodeEvent) (outcome : Outcome Link) → behind first (ends last outcome) ≡ None → behind first (with_core core services last outcome) ≡ None
     with_none core first last None h = refl
     with_none core first last (Some d) h = absurd cc
 
@@ -82,10 +96,10 @@ pub did_so : {A : Type 0} {P Q : A → Type 0} (outcome : Outcome A) (before aft
 did_so None before after f h = h
 did_so (Some d) before after f h = (f d.node h.0, h.1)
 
-module _ {Core : Type 0} (step : Core → Stream → PlanMsg → CoreStep Core) (clock : ℕ) where
-  answered : (node : Side Core) (packet : Packet) (from : Stream) (message : PlanMsg) (answer : Admit) (block : Option SignatureBlock) → IsAnswer answer packet block (Plan from message) → admits step clock node packet answer block ≡ takes step clock node from (Some message)
+module _ {Core Services : Type 0} (rules : Rules Core Services) (clock : ℕ) where
+  answered : (node : Side Core Services) (packet : Packet) (from : Stream) (message : PlanMsg) (answer : Admit) (block : Option SignatureBlock) → IsAnswer answer packet block (Plan from message) → admits rules clock node packet answer block ≡ steps clock node.link node.services (rules.take node.core from message)
   answered node packet from message Admitted (Some block) h =
-      λ i. takes step clock node (sym h.0 i) (h.1 i)
+      λ i. takes rules clock node (sym h.0 i) (h.1 i) (service_in packet.id packet.payload)
   answered node packet from message Admitted None h = absurd h
   answered node packet from message Unsigned block h = absurd (let t : Plan from message ≡ Dropped Unsigned = h in cc)
   answered node packet from message BadSignature block h = absurd (let t : Plan from message ≡ Dropped BadSignature = h in cc)
@@ -95,17 +109,18 @@ module _ {Core : Type 0} (step : Core → Stream → PlanMsg → CoreStep Core) 
   answered node packet from message TooManyStreams block h = absurd (let t : Plan from message ≡ Dropped TooManyStreams = h in cc)
 
   -- a frame whose plan message was returned
-  pub hears_plan : (node : Side Core) (packet : Packet) (from : Stream) (message : PlanMsg) → IsTried node.link packet (Plan from message) → hears step clock packet node ≡ takes step clock (record node { link = tries packet node.link }) from (Some message)
+  pub hears_plan : (node : Side Core Services) (packet : Packet) (from : Stream) (message : PlanMsg) → IsTried node.link packet (Plan from message) → hears rules clock packet node ≡ steps clock (tries packet node.link) node.services (rules.take node.core from message)
   hears_plan node packet from message h =
       answered (record node { link = tries packet node.link }) packet from message (answer_to node.link.key node.link.history packet) packet.block h
 
   -- the same, and the core took the message
-  pub took : (node : Side Core) (packet : Packet) (from : Stream) (message : PlanMsg) (core view : Core) (given : Step) → IsTried node.link packet (Plan from message) → core ≡ node.core → IsStep (step core from message) view given → (hears step clock packet node ≡ steps clock (tries packet node.link) (step node.core from message)) × IsStep (step node.core from message) view given
+  pub took : (node : Side Core Services) (packet : Packet) (from : Stream) (message : PlanMsg) (core view : Core) (given : Step) → IsTried node.link packet (Plan from message) → core ≡ node.core → IsStep (rules.take core from message) view given → (hears rules clock packet node ≡ steps clock (tries packet node.link) node.services (rules.take node.core from message)) × IsStep (rules.take node.core from message) view given
   took node packet from message core view given tried same is =
-      (hears_plan node packet from message tried, subst (λ (it : Core). IsStep (step it from message) view given) same is)
+      (hears_plan node packet from message tried, subst (λ (it : Core). IsStep (rules.take it from message) view given) same is)
 
-  nothing_taken : (node : Side Core) (packet : Packet) (answer : Admit) (block : Option SignatureBlock) → IsAnswer answer packet block Other → admits step clock node packet answer block ≡ done node []
-  nothing_taken node packet Admitted (Some block) h = ap (takes step clock node (stream_of packet block)) h
+  nothing_taken : (node : Side Core Services) (packet : Packet) (answer : Admit) (block : Option SignatureBlock) → IsAnswer answer packet block Other → admits rules clock node packet answer block ≡ done node []
+  nothing_taken node packet Admitted (Some block) h =
+      λ i. takes rules clock node (stream_of packet block) (h.plan_is i) (h.other_is i)
   nothing_taken node packet Admitted None h = absurd h
   nothing_taken node packet Unsigned block h = absurd (let t : Other ≡ Dropped Unsigned = h in cc)
   nothing_taken node packet BadSignature block h = absurd (let t : Other ≡ Dropped BadSignature = h in cc)
@@ -114,15 +129,31 @@ module _ {Core : Type 0} (step : Core → Stream → PlanMsg → CoreStep Core) 
   nothing_taken node packet (TooOld local) block h = absurd (let t : Other ≡ Dropped (TooOld local) = h in cc)
   nothing_taken node packet TooManyStreams block h = absurd (let t : Other ≡ Dropped TooManyStreams = h in cc)
 
-  -- a frame without a plan message
-  pub hears_other : (node : Side Core) (packet : Packet) → IsTried node.link packet Other → hears step clock packet node ≡ done (record node { link = tries packet node.link }) []
+  served_so : (node : Side Core Services) (packet : Packet) (from : Stream) (message : Message) (answer : Admit) (block : Option SignatureBlock) → IsAnswer answer packet block (Service from message) → admits rules clock node packet answer block ≡ serves clock node.link node.core (rules.serve node.core node.services from message)
+  served_so node packet from message Admitted (Some block) h =
+      λ i. takes rules clock node (sym h.0 i) (h.1.plan_is i) (h.1.other_is i)
+  served_so node packet from message Admitted None h = absurd h
+  served_so node packet from message Unsigned block h = absurd (let t : Service from message ≡ Dropped Unsigned = h in cc)
+  served_so node packet from message BadSignature block h = absurd (let t : Service from message ≡ Dropped BadSignature = h in cc)
+  served_so node packet from message (BelowFloor floor) block h = absurd (let t : Service from message ≡ Dropped (BelowFloor floor) = h in cc)
+  served_so node packet from message (NotLater last) block h = absurd (let t : Service from message ≡ Dropped (NotLater last) = h in cc)
+  served_so node packet from message (TooOld local) block h = absurd (let t : Service from message ≡ Dropped (TooOld local) = h in cc)
+  served_so node packet from message TooManyStreams block h = absurd (let t : Service from message ≡ Dropped TooManyStreams = h in cc)
+
+  -- a frame whose message is for the services
+  pub hears_service : (node : Side Core Services) (packet : Packet) (from : Stream) (message : Message) → IsTried node.link packet (Service from message) → hears rules clock packet node ≡ serves clock (tries packet node.link) node.core (rules.serve node.core node.services from message)
+  hears_service node packet from message h =
+      served_so (record node { link = tries packet node.link }) packet from message (answer_to node.link.key node.link.history packet) packet.block h
+
+  -- a frame without a message for the node
+  pub hears_other : (node : Side Core Services) (packet : Packet) → IsTried node.link packet Other → hears rules clock packet node ≡ done (record node { link = tries packet node.link }) []
   hears_other node packet h =
       nothing_taken (record node { link = tries packet node.link }) packet (answer_to node.link.key node.link.history packet) packet.block h
 
   dropped : (why answer : Admit) → Dropped why ≡ Dropped answer → answer ≡ why
   dropped why answer h = cc
 
-  refused : (node : Side Core) (packet : Packet) (why answer : Admit) (block : Option SignatureBlock) → IsAnswer answer packet block (Dropped why) → admits step clock node packet answer block ≡ done node (Drops why ∷ [])
+  refused : (node : Side Core Services) (packet : Packet) (why answer : Admit) (block : Option SignatureBlock) → IsAnswer answer packet block (Dropped why) → admits rules clock node packet answer block ≡ done node (Drops why ∷ [])
   refused node packet why Admitted (Some block) h = absurd h
   refused node packet why Admitted None h = absurd h
   refused node packet why Unsigned block h = ap (λ (a : Admit). done node (Drops a ∷ [])) (dropped why Unsigned h)
@@ -133,7 +164,7 @@ module _ {Core : Type 0} (step : Core → Stream → PlanMsg → CoreStep Core) 
   refused node packet why TooManyStreams block h = ap (λ (a : Admit). done node (Drops a ∷ [])) (dropped why TooManyStreams h)
 
   -- a frame that isn't admitted
-  pub hears_dropped : (node : Side Core) (packet : Packet) (why : Admit) → IsTried node.link packet (Dropped why) → hears step clock packet node ≡ done (record node { link = tries packet node.link }) (Drops why ∷ [])
+  pub hears_dropped : (node : Side Core Services) (packet : Packet) (why : Admit) → IsTried node.link packet (Dropped why) → hears rules clock packet node ≡ done (record node { link = tries packet node.link }) (Drops why ∷ [])
   hears_dropped node packet why h =
       refused (record node { link = tries packet node.link }) packet why (answer_to node.link.key node.link.history packet) packet.block h
 
@@ -142,7 +173,7 @@ module _ {Core : Type 0} (step : Core → Stream → PlanMsg → CoreStep Core) 
   LinkKeeps None extras = Unit {0}
   LinkKeeps (Some d) extras = d.node.extras ≡ extras
 
-  abbrev pub Keeps : Outcome (Side Core) → List (ℕ × ℕ) → Type 0
+  abbrev pub Keeps : Outcome (Side Core Services) → List (ℕ × ℕ) → Type 0
   Keeps None extras = Unit {0}
   Keeps (Some d) extras = d.node.link.extras ≡ extras
 
@@ -157,22 +188,37 @@ module _ {Core : Type 0} (step : Core → Stream → PlanMsg → CoreStep Core) 
   answers_keep None link = refl
   answers_keep (Some message) link = sends_keep (message_of_plan message) link
 
-  core_keeps : (core : Core) (last : List NodeEvent) (outcome : Outcome Link) (extras : List (ℕ × ℕ)) → LinkKeeps outcome extras → Keeps (with_core core last outcome) extras
-  core_keeps core last None extras h = tt
-  core_keeps core last (Some d) extras h = h
+  core_keeps : (core : Core) (services : Services) (last : List NodeEvent) (outcome : Outcome Link) (extras : List (ℕ × ℕ)) → LinkKeeps outcome extras → Keeps (with_core core services last outcome) extras
+  core_keeps core services last None extras h = tt
+  core_keeps core services last (Some d) extras h = h
 
-  behind_keeps : (events : List NodeEvent) (outcome : Outcome (Side Core)) (extras : List (ℕ × ℕ)) → Keeps outcome extras → Keeps (behind events outcome) extras
+  behind_link : (events : List NodeEvent) (outcome : Outcome Link) (extras : List (ℕ × ℕ)) → LinkKeeps outcome extras → LinkKeeps (behind events outcome) extras
+  behind_link events None extras h = tt
+  behind_link events (Some d) extras h = h
+
+  then_keep : (next : Link → Outcome Link) (first : Outcome Link) (extras : List (ℕ × ℕ)) → LinkKeeps first extras → ((link : Link) → LinkKeeps (next link) link.extras) → LinkKeeps (and_then first next) extras
+  then_keep next None extras h more = tt
+  then_keep next (Some d) extras h more = behind_link d.events (next d.node) extras (subst (LinkKeeps (next d.node)) h (more d.node))
+
+  all_keep : (messages : List Message) (link : Link) → LinkKeeps (sends_all clock messages link) link.extras
+  all_keep [] link = refl
+  all_keep (message ∷ messages) link = then_keep (sends_all clock messages) (sends clock message link) link.extras (sends_keep message link) (all_keep messages)
+
+  behind_keeps : (events : List NodeEvent) (outcome : Outcome (Side Core Services)) (extras : List (ℕ × ℕ)) → Keeps outcome extras → Keeps (behind events outcome) extras
   behind_keeps events None extras h = tt
   behind_keeps events (Some d) extras h = h
 
-  takes_keep : (node : Side Core) (from : Stream) (message : Option PlanMsg) → Keeps (takes step clock node from message) node.link.extras
-  takes_keep node from None = refl
-  takes_keep node from (Some message) =
-      let s = step node.core from message in
-      behind_keeps s.first (with_core s.core s.last (answers clock s.answer node.link)) node.link.extras (core_keeps s.core s.last (answers clock s.answer node.link) node.link.extras (answers_keep s.answer node.link))
+  takes_keep : (node : Side Core Services) (from : Stream) (message : Option PlanMsg) (other : Option Message) → Keeps (takes rules clock node from message other) node.link.extras
+  takes_keep node from None None = refl
+  takes_keep node from None (Some message) =
+      let s = rules.serve node.core node.services from message in
+      core_keeps node.core s.services s.last (sends_all clock s.answers node.link) node.link.extras (all_keep s.answers node.link)
+  takes_keep node from (Some message) other =
+      let s = rules.take node.core from message in
+      behind_keeps s.first (with_core s.core node.services s.last (answers clock s.answer node.link)) node.link.extras (core_keeps s.core node.services s.last (answers clock s.answer node.link) node.link.extras (answers_keep s.answer node.link))
 
-  admits_keep : (node : Side Core) (packet : Packet) (answer : Admit) (block : Option SignatureBlock) → Keeps (admits step clock node packet answer block) node.link.extras
-  admits_keep node packet Admitted (Some block) = takes_keep node (stream_of packet block) (plan_in packet.id packet.payload)
+  admits_keep : (node : Side Core Services) (packet : Packet) (answer : Admit) (block : Option SignatureBlock) → Keeps (admits rules clock node packet answer block) node.link.extras
+  admits_keep node packet Admitted (Some block) = takes_keep node (stream_of packet block) (plan_in packet.id packet.payload) (service_in packet.id packet.payload)
   admits_keep node packet Admitted None = refl
   admits_keep node packet Unsigned block = refl
   admits_keep node packet BadSignature block = refl
@@ -181,7 +227,7 @@ module _ {Core : Type 0} (step : Core → Stream → PlanMsg → CoreStep Core) 
   admits_keep node packet (TooOld local) block = refl
   admits_keep node packet TooManyStreams block = refl
 
-  pub hears_keep : (packet : Packet) (node : Side Core) → Keeps (hears step clock packet node) node.link.extras
+  pub hears_keep : (packet : Packet) (node : Side Core Services) → Keeps (hears rules clock packet node) node.link.extras
   hears_keep packet node =
       admits_keep (record node { link = tries packet node.link }) packet (answer_to node.link.key node.link.history packet) packet.block
 
@@ -196,7 +242,7 @@ heard_plan packet from message (NotLater last) block plan h f = absurd (let t : 
 heard_plan packet from message (TooOld local) block plan h f = absurd (let t : HeardMessage from message ≡ HeardDropped (TooOld local) = h in cc)
 heard_plan packet from message TooManyStreams block plan h f = absurd (let t : HeardMessage from message ≡ HeardDropped TooManyStreams = h in cc)
 
-pub heard_none : (packet : Packet) (from : Stream) (message : Message) (answer : Admit) (block : Option SignatureBlock) → AnswerIs answer packet block (HeardMessage from message) → (profile_definition packet.id ≡ Some (definition_of message) → Represents (definition_of message) packet.payload (values_of message) → plan_in packet.id packet.payload ≡ None) → IsAnswer answer packet block Other
+pub heard_none : (packet : Packet) (from : Stream) (message : Message) (answer : Admit) (block : Option SignatureBlock) → AnswerIs answer packet block (HeardMessage from message) → (profile_definition packet.id ≡ Some (definition_of message) → Represents (definition_of message) packet.payload (values_of message) → Carries packet None None) → IsAnswer answer packet block Other
 heard_none packet from message Admitted (Some block) h f = f h.1 h.2
 heard_none packet from message Admitted None h f = h
 heard_none packet from message Unsigned block h f = absurd (let t : HeardMessage from message ≡ HeardDropped Unsigned = h in cc)
@@ -206,8 +252,21 @@ heard_none packet from message (NotLater last) block h f = absurd (let t : Heard
 heard_none packet from message (TooOld local) block h f = absurd (let t : HeardMessage from message ≡ HeardDropped (TooOld local) = h in cc)
 heard_none packet from message TooManyStreams block h f = absurd (let t : HeardMessage from message ≡ HeardDropped TooManyStreams = h in cc)
 
+pub heard_service : (packet : Packet) (from : Stream) (message : Message) (answer : Admit) (block : Option SignatureBlock) (service : Message) → AnswerIs answer packet block (HeardMessage from message) → (profile_definition packet.id ≡ Some (definition_of message) → Represents (definition_of message) packet.payload (values_of message) → Carries packet None (Some service)) → IsAnswer answer packet block (Service from service)
+heard_service packet from message Admitted (Some block) service h f = (h.0, f h.1 h.2)
+heard_service packet from message Admitted None service h f = h
+heard_service packet from message Unsigned block service h f = absurd (let t : HeardMessage from message ≡ HeardDropped Unsigned = h in cc)
+heard_service packet from message BadSignature block service h f = absurd (let t : HeardMessage from message ≡ HeardDropped BadSignature = h in cc)
+heard_service packet from message (BelowFloor floor) block service h f = absurd (let t : HeardMessage from message ≡ HeardDropped (BelowFloor floor) = h in cc)
+heard_service packet from message (NotLater last) block service h f = absurd (let t : HeardMessage from message ≡ HeardDropped (NotLater last) = h in cc)
+heard_service packet from message (TooOld local) block service h f = absurd (let t : HeardMessage from message ≡ HeardDropped (TooOld local) = h in cc)
+heard_service packet from message TooManyStreams block service h f = absurd (let t : HeardMessage from message ≡ HeardDropped TooManyStreams = h in cc)
+
 pub heard_other : (packet : Packet) (from : Stream) (id : ℕ) (answer : Admit) (block : Option SignatureBlock) → AnswerIs answer packet block (HeardOther from id) → IsAnswer answer packet block Other
-heard_other packet from id Admitted (Some block) h = none_carried packet.id packet.payload h.2
+heard_other packet from id Admitted (Some block) h = record {
+  plan_is = none_carried packet.id packet.payload h.2;
+  other_is = no_service_carried packet.id packet.payload h.2;
+}
 heard_other packet from id Admitted None h = h
 heard_other packet from id Unsigned block h = absurd (let t : HeardOther from id ≡ HeardDropped Unsigned = h in cc)
 heard_other packet from id BadSignature block h = absurd (let t : HeardOther from id ≡ HeardDropped BadSignature = h in cc)
@@ -221,6 +280,10 @@ pub plan_tried : {p q : Packet} → p ≡ q → (link : Link) (from : Stream) (m
 plan_tried {p} {q} e link from message plan h f =
     subst (λ (z : Packet). IsTried link z (Plan from plan)) e (heard_plan p from message (answer_to link.key link.history p) p.block plan (subst (λ (z : Packet). HeardIs link.key link.history z (HeardMessage from message)) (sym e) h) f)
 
-pub none_tried : {p q : Packet} → p ≡ q → (link : Link) (from : Stream) (message : Message) → HeardIs link.key link.history q (HeardMessage from message) → (profile_definition p.id ≡ Some (definition_of message) → Represents (definition_of message) p.payload (values_of message) → plan_in p.id p.payload ≡ None) → IsTried link q Other
+pub service_tried : {p q : Packet} → p ≡ q → (link : Link) (from : Stream) (message service : Message) → HeardIs link.key link.history q (HeardMessage from message) → (profile_definition p.id ≡ Some (definition_of message) → Represents (definition_of message) p.payload (values_of message) → Carries p None (Some service)) → IsTried link q (Service from service)
+service_tried {p} {q} e link from message service h f =
+    subst (λ (z : Packet). IsTried link z (Service from service)) e (heard_service p from message (answer_to link.key link.history p) p.block service (subst (λ (z : Packet). HeardIs link.key link.history z (HeardMessage from message)) (sym e) h) f)
+
+pub none_tried : {p q : Packet} → p ≡ q → (link : Link) (from : Stream) (message : Message) → HeardIs link.key link.history q (HeardMessage from message) → (profile_definition p.id ≡ Some (definition_of message) → Represents (definition_of message) p.payload (values_of message) → Carries p None None) → IsTried link q Other
 none_tried {p} {q} e link from message h f =
     subst (λ (z : Packet). IsTried link z Other) e (heard_none p from message (answer_to link.key link.history p) p.block (subst (λ (z : Packet). HeardIs link.key link.history z (HeardMessage from message)) (sym e) h) f)

@@ -1,51 +1,89 @@
 -- Drones and stations as nodes over their cores.
-use Rattle.std.proofs.Common.{◌≡◌, ℕ, Bool, true, List, [], Option, None, inl, inr, refl, subst}
-use Rattle.std.specs.Prelude.{All}
-use Rattle.plan_upload.specs.Drone.{DroneState}
-use Rattle.plan_upload.specs.Station.{StationState}
+use Rattle.std.proofs.Common.{◌≡◌, ℕ, Bool, true, false, List, [], ◌++◌, Option, Some, None, Result, Ok, Err, inl, inr, refl, sym, ap, ◌∙◌, subst, append_assoc}
+use Rattle.std.proofs.lemmas.List.{map-append}
+use Rattle.std.specs.Prelude.{All, OnOk, map}
 use Rattle.mav_nodes.specs.declared.news.News.{News}
 use Rattle.mav_nodes.specs.declared.orders.Order.{Order}
-use Rattle.mav_nodes.specs.declared.orders.Order.TheVariants.{Begin, Cancel, Clear, Get}
+use Rattle.mav_nodes.specs.declared.orders.Order.TheVariants.{Begin, Cancel, Clear, Get, Command, ParamRead, ParamSet, ParamList}
 use Rattle.plan_items.specs.declared.messages.PlanMsg.{PlanMsg}
-use Rattle.mav_nodes.specs.News.{NodeEvent}
+use Rattle.plan_upload.specs.Station.{StationState, station_tick}
+use Rattle.mav_nodes.specs.News.{NodeEvent, Shown, shown, events_of}
+use Rattle.mav_nodes.specs.Services.{StationServices, station_waits}
 use Rattle.mav_nodes.specs.declared.faults.NodeFault.{NodeFault}
 use Rattle.mav_nodes.specs.declared.faults.NodeFault.TheVariants.{StampsSpent, Store, NoMemory}
-use Rattle.mav_nodes.specs.Links.{Link, LinkView, IsLink, Outcome}
+use Rattle.mav_nodes.specs.Links.{Link, LinkView, IsLink, Outcome, behind, and_then}
 use Rattle.mav_nodes.specs.Stores.{AllKept}
-use Rattle.mav_nodes.specs.Steps.{Side, steps}
+use Rattle.mav_nodes.specs.Steps.{Side, steps, serves}
 use Rattle.mav_nodes.specs.Cores.{IsNode, NodeDid, NodeDidKeeping, says}
-use Rattle.mav_nodes.specs.Nodes.{DroneView, IsDrone, StationView, IsStation, station_does, station_obeys, order_step}
-use Rattle.mav_nodes.specs.Promises.{DroneDid, StationDid, Fails, SpentKeeping, FailsKeeping}
+use Rattle.mav_nodes.specs.Nodes.{DroneSide, StationSide, DroneView, IsDrone, StationView, IsStation, IsAccepted, station_does, station_ticks, services_tick, station_obeys, order_step, order_refusal, is_service, service_step}
+use Rattle.mav_nodes.specs.Promises.{DroneDid, StationDid, AcceptsService, Fails, SpentKeeping, FailsKeeping}
 use Rattle.mav_nodes.proofs.Cores.{did_so}
 
-pub drone_node : (node : Side DroneState) {view : DroneView} → IsDrone node view → IsNode node view.link view.drone
-drone_node node is = record { link = is.link; core = is.drone }
+pub drone_node : (node : DroneSide) {view : DroneView} → IsDrone node view → IsNode node view.link view.drone view.services
+drone_node node is = record { link = is.link; core = is.drone; served = is.services }
 
-pub drone_did : (outcome : Outcome (Side DroneState)) (view : DroneView) (before after : List News) → NodeDid outcome view.link view.drone before after → DroneDid outcome view before after
+pub drone_did : (outcome : Outcome DroneSide) (view : DroneView) (before after : List News) → NodeDid outcome view.link view.drone view.services before after → DroneDid outcome view before after
 drone_did outcome view before after =
-    did_so outcome before after (λ node is. record { link = is.link; drone = is.core })
+    did_so outcome before after (λ node is. record { link = is.link; drone = is.core; services = is.served })
 
-pub station_node : (node : Side StationState) {view : StationView} → IsStation node view → IsNode node view.link view.station
-station_node node is = record { link = is.link; core = is.station }
+pub station_node : (node : StationSide) {view : StationView} → IsStation node view → IsNode node view.link view.station view.services
+station_node node is = record { link = is.link; core = is.station; served = is.services }
 
-pub station_did : (outcome : Outcome (Side StationState)) (view : StationView) (before after : List News) → NodeDid outcome view.link view.station before after → StationDid outcome view before after
+pub station_did : (outcome : Outcome StationSide) (view : StationView) (before after : List News) → NodeDid outcome view.link view.station view.services before after → StationDid outcome view before after
 station_did outcome view before after =
-    did_so outcome before after (λ node is. record { link = is.link; station = is.core })
+    did_so outcome before after (λ node is. record { link = is.link; station = is.core; services = is.served })
 
--- what a station does at an order is its core's step
-pub obeys : (clock : ℕ) (order : Order) (node : Side StationState) → station_obeys clock order node ≡ steps clock node.link (station_does (order_step node.core order))
-obeys clock (Begin drone kind plan) node = refl
-obeys clock Cancel node = refl
-obeys clock (Clear drone kind) node = refl
-obeys clock (Get drone kind) node = refl
+-- what a station does at an order of the mission protocol is its core's step
+pub obeys : (clock : ℕ) (order : Order) (node : StationSide) → is_service order ≡ false → station_obeys clock order node ≡ steps clock node.link node.services (station_does (order_step node.core order))
+obeys clock (Begin drone kind plan) node other = refl
+obeys clock Cancel node other = refl
+obeys clock (Clear drone kind) node other = refl
+obeys clock (Get drone kind) node other = refl
+obeys clock (Command drone number word) node other = absurd (cc)
+obeys clock (ParamRead drone id) node other = absurd (cc)
+obeys clock (ParamSet drone param) node other = absurd (cc)
+obeys clock (ParamList drone) node other = absurd (cc)
+
+-- and at one to its services theirs
+pub asks : (clock : ℕ) (order : Order) (node : StationSide) → is_service order ≡ true → station_obeys clock order node ≡ serves clock node.link node.core (service_step node.services order)
+asks clock (Begin drone kind plan) node own = absurd (cc)
+asks clock Cancel node own = absurd (cc)
+asks clock (Clear drone kind) node own = absurd (cc)
+asks clock (Get drone kind) node own = absurd (cc)
+asks clock (Command drone number word) node own = refl
+asks clock (ParamRead drone id) node own = refl
+asks clock (ParamSet drone param) node own = refl
+asks clock (ParamList drone) node own = refl
+
+-- no service refuses an order of the mission protocol
+pub unasked : (order : Order) (station : StationView) → is_service order ≡ false → order_refusal station.station order ≡ None → IsAccepted station order
+unasked (Begin drone kind plan) station other free = record { plan = free; command = refl; params = refl }
+unasked Cancel station other free = record { plan = free; command = refl; params = refl }
+unasked (Clear drone kind) station other free = record { plan = free; command = refl; params = refl }
+unasked (Get drone kind) station other free = record { plan = free; command = refl; params = refl }
+unasked (Command drone number word) station other free = absurd (cc)
+unasked (ParamRead drone id) station other free = absurd (cc)
+unasked (ParamSet drone param) station other free = absurd (cc)
+unasked (ParamList drone) station other free = absurd (cc)
+
+-- nor its core one to its services
+pub unordered : (order : Order) (station : StationView) → is_service order ≡ true → AcceptsService station.services order → IsAccepted station order
+unordered (Begin drone kind plan) station own free = absurd (cc)
+unordered Cancel station own free = absurd (cc)
+unordered (Clear drone kind) station own free = absurd (cc)
+unordered (Get drone kind) station own free = absurd (cc)
+unordered (Command drone number word) station own free = record { plan = refl; command = free.command; params = free.params }
+unordered (ParamRead drone id) station own free = record { plan = refl; command = free.command; params = free.params }
+unordered (ParamSet drone param) station own free = record { plan = refl; command = free.command; params = free.params }
+unordered (ParamList drone) station own free = record { plan = refl; command = free.command; params = free.params }
 
 -- ---- a store that never fails keeps all
 
-pub sure_did : {Core : Type 0} (does : List Bool → Outcome (Side Core)) (total : Outcome (Side Core)) (failed : Type 0) (end : LinkView) (view : Core) (news : List News) → (failed → ⊥) → ((keeps : List Bool) → All (λ kept. kept ≡ true) keeps → does keeps ≡ total) → NodeDidKeeping does (AllKept failed) end view news → NodeDid total end view [] news
-sure_did {Core} does total failed end view news never same d = by_kept d.is_kept
+pub sure_did : {Core Services : Type 0} (does : List Bool → Outcome (Side Core Services)) (total : Outcome (Side Core Services)) (failed : Type 0) (end : LinkView) (view : Core) (services : Services) (news : List News) → (failed → ⊥) → ((keeps : List Bool) → All (λ kept. kept ≡ true) keeps → does keeps ≡ total) → NodeDidKeeping does (AllKept failed) end view services news → NodeDid total end view services [] news
+sure_did {Core} {Services} does total failed end view services news never same d = by_kept d.is_kept
   where
-    by_kept : AllKept failed d.keeps → NodeDid total end view [] news
-    by_kept (inl all) = subst (λ (o : Outcome (Side Core)). NodeDid o end view [] news) (same d.keeps all) d.did
+    by_kept : AllKept failed d.keeps → NodeDid total end view services [] news
+    by_kept (inl all) = subst (λ (o : Outcome (Side Core Services)). NodeDid o end view services [] news) (same d.keeps all) d.did
     by_kept (inr h) = absurd (never h)
 
 pub sure_fails : {A B C D : Type 0} (fault : NodeFault) (Is : A → Type 0) (does : List Bool → A → Outcome B) (failed : Type 0) (Now : C → Type 0) (total : C → Outcome D) → (failed → ⊥) → ((c : C) → Now c → (a : A) × Is a × ((keeps : List Bool) → All (λ kept. kept ≡ true) keeps → does keeps a ≡ None → total c ≡ None)) → FailsKeeping fault Is does (AllKept failed) failed → Fails fault Now total ⊥
@@ -78,11 +116,51 @@ fails_keeping_so StampsSpent Is does kept F Now total same h = λ c is.
 fails_keeping_so Store Is does kept F Now total same h = h
 fails_keeping_so NoMemory Is does kept F Now total same h = tt
 
-pub order_fails : (clock : ℕ) (end : LinkView) (answer : Option PlanMsg) (F : Type 0) (Is : Side StationState → Type 0) (total : Side StationState → Outcome (Side StationState)) (fault : NodeFault) → (F → ⊥)
-    → ((node : Side StationState) → Is node → (link : Link) × IsLink link end × (first : List NodeEvent) × (last : List NodeEvent) × (says clock first answer last link ≡ None → total node ≡ None))
+pub order_fails : (clock : ℕ) (end : LinkView) (answer : Option PlanMsg) (F : Type 0) (Is : StationSide → Type 0) (total : StationSide → Outcome StationSide) (fault : NodeFault) → (F → ⊥)
+    → ((node : StationSide) → Is node → (link : Link) × IsLink link end × (first : List NodeEvent) × (last : List NodeEvent) × (says clock first answer last link ≡ None → total node ≡ None))
     → ((first last : List NodeEvent) → Fails fault (λ (link : Link). IsLink link end) (λ (link : Link). says clock first answer last link) F) → Fails fault Is total ⊥
 order_fails clock end answer F Is total StampsSpent never same h = λ node is.
     let one = same node is in
     one.4 (h one.2 one.3 one.0 one.1)
 order_fails clock end answer F Is total Store never same h = never (h [] [])
 order_fails clock end answer F Is total NoMemory never same h = tt
+
+-- ---- parts of a station's calls
+
+pub on_ok : {A E P Q : Type 0} (r : Result A E) → (P → Q) → OnOk r P → OnOk r Q
+on_ok (Ok a) f h = f h
+on_ok (Err e) f h = tt
+
+-- a tick of the core, and then one of the services
+module _ (clock : ℕ) where
+  abbrev pub core_tick : StationSide → Outcome StationSide
+  core_tick node = steps clock node.link node.services (station_does (station_tick node.core))
+
+  behind_did : (first : List NodeEvent) (outcome : Outcome StationSide) (new : StationView) (one two : List News) → events_of one ≡ events_of [] ++ map shown first → StationDid outcome new one two → StationDid (behind first outcome) new [] two
+  behind_did first None new one two e h = h
+  behind_did first (Some d) new one two e h =
+      (h.0, h.1 ∙ (ap (λ (l : List Shown). l ++ map shown d.events) e ∙ (append_assoc (events_of []) (map shown first) (map shown d.events) ∙ ap (λ (l : List Shown). events_of [] ++ l) (sym (map-append shown first d.events)))))
+
+  pub ticked : (node : StationSide) (mid new : StationView) (one two : List News) → StationDid (core_tick node) mid [] one
+      → ((link : Link) → IsLink link mid.link → StationDid (serves clock link mid.station (station_waits mid.services)) new one two) → StationDid (station_ticks clock node) new [] two
+  ticked node mid new one two did next = both (core_tick node) did
+    where
+      both : (first : Outcome StationSide) → StationDid first mid [] one → StationDid (and_then first (services_tick clock)) new [] two
+      both None h = h
+      both (Some d) h =
+          behind_did d.events (services_tick clock d.node) new one two h.1
+          (subst (λ (v : StationServices). StationDid (serves clock d.node.link d.node.core (station_waits v)) new one two) h.0.services
+          (subst (λ (core : StationState). StationDid (serves clock d.node.link core (station_waits mid.services)) new one two) h.0.station (next d.node.link h.0.link)))
+
+  pub tick_spent : (old mid : StationView) (one : List News) (fault : NodeFault) → ((node : StationSide) → IsStation node old → StationDid (core_tick node) mid [] one)
+      → Fails fault (λ (link : Link). IsLink link mid.link) (λ (link : Link). serves clock link mid.station (station_waits mid.services)) ⊥ → Fails fault (λ (node : StationSide). IsStation node old) (λ (node : StationSide). station_ticks clock node) ⊥
+  tick_spent old mid one StampsSpent did h = λ node is. spent (core_tick node) (did node is)
+    where
+      spent : (first : Outcome StationSide) → StationDid first mid [] one → and_then first (services_tick clock) ≡ None
+      spent None e = refl
+      spent (Some d) e =
+          ap (behind d.events)
+          (subst (λ (v : StationServices). serves clock d.node.link d.node.core (station_waits v) ≡ None) e.0.services
+          (subst (λ (core : StationState). serves clock d.node.link core (station_waits mid.services) ≡ None) e.0.station (h d.node.link e.0.link)))
+  tick_spent old mid one Store did h = h
+  tick_spent old mid one NoMemory did h = tt

@@ -1,6 +1,8 @@
 mod PlanPayloads
 mod Tables
 mod Cores
+mod SendsAll
+mod ServiceSteps
 mod StoreCalls
 mod Changes
 mod Ends

@@ -6,13 +6,13 @@ use Rattle.field_layout.specs.Definition.{Definition}
 use Rattle.field_layout.specs.Payload.{Represents}
 use Rattle.field_layout.proofs.Unique.{one_list}
 use Rattle.field_layout.proofs.Decoding.{IsBytes, decoded_all, decoded_represents}
-use Rattle.mav_profile.specs.Profile.{profile_definitions, ping_definition, mission_request_list_definition, mission_count_definition, mission_clear_all_definition, mission_ack_definition, mission_request_int_definition, mission_item_int_definition}
+use Rattle.mav_profile.specs.Profile.{profile_definitions, ping_definition, mission_request_list_definition, mission_count_definition, mission_clear_all_definition, mission_ack_definition, mission_request_int_definition, mission_item_int_definition, param_request_read_definition, param_request_list_definition, param_value_definition, param_set_definition, command_long_definition, command_ack_definition}
 use Rattle.plan_items.specs.declared.messages.PlanMsg.TheVariants as plan
 use Rattle.mav_messages.specs.declared.messages.Message.{Message}
 use Rattle.mav_messages.specs.declared.messages.Message.TheVariants.{Heartbeat, Ping, ParamRequestRead, ParamRequestList, ParamValue, ParamSet, GlobalPositionInt, MissionCurrent, MissionRequestList, MissionCount, MissionClearAll, MissionItemReached, MissionAck, MissionRequestInt, MissionItemInt, CommandLong, CommandAck, FileTransferProtocol, Statustext}
 use Rattle.mav_messages.specs.Messages.{profile_definition, definition_of, values_of}
 use Rattle.mav_messages.specs.Plans.{plan_of}
-use Rattle.mav_nodes.specs.Payloads.{ItemFits, ping_in, list_in, count_in, clear_in, ack_in, request_in, item_in, plan_in}
+use Rattle.mav_nodes.specs.Payloads.{ItemFits, ping_in, list_in, count_in, clear_in, ack_in, request_in, item_in, plan_in, ServiceFits, param_read_in, param_list_in, param_value_in, param_set_in, command_in, command_ack_in, service_in, service_of}
 
 values_are : (def : Definition) (payload : List ℕ) → IsBytes payload → (values : List (List ℕ)) → Represents def payload values → values ≡ decoded_all def payload
 values_are def payload bytes values of =
@@ -94,3 +94,50 @@ none_carried id payload none =
     let d51 = differs id 51 none (known mission_request_int_definition) in
     let d73 = differs id 73 none (known mission_item_int_definition) in
     rw (d4, d43, d44, d45, d47, d51, d73) refl
+
+-- ---- other services
+
+pub service_read : (m : Message) (payload : List ℕ) → IsBytes payload → ServiceFits m → Represents (definition_of m) payload (values_of m) → service_of m ≡ service_in (definition_of m).id payload
+service_read (Heartbeat m) payload bytes fits of = refl
+service_read (Ping m) payload bytes fits of = refl
+service_read (ParamRequestRead m) payload bytes fits of =
+    (λ i. Some (ParamRequestRead (record { target_system = m.target_system; target_component = m.target_component; param_id = m.param_id; param_index = sym fits i })))
+    ∙ ap (λ (v : List (List ℕ)). Some (param_read_in v)) (values_are param_request_read_definition payload bytes (values_of (ParamRequestRead m)) of)
+service_read (ParamRequestList m) payload bytes fits of =
+    ap (λ (v : List (List ℕ)). Some (param_list_in v)) (values_are param_request_list_definition payload bytes (values_of (ParamRequestList m)) of)
+service_read (ParamValue m) payload bytes fits of =
+    ap (λ (v : List (List ℕ)). Some (param_value_in v)) (values_are param_value_definition payload bytes (values_of (ParamValue m)) of)
+service_read (ParamSet m) payload bytes fits of =
+    ap (λ (v : List (List ℕ)). Some (param_set_in v)) (values_are param_set_definition payload bytes (values_of (ParamSet m)) of)
+service_read (GlobalPositionInt m) payload bytes fits of = refl
+service_read (MissionCurrent m) payload bytes fits of = refl
+service_read (MissionRequestList m) payload bytes fits of = refl
+service_read (MissionCount m) payload bytes fits of = refl
+service_read (MissionClearAll m) payload bytes fits of = refl
+service_read (MissionItemReached m) payload bytes fits of = refl
+service_read (MissionAck m) payload bytes fits of = refl
+service_read (MissionRequestInt m) payload bytes fits of = refl
+service_read (MissionItemInt m) payload bytes fits of = refl
+service_read (CommandLong m) payload bytes fits of =
+    ap (λ (v : List (List ℕ)). Some (command_in v)) (values_are command_long_definition payload bytes (values_of (CommandLong m)) of)
+service_read (CommandAck m) payload bytes fits of =
+    (λ i. Some (CommandAck (record { command = m.command; result = m.result; progress = m.progress; result_param2 = sym fits i; target_system = m.target_system; target_component = m.target_component })))
+    ∙ ap (λ (v : List (List ℕ)). Some (command_ack_in v)) (values_are command_ack_definition payload bytes (values_of (CommandAck m)) of)
+service_read (FileTransferProtocol m) payload bytes fits of = refl
+service_read (Statustext m) payload bytes fits of = refl
+
+-- the message of another service of a frame, by the message that was read
+pub service_carried : (id : ℕ) (payload : List ℕ) (m : Message) → IsBytes payload → ServiceFits m → profile_definition id ≡ Some (definition_of m) → Represents (definition_of m) payload (values_of m) → service_in id payload ≡ service_of m
+service_carried id payload m bytes fits is of =
+    ap (λ (n : ℕ). service_in n payload) (sym (found id profile_definitions (definition_of m) is)) ∙ sym (service_read m payload bytes fits of)
+
+-- a frame of another id carries none
+pub no_service_carried : (id : ℕ) (payload : List ℕ) → profile_definition id ≡ None → service_in id payload ≡ None
+no_service_carried id payload none =
+    let d20 = differs id 20 none (known param_request_read_definition) in
+    let d21 = differs id 21 none (known param_request_list_definition) in
+    let d22 = differs id 22 none (known param_value_definition) in
+    let d23 = differs id 23 none (known param_set_definition) in
+    let d76 = differs id 76 none (known command_long_definition) in
+    let d77 = differs id 77 none (known command_ack_definition) in
+    rw (d20, d21, d22, d23, d76, d77) refl

@@ -11,7 +11,7 @@ use Rattle.field_layout.specs.Payload.{serialised, truncated}
 use Rattle.field_layout.proofs.Unique.{truncated_represents}
 use Rattle.mav_frame.proofs.ParsedByFunction.{bytes_at, parse_goes_on}
 use Rattle.mav_messages.specs.Messages.{definition_of, values_of}
-use Rattle.mav_nodes.proofs.PlanPayloads.{plan_read}
+use Rattle.mav_nodes.proofs.PlanPayloads.{plan_read, service_read}
 use Rattle.std.specs.List.{AllByRecursion}
 use Rattle.std.proofs.lemmas.List.Elements.{All-from_recursion}
 use Rattle.x25_check.specs.Extras.{extra_of}
@@ -36,7 +36,7 @@ use Rattle.mav_nodes.specs.Nodes.{drone_heartbeat, station_heartbeat}
 use Rattle.mav_nodes.proofs.Bounds.{Small, check_small, signature_small, signature_length, payload_small, id_small, payload_short}
 use Rattle.mav_nodes.proofs.Tables.{profile_known}
 use Rattle.mav_nodes.specs.Signed.{known_extra, unsealed_packet, sealed_packet, signed_packet}
-use Rattle.mav_nodes.specs.Laws.{ParsesAlone, SignedVerifies, PlanReadsBack, ReadsAlone, EverySendingReadsBack, EveryFrameReadsAlone, SameBytesSameFrame, HeartbeatsFit}
+use Rattle.mav_nodes.specs.Laws.{ParsesAlone, SignedVerifies, PlanReadsBack, ServiceReadsBack, ReadsAlone, EverySendingReadsBack, EveryFrameReadsAlone, SameBytesSameFrame, HeartbeatsFit}
 
 digits : (count number : ℕ) → All Small (little_endian count number)
 digits zero number = All-nil Small
@@ -87,6 +87,10 @@ pub plan_reads_back : PlanReadsBack
 plan_reads_back message fits item small =
     sym (plan_read message (truncated (serialised (definition_of message) (values_of message))) (bytes_at _ small) item (truncated_represents (definition_of message) (values_of message) fits))
 
+pub service_reads_back : ServiceReadsBack
+service_reads_back message fits service small =
+    sym (service_read message (truncated (serialised (definition_of message) (values_of message))) (bytes_at _ small) service (truncated_represents (definition_of message) (values_of message) fits))
+
 alone : (extras : List (ℕ × ℕ)) (packet : Packet) → FitsFrame packet → IsSealed extras false packet → ReadsAlone extras packet
 alone extras packet fits sealed = record { fits = fits; sealed = sealed; parses = parses_alone extras packet fits sealed }
 
@@ -132,6 +136,7 @@ every_sending_reads_back key me seq stamp message is seq_small stamp_small fits 
   frame = sent_alone key (extras_of profile_definitions) me seq stamp message (crc_extra_of (definition_of message)) (profile_has (λ (def : Definition). extra_of def.id (extras_of profile_definitions) ≡ Some (crc_extra_of def)) profile_known message) is seq_small stamp_small fits.values;
   verifies = signed_verifies key (extras_of profile_definitions) me seq stamp message;
   plan = plan_reads_back message fits.values fits.item (payload_small message);
+  service = service_reads_back message fits.values fits.service (payload_small message);
 }
 
 -- ---- what a parse finds
@@ -155,9 +160,11 @@ same_bytes_same_frame extras one other reads also same =
 
 -- ---- the HEARTBEATs
 
-drone_values : FitsLayout (definition_of drone_heartbeat) (values_of drone_heartbeat)
-drone_values =
-    fits_layout (all_fields (definition_of drone_heartbeat)) (values_of drone_heartbeat) ((refl, omega arith), ((refl, omega arith), ((refl, omega arith), ((refl, omega arith), ((refl, omega arith), ((refl, omega arith), tt))))))
+drone_values : (armed : Bool) → FitsLayout (definition_of (drone_heartbeat armed)) (values_of (drone_heartbeat armed))
+drone_values true =
+    fits_layout (all_fields (definition_of (drone_heartbeat true))) (values_of (drone_heartbeat true)) ((refl, omega arith), ((refl, omega arith), ((refl, omega arith), ((refl, omega arith), ((refl, omega arith), ((refl, omega arith), tt))))))
+drone_values false =
+    fits_layout (all_fields (definition_of (drone_heartbeat false))) (values_of (drone_heartbeat false)) ((refl, omega arith), ((refl, omega arith), ((refl, omega arith), ((refl, omega arith), ((refl, omega arith), ((refl, omega arith), tt))))))
 
 station_values : FitsLayout (definition_of station_heartbeat) (values_of station_heartbeat)
 station_values =
@@ -165,8 +172,8 @@ station_values =
 
 pub heartbeats_fit : HeartbeatsFit
 heartbeats_fit = record {
-  drone = record { values = drone_values; item = tt };
-  drone_plan = refl;
-  station = record { values = station_values; item = tt };
+  drone = λ armed. record { values = drone_values armed; item = tt; service = tt };
+  drone_plan = λ armed. refl;
+  station = record { values = station_values; item = tt; service = tt };
   station_plan = refl;
 }

@@ -1,16 +1,20 @@
 -- A node over any core: what the code of a core returns of its step, and what the calls of such a node promise.
-use Rattle.std.specs.Prelude.{ℕ, ◌≡◌, ◌++◌, List, [], ◌∷◌, map, Option, Some, None}
+use Rattle.std.specs.Prelude.{ℕ, ◌≡◌, ◌++◌, Bool, List, [], ◌∷◌, map, Option, Some, None}
 use Rattle.plan_items.specs.declared.kinds.PlanKind.TheVariants.{Mission, Fence, Rally}
+use Rattle.mav_names.specs.declared.names.Stream.{Stream}
 use Rattle.plan_items.specs.declared.messages.PlanMsg.{PlanMsg}
+use Rattle.mav_messages.specs.declared.messages.Message.{Message}
 use Rattle.plan_upload.specs.declared.outcomes.Outcome.{Outcome as Ended}
 use Rattle.plan_upload.specs.Outcomes.{told_of}
 use Rattle.mav_nodes.specs.declared.news.News.{News}
 use Rattle.mav_nodes.specs.declared.steps.PlanNews.{PlanNews}
 use Rattle.mav_nodes.specs.declared.steps.PlanNews.TheVariants.{Same, Installed, Emptied}
 use Rattle.mav_nodes.specs.declared.steps.Step.{Step}
-use Rattle.mav_nodes.specs.News.{NodeEvent, Shown, Shows_installed, Shows_emptied, Shows_ended, shown}
+use Rattle.mav_nodes.specs.declared.services.Served.{Served}
+use Rattle.mav_nodes.specs.News.{NodeEvent, Shown, Shows_installed, Shows_emptied, Shows_ended, shown, events_of}
+use Rattle.mav_nodes.specs.Services.{ServiceStep}
 use Rattle.mav_nodes.specs.Links.{Link, LinkView, IsLink, Outcome, done, behind}
-use Rattle.mav_nodes.specs.Steps.{Side, CoreStep, answers}
+use Rattle.mav_nodes.specs.Steps.{Side, Rules, CoreStep, answers}
 use Rattle.mav_nodes.specs.Promises.{Did}
 
 -- what is reported of a drone's plans
@@ -40,16 +44,27 @@ ends last (Some d) = done d.node (d.events ++ last)
 abbrev pub says : ℕ → List NodeEvent → Option PlanMsg → List NodeEvent → Link → Outcome Link
 says clock first answer last link = behind first (ends last (answers clock answer link))
 
--- a node with a core at that end of the links
-pub record IsNode {Core : Type 0} (node : Side Core) (end : LinkView) (view : Core) : Type 0 where
+-- the rules of a core's and of services' steps; `kept` says whether the store keeps what a step changes
+abbrev pub rules_of : {Core Services : Type 0} → (Bool → Core → Stream → PlanMsg → CoreStep Core) → (Core → Services → Stream → Message → ServiceStep Services) → Bool → Rules Core Services
+rules_of taken served kept = record { take = taken kept; serve = served }
+
+-- the services of a node did this step: these are the services now, and the code returned this of it
+pub record IsServed {Services : Type 0} (step : ServiceStep Services) (view : Services) (given : Served) : Type 0 where
+  pub services : view ≡ step.services
+  pub answers : given.answers.items ≡ step.answers
+  pub last : events_of given.last.items ≡ map shown step.last
+
+-- a node with a core and services at that end of the links
+pub record IsNode {Core Services : Type 0} (node : Side Core Services) (end : LinkView) (view : Core) (services : Services) : Type 0 where
   pub link : IsLink node.link end
   pub core : view ≡ node.core
+  pub served : services ≡ node.services
 
-abbrev pub NodeDid : {Core : Type 0} → Outcome (Side Core) → LinkView → Core → List News → List News → Type 0
-NodeDid outcome end view before after = Did outcome (λ node. IsNode node end view) before after
+abbrev pub NodeDid : {Core Services : Type 0} → Outcome (Side Core Services) → LinkView → Core → Services → List News → List News → Type 0
+NodeDid outcome end view services before after = Did outcome (λ node. IsNode node end view services) before after
 
 -- the same with a store that may not keep what is saved
-pub record NodeDidKeeping {I Core : Type 0} (does : I → Outcome (Side Core)) (kept : I → Type 0) (end : LinkView) (view : Core) (news : List News) : Type 0 where
+pub record NodeDidKeeping {I Core Services : Type 0} (does : I → Outcome (Side Core Services)) (kept : I → Type 0) (end : LinkView) (view : Core) (services : Services) (news : List News) : Type 0 where
   pub keeps : I
   pub is_kept : kept keeps
-  pub did : NodeDid (does keeps) end view [] news
+  pub did : NodeDid (does keeps) end view services [] news

@@ -1,5 +1,5 @@
 -- What a node sends, read again.
-use Rattle.std.specs.Prelude.{false, ℕ, ◌≡◌, ◌<◌, ◌^◌, List, [], ◌∷◌, All, None}
+use Rattle.std.specs.Prelude.{false, Bool, ℕ, ◌≡◌, ◌<◌, ◌^◌, List, [], ◌∷◌, All, None}
 use Rattle.mav_names.specs.declared.names.Stream.{Stream}
 use Rattle.mav_frame.specs.Packet.{Packet, FitsFrame}
 use Rattle.mav_frame.specs.Encoding.{encoding, IsSealed}
@@ -11,7 +11,7 @@ use Rattle.mav_profile.specs.Profile.{profile_definitions}
 use Rattle.mav_messages.specs.declared.messages.Message.{Message}
 use Rattle.mav_messages.specs.Messages.{definition_of, values_of}
 use Rattle.mav_messages.specs.Plans.{plan_of}
-use Rattle.mav_nodes.specs.Payloads.{ItemFits, plan_in}
+use Rattle.mav_nodes.specs.Payloads.{ItemFits, ServiceFits, plan_in, service_in, service_of}
 use Rattle.mav_sign.specs.Signing.{Verifies}
 use Rattle.mav_sign.specs.Kept.{IsStream}
 use Rattle.mav_sign.specs.Endpoints.{frames_of}
@@ -35,6 +35,13 @@ PlanReadsBack =
     → All (λ byte. byte < 256) (truncated (serialised (definition_of message) (values_of message)))
     → plan_in (definition_of message).id (truncated (serialised (definition_of message) (values_of message))) ≡ plan_of message
 
+-- and it carries its message of another service, or none
+abbrev pub ServiceReadsBack : Type 0
+ServiceReadsBack =
+    (message : Message) → FitsLayout (definition_of message) (values_of message) → ServiceFits message
+    → All (λ byte. byte < 256) (truncated (serialised (definition_of message) (values_of message)))
+    → service_in (definition_of message).id (truncated (serialised (definition_of message) (values_of message))) ≡ service_of message
+
 -- a frame fits, its checksum is right, and its bytes parse to exactly it
 pub record ReadsAlone (extras : List (ℕ × ℕ)) (packet : Packet) : Type 0 where
   pub fits : FitsFrame packet
@@ -45,16 +52,19 @@ pub record ReadsAlone (extras : List (ℕ × ℕ)) (packet : Packet) : Type 0 wh
 abbrev pub sent_packet : List ℕ → Stream → ℕ → ℕ → Message → Packet
 sent_packet key me seq stamp message = signed_packet key (extras_of profile_definitions) me seq stamp message
 
--- it reads back as it was sent, verifies under the key, and carries the plan message of the message, or none
+-- it reads back as it was sent, verifies under the key, and carries the plan message of the message, or none, and that of
+-- another service, or none
 pub record ReadsBack (key : List ℕ) (me : Stream) (seq stamp : ℕ) (message : Message) : Type 0 where
   pub frame : ReadsAlone (extras_of profile_definitions) (sent_packet key me seq stamp message)
   pub verifies : Verifies key (sent_packet key me seq stamp message) (sent_packet key me seq stamp message).block
   pub plan : plan_in (sent_packet key me seq stamp message).id (sent_packet key me seq stamp message).payload ≡ plan_of message
+  pub service : service_in (sent_packet key me seq stamp message).id (sent_packet key me seq stamp message).payload ≡ service_of message
 
 -- a message whose values fit its layout
 pub record FitsMessage (message : Message) : Type 0 where
   pub values : FitsLayout (definition_of message) (values_of message)
   pub item : ItemFits (plan_of message)
+  pub service : ServiceFits message
 
 -- what every node sends reads back
 abbrev pub EverySendingReadsBack : Type 0
@@ -74,7 +84,7 @@ SameBytesSameFrame =
 
 -- the HEARTBEATs of nodes fit, and are no plan messages
 pub record HeartbeatsFit : Type 0 where
-  pub drone : FitsMessage drone_heartbeat
-  pub drone_plan : plan_of drone_heartbeat ≡ None
+  pub drone : (armed : Bool) → FitsMessage (drone_heartbeat armed)
+  pub drone_plan : (armed : Bool) → plan_of (drone_heartbeat armed) ≡ None
   pub station : FitsMessage station_heartbeat
   pub station_plan : plan_of station_heartbeat ≡ None

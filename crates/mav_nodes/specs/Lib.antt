@@ -1,4 +1,5 @@
 pub mod News
+pub mod Services
 pub mod Payloads
 pub mod Signed
 pub mod LowBounds
@@ -11,4 +12,5 @@ pub mod Images
 pub mod Starts
 pub mod Promises
 pub mod Cores
+pub mod Returned
 pub mod Laws

@@ -86,3 +86,8 @@ sends clock message link =
     let stamp = next_in link.history clock in
     if nat_lt greatest_stamp stamp then None
     else done (sent_at stamp link) (Sends (signed_packet link.key link.extras link.me link.seq stamp message) message ∷ [])
+
+-- messages, one after another
+abbrev pub sends_all : ℕ → List Message → Link → Outcome Link
+sends_all clock [] link = done link []
+sends_all clock (message ∷ messages) link = and_then (sends clock message link) (sends_all clock messages)

@@ -1,14 +1,17 @@
--- The message of the mission protocol in a payload (MAVLink guide, Mission Protocol; MAVLink common messages).
+-- The message of the mission protocol in a payload, and that of another service of a node (MAVLink guide, Mission Protocol,
+-- Command Protocol, Parameter Protocol; MAVLink common messages).
 use Rattle.std.specs.Prelude.{ℕ, ◌≡◌, ◌==◌, if◌then◌else◌, List, [], ◌∷◌, map, slice_index, Option, Some, None}
 use Rattle.std.specs.List.{enumerate_from}
-use Rattle.std.specs.Int.{w32, cast_signed, cast_unsigned}
+use Rattle.std.specs.Int.{w16, w32, cast_signed, cast_unsigned}
 use Rattle.field_layout.specs.Types.{element_size}
 use Rattle.field_layout.specs.Definition.{Definition, all_fields, element_count}
 use Rattle.field_layout.specs.WireOrder.{Placed, offset_of}
 use Rattle.field_layout.specs.Payload.{words_at}
 use Rattle.field_layout.specs.Reading.{words_from}
-use Rattle.mav_profile.specs.Profile.{ping_definition, mission_request_list_definition, mission_count_definition, mission_clear_all_definition, mission_ack_definition, mission_request_int_definition, mission_item_int_definition}
+use Rattle.mav_profile.specs.Profile.{ping_definition, mission_request_list_definition, mission_count_definition, mission_clear_all_definition, mission_ack_definition, mission_request_int_definition, mission_item_int_definition, param_request_read_definition, param_request_list_definition, param_value_definition, param_set_definition, command_long_definition, command_ack_definition}
 use Rattle.mav_names.specs.declared.names.Name.{Name}
+use Rattle.mav_messages.specs.declared.messages.Message.{Message}
+use Rattle.mav_messages.specs.declared.messages.Message.TheVariants.{ParamRequestRead, ParamRequestList, ParamValue, ParamSet, CommandLong, CommandAck}
 use Rattle.plan_items.specs.declared.messages.PlanMsg.{PlanMsg}
 use Rattle.plan_items.specs.declared.messages.PlanMsg.TheVariants.{Count, Request, Item as Give, Ack, List as Listing, Clear, Ping}
 
@@ -73,3 +76,86 @@ abbrev pub ItemFits : Option PlanMsg → Type 0
 ItemFits (Some (Give to seq kind item)) =
     (cast_signed w32 (cast_unsigned w32 item.x) ≡ item.x) × (cast_signed w32 (cast_unsigned w32 item.y) ≡ item.y)
 ItemFits message = Unit {0}
+
+-- ---- other services
+
+abbrev pub param_read_in : List (List ℕ) → Message
+param_read_in v = ParamRequestRead (record {
+  target_system = word_of v 0;
+  target_component = word_of v 1;
+  param_id = words_at v 2;
+  param_index = cast_signed w16 (word_of v 3);
+})
+
+abbrev pub param_list_in : List (List ℕ) → Message
+param_list_in v = ParamRequestList (record { target_system = word_of v 0; target_component = word_of v 1 })
+
+abbrev pub param_value_in : List (List ℕ) → Message
+param_value_in v = ParamValue (record {
+  param_id = words_at v 0;
+  param_value = word_of v 1;
+  param_type = word_of v 2;
+  param_count = word_of v 3;
+  param_index = word_of v 4;
+})
+
+abbrev pub param_set_in : List (List ℕ) → Message
+param_set_in v = ParamSet (record {
+  target_system = word_of v 0;
+  target_component = word_of v 1;
+  param_id = words_at v 2;
+  param_value = word_of v 3;
+  param_type = word_of v 4;
+})
+
+abbrev pub command_in : List (List ℕ) → Message
+command_in v = CommandLong (record {
+  target_system = word_of v 0;
+  target_component = word_of v 1;
+  command = word_of v 2;
+  confirmation = word_of v 3;
+  param1 = word_of v 4;
+  param2 = word_of v 5;
+  param3 = word_of v 6;
+  param4 = word_of v 7;
+  param5 = word_of v 8;
+  param6 = word_of v 9;
+  param7 = word_of v 10;
+})
+
+abbrev pub command_ack_in : List (List ℕ) → Message
+command_ack_in v = CommandAck (record {
+  command = word_of v 0;
+  result = word_of v 1;
+  progress = word_of v 2;
+  result_param2 = cast_signed w32 (word_of v 3);
+  target_system = word_of v 4;
+  target_component = word_of v 5;
+})
+
+-- the message of the command or parameter protocol that a frame of that id carries, if it carries one
+abbrev pub service_in : ℕ → List ℕ → Option Message
+service_in id payload =
+    if id == 20 then Some (param_read_in (values_in param_request_read_definition payload))
+    else if id == 21 then Some (param_list_in (values_in param_request_list_definition payload))
+    else if id == 22 then Some (param_value_in (values_in param_value_definition payload))
+    else if id == 23 then Some (param_set_in (values_in param_set_definition payload))
+    else if id == 76 then Some (command_in (values_in command_long_definition payload))
+    else if id == 77 then Some (command_ack_in (values_in command_ack_definition payload))
+    else None
+
+-- a message of these protocols
+abbrev pub service_of : Message → Option Message
+service_of (ParamRequestRead m) = Some (ParamRequestRead m)
+service_of (ParamRequestList m) = Some (ParamRequestList m)
+service_of (ParamValue m) = Some (ParamValue m)
+service_of (ParamSet m) = Some (ParamSet m)
+service_of (CommandLong m) = Some (CommandLong m)
+service_of (CommandAck m) = Some (CommandAck m)
+service_of _ = None
+
+-- its signed numbers are those of their words
+abbrev pub ServiceFits : Message → Type 0
+ServiceFits (ParamRequestRead m) = cast_signed w16 (cast_unsigned w16 m.param_index) ≡ m.param_index
+ServiceFits (CommandAck m) = cast_signed w32 (cast_unsigned w32 m.result_param2) ≡ m.result_param2
+ServiceFits message = Unit {0}

@@ -1,22 +1,23 @@
 -- What calls promise of a node: its state after them, and the news that they append.
-use Rattle.std.specs.Prelude.{ℕ, ◌≡◌, List, [], ◌++◌, map, Option, Some, None}
-use Rattle.plan_upload.specs.Drone.{DroneState}
-use Rattle.plan_upload.specs.Station.{StationState}
+use Rattle.std.specs.Prelude.{ℕ, ◌≡◌, List, [], ◌++◌, map, true, false, Option, Some, None}
 use Rattle.mav_frame.specs.Packet.{Packet, SignatureBlock}
 use Rattle.mav_sign.specs.declared.admission.Admit.{Admit}
 use Rattle.mav_sign.specs.declared.admission.Admit.TheVariants.{Admitted}
 use Rattle.mav_sign.specs.History.{answer_to, stream_of}
 use Rattle.mav_nodes.specs.declared.news.News.{News}
 use Rattle.mav_nodes.specs.declared.link.Tried.{Tried}
-use Rattle.mav_nodes.specs.declared.link.Tried.TheVariants.{Plan, Other, Dropped}
-use Rattle.mav_nodes.specs.Payloads.{plan_in}
+use Rattle.mav_nodes.specs.declared.link.Tried.TheVariants.{Plan, Service, Other, Dropped}
+use Rattle.plan_items.specs.declared.messages.PlanMsg.{PlanMsg}
+use Rattle.mav_messages.specs.declared.messages.Message.{Message}
+use Rattle.mav_nodes.specs.Payloads.{plan_in, service_in}
 use Rattle.mav_nodes.specs.News.{shown, events_of}
 use Rattle.mav_nodes.specs.Links.{Link, LinkView, IsLink, Outcome}
-use Rattle.mav_nodes.specs.Steps.{Side}
-use Rattle.mav_nodes.specs.Nodes.{DroneView, IsDrone, StationView, IsStation, station_obeys, order_refusal, order_plan, order_fault}
+use Rattle.plan_upload.specs.Station.{StationState}
+use Rattle.mav_nodes.specs.Services.{StationServices}
+use Rattle.mav_nodes.specs.Nodes.{DroneSide, StationSide, DroneView, IsDrone, StationView, IsStation, IsAccepted, station_obeys, order_refusal, order_plan, order_fault, command_refusal, params_refusal}
 use Rattle.mav_nodes.specs.declared.orders.Order.{Order}
 use Rattle.mav_nodes.specs.declared.faults.OrderFault.{OrderFault}
-use Rattle.mav_nodes.specs.declared.faults.OrderFault.TheVariants.{Begin, Op, Node}
+use Rattle.mav_nodes.specs.declared.faults.OrderFault.TheVariants.{Begin, Op, Command, Param, Node}
 use Rattle.mav_nodes.specs.declared.faults.NodeFault.{NodeFault}
 use Rattle.mav_nodes.specs.declared.faults.NodeFault.TheVariants.{StampsSpent, Store, NoMemory}
 
@@ -47,10 +48,16 @@ FailsKeeping NoMemory Is does kept failed = Unit {0}
 abbrev pub LinkDid : Outcome Link → LinkView → List News → List News → Type 0
 LinkDid outcome view before after = Did outcome (λ link. IsLink link view) before after
 
--- the result of a frame that carries that plan message, or none
+-- a frame carries these messages: of the mission protocol, and of another service
+pub record Carries (packet : Packet) (plan : Option PlanMsg) (other : Option Message) : Type 0 where
+  pub plan_is : plan_in packet.id packet.payload ≡ plan
+  pub other_is : service_in packet.id packet.payload ≡ other
+
+-- the result of a frame that carries that plan message, or that message of another service, or none
 abbrev pub IsAnswer : Admit → Packet → Option SignatureBlock → Tried → Type 0
 IsAnswer Admitted packet (Some block) (Plan from message) = (from ≡ stream_of packet block) × (plan_in packet.id packet.payload ≡ Some message)
-IsAnswer Admitted packet (Some block) Other = plan_in packet.id packet.payload ≡ None
+IsAnswer Admitted packet (Some block) (Service from message) = (from ≡ stream_of packet block) × Carries packet None (Some message)
+IsAnswer Admitted packet (Some block) Other = Carries packet None None
 IsAnswer Admitted packet (Some block) (Dropped answer) = ⊥
 IsAnswer Admitted packet None tried = ⊥
 IsAnswer answer packet block tried = tried ≡ Dropped answer
@@ -60,33 +67,64 @@ abbrev pub IsTried : Link → Packet → Tried → Type 0
 IsTried link packet tried = IsAnswer (answer_to link.key link.history packet) packet packet.block tried
 
 -- the same of a drone and of a station
-abbrev pub DroneDid : Outcome (Side DroneState) → DroneView → List News → List News → Type 0
+abbrev pub DroneDid : Outcome DroneSide → DroneView → List News → List News → Type 0
 DroneDid outcome view before after = Did outcome (λ node. IsDrone node view) before after
 
-abbrev pub StationDid : Outcome (Side StationState) → StationView → List News → List News → Type 0
+abbrev pub StationDid : Outcome StationSide → StationView → List News → List News → Type 0
 StationDid outcome view before after = Did outcome (λ node. IsStation node view) before after
 
 -- the same of a drone with a store that may not keep what is saved
-pub record DroneDidKeeping {I : Type 0} (does : I → Outcome (Side DroneState)) (kept : I → Type 0) (view : DroneView) (news : List News) : Type 0 where
+pub record DroneDidKeeping {I : Type 0} (does : I → Outcome DroneSide) (kept : I → Type 0) (view : DroneView) (news : List News) : Type 0 where
   pub keeps : I
   pub is_kept : kept keeps
   pub did : DroneDid (does keeps) view [] news
 
 -- an order was refused, for the first cause; an upload's plan is returned
-abbrev pub IsRefusal : StationState → Order → OrderFault → Type 0
-IsRefusal station order (Begin fault) = (order_refusal station order ≡ Some fault.why) × (order_plan order ≡ Some fault.plan)
-IsRefusal station order (Op fault) = order_fault station order ≡ Some fault
+abbrev pub IsPlanRefusal : StationState → Order → OrderFault → Type 0
+IsPlanRefusal station order (Begin fault) = (order_refusal station order ≡ Some fault.why) × (order_plan order ≡ Some fault.plan)
+IsPlanRefusal station order (Op fault) = order_fault station order ≡ Some fault
+IsPlanRefusal station order (Command busy) = ⊥
+IsPlanRefusal station order (Param busy) = ⊥
+IsPlanRefusal station order (Node fault) = ⊥
+
+-- the same, or its services refused it
+abbrev pub IsRefusal : StationView → Order → OrderFault → Type 0
+IsRefusal station order (Begin fault) = (order_refusal station.station order ≡ Some fault.why) × (order_plan order ≡ Some fault.plan)
+IsRefusal station order (Op fault) = order_fault station.station order ≡ Some fault
+IsRefusal station order (Command busy) = command_refusal station.services order ≡ Some busy.command
+IsRefusal station order (Param busy) = params_refusal station.services order ≡ true
 IsRefusal station order (Node fault) = ⊥
+
+-- the services of a station follow an order, or refuse it, and then nothing changes; or there is no memory
+pub record AcceptsService (v : StationServices) (order : Order) : Type 0 where
+  pub command : command_refusal v order ≡ None
+  pub params : params_refusal v order ≡ false
+
+abbrev pub RefusesService : StationServices → Order → OrderFault → Type 0
+RefusesService v order (Begin fault) = ⊥
+RefusesService v order (Op fault) = ⊥
+RefusesService v order (Command busy) = command_refusal v order ≡ Some busy.command
+RefusesService v order (Param busy) = params_refusal v order ≡ true
+RefusesService v order (Node fault) = AcceptsService v order × (fault ≡ NoMemory)
+
+abbrev pub KeepsService : StationServices → StationServices → OrderFault → Type 0
+KeepsService before after (Begin fault) = after ≡ before
+KeepsService before after (Op fault) = after ≡ before
+KeepsService before after (Command busy) = after ≡ before
+KeepsService before after (Param busy) = after ≡ before
+KeepsService before after (Node fault) = Unit {0}
 
 -- the same, or no timestamp was left for the message that is sent for it
 abbrev pub OrderFails : ℕ → Order → StationView → OrderFault → Type 0
 OrderFails clock order station (Node fault) =
-    (order_refusal station.station order ≡ None)
-    × Fails fault (λ (node : Side StationState). IsStation node station) (λ (node : Side StationState). station_obeys clock order node) ⊥
-OrderFails clock order station refusal = IsRefusal station.station order refusal
+    IsAccepted station order
+    × Fails fault (λ (node : StationSide). IsStation node station) (λ (node : StationSide). station_obeys clock order node) ⊥
+OrderFails clock order station refusal = IsRefusal station order refusal
 
 -- a refused order changes nothing
 abbrev pub OrderKeeps : StationView → StationView → OrderFault → Type 0
 OrderKeeps before after (Begin fault) = after ≡ before
 OrderKeeps before after (Op fault) = after ≡ before
+OrderKeeps before after (Command busy) = after ≡ before
+OrderKeeps before after (Param busy) = after ≡ before
 OrderKeeps before after (Node fault) = Unit {0}

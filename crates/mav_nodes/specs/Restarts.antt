@@ -3,27 +3,28 @@ use Rattle.std.specs.Prelude.{ℕ, List, Option, Some, None}
 use Rattle.mav_profile.specs.Messages.{extras_of}
 use Rattle.mav_profile.specs.Profile.{profile_definitions}
 use Rattle.plan_upload.specs.Plans.{Plans}
-use Rattle.plan_upload.specs.Drone.{DroneState, fresh_drone}
+use Rattle.plan_upload.specs.Drone.{fresh_drone}
 use Rattle.mav_nodes.specs.LowBounds.{stored_low}
 use Rattle.mav_nodes.specs.Links.{Outcome, started_link}
-use Rattle.mav_nodes.specs.Steps.{Side}
-use Rattle.mav_nodes.specs.Nodes.{new_drone, drone_beats}
+use Rattle.mav_nodes.specs.Services.{Home, new_drone_services}
+use Rattle.mav_nodes.specs.Nodes.{DroneSide, new_drone, drone_beats}
 
--- a drone of that system that starts with what was stored of it
-abbrev pub stored_drone : List ℕ → ℕ → ℕ → Plans → Side DroneState
-stored_drone key sys low plans = record {
+-- a drone of that system that starts with what was stored of it, disarmed at its home
+abbrev pub stored_drone : List ℕ → ℕ → Home → ℕ → Plans → DroneSide
+stored_drone key sys home low plans = record {
   link = started_link key (record { sys = sys; comp = 1; link = 0 }) (extras_of profile_definitions) (Some low);
   core = fresh_drone sys plans;
+  services = new_drone_services sys home;
 }
 
 -- a drone that starts again with the low bound and the plans that are stored; with neither, as at first
-abbrev pub started_again : List ℕ → ℕ → Option ℕ → Plans → Side DroneState
-started_again key sys None plans = new_drone key sys
-started_again key sys (Some low) plans = stored_drone key sys low plans
+abbrev pub started_again : List ℕ → ℕ → Home → Option ℕ → Plans → DroneSide
+started_again key sys home None plans = new_drone key sys home
+started_again key sys home (Some low) plans = stored_drone key sys home low plans
 
-abbrev pub restarted_drone : List ℕ → Side DroneState → Side DroneState
-restarted_drone key node = started_again key node.core.sys (stored_low node.link.history) node.core.plans
+abbrev pub restarted_drone : List ℕ → DroneSide → DroneSide
+restarted_drone key node = started_again key node.core.sys node.services.home (stored_low node.link.history) node.core.plans
 
 -- it starts again, and sends HEARTBEAT
-abbrev pub drone_restarts : List ℕ → ℕ → Side DroneState → Outcome (Side DroneState)
+abbrev pub drone_restarts : List ℕ → ℕ → DroneSide → Outcome DroneSide
 drone_restarts key clock node = drone_beats clock (restarted_drone key node)

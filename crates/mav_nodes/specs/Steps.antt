@@ -1,23 +1,26 @@
--- What a node does at frames, whatever its core is: each is tried, the core takes the plan message of an admitted one,
--- and its reply is sent before the next frame is tried.
+-- What a node does at frames, whatever its core and its services are: each is tried, the core takes the plan message of an
+-- admitted one, the services any other message that is theirs, and what is replied is sent before the next frame is tried.
 use Rattle.std.specs.Prelude.{false, true, Bool, ℕ, List, [], ◌∷◌, ◌++◌, Option, Some, None}
 use Rattle.mav_names.specs.declared.names.Stream.{Stream}
 use Rattle.plan_items.specs.declared.messages.PlanMsg.{PlanMsg}
 use Rattle.mav_frame.specs.Packet.{Packet, SignatureBlock}
 use Rattle.mav_frame.specs.FinalParse.{final_parse}
+use Rattle.mav_messages.specs.declared.messages.Message.{Message}
 use Rattle.mav_messages.specs.Plans.{message_of_plan}
 use Rattle.mav_sign.specs.declared.admission.Admit.{Admit}
 use Rattle.mav_sign.specs.declared.admission.Admit.TheVariants.{Admitted}
 use Rattle.mav_sign.specs.History.{answer_to, stream_of}
 use Rattle.mav_sign.specs.Endpoints.{frames_of}
 use Rattle.mav_nodes.specs.News.{NodeEvent, Drops}
-use Rattle.mav_nodes.specs.Payloads.{plan_in}
-use Rattle.mav_nodes.specs.Links.{Link, Outcome, done, behind, and_then, tries, sends}
+use Rattle.mav_nodes.specs.Services.{ServiceStep}
+use Rattle.mav_nodes.specs.Payloads.{plan_in, service_in}
+use Rattle.mav_nodes.specs.Links.{Link, Outcome, done, behind, and_then, tries, sends, sends_all}
 
--- a node: its end of the links, and its core
-pub record Side (Core : Type 0) : Type 0 where
+-- a node: its end of the links, its core, and its services
+pub record Side (Core Services : Type 0) : Type 0 where
   pub link : Link
   pub core : Core
+  pub services : Services
 
 -- a core's step: the core after it, its events before and after what it sends
 pub record CoreStep (Core : Type 0) : Type 0 where
@@ -26,54 +29,68 @@ pub record CoreStep (Core : Type 0) : Type 0 where
   pub answer : Option PlanMsg
   pub last : List NodeEvent
 
+-- what a core does at a plan message of a stream, and what the services do at a message of theirs
+pub record Rules (Core Services : Type 0) : Type 0 where
+  pub take : Core → Stream → PlanMsg → CoreStep Core
+  pub serve : Core → Services → Stream → Message → ServiceStep Services
+
 -- what is sent for a reply
 abbrev pub answers : ℕ → Option PlanMsg → Link → Outcome Link
 answers clock None link = done link []
 answers clock (Some message) link = sends clock (message_of_plan message) link
 
--- the link sends, and the core is this
-abbrev pub with_core : {Core : Type 0} → Core → List NodeEvent → Outcome Link → Outcome (Side Core)
-with_core core last None = None
-with_core core last (Some d) = done (record { link = d.node; core = core }) (d.events ++ last)
+-- the link sends, and the core and the services are these
+abbrev pub with_core : {Core Services : Type 0} → Core → Services → List NodeEvent → Outcome Link → Outcome (Side Core Services)
+with_core core services last None = None
+with_core core services last (Some d) = done (record { link = d.node; core = core; services = services }) (d.events ++ last)
 
 -- a core's step is done
-abbrev pub steps : {Core : Type 0} → ℕ → Link → CoreStep Core → Outcome (Side Core)
-steps clock link step = behind step.first (with_core step.core step.last (answers clock step.answer link))
+abbrev pub steps : {Core Services : Type 0} → ℕ → Link → Services → CoreStep Core → Outcome (Side Core Services)
+steps clock link services step = behind step.first (with_core step.core services step.last (answers clock step.answer link))
 
--- a node that receives a plan message, or none
-abbrev pub takes : {Core : Type 0} → (Core → Stream → PlanMsg → CoreStep Core) → ℕ → Side Core → Stream → Option PlanMsg → Outcome (Side Core)
-takes step clock node from None = done node []
-takes step clock node from (Some message) = steps clock node.link (step node.core from message)
+-- a step of the services is done
+abbrev pub serves : {Core Services : Type 0} → ℕ → Link → Core → ServiceStep Services → Outcome (Side Core Services)
+serves clock link core step = with_core core step.services step.last (sends_all clock step.answers link)
+
+-- a node that receives a message of its services, or none
+abbrev pub serves_if : {Core Services : Type 0} → Rules Core Services → ℕ → Side Core Services → Stream → Option Message → Outcome (Side Core Services)
+serves_if rules clock node from None = done node []
+serves_if rules clock node from (Some message) = serves clock node.link node.core (rules.serve node.core node.services from message)
+
+-- a node that receives a plan message, or another message or none
+abbrev pub takes : {Core Services : Type 0} → Rules Core Services → ℕ → Side Core Services → Stream → Option PlanMsg → Option Message → Outcome (Side Core Services)
+takes rules clock node from None other = serves_if rules clock node from other
+takes rules clock node from (Some message) other = steps clock node.link node.services (rules.take node.core from message)
 
 -- the verdict on a frame; one that isn't admitted changes nothing else
-abbrev pub admits : {Core : Type 0} → (Core → Stream → PlanMsg → CoreStep Core) → ℕ → Side Core → Packet → Admit → Option SignatureBlock → Outcome (Side Core)
-admits step clock node packet Admitted (Some block) =
-    takes step clock node (stream_of packet block) (plan_in packet.id packet.payload)
-admits step clock node packet answer block = done node (Drops answer ∷ [])
+abbrev pub admits : {Core Services : Type 0} → Rules Core Services → ℕ → Side Core Services → Packet → Admit → Option SignatureBlock → Outcome (Side Core Services)
+admits rules clock node packet Admitted (Some block) =
+    takes rules clock node (stream_of packet block) (plan_in packet.id packet.payload) (service_in packet.id packet.payload)
+admits rules clock node packet answer block = done node (Drops answer ∷ [])
 
 -- one frame
-abbrev pub hears : {Core : Type 0} → (Core → Stream → PlanMsg → CoreStep Core) → ℕ → Packet → Side Core → Outcome (Side Core)
-hears step clock packet node =
-    admits step clock (record node { link = tries packet node.link }) packet (answer_to node.link.key node.link.history packet) packet.block
+abbrev pub hears : {Core Services : Type 0} → Rules Core Services → ℕ → Packet → Side Core Services → Outcome (Side Core Services)
+hears rules clock packet node =
+    admits rules clock (record node { link = tries packet node.link }) packet (answer_to node.link.key node.link.history packet) packet.block
 
 -- frames, one after another
-abbrev pub hears_all : {Core : Type 0} → (Core → Stream → PlanMsg → CoreStep Core) → ℕ → List Packet → Side Core → Outcome (Side Core)
-hears_all step clock [] node = done node []
-hears_all step clock (packet ∷ packets) node = and_then (hears step clock packet node) (hears_all step clock packets)
+abbrev pub hears_all : {Core Services : Type 0} → Rules Core Services → ℕ → List Packet → Side Core Services → Outcome (Side Core Services)
+hears_all rules clock [] node = done node []
+hears_all rules clock (packet ∷ packets) node = and_then (hears rules clock packet node) (hears_all rules clock packets)
 
 -- the same with a store that may not keep what a step saves: `keeps` says for each frame whether it does, and it does
 -- for those that are left
-abbrev pub hears_keeping : {Core : Type 0} → (Bool → Core → Stream → PlanMsg → CoreStep Core) → ℕ → List Bool → List Packet → Side Core → Outcome (Side Core)
-hears_keeping step clock keeps [] node = done node []
-hears_keeping step clock [] (packet ∷ packets) node =
-    and_then (hears (step true) clock packet node) (hears_keeping step clock [] packets)
-hears_keeping step clock (kept ∷ keeps) (packet ∷ packets) node =
-    and_then (hears (step kept) clock packet node) (hears_keeping step clock keeps packets)
+abbrev pub hears_keeping : {Core Services : Type 0} → (Bool → Rules Core Services) → ℕ → List Bool → List Packet → Side Core Services → Outcome (Side Core Services)
+hears_keeping rules clock keeps [] node = done node []
+hears_keeping rules clock [] (packet ∷ packets) node =
+    and_then (hears (rules true) clock packet node) (hears_keeping rules clock [] packets)
+hears_keeping rules clock (kept ∷ keeps) (packet ∷ packets) node =
+    and_then (hears (rules kept) clock packet node) (hears_keeping rules clock keeps packets)
 
-abbrev pub receives_keeping : {Core : Type 0} → (Bool → Core → Stream → PlanMsg → CoreStep Core) → ℕ → List Bool → List ℕ → Side Core → Outcome (Side Core)
-receives_keeping step clock keeps datagram node =
-    hears_keeping step clock keeps (frames_of (final_parse node.link.extras false datagram)) node
+abbrev pub receives_keeping : {Core Services : Type 0} → (Bool → Rules Core Services) → ℕ → List Bool → List ℕ → Side Core Services → Outcome (Side Core Services)
+receives_keeping rules clock keeps datagram node =
+    hears_keeping rules clock keeps (frames_of (final_parse node.link.extras false datagram)) node
 
 -- a datagram: the frames of its final parse
-abbrev pub receives : {Core : Type 0} → (Core → Stream → PlanMsg → CoreStep Core) → ℕ → List ℕ → Side Core → Outcome (Side Core)
-receives step clock datagram node = hears_all step clock (frames_of (final_parse node.link.extras false datagram)) node
+abbrev pub receives : {Core Services : Type 0} → Rules Core Services → ℕ → List ℕ → Side Core Services → Outcome (Side Core Services)
+receives rules clock datagram node = hears_all rules clock (frames_of (final_parse node.link.extras false datagram)) node

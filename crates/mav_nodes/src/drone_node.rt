@@ -1,14 +1,13 @@
 // A drone as a node.
 ghost use Rattle.std.specs.Prelude.{◌≡◌, ◌≢◌, ◌≤◌, ℕ, List, Bool, None, Some, [], IfOk, IfErr, OnOk, IfSome};
-ghost use Rattle.plan_upload.specs.Drone.{DroneState};
-ghost use Rattle.mav_nodes.specs.Steps.{Side};
 ghost use Rattle.mav_nodes.specs.Stores.{Holds, Serves, HasFailed, AllKept};
 ghost use Rattle.mav_nodes.specs.Images.{StoreHolds};
-ghost use Rattle.mav_nodes.specs.Nodes.{IsDrone, new_drone, drone_receives, drone_receives_keeping, drone_ticks, drone_beats};
+ghost use Rattle.mav_nodes.specs.Nodes.{DroneSide, IsDrone, new_drone, drone_receives, drone_receives_keeping, drone_ticks, drone_beats};
 ghost use Rattle.mav_nodes.specs.Promises.{DroneDid, DroneDidKeeping, Fails, FailsKeeping};
 ghost use Rattle.mav_nodes.specs.Restarts.{stored_drone};
 ghost use Rattle.mav_nodes.specs.Starts.{IsStarted, StartedFrom, StartFails};
 
+use crate::drone_services::DroneServices;
 use crate::heartbeats::drone_heartbeat;
 use crate::link::Link;
 use crate::{News, NoMemory, NodeFault, StartFault, node};
@@ -25,7 +24,7 @@ const AUTOPILOT: u8 = 1;
 const LINK: u8 = 0;
 
 /// A drone over datagrams, which keeps its plans in a store: the one that it was started with is handed to each call.
-/// Contracts see its end of the links and its plan core.
+/// Contracts see its end of the links, its plan core, and its services: it executes commands, and serves parameters.
 ///
 /// It saves before a timestamp above the stored low bound is admitted or sent, and before its plans change. If a save
 /// fails it loads, and what the store then has decides: a change of plans that isn't stored is refused, and a bound that
@@ -35,6 +34,7 @@ pub struct DroneNode {
     alloc: Global,
     link: Link,
     drone: Drone,
+    services: DroneServices,
 }
 
 impl Model for DroneNode {
@@ -42,7 +42,7 @@ impl Model for DroneNode {
 
     ghost Value = { DroneView };
 
-    ghost view = { λ n. record { link = n.link; drone = n.drone } };
+    ghost view = { λ n. record { link = n.link; drone = n.drone; services = n.services } };
 }
 
 // The stream of the drone of a system.
@@ -64,44 +64,71 @@ impl DroneNode {
         alloc: Global,
         key: Key,
         sys: u8,
-        _x: i32,
-        _y: i32,
+        x: i32,
+        y: i32,
         keeper: &mut K,
     ) -> Result<DroneNode, StartFault>
-        ensures started { IfOk result (IsStarted key sys) }
-        ensures from { IfSome (K.contents keeper.old) (λ bytes. IfOk result (StartedFrom key sys bytes)) }
+        ensures started { IfOk result (IsStarted key sys (record { x = x; y = y })) }
+        ensures from { IfSome (K.contents keeper.old) (λ bytes. IfOk result (StartedFrom key sys (record { x = x; y = y }) bytes)) }
         ensures stays { K.contents keeper.new ≡ K.contents keeper.old }
         ensures serves { Serves K.faults K.is_infallible keeper.old keeper.new }
         ensures fault { IfErr result (λ fault. StartFails fault sys (K.contents keeper.old) (HasFailed K.faults K.is_infallible keeper.old keeper.new)) }
     {
         let bytes = keeper.load()?;
         if bytes.is_empty() {
-            return Ok(DroneNode::fresh(alloc, key, sys)?);
+            return Ok(DroneNode::fresh(alloc, key, sys, x, y)?);
         }
         let kept = read_kept(alloc, sys, &bytes)?;
-        Ok(DroneNode::restored(alloc, key, sys, &kept)?)
+        Ok(DroneNode::restored(alloc, key, sys, x, y, &kept)?)
     }
 
     // A drone that nothing was stored of.
-    fn fresh(alloc: Global, key: Key, sys: u8) -> Result<DroneNode, NoMemory>
-        ensures { IfOk result (λ node. IsDrone (new_drone key sys) node) }
+    fn fresh(alloc: Global, key: Key, sys: u8, x: i32, y: i32) -> Result<DroneNode, NoMemory>
+        ensures { IfOk result (λ node. IsDrone (new_drone key sys (record { x = x; y = y })) node) }
     {
         let link = Link::new(alloc, key, stream_of(sys))?;
+        let services = DroneServices::new(alloc, sys, x, y)?;
         match Drone::new(alloc, sys) {
-            Ok(drone) => Ok(DroneNode { alloc, link, drone }),
+            Ok(drone) => Ok(DroneNode {
+                alloc,
+                link,
+                drone,
+                services,
+            }),
             Err(refused) => Err(refused),
         }
     }
 
     // A drone with what was stored of it.
-    fn restored(alloc: Global, key: Key, sys: u8, kept: &Kept) -> Result<DroneNode, NoMemory>
-        ensures { IfOk result (λ node. IsDrone (stored_drone key sys kept.now.low kept.now.plans) node) }
+    fn restored(
+        alloc: Global,
+        key: Key,
+        sys: u8,
+        x: i32,
+        y: i32,
+        kept: &Kept,
+    ) -> Result<DroneNode, NoMemory>
+        ensures { IfOk result (λ node. IsDrone (stored_drone key sys (record { x = x; y = y }) kept.now.low kept.now.plans) node) }
     {
         let link = Link::start(alloc, key, stream_of(sys), kept.floor)?;
+        let services = DroneServices::new(alloc, sys, x, y)?;
         match Drone::restore(alloc, sys, kept) {
-            Ok(drone) => Ok(DroneNode { alloc, link, drone }),
+            Ok(drone) => Ok(DroneNode {
+                alloc,
+                link,
+                drone,
+                services,
+            }),
             Err(refused) => Err(refused),
         }
+    }
+
+    /// Where the drone starts, as x and y in units of 1e-7 degrees.
+    pub fn home(&self) -> (i32, i32)
+        ensures x { result.0 ≡ self.now.services.home.x }
+        ensures y { result.1 ≡ self.now.services.home.y }
+    {
+        self.services.home()
     }
 
     /// The drone's plans.
@@ -119,22 +146,23 @@ impl DroneNode {
         clock: u64,
         keeper: &mut K,
     ) -> Result<Vec<News>, NodeFault>
-        ensures done { IfOk result (λ news. (node : Side DroneState) → IsDrone node self.old
+        ensures done { IfOk result (λ news. (node : DroneSide) → IsDrone node self.old
             → DroneDidKeeping (λ (keeps : List Bool). drone_receives_keeping clock keeps datagram.now node) (AllKept (HasFailed K.faults K.is_infallible keeper.old keeper.new)) self.new news.items) }
-        ensures infallible { IfOk result (λ news. (node : Side DroneState) → IsDrone node self.old → K.is_infallible keeper.old
+        ensures infallible { IfOk result (λ news. (node : DroneSide) → IsDrone node self.old → K.is_infallible keeper.old
             → DroneDid (drone_receives clock datagram.now node) self.new [] news.items) }
         ensures stored { OnOk result (StoreHolds (K.contents keeper.old) self.old → StoreHolds (K.contents keeper.new) self.new) }
         ensures serves { Serves K.faults K.is_infallible keeper.old keeper.new }
-        ensures fault { IfErr result (λ fault. FailsKeeping fault (λ (node : Side DroneState). IsDrone node self.old)
-            (λ (keeps : List Bool) (node : Side DroneState). drone_receives_keeping clock keeps datagram.now node)
+        ensures fault { IfErr result (λ fault. FailsKeeping fault (λ (node : DroneSide). IsDrone node self.old)
+            (λ (keeps : List Bool) (node : DroneSide). drone_receives_keeping clock keeps datagram.now node)
             (AllKept (HasFailed K.faults K.is_infallible keeper.old keeper.new)) (HasFailed K.faults K.is_infallible keeper.old keeper.new)) }
         ensures infallible_fault { IfErr result (λ fault. K.is_infallible keeper.old
-            → Fails fault (λ (node : Side DroneState). IsDrone node self.old) (λ (node : Side DroneState). drone_receives clock datagram.now node) ⊥) }
+            → Fails fault (λ (node : DroneSide). IsDrone node self.old) (λ (node : DroneSide). drone_receives clock datagram.now node) ⊥) }
     {
         node::receive(
             self.alloc,
             &mut self.link,
             &mut self.drone,
+            &mut self.services,
             keeper,
             datagram,
             clock,
@@ -143,14 +171,21 @@ impl DroneNode {
 
     /// One tick: an open upload asks again or is closed, and an idle download is closed.
     pub fn tick<K: Keeper>(&mut self, clock: u64, keeper: &mut K) -> Result<Vec<News>, NodeFault>
-        ensures done { IfOk result (λ news. (node : Side DroneState) → IsDrone node self.old
+        ensures done { IfOk result (λ news. (node : DroneSide) → IsDrone node self.old
             → DroneDid (drone_ticks clock node) self.new [] news.items) }
         ensures stored { OnOk result (StoreHolds (K.contents keeper.old) self.old → StoreHolds (K.contents keeper.new) self.new) }
         ensures serves { Serves K.faults K.is_infallible keeper.old keeper.new }
-        ensures fault { IfErr result (λ fault. Fails fault (λ (node : Side DroneState). IsDrone node self.old) (λ (node : Side DroneState). drone_ticks clock node)
+        ensures fault { IfErr result (λ fault. Fails fault (λ (node : DroneSide). IsDrone node self.old) (λ (node : DroneSide). drone_ticks clock node)
             (HasFailed K.faults K.is_infallible keeper.old keeper.new)) }
     {
-        node::tick(self.alloc, &mut self.link, &mut self.drone, keeper, clock)
+        node::tick(
+            self.alloc,
+            &mut self.link,
+            &mut self.drone,
+            &self.services,
+            keeper,
+            clock,
+        )
     }
 
     /// Sends HEARTBEAT.
@@ -159,14 +194,14 @@ impl DroneNode {
         clock: u64,
         keeper: &mut K,
     ) -> Result<Vec<News>, NodeFault>
-        ensures done { IfOk result (λ news. (node : Side DroneState) → IsDrone node self.old
+        ensures done { IfOk result (λ news. (node : DroneSide) → IsDrone node self.old
             → DroneDid (drone_beats clock node) self.new [] news.items) }
         ensures stored { OnOk result (StoreHolds (K.contents keeper.old) self.old → StoreHolds (K.contents keeper.new) self.new) }
         ensures serves { Serves K.faults K.is_infallible keeper.old keeper.new }
-        ensures fault { IfErr result (λ fault. Fails fault (λ (node : Side DroneState). IsDrone node self.old) (λ (node : Side DroneState). drone_beats clock node)
+        ensures fault { IfErr result (λ fault. Fails fault (λ (node : DroneSide). IsDrone node self.old) (λ (node : DroneSide). drone_beats clock node)
             (HasFailed K.faults K.is_infallible keeper.old keeper.new)) }
     {
-        let message = drone_heartbeat();
+        let message = drone_heartbeat(self.services.armed());
         node::send(
             self.alloc,
             &mut self.link,

@@ -1,5 +1,7 @@
 // Why a call of a node fails.
+use command_proto::CommandBusy;
 use mav_sign::StampsSpent as SpentStamps;
+use param_proto::ParamBusy;
 use plan_store::KeepFault;
 use plan_upload::{BeginFault, KeptFault, OpFault};
 use std::alloc::{AllocError, AllocFailed};
@@ -135,6 +137,10 @@ pub enum OrderFault {
     Begin(BeginFault),
     /// The clear or the download was refused.
     Op(OpFault),
+    /// The command was refused, since one is open.
+    Command(CommandBusy),
+    /// What was asked of parameters was refused, since something is asked of them already.
+    Param(ParamBusy),
     /// The station is given up.
     Node(NodeFault),
 }

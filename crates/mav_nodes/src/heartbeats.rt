@@ -2,29 +2,32 @@
 ghost use Rattle.std.specs.Prelude.{◌≡◌};
 ghost use Rattle.mav_nodes.specs.Nodes.{drone_heartbeat as drone_says, station_heartbeat as station_says};
 
-use mav_messages::{Heartbeat, MAVLINK_VERSION, MavAutopilot, MavState, MavType, Message};
+use mav_messages::{
+    Heartbeat, MAVLINK_VERSION, MavAutopilot, MavModeFlag, MavState, MavType, Message,
+};
 
-// A drone's: disarmed.
-pub(crate) fn drone_heartbeat() -> Message
-    ensures { result ≡ drone_says }
+// A drone's.
+pub(crate) fn drone_heartbeat(armed: bool) -> Message
+    ensures { result ≡ drone_says armed }
 {
-    heartbeat(MavType::QUADROTOR, MavAutopilot::GENERIC)
+    let base_mode = if armed { MavModeFlag::SAFETY_ARMED } else { 0 };
+    heartbeat(MavType::QUADROTOR, MavAutopilot::GENERIC, base_mode)
 }
 
 // A station's.
 pub(crate) fn station_heartbeat() -> Message
     ensures { result ≡ station_says }
 {
-    heartbeat(MavType::GCS, MavAutopilot::INVALID)
+    heartbeat(MavType::GCS, MavAutopilot::INVALID, 0)
 }
 
-fn heartbeat(ty: u8, autopilot: u8) -> Message
-    ensures { result ≡ Message.Heartbeat (record { ty = ty; autopilot = autopilot; base_mode = 0; custom_mode = 0; system_status = 4; mavlink_version = 3 }) }
+fn heartbeat(ty: u8, autopilot: u8, base_mode: u8) -> Message
+    ensures { result ≡ Message.Heartbeat (record { ty = ty; autopilot = autopilot; base_mode = base_mode; custom_mode = 0; system_status = 4; mavlink_version = 3 }) }
 {
     Message::Heartbeat(Heartbeat {
         ty,
         autopilot,
-        base_mode: 0,
+        base_mode,
         custom_mode: 0,
         system_status: MavState::ACTIVE,
         mavlink_version: MAVLINK_VERSION,

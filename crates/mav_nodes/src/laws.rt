@@ -1,5 +1,5 @@
 //! Laws of what nodes send: functions without a body, whose contract is the law.
-ghost use Rattle.mav_nodes.specs.Laws.{ParsesAlone, SignedVerifies, PlanReadsBack, EverySendingReadsBack, EveryFrameReadsAlone, SameBytesSameFrame, HeartbeatsFit};
+ghost use Rattle.mav_nodes.specs.Laws.{ParsesAlone, SignedVerifies, PlanReadsBack, ServiceReadsBack, EverySendingReadsBack, EveryFrameReadsAlone, SameBytesSameFrame, HeartbeatsFit};
 
 /// The bytes of a frame parse to exactly that frame.
 pub fn parses_alone()
@@ -14,6 +14,11 @@ pub fn signed_verifies()
 /// The payload of a message carries its plan message.
 pub fn plan_reads_back()
     ensures { PlanReadsBack }
+{}
+
+/// And its message of another service.
+pub fn service_reads_back()
+    ensures { ServiceReadsBack }
 {}
 
 /// What a node sends reads back as it was sent.

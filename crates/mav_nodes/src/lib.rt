@@ -1,5 +1,5 @@
 //! Drones and stations as nodes over datagrams: each frame that comes in is tried, an admitted plan message goes to the
-//! node's plan core, and its reply is sent at once as a signed frame.
+//! node's plan core, one of commands or parameters to its services, and what they reply is sent at once in signed frames.
 //!
 //! A node reports all that happened as a list of [`News`]; a caller sends the frames among them. What a node does is a
 //! total function of its state, the datagram, the clock and what its store keeps. It has no link of its own, no clock and
@@ -14,6 +14,8 @@
 
 mod drone_core;
 mod drone_node;
+mod drone_params;
+mod drone_services;
 mod faults;
 mod heartbeats;
 pub mod laws;
@@ -22,7 +24,9 @@ mod news;
 mod no_store;
 mod node;
 mod orders;
+mod services;
 mod station_node;
+mod station_services;
 mod steps;
 mod stores;
 

@@ -5,12 +5,12 @@ ghost use Rattle.mav_profile.specs.Profile.{profile_definitions};
 ghost use Rattle.field_layout.specs.Payload.{Represents};
 ghost use Rattle.mav_messages.specs.Plans.{plan_of as plan_carried};
 ghost use Rattle.mav_messages.specs.Messages.{definition_of, values_of, profile_definition};
-ghost use Rattle.mav_nodes.specs.Payloads.{plan_in, ItemFits};
+ghost use Rattle.mav_nodes.specs.Payloads.{plan_in, service_in, service_of as service_carried, ItemFits, ServiceFits};
 ghost use Rattle.mav_sign.specs.Endpoints.{HasProfile, HeardIs};
 ghost use Rattle.mav_sign.specs.History.{answer_to};
 ghost use Rattle.mav_nodes.specs.LowBounds.{bound_for, raised, raised_for, raised_if};
 ghost use Rattle.mav_nodes.specs.Stores.{Holds, HoldsNearly, StoredBefore, Serves, HasFailed, HasFailedAt};
-ghost use Rattle.mav_nodes.specs.Links.{Link as LinkState, IsEnd, IsLink, new_link, started_link, tries, sends};
+ghost use Rattle.mav_nodes.specs.Links.{Link as LinkState, IsEnd, IsLink, new_link, started_link, tries, sends, sends_all};
 ghost use Rattle.mav_nodes.specs.News.{NodeEvent, shown};
 ghost use Rattle.mav_nodes.specs.Steps.{answers};
 ghost use Rattle.mav_nodes.specs.Cores.{said_of_plans, said_of_outcome, says};
@@ -51,7 +51,9 @@ pub(crate) struct Link {
 pub(crate) enum Tried {
     /// An admitted plan message of a stream.
     Plan(Stream, PlanMsg),
-    /// It was admitted, and has no plan message.
+    /// An admitted message of a stream for the node's services.
+    Service(Stream, Message),
+    /// It was admitted, and has no message that is for a node.
     Other,
     /// It wasn't admitted.
     Dropped(Admit),
@@ -93,6 +95,44 @@ fn signed_fit(message: &Message)
     if let Message::MissionItemInt(item) = message {
         let _x = item.x;
         let _y = item.y;
+    }
+}
+
+// The message for services that a payload represents, if it is one.
+fn service_of(_id: u32, _payload: &[u8], message: &Message) -> Option<Message>
+    ensures { profile_definition _id ≡ Some (definition_of message.now)
+        → Represents (definition_of message.now) _payload.now (values_of message.now) → result ≡ service_in _id _payload.now }
+{
+    service_numbers_fit(message);
+    as_service(message)
+}
+
+fn as_service(message: &Message) -> Option<Message>
+    ensures { result ≡ service_carried message.now }
+{
+    match message {
+        Message::ParamRequestRead(_)
+        | Message::ParamRequestList(_)
+        | Message::ParamValue(_)
+        | Message::ParamSet(_)
+        | Message::CommandLong(_)
+        | Message::CommandAck(_) => Some(*message),
+        _ => None,
+    }
+}
+
+// Its signed numbers are those of their words.
+fn service_numbers_fit(message: &Message)
+    ensures { ServiceFits message.now }
+{
+    match message {
+        Message::ParamRequestRead(request) => {
+            let _index = request.param_index;
+        }
+        Message::CommandAck(ack) => {
+            let _result = ack.result_param2;
+        }
+        _ => {}
     }
 }
 
@@ -223,7 +263,7 @@ impl Link {
         Ok(self.endpoint.take(frame))
     }
 
-    /// Tries one frame, and returns the plan message that it carries. The store has a bound for its timestamp before it is
+    /// Tries one frame, and returns the message that it carries for the node. The store has a bound for its timestamp before it is
     /// admitted.
     pub(crate) fn hear<K: Keeper, C: Core>(
         &mut self,
@@ -303,6 +343,30 @@ impl Link {
         }
     }
 
+    /// Sends messages, one after another.
+    pub(crate) fn send_all<K: Keeper, C: Core>(
+        &mut self,
+        messages: &[Message],
+        clock: u64,
+        core: &C,
+        keeper: &mut K,
+        news: &mut Vec<News>,
+    ) -> Result<(), NodeFault>
+        ensures sent { OnOk result ((link : LinkState) → IsLink link self.old
+            → LinkDid (sends_all clock messages.now link) self.new news.old.items news.new.items) }
+        ensures stored { OnOk result (Holds (K.contents keeper.old) (C.stored core.now) self.old.low → Holds (K.contents keeper.new) (C.stored core.now) self.new.low) }
+        ensures serves { Serves K.faults K.is_infallible keeper.old keeper.new }
+        ensures fault { IfErr result (λ fault. Fails fault (λ (link : LinkState). IsLink link self.old) (λ (link : LinkState). sends_all clock messages.now link)
+            (HasFailed K.faults K.is_infallible keeper.old keeper.new)) }
+    {
+        let mut index = 0;
+        while index < messages.len() {
+            self.send(&messages[index], clock, core, keeper, news)?;
+            index += 1;
+        }
+        Ok(())
+    }
+
     /// Does what a core's step asks for: reports its first news, sends its reply, and reports its outcome.
     pub(crate) fn say<K: Keeper, C: Core>(
         &mut self,
@@ -334,9 +398,13 @@ fn result_of(frame: &Frame, heard: &Heard) -> Tried
     match heard {
         Heard::Message(from, message) => {
             let len = usize::from(frame.len);
-            match plan_of(frame.id, &frame.payload[..len], message) {
+            let payload = &frame.payload[..len];
+            match plan_of(frame.id, payload, message) {
                 Some(plan) => Tried::Plan(*from, plan),
-                None => Tried::Other,
+                None => match service_of(frame.id, payload, message) {
+                    Some(service) => Tried::Service(*from, service),
+                    None => Tried::Other,
+                },
             }
         }
         Heard::Other(_, _) => Tried::Other,

@@ -6,6 +6,7 @@ use mav_frame::Frame;
 use mav_messages::Message;
 use mav_names::Stream;
 use mav_sign::Admit;
+use param_proto::Param;
 use plan_items::PlanKind;
 use plan_upload::Outcome;
 
@@ -28,6 +29,13 @@ pub enum News {
     Dropped(Admit),
     /// The station's operation has ended.
     Outcome(Outcome),
+    /// The station's command has ended: with its result, or without an acknowledgement.
+    Command(Option<u8>),
+    /// The parameter that the station read or set has this value.
+    Param(Param),
+    /// The station's list of parameters has ended with so many values; or, with None, what it asked of parameters has ended
+    /// without an answer.
+    Params(Option<u16>),
 }
 
 /// One piece of news more.
@@ -36,5 +44,15 @@ pub(crate) fn tell(news: &mut Vec<News>, piece: News) -> Result<(), NodeFault>
     ensures fault { IfErr result (λ fault. fault ≡ NodeFault.NoMemory) }
 {
     news.push(piece)?;
+    Ok(())
+}
+
+/// These pieces of news more.
+pub(crate) fn tell_all(news: &mut Vec<News>, pieces: Vec<News>) -> Result<(), NodeFault>
+    ensures told { OnOk result (news.new.items ≡ news.old.items ++ pieces.items) }
+    ensures fault { IfErr result (λ fault. fault ≡ NodeFault.NoMemory) }
+{
+    let mut pieces = pieces;
+    news.append(&mut pieces)?;
     Ok(())
 }

@@ -1,13 +1,15 @@
 // A node over any core: what it does with the core at its end of the links.
 ghost use Rattle.std.specs.Prelude.{◌≡◌, Bool, List, [], IfOk, IfErr, OnOk};
-ghost use Rattle.mav_nodes.specs.Steps.{Side, steps, hears, receives_keeping};
+ghost use Rattle.mav_nodes.specs.Steps.{Side, Rules, steps, serves, hears, receives_keeping};
+ghost use Rattle.mav_nodes.specs.Services.{ServiceStep};
 ghost use Rattle.mav_nodes.specs.Links.{Link as LinkState, IsLink, sends};
 ghost use Rattle.mav_nodes.specs.Stores.{Holds, Serves, HasFailed, IsKept, AllKept};
-ghost use Rattle.mav_nodes.specs.Cores.{IsNode, NodeDid, NodeDidKeeping};
+ghost use Rattle.mav_nodes.specs.Cores.{IsServed, IsNode, NodeDid, NodeDidKeeping, rules_of};
 ghost use Rattle.mav_nodes.specs.Promises.{LinkDid, Fails, FailsKeeping};
 
 use crate::link::{Link, Tried};
-use crate::news::tell;
+use crate::news::{tell, tell_all};
+use crate::services::{Served, Services};
 use crate::steps::Core;
 use crate::stores::save_step;
 use crate::{News, NodeFault};
@@ -19,22 +21,23 @@ use plan_store::Keeper;
 use std::alloc::Global;
 
 // The core takes a plan message, and its reply is sent. Returns whether the store has what changed.
-fn take<K: Keeper, C: Core>(
+fn take<K: Keeper, C: Core, V>(
     link: &mut Link,
     core: &mut C,
+    _services: &V,
     keeper: &mut K,
     from: Stream,
     message: &PlanMsg,
     clock: u64,
     news: &mut Vec<News>,
 ) -> Result<bool, NodeFault>
-    ensures done { IfOk result (λ kept. (node : Side C) → IsNode node link.old core.old
-        → NodeDid (steps clock node.link (C.taken kept node.core from message.now)) link.new core.new news.old.items news.new.items) }
+    ensures done { IfOk result (λ kept. (node : Side C V) → IsNode node link.old core.old _services.now
+        → NodeDid (steps clock node.link node.services (C.taken kept node.core from message.now)) link.new core.new _services.now news.old.items news.new.items) }
     ensures unkept { IfOk result (λ kept. IsKept kept (HasFailed K.faults K.is_infallible keeper.old keeper.new)) }
     ensures stored { OnOk result (Holds (K.contents keeper.old) (C.stored core.old) link.old.low → Holds (K.contents keeper.new) (C.stored core.new) link.new.low) }
     ensures serves { Serves K.faults K.is_infallible keeper.old keeper.new }
-    ensures fault { IfErr result (λ fault. FailsKeeping fault (λ (node : Side C). IsNode node link.old core.old)
-        (λ (kept : Bool) (node : Side C). steps clock node.link (C.taken kept node.core from message.now))
+    ensures fault { IfErr result (λ fault. FailsKeeping fault (λ (node : Side C V). IsNode node link.old core.old _services.now)
+        (λ (kept : Bool) (node : Side C V). steps clock node.link node.services (C.taken kept node.core from message.now))
         (λ kept. IsKept kept (HasFailed K.faults K.is_infallible keeper.old keeper.new)) (HasFailed K.faults K.is_infallible keeper.old keeper.new)) }
 {
     let kept = save_step(core, keeper, link.alloc(), link.low(), from, message)?;
@@ -43,26 +46,78 @@ fn take<K: Keeper, C: Core>(
     Ok(kept)
 }
 
+/// The services have done a step: what they reply is sent, and what ended with it is reported.
+pub(crate) fn say_served<K: Keeper, C: Core, V>(
+    link: &mut Link,
+    core: &C,
+    _services: &V,
+    keeper: &mut K,
+    served: Served,
+    clock: u64,
+    news: &mut Vec<News>,
+) -> Result<(), NodeFault>
+    ensures done { OnOk result ((node : Side C V) → (step : ServiceStep V) → IsLink node.link link.old → core.now ≡ node.core → IsServed step _services.now served
+        → NodeDid (serves clock node.link node.core step) link.new core.now _services.now news.old.items news.new.items) }
+    ensures stored { OnOk result (Holds (K.contents keeper.old) (C.stored core.now) link.old.low → Holds (K.contents keeper.new) (C.stored core.now) link.new.low) }
+    ensures serves { Serves K.faults K.is_infallible keeper.old keeper.new }
+    ensures fault { IfErr result (λ fault. (step : ServiceStep V) → IsServed step _services.now served
+        → Fails fault (λ (node : Side C V). IsLink node.link link.old) (λ (node : Side C V). serves clock node.link node.core step)
+        (HasFailed K.faults K.is_infallible keeper.old keeper.new)) }
+{
+    link.send_all(&served.answers, clock, core, keeper, news)?;
+    tell_all(news, served.last)
+}
+
+// The services take a message, and what they reply is sent.
+fn serve<K: Keeper, C: Core, V: Services<C>>(
+    link: &mut Link,
+    core: &C,
+    services: &mut V,
+    keeper: &mut K,
+    from: Stream,
+    message: &Message,
+    clock: u64,
+    news: &mut Vec<News>,
+) -> Result<(), NodeFault>
+    ensures done { OnOk result ((node : Side C V) → IsNode node link.old core.now services.old
+        → NodeDid (serves clock node.link node.core (V.served node.core node.services from message.now)) link.new core.now services.new news.old.items news.new.items) }
+    ensures stored { OnOk result (Holds (K.contents keeper.old) (C.stored core.now) link.old.low → Holds (K.contents keeper.new) (C.stored core.now) link.new.low) }
+    ensures serves { Serves K.faults K.is_infallible keeper.old keeper.new }
+    ensures fault { IfErr result (λ fault. Fails fault (λ (node : Side C V). IsNode node link.old core.now services.old)
+        (λ (node : Side C V). serves clock node.link node.core (V.served node.core node.services from message.now))
+        (HasFailed K.faults K.is_infallible keeper.old keeper.new)) }
+{
+    let served = services.serve(link.alloc(), core, from, message)?;
+    say_served(link, core, services, keeper, served, clock, news)
+}
+
 // One frame. Returns whether the store has what changed.
-fn hear<K: Keeper, C: Core>(
+fn hear<K: Keeper, C: Core, V: Services<C>>(
     link: &mut Link,
     core: &mut C,
+    services: &mut V,
     keeper: &mut K,
     frame: &Frame,
     clock: u64,
     news: &mut Vec<News>,
 ) -> Result<bool, NodeFault>
-    ensures done { IfOk result (λ kept. (node : Side C) → IsNode node link.old core.old
-        → NodeDid (hears (C.taken kept) clock frame.now node) link.new core.new news.old.items news.new.items) }
+    ensures done { IfOk result (λ kept. (node : Side C V) → IsNode node link.old core.old services.old
+        → NodeDid (hears (rules_of C.taken V.served kept) clock frame.now node) link.new core.new services.new news.old.items news.new.items) }
     ensures unkept { IfOk result (λ kept. IsKept kept (HasFailed K.faults K.is_infallible keeper.old keeper.new)) }
     ensures stored { OnOk result (Holds (K.contents keeper.old) (C.stored core.old) link.old.low → Holds (K.contents keeper.new) (C.stored core.new) link.new.low) }
     ensures serves { Serves K.faults K.is_infallible keeper.old keeper.new }
-    ensures fault { IfErr result (λ fault. FailsKeeping fault (λ (node : Side C). IsNode node link.old core.old)
-        (λ (kept : Bool) (node : Side C). hears (C.taken kept) clock frame.now node)
+    ensures fault { IfErr result (λ fault. FailsKeeping fault (λ (node : Side C V). IsNode node link.old core.old services.old)
+        (λ (kept : Bool) (node : Side C V). hears (rules_of C.taken V.served kept) clock frame.now node)
         (λ kept. IsKept kept (HasFailed K.faults K.is_infallible keeper.old keeper.new)) (HasFailed K.faults K.is_infallible keeper.old keeper.new)) }
 {
     match link.hear(frame, core, keeper)? {
-        Tried::Plan(from, message) => take(link, core, keeper, from, &message, clock, news),
+        Tried::Plan(from, message) => {
+            take(link, core, services, keeper, from, &message, clock, news)
+        }
+        Tried::Service(from, message) => {
+            serve(link, core, services, keeper, from, &message, clock, news)?;
+            Ok(true)
+        }
         Tried::Other => Ok(true),
         Tried::Dropped(answer) => {
             tell(news, News::Dropped(answer))?;
@@ -73,20 +128,21 @@ fn hear<K: Keeper, C: Core>(
 
 /// Takes a datagram as a whole input by itself: each of its frames in order, and each reply is sent before the next
 /// frame is tried.
-pub(crate) fn receive<K: Keeper, C: Core>(
+pub(crate) fn receive<K: Keeper, C: Core, V: Services<C>>(
     alloc: Global,
     link: &mut Link,
     core: &mut C,
+    services: &mut V,
     keeper: &mut K,
     datagram: &[u8],
     clock: u64,
 ) -> Result<Vec<News>, NodeFault>
-    ensures done { IfOk result (λ news. (node : Side C) → IsNode node link.old core.old
-        → NodeDidKeeping (λ (keeps : List Bool). receives_keeping C.taken clock keeps datagram.now node) (AllKept (HasFailed K.faults K.is_infallible keeper.old keeper.new)) link.new core.new news.items) }
+    ensures done { IfOk result (λ news. (node : Side C V) → IsNode node link.old core.old services.old
+        → NodeDidKeeping (λ (keeps : List Bool). receives_keeping (rules_of C.taken V.served) clock keeps datagram.now node) (AllKept (HasFailed K.faults K.is_infallible keeper.old keeper.new)) link.new core.new services.new news.items) }
     ensures stored { OnOk result (Holds (K.contents keeper.old) (C.stored core.old) link.old.low → Holds (K.contents keeper.new) (C.stored core.new) link.new.low) }
     ensures serves { Serves K.faults K.is_infallible keeper.old keeper.new }
-    ensures fault { IfErr result (λ fault. FailsKeeping fault (λ (node : Side C). IsNode node link.old core.old)
-        (λ (keeps : List Bool) (node : Side C). receives_keeping C.taken clock keeps datagram.now node)
+    ensures fault { IfErr result (λ fault. FailsKeeping fault (λ (node : Side C V). IsNode node link.old core.old services.old)
+        (λ (keeps : List Bool) (node : Side C V). receives_keeping (rules_of C.taken V.served) clock keeps datagram.now node)
         (AllKept (HasFailed K.faults K.is_infallible keeper.old keeper.new)) (HasFailed K.faults K.is_infallible keeper.old keeper.new)) }
 {
     let mut news = Vec::new(alloc);
@@ -95,7 +151,7 @@ pub(crate) fn receive<K: Keeper, C: Core>(
         let (event, size) = event_at(link.extras(), false, &datagram[place..]);
         match event {
             Event::Frame(frame) => {
-                hear(link, core, keeper, &frame, clock, &mut news)?;
+                hear(link, core, services, keeper, &frame, clock, &mut news)?;
             }
             Event::Skipped(_, _) => {}
         }
@@ -104,19 +160,20 @@ pub(crate) fn receive<K: Keeper, C: Core>(
     Ok(news)
 }
 
-/// One tick.
-pub(crate) fn tick<K: Keeper, C: Core>(
+/// One tick of the core.
+pub(crate) fn tick<K: Keeper, C: Core, V>(
     alloc: Global,
     link: &mut Link,
     core: &mut C,
+    _services: &V,
     keeper: &mut K,
     clock: u64,
 ) -> Result<Vec<News>, NodeFault>
-    ensures done { IfOk result (λ news. (node : Side C) → IsNode node link.old core.old
-        → NodeDid (steps clock node.link (C.waited node.core)) link.new core.new [] news.items) }
+    ensures done { IfOk result (λ news. (node : Side C V) → IsNode node link.old core.old _services.now
+        → NodeDid (steps clock node.link node.services (C.waited node.core)) link.new core.new _services.now [] news.items) }
     ensures stored { OnOk result (Holds (K.contents keeper.old) (C.stored core.old) link.old.low → Holds (K.contents keeper.new) (C.stored core.new) link.new.low) }
     ensures serves { Serves K.faults K.is_infallible keeper.old keeper.new }
-    ensures fault { IfErr result (λ fault. Fails fault (λ (node : Side C). IsNode node link.old core.old) (λ (node : Side C). steps clock node.link (C.waited node.core))
+    ensures fault { IfErr result (λ fault. Fails fault (λ (node : Side C V). IsNode node link.old core.old _services.now) (λ (node : Side C V). steps clock node.link node.services (C.waited node.core))
         (HasFailed K.faults K.is_infallible keeper.old keeper.new)) }
 {
     let mut news = Vec::new(alloc);

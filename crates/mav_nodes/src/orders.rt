@@ -1,5 +1,6 @@
 // What a station is asked to do.
 use mav_names::Stream;
+use param_proto::Param;
 use plan_items::{Plan, PlanKind};
 
 /// An order to a station.
@@ -22,5 +23,25 @@ pub enum Order {
     Get {
         drone: Stream,
         kind: PlanKind,
+    },
+    /// To give a drone a command whose first parameter is the float of this word, and the others 0.
+    Command {
+        drone: Stream,
+        command: u16,
+        word: u32,
+    },
+    /// To read a drone's parameter.
+    ParamRead {
+        drone: Stream,
+        id: [u8; 16],
+    },
+    /// To give a drone's parameter a value.
+    ParamSet {
+        drone: Stream,
+        param: Param,
+    },
+    /// To list a drone's parameters.
+    ParamList {
+        drone: Stream,
     },
 }

@@ -1,29 +1,38 @@
 // A ground station as a node.
-ghost use Rattle.std.specs.Prelude.{◌≡◌, [], IfOk, IfErr, OnOk, OnErr};
+ghost use Rattle.std.specs.Prelude.{◌≡◌, [], IfOk, IfErr, OnOk, OnErr, IsFalse, IsTrue};
 ghost use Rattle.plan_upload.specs.Station.{StationState, StationStep};
-ghost use Rattle.mav_nodes.specs.Steps.{Side};
-ghost use Rattle.mav_nodes.specs.Cores.{IsStep};
-ghost use Rattle.mav_nodes.specs.Nodes.{IsStation, new_station, station_receives, station_ticks, station_beats, station_does, station_obeys, order_step, order_refusal};
-ghost use Rattle.mav_nodes.specs.Promises.{StationDid, Fails, IsRefusal, OrderFails, OrderKeeps};
+ghost use Rattle.mav_nodes.specs.Links.{Link as LinkState, IsLink};
+ghost use Rattle.mav_nodes.specs.Services.{ServiceStep, StationServices as StationServicesState};
+ghost use Rattle.mav_nodes.specs.Steps.{steps, serves};
+ghost use Rattle.mav_nodes.specs.Cores.{IsStep, IsServed};
+ghost use Rattle.param_proto.specs.Client.{known_values};
+ghost use Rattle.mav_nodes.specs.Nodes.{StationSide, IsStation, IsAccepted, new_station, station_receives, station_ticks, station_beats, station_does, station_obeys, order_step, order_refusal, is_service};
+ghost use Rattle.plan_upload.specs.Station.{station_tick};
+ghost use Rattle.mav_nodes.specs.Promises.{StationDid, Fails, IsPlanRefusal, OrderFails, OrderKeeps};
 
 use crate::heartbeats::station_heartbeat;
 use crate::link::Link;
 use crate::no_store::NoStore;
+use crate::services::Served;
+use crate::station_services::StationServices;
 use crate::steps::{Core, PlanNews, Step};
 use crate::{News, NoMemory, NodeFault, Order, OrderFault, node};
-use mav_names::Stream;
+use mav_names::{Name, Stream};
 use mav_sign::Key;
+use param_proto::Param;
 use plan_items::PlanMsg;
 use plan_upload::Station;
 use std::alloc::Global;
 use std::marker::Model;
 
-/// A ground station over datagrams. Contracts see its end of the links and its plan core.
+/// A ground station over datagrams. Contracts see its end of the links, its plan core, and its services: it gives
+/// commands, and reads, sets and lists parameters.
 #[derive(Drop)]
 pub struct StationNode {
     alloc: Global,
     link: Link,
     station: Station,
+    services: StationServices,
 }
 
 impl Model for StationNode {
@@ -31,7 +40,7 @@ impl Model for StationNode {
 
     ghost Value = { StationView };
 
-    ghost view = { λ n. record { link = n.link; station = n.station } };
+    ghost view = { λ n. record { link = n.link; station = n.station; services = n.services } };
 }
 
 // A station stores nothing.
@@ -87,7 +96,7 @@ fn obey(station: &mut Station, order: Order) -> Result<Option<PlanMsg>, OrderFau
     ensures station { OnOk result (station.new ≡ (order_step station.old order).station) }
     ensures answer { IfOk result (λ answer. answer ≡ (order_step station.old order).answer) }
     ensures accepted { OnOk result (order_refusal station.old order ≡ None) }
-    ensures fault { IfErr result (λ fault. IsRefusal station.old order fault) }
+    ensures fault { IfErr result (λ fault. IsPlanRefusal station.old order fault) }
     ensures unchanged { OnErr result (station.new ≡ station.old) }
 {
     match order {
@@ -104,7 +113,24 @@ fn obey(station: &mut Station, order: Order) -> Result<Option<PlanMsg>, OrderFau
             Ok(message) => Ok(Some(message)),
             Err(fault) => Err(OrderFault::Op(fault)),
         },
+        Order::Command { .. }
+        | Order::ParamRead { .. }
+        | Order::ParamSet { .. }
+        | Order::ParamList { .. } => Ok(None),
     }
+}
+
+// Whether an order is one to the station's services.
+fn is_for_services(order: &Order) -> bool
+    ensures { result ≡ is_service order.now }
+{
+    matches!(
+        order,
+        Order::Command { .. }
+            | Order::ParamRead { .. }
+            | Order::ParamSet { .. }
+            | Order::ParamList { .. }
+    )
 }
 
 impl StationNode {
@@ -114,25 +140,32 @@ impl StationNode {
         ensures { IfOk result (λ node. IsStation (new_station key me boot) node) }
     {
         let link = Link::new(alloc, key, me)?;
+        let name = Name {
+            sys: me.sys,
+            comp: me.comp,
+        };
+        let services = StationServices::new(alloc, name)?;
         let station = Station::new(alloc, me.sys, me.comp, boot, 0)?;
         Ok(StationNode {
             alloc,
             link,
             station,
+            services,
         })
     }
 
     /// Takes a datagram as a whole input by itself: each of its frames in order, and each reply is sent before the next
     /// frame is tried.
     pub fn receive(&mut self, datagram: &[u8], clock: u64) -> Result<Vec<News>, NodeFault>
-        ensures done { IfOk result (λ news. (node : Side StationState) → IsStation node self.old
+        ensures done { IfOk result (λ news. (node : StationSide) → IsStation node self.old
             → StationDid (station_receives clock datagram.now node) self.new [] news.items) }
-        ensures fault { IfErr result (λ fault. Fails fault (λ (node : Side StationState). IsStation node self.old) (λ (node : Side StationState). station_receives clock datagram.now node) ⊥) }
+        ensures fault { IfErr result (λ fault. Fails fault (λ (node : StationSide). IsStation node self.old) (λ (node : StationSide). station_receives clock datagram.now node) ⊥) }
     {
         node::receive(
             self.alloc,
             &mut self.link,
             &mut self.station,
+            &mut self.services,
             &mut NoStore::new(self.alloc),
             datagram,
             clock,
@@ -141,8 +174,23 @@ impl StationNode {
 
     /// Follows an order, or refuses it. The message that it sends for it is among the news.
     pub fn order(&mut self, order: Order, clock: u64) -> Result<Vec<News>, OrderFault>
-        ensures accepted { OnOk result (order_refusal self.old.station order ≡ None) }
-        ensures done { IfOk result (λ news. (node : Side StationState) → IsStation node self.old
+        ensures accepted { OnOk result (IsAccepted self.old order) }
+        ensures done { IfOk result (λ news. (node : StationSide) → IsStation node self.old
+            → StationDid (station_obeys clock order node) self.new [] news.items) }
+        ensures fault { IfErr result (λ fault. OrderFails clock order self.old fault) }
+        ensures unchanged { IfErr result (λ fault. OrderKeeps self.old self.new fault) }
+    {
+        if is_for_services(&order) {
+            return self.ask(order, clock);
+        }
+        self.obey(order, clock)
+    }
+
+    // An order of the mission protocol.
+    fn obey(&mut self, order: Order, clock: u64) -> Result<Vec<News>, OrderFault>
+        requires { IsFalse (is_service order) }
+        ensures accepted { OnOk result (IsAccepted self.old order) }
+        ensures done { IfOk result (λ news. (node : StationSide) → IsStation node self.old
             → StationDid (station_obeys clock order node) self.new [] news.items) }
         ensures fault { IfErr result (λ fault. OrderFails clock order self.old fault) }
         ensures unchanged { IfErr result (λ fault. OrderKeeps self.old self.new fault) }
@@ -160,26 +208,83 @@ impl StationNode {
         }
     }
 
-    /// One tick: what an operation sends again, or how it continues.
+    // An order to its services.
+    fn ask(&mut self, order: Order, clock: u64) -> Result<Vec<News>, OrderFault>
+        requires { IsTrue (is_service order) }
+        ensures accepted { OnOk result (IsAccepted self.old order) }
+        ensures done { IfOk result (λ news. (node : StationSide) → IsStation node self.old
+            → StationDid (station_obeys clock order node) self.new [] news.items) }
+        ensures fault { IfErr result (λ fault. OrderFails clock order self.old fault) }
+        ensures unchanged { IfErr result (λ fault. OrderKeeps self.old self.new fault) }
+    {
+        let served = self.services.ask(self.alloc, order)?;
+        let mut news = Vec::new(self.alloc);
+        match self.say(served, clock, &mut news) {
+            Ok(()) => Ok(news),
+            Err(fault) => Err(OrderFault::Node(fault)),
+        }
+    }
+
+    // Its services have done a step: what they reply is sent, and what ended with it is reported.
+    fn say(&mut self, served: Served, clock: u64, news: &mut Vec<News>) -> Result<(), NodeFault>
+        ensures done { OnOk result ((link : LinkState) (step : ServiceStep StationServicesState) → IsLink link self.old.link → IsServed step self.old.services served
+            → StationDid (serves clock link self.old.station step) self.new news.old.items news.new.items) }
+        ensures fault { IfErr result (λ fault. (step : ServiceStep StationServicesState) → IsServed step self.old.services served
+            → Fails fault (λ (link : LinkState). IsLink link self.old.link) (λ (link : LinkState). serves clock link self.old.station step) ⊥) }
+    {
+        node::say_served(
+            &mut self.link,
+            &self.station,
+            &self.services,
+            &mut NoStore::new(self.alloc),
+            served,
+            clock,
+            news,
+        )
+    }
+
+    /// One tick: what an operation sends again, or how it continues; and then the same of the open command, and of what is
+    /// asked of parameters.
     pub fn tick(&mut self, clock: u64) -> Result<Vec<News>, NodeFault>
-        ensures done { IfOk result (λ news. (node : Side StationState) → IsStation node self.old
+        ensures done { IfOk result (λ news. (node : StationSide) → IsStation node self.old
             → StationDid (station_ticks clock node) self.new [] news.items) }
-        ensures fault { IfErr result (λ fault. Fails fault (λ (node : Side StationState). IsStation node self.old) (λ (node : Side StationState). station_ticks clock node) ⊥) }
+        ensures fault { IfErr result (λ fault. Fails fault (λ (node : StationSide). IsStation node self.old) (λ (node : StationSide). station_ticks clock node) ⊥) }
+    {
+        let mut news = self.tick_core(clock)?;
+        let served = self.services.wait(self.alloc)?;
+        self.say(served, clock, &mut news)?;
+        Ok(news)
+    }
+
+    // One tick of its plan core.
+    fn tick_core(&mut self, clock: u64) -> Result<Vec<News>, NodeFault>
+        ensures done { IfOk result (λ news. (node : StationSide) → IsStation node self.old
+            → StationDid (steps clock node.link node.services (station_does (station_tick node.core))) self.new [] news.items) }
+        ensures fault { IfErr result (λ fault. Fails fault (λ (node : StationSide). IsStation node self.old)
+            (λ (node : StationSide). steps clock node.link node.services (station_does (station_tick node.core))) ⊥) }
     {
         node::tick(
             self.alloc,
             &mut self.link,
             &mut self.station,
+            &self.services,
             &mut NoStore::new(self.alloc),
             clock,
         )
     }
 
+    /// The values of the latest list of parameters, from index 0 up to the first that wasn't taken.
+    pub fn params(&self) -> &[Param]
+        ensures { result.now ≡ known_values self.now.services.client.values }
+    {
+        self.services.params()
+    }
+
     /// Sends HEARTBEAT.
     pub fn heartbeat(&mut self, clock: u64) -> Result<Vec<News>, NodeFault>
-        ensures done { IfOk result (λ news. (node : Side StationState) → IsStation node self.old
+        ensures done { IfOk result (λ news. (node : StationSide) → IsStation node self.old
             → StationDid (station_beats clock node) self.new [] news.items) }
-        ensures fault { IfErr result (λ fault. Fails fault (λ (node : Side StationState). IsStation node self.old) (λ (node : Side StationState). station_beats clock node) ⊥) }
+        ensures fault { IfErr result (λ fault. Fails fault (λ (node : StationSide). IsStation node self.old) (λ (node : StationSide). station_beats clock node) ⊥) }
     {
         let message = station_heartbeat();
         node::send(

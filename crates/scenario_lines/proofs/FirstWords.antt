@@ -18,13 +18,9 @@ by_or false b P f g h = g h
 
 later_word : (s : LineContext) (words : List (List ℕ)) → is_unbuilt (word_at words 0) ≡ true → reading s words ≡ Err Later
 later_word s words =
-    by_or (bytes_eq (word_at words 0) (codes "command")) _ (reading s words ≡ Err Later)
-    (λ e. starts (λ ws. reading s ws ≡ Err Later) _ _ (λ ws. refl) words (spelled _ (codes "command") (sym e)))
-    (by_or (bytes_eq (word_at words 0) (codes "params")) _ (reading s words ≡ Err Later)
-    (λ e. starts (λ ws. reading s ws ≡ Err Later) _ _ (λ ws. refl) words (spelled _ (codes "params") (sym e)))
-    (by_or (bytes_eq (word_at words 0) (codes "sim")) _ (reading s words ≡ Err Later)
+    by_or (bytes_eq (word_at words 0) (codes "sim")) _ (reading s words ≡ Err Later)
     (λ e. starts (λ ws. reading s ws ≡ Err Later) _ _ (λ ws. refl) words (spelled _ (codes "sim") (sym e)))
-    (λ e. starts (λ ws. reading s ws ≡ Err Later) _ _ (λ ws. refl) words (spelled _ (codes "where") (sym e)))))
+    (λ e. starts (λ ws. reading s ws ≡ Err Later) _ _ (λ ws. refl) words (spelled _ (codes "where") (sym e)))
 
 pub unbuilt_reads : (s : LineContext) (words : List (List ℕ)) (word : List ℕ) → word ≡ word_at words 0 → true ≡ is_unbuilt word → reading s words ≡ Err Later
 unbuilt_reads s words word is h = later_word s words (sym (h ∙ ap is_unbuilt is))

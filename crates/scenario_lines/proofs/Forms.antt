@@ -7,12 +7,12 @@ use Rattle.plan_items.specs.declared.kinds.PlanKind.{PlanKind}
 use Rattle.scenario_lines.specs.declared.faults.Reason.{Reason}
 use Rattle.scenario_lines.specs.declared.faults.Reason.TheVariants.{Count, Number, Kind as KindReason, Hex, Twice, Range, Draft, Clock as ClockReason}
 use Rattle.scenario_lines.specs.declared.lines.Line.{Line}
-use Rattle.scenario_lines.specs.declared.lines.Line.TheVariants.{Drone, Station, Item as OneItem, Items, Begin, Cancel, Clear, Get, Heartbeat, Deliver, Flow, Noise, Tick, Clock, Restart}
-use Rattle.scenario_lines.specs.Words.{word_at, number_in, integer_of, bytes_word, name_of_word}
+use Rattle.scenario_lines.specs.declared.lines.Line.TheVariants.{Drone, Station, Item as OneItem, Items, Begin, Cancel, Clear, Get, Command, Params, Heartbeat, Deliver, Flow, Noise, Tick, Clock, Restart}
+use Rattle.scenario_lines.specs.Words.{word_at, number_in, integer_of, wire_word, bytes_word, name_of_word}
 use Rattle.scenario_lines.specs.LineContext.{LineContext, drone_name, has_name, has_drone, has_station}
-use Rattle.scenario_lines.specs.Grammar.{first_reason, against, whole_at, signed_at, name_at, kind_at, kind_or_all_at, bytes_at, kind_word, kind_or_all, most_whole, most_draft, most_clock}
+use Rattle.scenario_lines.specs.Grammar.{first_reason, against, whole_at, signed_at, wire_at, name_at, kind_at, kind_or_all_at, bytes_at, kind_word, kind_or_all, most_whole, most_draft, most_clock}
 use Rattle.scenario_lines.specs.Reasons.{state_reason, leaves_range}
-use Rattle.scenario_lines.specs.Readings.{answered, reading, of_words, read_drone, read_station, read_one_item, read_items, read_empty, read_begin, read_cancel, read_clear, read_get, read_heartbeat, read_deliver, read_flow, read_noise, read_tick, read_clock, read_restart}
+use Rattle.scenario_lines.specs.Readings.{answered, reading, of_words, read_drone, read_station, read_one_item, read_items, read_empty, read_begin, read_cancel, read_clear, read_get, read_command, read_params, read_heartbeat, read_deliver, read_flow, read_noise, read_tick, read_clock, read_restart}
 use Rattle.scenario_lines.proofs.ReadWords.{first, step, named_step, the_value, number_wider, too_few, too_many, enough}
 use Rattle.scenario_lines.proofs.ReadItems.{item-reads, item_said}
 
@@ -179,6 +179,34 @@ get_at s ws =
     step (kind_word (word_at (codes "get" ∷ ws) 3)) None None KindReason _ _ (λ kind is_kind.
     get_said (codes "get" ∷ ws) station drone kind (the_value _ _ station is_station) (the_value _ _ drone is_drone) (the_value _ _ kind is_kind)))))
 
+-- command STATION DRONE NUMBER W
+command_said : (words : List (List ℕ)) (station drone : Name) (number word : ℕ)
+    → name_at words 1 ≡ station → name_at words 2 ≡ drone → whole_at words 3 ≡ number → wire_at words 4 ≡ word
+    → answered None (Command station drone number word) ≡ answered None (Command (name_at words 1) (name_at words 2) (whole_at words 3) (wire_at words 4))
+command_said words station drone number word e0 e1 e2 e3 = rw (← e0, ← e1, ← e2, ← e3) refl
+
+command_at : (s : LineContext) (ws : List (List ℕ)) → reading s (codes "command" ∷ ws) ≡ read_command s.nodes (codes "command" ∷ ws)
+command_at s ws =
+    counted_first 5 (codes "command" ∷ ws) _ _ _
+    (named_step (has_station s.nodes) (name_of_word (word_at (codes "command" ∷ ws) 1)) _ None _ _ (λ station is_station.
+    named_step (has_drone s.nodes) (name_of_word (word_at (codes "command" ∷ ws) 2)) _ None _ _ (λ drone is_drone.
+    step (number_in 0 65535 (word_at (codes "command" ∷ ws) 3)) _ None Number _ _ (λ number is_number.
+    step (wire_word (word_at (codes "command" ∷ ws) 4)) None None Hex _ _ (λ word is_word.
+    command_said (codes "command" ∷ ws) station drone number word (the_value _ _ station is_station) (the_value _ _ drone is_drone)
+    (number_wider 0 65535 number (word_at (codes "command" ∷ ws) 3) (lit≤ tt) is_number) (the_value _ _ word is_word))))))
+
+-- params STATION DRONE
+params_said : (words : List (List ℕ)) (station drone : Name) → name_at words 1 ≡ station → name_at words 2 ≡ drone
+    → answered None (Params station drone) ≡ answered None (Params (name_at words 1) (name_at words 2))
+params_said words station drone e0 e1 = rw (← e0, ← e1) refl
+
+params_at : (s : LineContext) (ws : List (List ℕ)) → reading s (codes "params" ∷ ws) ≡ read_params s.nodes (codes "params" ∷ ws)
+params_at s ws =
+    counted_first 3 (codes "params" ∷ ws) _ _ _
+    (named_step (has_station s.nodes) (name_of_word (word_at (codes "params" ∷ ws) 1)) _ None _ _ (λ station is_station.
+    named_step (has_drone s.nodes) (name_of_word (word_at (codes "params" ∷ ws) 2)) None None _ _ (λ drone is_drone.
+    params_said (codes "params" ∷ ws) station drone (the_value _ _ station is_station) (the_value _ _ drone is_drone))))
+
 -- heartbeat NODE
 heartbeat_at : (s : LineContext) (ws : List (List ℕ)) → reading s (codes "heartbeat" ∷ ws) ≡ read_heartbeat s.nodes (codes "heartbeat" ∷ ws)
 heartbeat_at s ws =
@@ -273,6 +301,12 @@ clear_reads s words e = starts (λ ws. reading s ws ≡ read_clear s.nodes ws) _
 
 pub get_reads : (s : LineContext) (words : List (List ℕ)) → word_at words 0 ≡ codes "get" → reading s words ≡ read_get s.nodes words
 get_reads s words e = starts (λ ws. reading s ws ≡ read_get s.nodes ws) _ _ (get_at s) words e
+
+pub command_reads : (s : LineContext) (words : List (List ℕ)) → word_at words 0 ≡ codes "command" → reading s words ≡ read_command s.nodes words
+command_reads s words e = starts (λ ws. reading s ws ≡ read_command s.nodes ws) _ _ (command_at s) words e
+
+pub params_reads : (s : LineContext) (words : List (List ℕ)) → word_at words 0 ≡ codes "params" → reading s words ≡ read_params s.nodes words
+params_reads s words e = starts (λ ws. reading s ws ≡ read_params s.nodes ws) _ _ (params_at s) words e
 
 pub heartbeat_reads : (s : LineContext) (words : List (List ℕ)) → word_at words 0 ≡ codes "heartbeat" → reading s words ≡ read_heartbeat s.nodes words
 heartbeat_reads s words e = starts (λ ws. reading s ws ≡ read_heartbeat s.nodes ws) _ _ (heartbeat_at s) words e

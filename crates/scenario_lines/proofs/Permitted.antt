@@ -96,21 +96,10 @@ unbuilt : {A B : Type 0} (P : A → B → Type 0) (b : Bool) (x y : A) (v : B) �
 unbuilt P true x y v f g = f refl
 unbuilt P false x y v f g = g
 
--- one of four tests holds
-second : (a c d : Bool) → (a || (true || (c || d))) ≡ true
-second true c d = refl
-second false c d = refl
-
-third : (a b d : Bool) → (a || (b || (true || d))) ≡ true
-third true b d = refl
-third false true d = refl
-third false false d = refl
-
-fourth : (a b c : Bool) → (a || (b || (c || true))) ≡ true
-fourth true b c = refl
-fourth false true c = refl
-fourth false false true = refl
-fourth false false false = refl
+-- the second of two tests holds
+second : (a : Bool) → (a || true) ≡ true
+second true = refl
+second false = refl
 
 no_line : (s : LineContext) (words : List (List ℕ)) (args : List Argument) (P : Type 0) → is_unbuilt (word_at words 0) ≡ true
     → words_reason s words (form args) ≡ None → P
@@ -141,10 +130,10 @@ drone_named s words more h =
     let fit = fits_first _ _ _ (needs_fit s words (A_drone ∷ more) h) in
     (known_named (has_drone s.nodes) (name_of_word (word_at words 1)) no_name fit.0, fit.1)
 
-both_named : (s : LineContext) (words : List (List ℕ)) (kind : Argument) → words_reason s words (form (A_station ∷ A_drone ∷ kind ∷ [])) ≡ None
+both_named : (s : LineContext) (words : List (List ℕ)) (more : List Argument) → words_reason s words (form (A_station ∷ A_drone ∷ more)) ≡ None
     → IsTrue (has_station s.nodes (name_at words 1)) × IsTrue (has_drone s.nodes (name_at words 2))
-both_named s words kind h =
-    let station = station_named s words (A_drone ∷ kind ∷ []) h in
+both_named s words more h =
+    let station = station_named s words (A_drone ∷ more) h in
     let drone = fits_first _ _ _ station.1 in
     (station.0, known_named (has_drone s.nodes) (name_of_word (word_at words 2)) no_name drone.0)
 
@@ -190,12 +179,12 @@ in_range s words =
     (choose (Ranged s words) (bytes_eq w (codes "item")) _ _ _ _ (λ h. tt)
     (choose (Ranged s words) (bytes_eq w (codes "items")) _ _ _ _ (items_ranged s words (Whole 0 255 ∷ Whole 0 65535 ∷ Signed ∷ Signed ∷ []) item_words)
     (choose (Ranged s words) (bytes_eq w (codes "empty")) _ _ _ _ (λ h. tt)
-    (choose (Ranged s words) (bytes_eq w (codes "begin")) _ _ _ _ (both_named s words A_kind)
+    (choose (Ranged s words) (bytes_eq w (codes "begin")) _ _ _ _ (both_named s words (A_kind ∷ []))
     (choose (Ranged s words) (bytes_eq w (codes "cancel")) _ _ _ _ (λ h. (station_named s words [] h).0)
-    (choose (Ranged s words) (bytes_eq w (codes "clear")) _ _ _ _ (both_named s words A_kind_or_all)
-    (choose (Ranged s words) (bytes_eq w (codes "get")) _ _ _ _ (both_named s words A_kind)
-    (unbuilt (Ranged s words) (bytes_eq w (codes "command")) _ _ _ (λ is h. no_line s words (A_station ∷ A_drone ∷ Whole 0 65535 ∷ Wire ∷ []) _ (rw is refl) h)
-    (unbuilt (Ranged s words) (bytes_eq w (codes "params")) _ _ _ (λ is h. no_line s words (A_station ∷ A_drone ∷ []) _ (rw is (second (bytes_eq w (codes "command")) (bytes_eq w (codes "sim")) (bytes_eq w (codes "where")))) h)
+    (choose (Ranged s words) (bytes_eq w (codes "clear")) _ _ _ _ (both_named s words (A_kind_or_all ∷ []))
+    (choose (Ranged s words) (bytes_eq w (codes "get")) _ _ _ _ (both_named s words (A_kind ∷ []))
+    (choose (Ranged s words) (bytes_eq w (codes "command")) _ _ _ _ (both_named s words (Whole 0 65535 ∷ Wire ∷ []))
+    (choose (Ranged s words) (bytes_eq w (codes "params")) _ _ _ _ (both_named s words [])
     (choose (Ranged s words) (bytes_eq w (codes "heartbeat")) _ _ _ _ (λ h. (node_named s words [] h).0)
     (choose (Ranged s words) (bytes_eq w (codes "deliver")) _ _ _ _ (deliver_ranged s words)
     (choose (Ranged s words) (bytes_eq w (codes "flow")) _ _ _ _ (λ h. tt)
@@ -203,8 +192,8 @@ in_range s words =
     (choose (Ranged s words) (bytes_eq w (codes "tick")) _ _ _ _ (λ h. (node_named s words [] h).0)
     (choose (Ranged s words) (bytes_eq w (codes "clock")) _ _ _ _ (λ h. tt)
     (choose (Ranged s words) (bytes_eq w (codes "restart")) _ _ _ _ (λ h. (drone_named s words [] h).0)
-    (unbuilt (Ranged s words) (bytes_eq w (codes "sim")) _ _ Blank (λ is h. no_line s words (A_drone ∷ Whole 1 10000 ∷ []) _ (rw is (third (bytes_eq w (codes "command")) (bytes_eq w (codes "params")) (bytes_eq w (codes "where")))) h)
-    (unbuilt (Ranged s words) (bytes_eq w (codes "where")) _ _ Blank (λ is h. no_line s words (A_drone ∷ []) _ (rw is (fourth (bytes_eq w (codes "command")) (bytes_eq w (codes "params")) (bytes_eq w (codes "sim")))) h)
+    (unbuilt (Ranged s words) (bytes_eq w (codes "sim")) _ _ Blank (λ is h. no_line s words (A_drone ∷ Whole 1 10000 ∷ []) _ (rw is refl) h)
+    (unbuilt (Ranged s words) (bytes_eq w (codes "where")) _ _ Blank (λ is h. no_line s words (A_drone ∷ []) _ (rw is (second (bytes_eq w (codes "sim")))) h)
     (λ h. tt))))))))))))))))))))
 
 words_permitted : (s : LineContext) (words : List (List ℕ)) → words_reason s words (form_of (word_at words 0)) ≡ None → IsPermitted s (line_from words)

@@ -9,7 +9,7 @@ use Rattle.plan_items.specs.declared.kinds.PlanKind.TheVariants.{Mission, Fence,
 use Rattle.scenario_lines.specs.declared.faults.Reason.{Reason}
 use Rattle.scenario_lines.specs.declared.faults.Reason.TheVariants.{Number, Node as NodeReason, Kind as KindReason, Hex}
 use Rattle.scenario_lines.specs.declared.lines.Line.{Line}
-use Rattle.scenario_lines.specs.declared.lines.Line.TheVariants.{Blank, Drone, Station, Item as OneItem, Items, Empty, Begin, Cancel, Clear, Get, Heartbeat, Deliver, Flow, Noise, Tick, Clock, Restart}
+use Rattle.scenario_lines.specs.declared.lines.Line.TheVariants.{Blank, Drone, Station, Item as OneItem, Items, Empty, Begin, Cancel, Clear, Get, Command, Params, Heartbeat, Deliver, Flow, Noise, Tick, Clock, Restart}
 use Rattle.scenario_lines.specs.declared.roster.Named.{Named}
 use Rattle.scenario_lines.specs.Words.{words_of, word_at, number_in, integer_of, wire_word, bytes_word, name_of_word}
 use Rattle.scenario_lines.specs.LineContext.{has_name, has_drone, has_station}
@@ -210,6 +210,8 @@ line_from words =
     else if bytes_eq first (codes "cancel") then Cancel (name_at words 1)
     else if bytes_eq first (codes "clear") then Clear (name_at words 1) (name_at words 2) (kind_or_all_at words 3)
     else if bytes_eq first (codes "get") then Get (name_at words 1) (name_at words 2) (kind_at words 3)
+    else if bytes_eq first (codes "command") then Command (name_at words 1) (name_at words 2) (whole_at words 3) (wire_at words 4)
+    else if bytes_eq first (codes "params") then Params (name_at words 1) (name_at words 2)
     else if bytes_eq first (codes "heartbeat") then Heartbeat (name_at words 1)
     else if bytes_eq first (codes "deliver") then Deliver (whole_at words 1) (name_at words 2)
     else if bytes_eq first (codes "flow") then Flow (whole_at words 1)

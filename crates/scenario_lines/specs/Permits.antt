@@ -2,7 +2,7 @@
 -- nothing known of the world against them.
 use Rattle.std.specs.Prelude.{◌≡◌, ◌≤◌, IsTrue, None, length}
 use Rattle.scenario_lines.specs.declared.lines.Line.{Line}
-use Rattle.scenario_lines.specs.declared.lines.Line.TheVariants.{Blank, Drone, Station, Item as OneItem, Items, Empty, Begin, Cancel, Clear, Get, Heartbeat, Deliver, Flow, Noise, Tick, Clock, Restart}
+use Rattle.scenario_lines.specs.declared.lines.Line.TheVariants.{Blank, Drone, Station, Item as OneItem, Items, Empty, Begin, Cancel, Clear, Get, Command, Params, Heartbeat, Deliver, Flow, Noise, Tick, Clock, Restart}
 use Rattle.scenario_lines.specs.LineContext.{LineContext, has_name, has_drone, has_station}
 use Rattle.scenario_lines.specs.Reasons.{state_reason}
 
@@ -18,6 +18,8 @@ IsInRange s (Begin station drone kind) = IsTrue (has_station s.nodes station) ×
 IsInRange s (Cancel station) = IsTrue (has_station s.nodes station)
 IsInRange s (Clear station drone kind) = IsTrue (has_station s.nodes station) × IsTrue (has_drone s.nodes drone)
 IsInRange s (Get station drone kind) = IsTrue (has_station s.nodes station) × IsTrue (has_drone s.nodes drone)
+IsInRange s (Command station drone number word) = IsTrue (has_station s.nodes station) × IsTrue (has_drone s.nodes drone)
+IsInRange s (Params station drone) = IsTrue (has_station s.nodes station) × IsTrue (has_drone s.nodes drone)
 IsInRange s (Heartbeat node) = IsTrue (has_name s.nodes node)
 IsInRange s (Deliver i node) = (1 ≤ i) × IsTrue (has_name s.nodes node)
 IsInRange s (Flow k) = Unit {0}
@@ -41,6 +43,8 @@ IsOfItems (Begin station drone kind) = ⊥
 IsOfItems (Cancel station) = ⊥
 IsOfItems (Clear station drone kind) = ⊥
 IsOfItems (Get station drone kind) = ⊥
+IsOfItems (Command station drone number word) = ⊥
+IsOfItems (Params station drone) = ⊥
 IsOfItems (Heartbeat node) = ⊥
 IsOfItems (Deliver i node) = ⊥
 IsOfItems (Flow k) = ⊥

@@ -10,7 +10,7 @@ use Rattle.scenario_lines.specs.declared.faults.Reason.TheVariants.{Count, Numbe
 use Rattle.scenario_lines.specs.declared.faults.LineFault.{LineFault}
 use Rattle.scenario_lines.specs.declared.faults.LineFault.TheVariants.{Bad, NoMemory}
 use Rattle.scenario_lines.specs.declared.lines.Line.{Line}
-use Rattle.scenario_lines.specs.declared.lines.Line.TheVariants.{Drone, Station, Item as OneItem, Items, Empty, Begin, Cancel, Clear, Get, Heartbeat, Deliver, Flow, Noise, Tick, Clock, Restart}
+use Rattle.scenario_lines.specs.declared.lines.Line.TheVariants.{Drone, Station, Item as OneItem, Items, Empty, Begin, Cancel, Clear, Get, Command, Params, Heartbeat, Deliver, Flow, Noise, Tick, Clock, Restart}
 use Rattle.scenario_lines.specs.declared.roster.Named.{Named}
 use Rattle.scenario_lines.specs.Words.{word_at, number_in, integer_of, wire_word, bytes_word, name_of_word}
 use Rattle.scenario_lines.specs.LineContext.{LineContext, drone_name, has_name, has_drone, has_station}
@@ -47,8 +47,11 @@ signed words k = ok_or (integer_of (word_at words k)) Number
 abbrev pub signed_or_zero : List (List ℕ) → ℕ → Result ℤ Reason
 signed_or_zero words k = if nat_lt k (length words) then signed words k else Ok (pos 0)
 
+abbrev pub wire : List (List ℕ) → ℕ → Result ℕ Reason
+wire words k = ok_or (wire_word (word_at words k)) Hex
+
 abbrev pub wire_or_zero : List (List ℕ) → ℕ → Result ℕ Reason
-wire_or_zero words k = if nat_lt k (length words) then ok_or (wire_word (word_at words k)) Hex else Ok 0
+wire_or_zero words k = if nat_lt k (length words) then wire words k else Ok 0
 
 -- the name of a node in a role
 abbrev pub named_in : (Name → Bool) → Option Name → Result Name Reason
@@ -155,6 +158,22 @@ read_get nodes words =
     and_then (named (has_drone nodes) words 2) (λ drone.
     and_then (plan_kind words 3) (λ kind.
     Ok (Get station drone kind)))))
+
+abbrev pub read_command : List Named → List (List ℕ) → Result Line Reason
+read_command nodes words =
+    of_words 5 words
+    (and_then (named (has_station nodes) words 1) (λ station.
+    and_then (named (has_drone nodes) words 2) (λ drone.
+    and_then (whole words 3 0 65535) (λ number.
+    and_then (wire words 4) (λ word.
+    Ok (Command station drone number word))))))
+
+abbrev pub read_params : List Named → List (List ℕ) → Result Line Reason
+read_params nodes words =
+    of_words 3 words
+    (and_then (named (has_station nodes) words 1) (λ station.
+    and_then (named (has_drone nodes) words 2) (λ drone.
+    Ok (Params station drone))))
 
 abbrev pub read_heartbeat : List Named → List (List ℕ) → Result Line Reason
 read_heartbeat nodes words = of_words 2 words (and_then (named (has_name nodes) words 1) (λ node. Ok (Heartbeat node)))

@@ -5,15 +5,14 @@ use Rattle.plan_items.specs.declared.items.Item.{Item}
 use Rattle.scenario_lines.specs.declared.faults.Reason.{Reason}
 use Rattle.scenario_lines.specs.declared.faults.Reason.TheVariants.{Long, Word, Later, Count, Twice, Range, Draft, Clock as ClockReason}
 use Rattle.scenario_lines.specs.declared.lines.Line.{Line}
-use Rattle.scenario_lines.specs.declared.lines.Line.TheVariants.{Blank, Drone, Station, Item as OneItem, Items, Empty, Begin, Cancel, Clear, Get, Heartbeat, Deliver, Flow, Noise, Tick, Clock, Restart}
+use Rattle.scenario_lines.specs.declared.lines.Line.TheVariants.{Blank, Drone, Station, Item as OneItem, Items, Empty, Begin, Cancel, Clear, Get, Command, Params, Heartbeat, Deliver, Flow, Noise, Tick, Clock, Restart}
 use Rattle.scenario_lines.specs.Words.{words_of, word_at}
 use Rattle.scenario_lines.specs.LineContext.{LineContext, context_of, drone_name, has_name}
 use Rattle.scenario_lines.specs.Grammar.{Form, form_of, counts, arguments_at, misfit, first_reason, against, line_from, is_blank, most_line_bytes, most_draft, most_clock}
 
 -- the first words of lines that aren't built yet
 abbrev pub is_unbuilt : List ℕ → Bool
-is_unbuilt word =
-    bytes_eq word (codes "command") || (bytes_eq word (codes "params") || (bytes_eq word (codes "sim") || bytes_eq word (codes "where")))
+is_unbuilt word = bytes_eq word (codes "sim") || bytes_eq word (codes "where")
 
 -- the last of n items, x apart by one, leaves 32 bits
 abbrev pub is_too_great : ℤ → Bool
@@ -36,6 +35,8 @@ state_reason s (Begin station drone kind) = None
 state_reason s (Cancel station) = None
 state_reason s (Clear station drone kind) = None
 state_reason s (Get station drone kind) = None
+state_reason s (Command station drone number word) = None
+state_reason s (Params station drone) = None
 state_reason s (Heartbeat node) = None
 state_reason s (Deliver i node) = None
 state_reason s (Flow k) = None

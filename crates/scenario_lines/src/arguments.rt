@@ -10,7 +10,7 @@ use plan_items::{Item, PlanKind};
 
 impl Words<'_> {
     ghost use Rattle.std.specs.Prelude.{◌≡◌, ◌<◌};
-    ghost use Rattle.scenario_lines.specs.Readings.{whole, signed, signed_or_zero, wire_or_zero, named, plan_kind, plan_kind_or_all, read_item};
+    ghost use Rattle.scenario_lines.specs.Readings.{whole, signed, signed_or_zero, wire, wire_or_zero, named, plan_kind, plan_kind_or_all, read_item};
     ghost use Rattle.scenario_lines.specs.LineContext.{has_name, has_drone, has_station};
 
     pub(crate) fn whole(&self, index: usize, low: u64, high: u64) -> Result<u64, Reason>
@@ -37,11 +37,18 @@ impl Words<'_> {
         }
     }
 
+    /// Eight hexadecimal digits.
+    pub(crate) fn wire(&self, index: usize) -> Result<u32, Reason>
+        ensures { result ≡ wire self.now index }
+    {
+        wire_word(self.at(index)).ok_or(Reason::Hex)
+    }
+
     pub(crate) fn wire_or_zero(&self, index: usize) -> Result<u32, Reason>
         ensures { result ≡ wire_or_zero self.now index }
     {
         if index < self.len() {
-            wire_word(self.at(index)).ok_or(Reason::Hex)
+            self.wire(index)
         } else {
             Ok(0)
         }

@@ -51,6 +51,19 @@ pub enum Line {
         drone: Name,
         kind: PlanKind,
     },
+    /// The station sends COMMAND_LONG of this number to the drone, with `word` as its param1 and zeros as its other
+    /// params.
+    Command {
+        station: Name,
+        drone: Name,
+        number: u16,
+        word: u32,
+    },
+    /// The station asks for all parameters of the drone.
+    Params {
+        station: Name,
+        drone: Name,
+    },
     /// The node sends HEARTBEAT.
     Heartbeat {
         node: Name,

@@ -1,6 +1,6 @@
 // The lines that order something of a station, and the one that empties the draft for its orders.
 ghost use Rattle.std.specs.Prelude.{◌≡◌};
-ghost use Rattle.scenario_lines.specs.Readings.{read_empty, read_begin, read_cancel, read_clear, read_get};
+ghost use Rattle.scenario_lines.specs.Readings.{read_empty, read_begin, read_cancel, read_clear, read_get, read_command, read_params};
 
 use crate::words::Words;
 use crate::{Line, Reason, Roster};
@@ -75,4 +75,35 @@ pub(crate) fn read_get(roster: &Roster, words: &Words) -> Result<Line, Reason>
         drone,
         kind,
     })
+}
+
+/// `command STATION DRONE NUMBER W`
+pub(crate) fn read_command(roster: &Roster, words: &Words) -> Result<Line, Reason>
+    ensures { result ≡ read_command roster.now words.now }
+{
+    if words.len() != 5 {
+        return Err(Reason::Count);
+    }
+    let station = words.station(1, roster)?;
+    let drone = words.drone(2, roster)?;
+    let number = words.whole(3, 0, 65535)? as u16;
+    let word = words.wire(4)?;
+    Ok(Line::Command {
+        station,
+        drone,
+        number,
+        word,
+    })
+}
+
+/// `params STATION DRONE`
+pub(crate) fn read_params(roster: &Roster, words: &Words) -> Result<Line, Reason>
+    ensures { result ≡ read_params roster.now words.now }
+{
+    if words.len() != 3 {
+        return Err(Reason::Count);
+    }
+    let station = words.station(1, roster)?;
+    let drone = words.drone(2, roster)?;
+    Ok(Line::Params { station, drone })
 }

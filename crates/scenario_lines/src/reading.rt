@@ -15,7 +15,9 @@ use crate::delivery_lines::{
 use crate::items::{read_item, read_items};
 use crate::name_words::is_word;
 use crate::nodes::{read_drone, read_station};
-use crate::orders::{read_begin, read_cancel, read_clear, read_empty, read_get};
+use crate::orders::{
+    read_begin, read_cancel, read_clear, read_command, read_empty, read_get, read_params,
+};
 use crate::words::Words;
 use crate::{Line, LineFault, Reason, Roster};
 use std::alloc::Global;
@@ -37,10 +39,7 @@ fn is_blank(text: &[u8]) -> bool
 fn is_unbuilt(word: &[u8]) -> bool
     ensures { result ≡ is_unbuilt word.now }
 {
-    is_word(word, "command")
-        || is_word(word, "params")
-        || is_word(word, "sim")
-        || is_word(word, "where")
+    is_word(word, "sim") || is_word(word, "where")
 }
 
 /// The line of some words but `noise`.
@@ -58,6 +57,8 @@ fn read_words(roster: &Roster, drafted: usize, clock: u64, words: &Words) -> Res
         first if is_word(first, "cancel") => read_cancel(roster, words),
         first if is_word(first, "clear") => read_clear(roster, words),
         first if is_word(first, "get") => read_get(roster, words),
+        first if is_word(first, "command") => read_command(roster, words),
+        first if is_word(first, "params") => read_params(roster, words),
         first if is_word(first, "heartbeat") => read_heartbeat(roster, words),
         first if is_word(first, "deliver") => read_deliver(roster, words),
         first if is_word(first, "flow") => read_flow(words),

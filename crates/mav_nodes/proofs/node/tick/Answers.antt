@@ -15,7 +15,7 @@ returns-in_err-say-clause-fault g c =
     let p = err_from_is_err_and c.from_residual.result c.from_residual.ensures.1 in
     let step = c.wait-step.result in
     let failed = HasFailed g.K.Keeper.faults g.K.Keeper.is_infallible c.args.keeper.now c.say.new.keeper in
-    rw p.1 (tick_fails c.args.clock g.C.Core.waited c.args.link.now c.args.core.now c.wait-step.new.self step failed p.0 c.wait-step.ensures.step
+    rw p.1 (tick_fails c.args.clock g.C.Core.waited c.args.link.now c.args.core.now c.wait-step.new.self c.args._services.now step failed p.0 c.wait-step.ensures.step
     (λ first last. subst (λ (f : NodeFault). Fails f (λ (link : Link). IsLink link c.args.link.now) (λ (link : Link). says c.args.clock first step.answer last link) failed) (sym p.2) (c.in_err-say.ensures.fault first last)))
 
 pub returns-clause-done : goal.returns-clause-done
@@ -27,4 +27,4 @@ returns-clause-done g c =
     let after = c.say.new.news.items in
     let step = subst (λ (core : g.row.C.Denot). IsStep (waited core) c.wait-step.new.self given) is.core c.wait-step.ensures.step in
     let said = c.in_ok-say.ensures.said node.link did.first did.last is.link step.first step.last in
-    stepped c.args.clock node.link did c.wait-step.new.self given c.say.new.self [] after step (subst (λ (before : List News). LinkDid (says c.args.clock did.first given.answer did.last node.link) c.say.new.self before after) c.new-news.ensures.items said)
+    stepped c.args.clock node.link node.services c.args._services.now did c.wait-step.new.self given c.say.new.self [] after is.served step (subst (λ (before : List News). LinkDid (says c.args.clock did.first given.answer did.last node.link) c.say.new.self before after) c.new-news.ensures.items said)

@@ -1,7 +1,7 @@
 -- Each form, read word by word, is what the grammar says of its first word.
 use Rattle.std.proofs.Common.{sym, ◌∙◌}
 use Rattle.scenario_lines.specs.LineContext.{context_of}
-use Rattle.scenario_lines.proofs.Forms.{drone_reads, station_reads, item_reads, items_reads, empty_reads, begin_reads, cancel_reads, clear_reads, get_reads, heartbeat_reads, deliver_reads, flow_reads, tick_reads, clock_reads, restart_reads}
+use Rattle.scenario_lines.proofs.Forms.{drone_reads, station_reads, item_reads, items_reads, empty_reads, begin_reads, cancel_reads, clear_reads, get_reads, command_reads, params_reads, heartbeat_reads, deliver_reads, flow_reads, tick_reads, clock_reads, restart_reads}
 use Rattle.scenario_lines.proofs.FirstWords.{spelled, unbuilt_reads}
 use Rattle.scenario_lines.proofs.reading.read_words.Goals as goal
 
@@ -52,33 +52,43 @@ returns-then-is_word-9 c =
 
 pub returns-then-is_word-10 : goal.returns-then-is_word-10
 returns-then-is_word-10 c =
-    c.read_heartbeat.ensures
-    ∙ sym (heartbeat_reads (context_of c.args.roster.now c.args.drafted c.args.clock) c.args.words.now (sym c.at-first.ensures ∙ spelled _ _ c.if-is_word-10.ensures))
+    c.read_command.ensures
+    ∙ sym (command_reads (context_of c.args.roster.now c.args.drafted c.args.clock) c.args.words.now (sym c.at-first.ensures ∙ spelled _ _ c.if-is_word-10.ensures))
 
 pub returns-then-is_word-11 : goal.returns-then-is_word-11
 returns-then-is_word-11 c =
-    c.read_deliver.ensures
-    ∙ sym (deliver_reads (context_of c.args.roster.now c.args.drafted c.args.clock) c.args.words.now (sym c.at-first.ensures ∙ spelled _ _ c.if-is_word-11.ensures))
+    c.read_params.ensures
+    ∙ sym (params_reads (context_of c.args.roster.now c.args.drafted c.args.clock) c.args.words.now (sym c.at-first.ensures ∙ spelled _ _ c.if-is_word-11.ensures))
 
 pub returns-then-is_word-12 : goal.returns-then-is_word-12
 returns-then-is_word-12 c =
-    c.read_flow.ensures
-    ∙ sym (flow_reads (context_of c.args.roster.now c.args.drafted c.args.clock) c.args.words.now (sym c.at-first.ensures ∙ spelled _ _ c.if-is_word-12.ensures))
+    c.read_heartbeat.ensures
+    ∙ sym (heartbeat_reads (context_of c.args.roster.now c.args.drafted c.args.clock) c.args.words.now (sym c.at-first.ensures ∙ spelled _ _ c.if-is_word-12.ensures))
 
 pub returns-then-is_word-13 : goal.returns-then-is_word-13
 returns-then-is_word-13 c =
-    c.read_tick.ensures
-    ∙ sym (tick_reads (context_of c.args.roster.now c.args.drafted c.args.clock) c.args.words.now (sym c.at-first.ensures ∙ spelled _ _ c.if-is_word-13.ensures))
+    c.read_deliver.ensures
+    ∙ sym (deliver_reads (context_of c.args.roster.now c.args.drafted c.args.clock) c.args.words.now (sym c.at-first.ensures ∙ spelled _ _ c.if-is_word-13.ensures))
 
 pub returns-then-is_word-14 : goal.returns-then-is_word-14
 returns-then-is_word-14 c =
-    c.read_clock.ensures
-    ∙ sym (clock_reads (context_of c.args.roster.now c.args.drafted c.args.clock) c.args.words.now (sym c.at-first.ensures ∙ spelled _ _ c.if-is_word-14.ensures))
+    c.read_flow.ensures
+    ∙ sym (flow_reads (context_of c.args.roster.now c.args.drafted c.args.clock) c.args.words.now (sym c.at-first.ensures ∙ spelled _ _ c.if-is_word-14.ensures))
 
 pub returns-then-is_word-15 : goal.returns-then-is_word-15
 returns-then-is_word-15 c =
+    c.read_tick.ensures
+    ∙ sym (tick_reads (context_of c.args.roster.now c.args.drafted c.args.clock) c.args.words.now (sym c.at-first.ensures ∙ spelled _ _ c.if-is_word-15.ensures))
+
+pub returns-then-is_word-16 : goal.returns-then-is_word-16
+returns-then-is_word-16 c =
+    c.read_clock.ensures
+    ∙ sym (clock_reads (context_of c.args.roster.now c.args.drafted c.args.clock) c.args.words.now (sym c.at-first.ensures ∙ spelled _ _ c.if-is_word-16.ensures))
+
+pub returns-then-is_word-17 : goal.returns-then-is_word-17
+returns-then-is_word-17 c =
     c.read_restart.ensures
-    ∙ sym (restart_reads (context_of c.args.roster.now c.args.drafted c.args.clock) c.args.words.now (sym c.at-first.ensures ∙ spelled _ _ c.if-is_word-15.ensures))
+    ∙ sym (restart_reads (context_of c.args.roster.now c.args.drafted c.args.clock) c.args.words.now (sym c.at-first.ensures ∙ spelled _ _ c.if-is_word-17.ensures))
 
 pub returns-then-is_unbuilt : goal.returns-then-is_unbuilt
 returns-then-is_unbuilt c = sym (unbuilt_reads (context_of c.args.roster.now c.args.drafted c.args.clock) c.args.words.now _ c.at-first.ensures c.if-is_unbuilt.ensures)

@@ -1,9 +1,8 @@
-use Rattle.std.proofs.Common.{[], sym, subst}
+use Rattle.std.proofs.Common.{[], ap, ◌∙◌, sym, subst}
 use Rattle.mav_messages.specs.declared.messages.Message.{Message}
-use Rattle.plan_upload.specs.Drone.{DroneState}
 use Rattle.mav_nodes.specs.Links.{sends}
-use Rattle.mav_nodes.specs.Steps.{Side}
-use Rattle.mav_nodes.specs.Nodes.{IsDrone, drone_heartbeat}
+use Rattle.mav_nodes.specs.Services.{DroneServices}
+use Rattle.mav_nodes.specs.Nodes.{DroneSide, IsDrone, drone_heartbeat}
 use Rattle.mav_nodes.specs.Promises.{LinkDid}
 use Rattle.mav_nodes.proofs.Cores.{if_ok, core_did}
 use Rattle.mav_nodes.proofs.drone_node.DroneNode.heartbeat.Goals as goal
@@ -12,5 +11,5 @@ pub returns-clause-done : goal.returns-clause-done
 returns-clause-done g c =
     if_ok c.send.result (λ news sent node is.
     let inside = subst (IsDrone node) (sym c.self.view_is) is in
-    let beat = subst (λ (m : Message). LinkDid (sends c.args.clock m node.link) c.send.new.link [] news.items) c.drone_heartbeat-message.ensures (sent node.link inside.link) in
-    core_did node.core (sends c.args.clock drone_heartbeat node.link) c.send.new.link (λ (n : Side DroneState). IsDrone n (record { link = c.send.new.link; drone = c.self.inside.drone })) [] news.items beat (λ link l. record { link = l; drone = inside.drone })) c.send.ensures.sent
+    let beat = subst (λ (m : Message). LinkDid (sends c.args.clock m node.link) c.send.new.link [] news.items) (c.drone_heartbeat-message.ensures ∙ ap drone_heartbeat (c.armed.ensures ∙ ap (λ (v : DroneServices). v.armed) inside.services)) (sent node.link inside.link) in
+    core_did node.core node.services (sends c.args.clock (drone_heartbeat node.services.armed) node.link) c.send.new.link (λ (n : DroneSide). IsDrone n (record { link = c.send.new.link; drone = c.self.inside.drone; services = c.self.inside.services })) [] news.items beat (λ link l. record { link = l; drone = inside.drone; services = inside.services })) c.send.ensures.sent

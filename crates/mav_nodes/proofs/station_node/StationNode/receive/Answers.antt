@@ -1,9 +1,8 @@
 use Rattle.std.proofs.Common.{Bool, false, List, [], ◌∙◌, sym, subst}
-use Rattle.plan_upload.specs.Station.{StationState}
 use Rattle.mav_frame.specs.FinalParse.{final_parse}
 use Rattle.mav_sign.specs.Endpoints.{frames_of}
-use Rattle.mav_nodes.specs.Steps.{Side, receives_keeping}
-use Rattle.mav_nodes.specs.Nodes.{IsStation, station_core, station_receives}
+use Rattle.mav_nodes.specs.Steps.{receives_keeping}
+use Rattle.mav_nodes.specs.Nodes.{StationSide, IsStation, station_rules, station_receives}
 use Rattle.mav_nodes.specs.Cores.{IsNode}
 use Rattle.mav_nodes.proofs.Cores.{if_ok, if_err}
 use Rattle.mav_nodes.proofs.Keeping.{keeps_all}
@@ -15,13 +14,13 @@ returns-clause-done c =
     if_ok c.receive.result (λ news did node is.
     let bytes = c.args.datagram.now in
     let total = station_receives c.args.clock bytes node in
-    station_did total _ [] news.items (sure_did (λ (keeps : List Bool). receives_keeping (λ (kept : Bool). station_core) c.args.clock keeps bytes node) total _ c.receive.new.link c.receive.new.core news.items (λ failed. failed.fallible tt)
-    (λ keeps all. keeps_all (λ (kept : Bool). station_core) c.args.clock keeps (frames_of (final_parse node.link.extras false bytes)) node all)
+    station_did total _ [] news.items (sure_did (λ (keeps : List Bool). receives_keeping (λ (kept : Bool). station_rules) c.args.clock keeps bytes node) total _ c.receive.new.link c.receive.new.core c.receive.new.services news.items (λ failed. failed.fallible tt)
+    (λ keeps all. keeps_all (λ (kept : Bool). station_rules) c.args.clock keeps (frames_of (final_parse node.link.extras false bytes)) node all)
     (did node (station_node node (subst (IsStation node) (sym c.self.view_is) is))))) c.receive.ensures.done
 
 pub returns-clause-fault : goal.returns-clause-fault
 returns-clause-fault c =
     if_err c.receive.result (λ fault.
     let bytes = c.args.datagram.now in
-    sure_fails fault (λ (node : Side StationState). IsNode node c.self.inside.link c.self.inside.station) (λ (keeps : List Bool) (node : Side StationState). receives_keeping (λ (kept : Bool). station_core) c.args.clock keeps bytes node) _ (λ (node : Side StationState). IsStation node c.args.self.now) (λ (node : Side StationState). station_receives c.args.clock bytes node) (λ failed. failed.fallible tt)
-    (λ node is. (node, station_node node (subst (IsStation node) (sym c.self.view_is) is), λ keeps all none. sym (keeps_all (λ (kept : Bool). station_core) c.args.clock keeps (frames_of (final_parse node.link.extras false bytes)) node all) ∙ none))) c.receive.ensures.fault
+    sure_fails fault (λ (node : StationSide). IsNode node c.self.inside.link c.self.inside.station c.self.inside.services) (λ (keeps : List Bool) (node : StationSide). receives_keeping (λ (kept : Bool). station_rules) c.args.clock keeps bytes node) _ (λ (node : StationSide). IsStation node c.args.self.now) (λ (node : StationSide). station_receives c.args.clock bytes node) (λ failed. failed.fallible tt)
+    (λ node is. (node, station_node node (subst (IsStation node) (sym c.self.view_is) is), λ keeps all none. sym (keeps_all (λ (kept : Bool). station_rules) c.args.clock keeps (frames_of (final_parse node.link.extras false bytes)) node all) ∙ none))) c.receive.ensures.fault

@@ -1,0 +1,14 @@
+pub mod Lists
+pub mod Histories
+pub mod Outcomes
+pub mod Stations
+pub mod StationCalls
+pub mod Drones
+pub mod Worlds
+pub mod Gives
+pub mod Lines
+pub mod Plays
+pub mod Once
+pub mod Since
+pub mod Frames
+pub mod Examples

@@ -1,0 +1,34 @@
+// What a node does beside its plan core.
+
+use crate::{News, NoMemory};
+use mav_messages::Message;
+use mav_names::Stream;
+use std::alloc::Global;
+
+/// What services did: the messages that are sent, and what ended with it.
+#[derive(Drop)]
+pub(crate) struct Served {
+    pub(crate) answers: Vec<Message>,
+    pub(crate) last: Vec<News>,
+}
+
+/// The services of a node with a core. They have no link, no clock and no store.
+pub(crate) trait Services<C> {
+    ghost use Rattle.std.specs.Prelude.{◌≡◌, IfOk};
+    ghost use Rattle.mav_names.specs.declared.names.Stream.{Stream};
+    ghost use Rattle.mav_messages.specs.declared.messages.Message.{Message};
+    ghost use Rattle.mav_nodes.specs.Services.{ServiceStep};
+    ghost use Rattle.mav_nodes.specs.Cores.{IsServed};
+
+    /// Their step at a message of a stream that is none of the mission protocol.
+    ghost served: { C → Self → Stream → Message → ServiceStep Self };
+
+    fn serve(
+        &mut self,
+        alloc: Global,
+        core: &C,
+        from: Stream,
+        message: &Message,
+    ) -> Result<Served, NoMemory>
+        ensures { IfOk result (IsServed (served core.now self.old from message.now) self.new) };
+}
