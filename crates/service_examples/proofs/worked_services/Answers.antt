@@ -1,0 +1,8 @@
+use Rattle.service_examples.proofs.Computed.{worked_commands, worked_params}
+use Rattle.service_examples.proofs.worked_services.Goals as goal
+
+pub returns-clause-commands : goal.returns-clause-commands
+returns-clause-commands c = worked_commands
+
+pub returns-clause-params : goal.returns-clause-params
+returns-clause-params c = worked_params
