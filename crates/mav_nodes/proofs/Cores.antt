@@ -23,7 +23,7 @@ use Rattle.mav_nodes.specs.News.{NodeEvent, Drops, Shown, shown, events_of}
 use Rattle.mav_nodes.specs.Payloads.{plan_in, service_in}
 use Rattle.mav_nodes.specs.Links.{LinkView, Link, IsLink, Done, Outcome, done, behind, and_then, tries, sends, sends_all}
 use Rattle.mav_nodes.specs.Services.{ServiceStep}
-use Rattle.mav_nodes.specs.Steps.{Side, Rules, CoreStep, answers, with_core, steps, serves, takes, admits, hears}
+use Rattle.mav_nodes.specs.Steps.{Side, Rules, CoreStep, answers, with_core, steps, steps_noted, serves, takes, admits, hears}
 use Rattle.mav_nodes.specs.declared.steps.Step.{Step}
 use Rattle.mav_nodes.specs.Cores.{IsStep, IsNode, NodeDid, ends, says}
 use Rattle.mav_nodes.specs.Promises.{Fails, Did, LinkDid, Carries, IsAnswer, IsTried}
@@ -97,7 +97,7 @@ did_so None before after f h = h
 did_so (Some d) before after f h = (f d.node h.0, h.1)
 
 module _ {Core Services : Type 0} (rules : Rules Core Services) (clock : ℕ) where
-  answered : (node : Side Core Services) (packet : Packet) (from : Stream) (message : PlanMsg) (answer : Admit) (block : Option SignatureBlock) → IsAnswer answer packet block (Plan from message) → admits rules clock node packet answer block ≡ steps clock node.link node.services (rules.take node.core from message)
+  answered : (node : Side Core Services) (packet : Packet) (from : Stream) (message : PlanMsg) (answer : Admit) (block : Option SignatureBlock) → IsAnswer answer packet block (Plan from message) → admits rules clock node packet answer block ≡ steps_noted rules.note clock node.link node.services (rules.take node.core from message)
   answered node packet from message Admitted (Some block) h =
       λ i. takes rules clock node (sym h.0 i) (h.1 i) (service_in packet.id packet.payload)
   answered node packet from message Admitted None h = absurd h
@@ -109,12 +109,12 @@ module _ {Core Services : Type 0} (rules : Rules Core Services) (clock : ℕ) wh
   answered node packet from message TooManyStreams block h = absurd (let t : Plan from message ≡ Dropped TooManyStreams = h in cc)
 
   -- a frame whose plan message was returned
-  pub hears_plan : (node : Side Core Services) (packet : Packet) (from : Stream) (message : PlanMsg) → IsTried node.link packet (Plan from message) → hears rules clock packet node ≡ steps clock (tries packet node.link) node.services (rules.take node.core from message)
+  pub hears_plan : (node : Side Core Services) (packet : Packet) (from : Stream) (message : PlanMsg) → IsTried node.link packet (Plan from message) → hears rules clock packet node ≡ steps_noted rules.note clock (tries packet node.link) node.services (rules.take node.core from message)
   hears_plan node packet from message h =
       answered (record node { link = tries packet node.link }) packet from message (answer_to node.link.key node.link.history packet) packet.block h
 
   -- the same, and the core took the message
-  pub took : (node : Side Core Services) (packet : Packet) (from : Stream) (message : PlanMsg) (core view : Core) (given : Step) → IsTried node.link packet (Plan from message) → core ≡ node.core → IsStep (rules.take core from message) view given → (hears rules clock packet node ≡ steps clock (tries packet node.link) node.services (rules.take node.core from message)) × IsStep (rules.take node.core from message) view given
+  pub took : (node : Side Core Services) (packet : Packet) (from : Stream) (message : PlanMsg) (core view : Core) (given : Step) → IsTried node.link packet (Plan from message) → core ≡ node.core → IsStep (rules.take core from message) view given → (hears rules clock packet node ≡ steps_noted rules.note clock (tries packet node.link) node.services (rules.take node.core from message)) × IsStep (rules.take node.core from message) view given
   took node packet from message core view given tried same is =
       (hears_plan node packet from message tried, subst (λ (it : Core). IsStep (rules.take it from message) view given) same is)
 
@@ -215,7 +215,8 @@ module _ {Core Services : Type 0} (rules : Rules Core Services) (clock : ℕ) wh
       core_keeps node.core s.services s.last (sends_all clock s.answers node.link) node.link.extras (all_keep s.answers node.link)
   takes_keep node from (Some message) other =
       let s = rules.take node.core from message in
-      behind_keeps s.first (with_core s.core node.services s.last (answers clock s.answer node.link)) node.link.extras (core_keeps s.core node.services s.last (answers clock s.answer node.link) node.link.extras (answers_keep s.answer node.link))
+      let noted = rules.note node.services s.first in
+      behind_keeps s.first (with_core s.core noted s.last (answers clock s.answer node.link)) node.link.extras (core_keeps s.core noted s.last (answers clock s.answer node.link) node.link.extras (answers_keep s.answer node.link))
 
   admits_keep : (node : Side Core Services) (packet : Packet) (answer : Admit) (block : Option SignatureBlock) → Keeps (admits rules clock node packet answer block) node.link.extras
   admits_keep node packet Admitted (Some block) = takes_keep node (stream_of packet block) (plan_in packet.id packet.payload) (service_in packet.id packet.payload)

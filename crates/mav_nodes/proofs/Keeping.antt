@@ -9,7 +9,7 @@ use Rattle.mav_nodes.specs.declared.steps.Step.{Step}
 use Rattle.mav_nodes.specs.News.{NodeEvent}
 use Rattle.mav_nodes.specs.Links.{LinkView, Link, IsLink, Outcome, behind, and_then}
 use Rattle.mav_nodes.specs.Stores.{IsKept, AllKept, HasFailedAt, HasFailed}
-use Rattle.mav_nodes.specs.Steps.{Side, Rules, CoreStep, steps, hears, hears_all, hears_keeping}
+use Rattle.mav_nodes.specs.Steps.{Side, Rules, CoreStep, steps, steps_noted, hears, hears_all, hears_keeping}
 use Rattle.mav_nodes.specs.Cores.{IsStep, IsNode, says}
 use Rattle.mav_nodes.specs.Promises.{Fails, SpentKeeping, FailsKeeping}
 use Rattle.mav_nodes.proofs.Cores.{steps_none}
@@ -37,15 +37,15 @@ store_fails Store Is does kept faults sure before now failed f h = f h
 store_fails NoMemory Is does kept faults sure before now failed f h = tt
 
 -- a core's step was done, and then the link fails to do what it asks for
-pub step_fails : {Core Services : Type 0} (clock : ℕ) (step : Bool → Core → CoreStep Core) (kept : Bool) (end : LinkView) (old view : Core) (services : Services) (given : Step) (F G : Type 0) (fault : NodeFault) → IsStep (step kept old) view given → IsKept kept G → (F → G)
+pub step_fails : {Core Services : Type 0} (clock : ℕ) (step : Bool → Core → CoreStep Core) (note : Services → List NodeEvent → Services) (kept : Bool) (end : LinkView) (old view : Core) (services : Services) (given : Step) (F G : Type 0) (fault : NodeFault) → IsStep (step kept old) view given → IsKept kept G → (F → G)
     → ((first last : List NodeEvent) → Fails fault (λ (link : Link). IsLink link end) (λ (link : Link). says clock first given.answer last link) F)
-    → FailsKeeping fault (λ (node : Side Core Services). IsNode node end old services) (λ (kept : Bool) (node : Side Core Services). steps clock node.link node.services (step kept node.core)) (λ kept. IsKept kept G) G
-step_fails {Core} clock step kept end old view services given F G StampsSpent is is_kept f h = λ node is_node.
+    → FailsKeeping fault (λ (node : Side Core Services). IsNode node end old services) (λ (kept : Bool) (node : Side Core Services). steps_noted note clock node.link node.services (step kept node.core)) (λ kept. IsKept kept G) G
+step_fails {Core} clock step note kept end old view services given F G StampsSpent is is_kept f h = λ node is_node.
     let did = step kept node.core in
     let here = subst (λ (core : Core). IsStep (step kept core) view given) is_node.core is in
-    record { keeps = kept; is_kept = is_kept; none = steps_none clock node.link node.services did view given here (h did.first did.last node.link is_node.link) }
-step_fails clock step kept end old view services given F G Store is is_kept f h = f (h [] [])
-step_fails clock step kept end old view services given F G NoMemory is is_kept f h = tt
+    record { keeps = kept; is_kept = is_kept; none = steps_none clock node.link (note node.services did.first) did view given here (h did.first did.last node.link is_node.link) }
+step_fails clock step note kept end old view services given F G Store is is_kept f h = f (h [] [])
+step_fails clock step note kept end old view services given F G NoMemory is is_kept f h = tt
 
 pub tick_fails : {Core Services : Type 0} (clock : ℕ) (step : Core → CoreStep Core) (end : LinkView) (old view : Core) (services : Services) (given : Step) (F : Type 0) (fault : NodeFault) → IsStep (step old) view given
     → ((first last : List NodeEvent) → Fails fault (λ (link : Link). IsLink link end) (λ (link : Link). says clock first given.answer last link) F)

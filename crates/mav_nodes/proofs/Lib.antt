@@ -8,6 +8,8 @@ mod Changes
 mod Ends
 mod Starting
 mod Keeping
+mod Missions
+mod Flown
 mod Leads
 pub mod Bounds
 pub mod Sendings

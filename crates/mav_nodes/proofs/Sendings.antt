@@ -36,7 +36,13 @@ use Rattle.mav_nodes.specs.Nodes.{drone_heartbeat, station_heartbeat}
 use Rattle.mav_nodes.proofs.Bounds.{Small, check_small, signature_small, signature_length, payload_small, id_small, payload_short}
 use Rattle.mav_nodes.proofs.Tables.{profile_known}
 use Rattle.mav_nodes.specs.Signed.{known_extra, unsealed_packet, sealed_packet, signed_packet}
-use Rattle.mav_nodes.specs.Laws.{ParsesAlone, SignedVerifies, PlanReadsBack, ServiceReadsBack, ReadsAlone, EverySendingReadsBack, EveryFrameReadsAlone, SameBytesSameFrame, HeartbeatsFit}
+use Rattle.mav_nodes.specs.Laws.{ParsesAlone, SignedVerifies, PlanReadsBack, ServiceReadsBack, ReadsAlone, EverySendingReadsBack, EveryFrameReadsAlone, SameBytesSameFrame, HeartbeatsFit, FlightsFit}
+use Rattle.std.specs.Prelude.{ℤ, FitsSigned}
+use Rattle.std.specs.Int.{w32, cast_unsigned}
+use Rattle.std.proofs.lemmas.Int.{ints}
+use Rattle.drone_sim.specs.declared.points.Point.{Point}
+use Rattle.drone_sim.specs.Laws.{PointInRange}
+use Rattle.mav_nodes.specs.Services.{position_message, reached_message}
 
 digits : (count number : ℕ) → All Small (little_endian count number)
 digits zero number = All-nil Small
@@ -176,4 +182,29 @@ heartbeats_fit = record {
   drone_plan = λ armed. refl;
   station = record { values = station_values; item = tt; service = tt };
   station_plan = refl;
+}
+
+-- ---- what a drone says at a tick of its simulator
+
+word_fits : (n : ℤ) → FitsSigned w32 n → cast_unsigned w32 n < 256 ^ 4
+word_fits n fits = omega (arith, ints, fits)
+
+position_values : (time : ℕ) (position : Point) → time < 2 ^ 32 → PointInRange position → FitsLayout (definition_of (position_message time position)) (values_of (position_message time position))
+position_values time position fits range =
+    let x = word_fits position.x range.x in
+    let y = word_fits position.y range.y in
+    fits_layout (all_fields (definition_of (position_message time position))) (values_of (position_message time position)) ((refl, omega (arith, fits)), ((refl, omega (arith, x)), ((refl, omega (arith, y)), ((refl, omega arith), ((refl, omega arith), ((refl, omega arith), ((refl, omega arith), ((refl, omega arith), ((refl, omega arith), tt)))))))))
+
+reached_values : (number : ℕ) → number < 65536 → FitsLayout (definition_of (reached_message number)) (values_of (reached_message number))
+reached_values number fits =
+    fits_layout (all_fields (definition_of (reached_message number))) (values_of (reached_message number)) ((refl, omega (arith, fits)), tt)
+
+pub flights_fit : FlightsFit
+flights_fit = record {
+  position = λ time position fits range. record { values = position_values time position fits range; item = tt; service = tt };
+  position_plan = λ time position. refl;
+  position_service = λ time position. refl;
+  reached = λ number fits. record { values = reached_values number fits; item = tt; service = tt };
+  reached_plan = λ number. refl;
+  reached_service = λ number. refl;
 }

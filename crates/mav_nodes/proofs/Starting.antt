@@ -6,13 +6,13 @@ use Rattle.std.proofs.lemmas.Int.{to_z-of_z}
 use Rattle.plan_image.specs.Plans.{Plans}
 use Rattle.plan_image.specs.Image.{IsImageOf}
 use Rattle.plan_image.proofs.Readings.{image_same, image_short}
-use Rattle.mav_nodes.specs.Services.{Home}
+use Rattle.drone_sim.specs.declared.points.Point.{Point}
 use Rattle.mav_nodes.specs.Nodes.{DroneView, IsDrone, new_drone}
 use Rattle.mav_nodes.specs.Restarts.{stored_drone}
 use Rattle.mav_nodes.specs.Starts.{StartedFrom}
 
 -- a home's numbers are those of their words
-pub home_again : (x y : ℤ) → SFits w32 x → SFits w32 y → ◌≡◌ {A = Home} (record { x = to_z w32 (of_z w32 x); y = to_z w32 (of_z w32 y) }) (record { x = x; y = y })
+pub home_again : (x y : ℤ) → SFits w32 x → SFits w32 y → ◌≡◌ {A = Point} (record { x = to_z w32 (of_z w32 x); y = to_z w32 (of_z w32 y) }) (record { x = x; y = y })
 home_again x y a b = λ i. record { x = to_z-of_z w32 x a i; y = to_z-of_z w32 y b i }
 
 -- no image is empty
@@ -22,7 +22,7 @@ no_image sys low plans bytes is none =
     let zero = ap length none in
     omega (arith, short, zero)
 
-pub started_anew : (contents : Option (List ℕ)) (loaded : List ℕ) (key : List ℕ) (sys : ℕ) (home : Home) (node : DroneView) → IfSome contents (λ kept. loaded ≡ kept) → loaded ≡ [] → IsDrone (new_drone key sys home) node → IfSome contents (λ bytes. StartedFrom key sys home bytes node)
+pub started_anew : (contents : Option (List ℕ)) (loaded : List ℕ) (key : List ℕ) (sys : ℕ) (home : Point) (node : DroneView) → IfSome contents (λ kept. loaded ≡ kept) → loaded ≡ [] → IsDrone (new_drone key sys home) node → IfSome contents (λ bytes. StartedFrom key sys home bytes node)
 started_anew None loaded key sys home node same none is = tt
 started_anew (Some bytes) loaded key sys home node same none is = record {
   anew = λ _. is;
@@ -30,7 +30,7 @@ started_anew (Some bytes) loaded key sys home node same none is = record {
   either = inl (sym same ∙ none);
 }
 
-pub started_from : (contents : Option (List ℕ)) (loaded : List ℕ) (key : List ℕ) (sys : ℕ) (home : Home) (low : ℕ) (plans : Plans) (node : DroneView) → IfSome contents (λ kept. loaded ≡ kept) → IsImageOf sys low plans loaded → IsDrone (stored_drone key sys home low plans) node → IfSome contents (λ bytes. StartedFrom key sys home bytes node)
+pub started_from : (contents : Option (List ℕ)) (loaded : List ℕ) (key : List ℕ) (sys : ℕ) (home : Point) (low : ℕ) (plans : Plans) (node : DroneView) → IfSome contents (λ kept. loaded ≡ kept) → IsImageOf sys low plans loaded → IsDrone (stored_drone key sys home low plans) node → IfSome contents (λ bytes. StartedFrom key sys home bytes node)
 started_from None loaded key sys home low plans node same image is = tt
 started_from (Some bytes) loaded key sys home low plans node same image is =
     let here : IsImageOf sys low plans bytes = subst (IsImageOf sys low plans) same image in

@@ -1,5 +1,5 @@
 -- A node over any core: what the code of a core returns of its step, and what the calls of such a node promise.
-use Rattle.std.specs.Prelude.{ℕ, ◌≡◌, ◌++◌, Bool, List, [], ◌∷◌, map, Option, Some, None}
+use Rattle.std.specs.Prelude.{ℕ, ◌≡◌, ◌++◌, Bool, true, false, List, [], ◌∷◌, map, Option, Some, None}
 use Rattle.plan_items.specs.declared.kinds.PlanKind.TheVariants.{Mission, Fence, Rally}
 use Rattle.mav_names.specs.declared.names.Stream.{Stream}
 use Rattle.plan_items.specs.declared.messages.PlanMsg.{PlanMsg}
@@ -24,6 +24,12 @@ said_of_plans (Installed kind count by) = Shows_installed kind count by ∷ []
 said_of_plans (Emptied None) = Shows_emptied Mission ∷ Shows_emptied Fence ∷ Shows_emptied Rally ∷ []
 said_of_plans (Emptied (Some kind)) = Shows_emptied kind ∷ []
 
+-- it speaks of the mission
+abbrev pub shows_mission : Shown → Bool
+shows_mission (Shows_installed Mission count by) = true
+shows_mission (Shows_emptied Mission) = true
+shows_mission other = false
+
 -- what is reported of an outcome
 abbrev pub said_of_outcome : Option Ended → List Shown
 said_of_outcome None = []
@@ -45,8 +51,8 @@ abbrev pub says : ℕ → List NodeEvent → Option PlanMsg → List NodeEvent �
 says clock first answer last link = behind first (ends last (answers clock answer link))
 
 -- the rules of a core's and of services' steps; `kept` says whether the store keeps what a step changes
-abbrev pub rules_of : {Core Services : Type 0} → (Bool → Core → Stream → PlanMsg → CoreStep Core) → (Core → Services → Stream → Message → ServiceStep Services) → Bool → Rules Core Services
-rules_of taken served kept = record { take = taken kept; serve = served }
+abbrev pub rules_of : {Core Services : Type 0} → (Bool → Core → Stream → PlanMsg → CoreStep Core) → (Services → List NodeEvent → Services) → (Core → Services → Stream → Message → ServiceStep Services) → Bool → Rules Core Services
+rules_of taken noted served kept = record { take = taken kept; note = noted; serve = served }
 
 -- the services of a node did this step: these are the services now, and the code returned this of it
 pub record IsServed {Services : Type 0} (step : ServiceStep Services) (view : Services) (given : Served) : Type 0 where

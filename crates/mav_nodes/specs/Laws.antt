@@ -15,6 +15,9 @@ use Rattle.mav_nodes.specs.Payloads.{ItemFits, ServiceFits, plan_in, service_in,
 use Rattle.mav_sign.specs.Signing.{Verifies}
 use Rattle.mav_sign.specs.Kept.{IsStream}
 use Rattle.mav_sign.specs.Endpoints.{frames_of}
+use Rattle.drone_sim.specs.declared.points.Point.{Point}
+use Rattle.drone_sim.specs.Laws.{PointInRange}
+use Rattle.mav_nodes.specs.Services.{position_message, reached_message}
 use Rattle.mav_nodes.specs.Nodes.{drone_heartbeat, station_heartbeat}
 use Rattle.mav_nodes.specs.Signed.{signed_packet}
 
@@ -88,3 +91,12 @@ pub record HeartbeatsFit : Type 0 where
   pub drone_plan : (armed : Bool) → plan_of (drone_heartbeat armed) ≡ None
   pub station : FitsMessage station_heartbeat
   pub station_plan : plan_of station_heartbeat ≡ None
+
+-- what a drone sends at a tick of its simulator fits, and is no plan message, and no message for a service
+pub record FlightsFit : Type 0 where
+  pub position : (time : ℕ) (position : Point) → time < 2 ^ 32 → PointInRange position → FitsMessage (position_message time position)
+  pub position_plan : (time : ℕ) (position : Point) → plan_of (position_message time position) ≡ None
+  pub position_service : (time : ℕ) (position : Point) → service_of (position_message time position) ≡ None
+  pub reached : (number : ℕ) → number < 65536 → FitsMessage (reached_message number)
+  pub reached_plan : (number : ℕ) → plan_of (reached_message number) ≡ None
+  pub reached_service : (number : ℕ) → service_of (reached_message number) ≡ None

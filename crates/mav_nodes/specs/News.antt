@@ -10,7 +10,7 @@ use Rattle.mav_messages.specs.declared.messages.Message.{Message}
 use Rattle.mav_sign.specs.declared.admission.Admit.{Admit}
 use Rattle.param_proto.specs.declared.params.Param.{Param}
 use Rattle.mav_nodes.specs.declared.news.News.{News}
-use Rattle.mav_nodes.specs.declared.news.News.TheVariants.{Sent, Installed, Emptied, Dropped, Outcome, Command, Param as Told_param, Params}
+use Rattle.mav_nodes.specs.declared.news.News.TheVariants.{Sent, Installed, Emptied, Dropped, Outcome, Command, Param as Told_param, Params, Reached, Captured}
 
 pub data NodeEvent : Type 0 where
   -- a frame was sent, which carries the message
@@ -29,6 +29,10 @@ pub data NodeEvent : Type 0 where
   Gives_param : (param : Param) → NodeEvent
   -- a list of parameters has ended, with its values; or what was asked of parameters has ended without an answer
   Ends_params : (values : Option (List Param)) → NodeEvent
+  -- a drone reached the item of this number
+  Reaches : (number : ℕ) → NodeEvent
+  -- a drone took a picture, and so many with it
+  Captures : (total : ℕ) → NodeEvent
 
 -- what news report of an event: of an installed plan, how many items it has, and of a list of parameters, how many they are
 pub data Shown : Type 0 where
@@ -40,6 +44,8 @@ pub data Shown : Type 0 where
   Shows_command : (result : Option ℕ) → Shown
   Shows_param : (param : Param) → Shown
   Shows_params : (count : Option ℕ) → Shown
+  Shows_reached : (number : ℕ) → Shown
+  Shows_captured : (total : ℕ) → Shown
 
 -- how many values there are, if there are any
 abbrev pub counted : Option (List Param) → Option ℕ
@@ -55,6 +61,8 @@ shown (Ends told) = Shows_ended told
 shown (Ends_command result) = Shows_command result
 shown (Gives_param param) = Shows_param param
 shown (Ends_params values) = Shows_params (counted values)
+shown (Reaches number) = Shows_reached number
+shown (Captures total) = Shows_captured total
 
 -- what a piece of news reports
 abbrev pub said_by : News → Shown
@@ -66,6 +74,8 @@ said_by (Outcome outcome) = Shows_ended (told_of outcome)
 said_by (Command result) = Shows_command result
 said_by (Told_param param) = Shows_param param
 said_by (Params count) = Shows_params count
+said_by (Reached number) = Shows_reached number
+said_by (Captured total) = Shows_captured total
 
 abbrev pub events_of : List News → List Shown
 events_of news = map said_by news

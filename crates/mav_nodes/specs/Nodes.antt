@@ -27,7 +27,9 @@ use Rattle.mav_nodes.specs.News.{NodeEvent, Installs, Empties, Ends}
 use Rattle.command_proto.specs.Commander.{commands, open_command}
 use Rattle.param_proto.specs.declared.params.Param.{Param}
 use Rattle.param_proto.specs.Client.{reads, sets, lists}
-use Rattle.mav_nodes.specs.Services.{ServiceStep, Home, DroneServices, StationServices, new_drone_services, new_station_services, drone_serves, station_serves, station_waits, command_of, asks_command, asks_params, rests}
+use Rattle.drone_sim.specs.declared.points.Point.{Point}
+use Rattle.drone_sim.specs.Sim.{armed}
+use Rattle.mav_nodes.specs.Services.{ServiceStep, DroneServices, StationServices, new_drone_services, new_station_services, drone_serves, drone_notes, drone_flies, station_serves, station_waits, command_of, asks_command, asks_params, rests}
 use Rattle.mav_nodes.specs.Links.{LinkView, IsLink, Outcome, and_then, new_link, sends}
 use Rattle.mav_nodes.specs.Steps.{Side, Rules, CoreStep, with_core, steps, serves, receives, receives_keeping}
 
@@ -60,13 +62,13 @@ drone_core drone from message = drone_core_keeping true drone from message
 
 -- what it does at messages
 abbrev pub drone_rules_keeping : Bool → Rules DroneState DroneServices
-drone_rules_keeping kept = record { take = drone_core_keeping kept; serve = drone_serves }
+drone_rules_keeping kept = record { take = drone_core_keeping kept; note = drone_notes; serve = drone_serves }
 
 abbrev pub drone_rules : Rules DroneState DroneServices
-drone_rules = record { take = drone_core; serve = drone_serves }
+drone_rules = record { take = drone_core; note = drone_notes; serve = drone_serves }
 
 -- a drone of that system, with empty plans, disarmed at its home, on link 0
-abbrev pub new_drone : List ℕ → ℕ → Home → DroneSide
+abbrev pub new_drone : List ℕ → ℕ → Point → DroneSide
 new_drone key sys home = record {
   link = new_link key (record { sys = sys; comp = 1; link = 0 }) (extras_of profile_definitions);
   core = fresh_drone sys no_plans;
@@ -102,7 +104,11 @@ drone_heartbeat armed =
     Heartbeat (record { ty = 2; autopilot = 0; base_mode = base_mode_of armed; custom_mode = 0; system_status = 4; mavlink_version = 3 })
 
 abbrev pub drone_beats : ℕ → DroneSide → Outcome DroneSide
-drone_beats clock node = with_core node.core node.services [] (sends clock (drone_heartbeat node.services.armed) node.link)
+drone_beats clock node = with_core node.core node.services [] (sends clock (drone_heartbeat (armed node.services.sim)) node.link)
+
+-- one tick of its simulator
+abbrev pub drone_sims : ℕ → DroneSide → Outcome DroneSide
+drone_sims clock node = serves clock node.link node.core (drone_flies node.core node.services)
 
 -- what contracts see of a drone's node
 pub record DroneView : Type 0 where
@@ -138,7 +144,7 @@ station_core station from message = station_does (station_step station from mess
 
 -- what it does at messages
 abbrev pub station_rules : Rules StationState StationServices
-station_rules = record { take = station_core; serve = λ station. station_serves }
+station_rules = record { take = station_core; note = λ services events. services; serve = λ station. station_serves }
 
 -- a station of that name, started at that time, with no PING number used
 abbrev pub new_station : List ℕ → Stream → ℕ → StationSide

@@ -1,21 +1,26 @@
--- The services of a node beside its plan core: a drone's commands and parameters, and a station's.
-use Rattle.std.specs.Prelude.{ℕ, ℤ, ◌+◌, ◌-◌, ◌/◌, ◌%◌, Bool, true, false, List, [], ◌∷◌, ◌++◌, length, replicate, zero, suc, codes, Option, Some, None}
-use Rattle.std.specs.Int.{w32, cast_unsigned}
+-- The services of a node beside its plan core: a drone's commands, parameters and simulator, and a station's commands and
+-- parameters.
+use Rattle.std.specs.Prelude.{ℕ, ℤ, pos, negsuc, ◌+◌, ◌-◌, ◌/◌, ◌%◌, ◌^◌, Bool, true, false, if◌then◌else◌, List, [], ◌∷◌, ◌++◌, length, replicate, zero, suc, codes, Option, Some, None, unwrap_or}
+use Rattle.std.specs.List.{list_any}
+use Rattle.std.specs.Int.{w32, cast_unsigned, cast_signed}
 use Rattle.mav_names.specs.declared.names.Name.{Name}
 use Rattle.mav_names.specs.declared.names.Stream.{Stream}
 use Rattle.plan_items.specs.declared.items.Item.{Item}
 use Rattle.plan_items.specs.declared.actions.Action.{Action}
-use Rattle.plan_items.specs.declared.actions.Action.TheVariants.{Arm, Disarm, Start, Return}
+use Rattle.plan_items.specs.declared.kinds.PlanKind.TheVariants.{Mission}
 use Rattle.plan_upload.specs.Drone.{DroneState}
+use Rattle.drone_sim.specs.declared.points.Point.{Point}
+use Rattle.drone_sim.specs.Sim.{SimState, SimTick, new_sim, armed, acts, changes, sim_tick}
 use Rattle.mav_messages.specs.declared.messages.Message.{Message}
+use Rattle.mav_messages.specs.declared.messages.Message.TheVariants.{GlobalPositionInt, MissionItemReached}
 use Rattle.command_proto.specs.declared.executor.Ready.{Ready}
 use Rattle.command_proto.specs.declared.commands.Command.{Command}
 use Rattle.command_proto.specs.Executor.{ExecutorState, ExecutorStep, new_executor, executor_step}
 use Rattle.command_proto.specs.Commander.{CommanderState, CommanderStep, CommandEnd, Result, No_answer as No_command_answer, new_commander, commander_step, commander_tick}
 use Rattle.param_proto.specs.declared.params.Param.{Param}
-use Rattle.param_proto.specs.Server.{ServerState, new_server, server_step}
+use Rattle.param_proto.specs.Server.{ServerState, new_server, server_step, place_of, word_in}
 use Rattle.param_proto.specs.Client.{ClientState, ClientStep, ParamsEnd, One_value, All_values, No_answer as No_params_answer, new_client, client_step, client_tick}
-use Rattle.mav_nodes.specs.News.{NodeEvent, Ends_command, Gives_param, Ends_params}
+use Rattle.mav_nodes.specs.News.{NodeEvent, Installs, Empties, Ends_command, Gives_param, Ends_params, Reaches, Captures}
 
 -- what the services of a node do at a message, a tick or an order: the services after it, the messages that are sent, and
 -- what ends with it
@@ -31,14 +36,10 @@ sent_of (Some message) = message ∷ []
 
 -- ---- a drone's
 
--- where a drone starts, in units of 1e-7 degrees
-pub record Home : Type 0 where
-  pub x : ℤ
-  pub y : ℤ
-
+-- the drone that is simulated, with the time of its simulator in milliseconds, its commands, and its parameters
 pub record DroneServices : Type 0 where
-  pub home : Home
-  pub armed : Bool
+  pub sim : SimState
+  pub time : ℕ
   pub executor : ExecutorState
   pub server : ServerState
 
@@ -64,16 +65,16 @@ user_params_from zero n = []
 user_params_from (suc more) n = user_param n ∷ user_params_from more (n + 1)
 
 -- the step of its simulator, its home, its name, and what users keep
-abbrev pub drone_params : Home → List Param
+abbrev pub drone_params : Point → List Param
 drone_params home =
     record { id = id_of (codes "SIM_STEP"); ty = 6; word = 1000 } ∷ int_param (codes "SIM_HOME_X") home.x ∷ int_param (codes "SIM_HOME_Y") home.y
     ∷ word_param (codes "SIM_NAME") ∷ user_params_from 36 1
 
--- the services of a drone of that system at its start
-abbrev pub new_drone_services : ℕ → Home → DroneServices
+-- the services of a drone of that system at its start: it is disarmed at its home
+abbrev pub new_drone_services : ℕ → Point → DroneServices
 new_drone_services sys home = record {
-  home = home;
-  armed = false;
+  sim = new_sim home;
+  time = 0;
   executor = new_executor (record { sys = sys; comp = 1 });
   server = new_server (drone_params home);
 }
@@ -86,19 +87,16 @@ has_items (item ∷ items) = true
 
 -- a command that starts a mission needs an armed drone with a mission
 abbrev pub ready_of : DroneState → DroneServices → Ready
-ready_of drone v = record { armed = v.armed; planned = has_items drone.plans.mission }
+ready_of drone v = record { armed = armed v.sim; planned = has_items drone.plans.mission }
 
-abbrev pub armed_after : Bool → Option Action → Bool
-armed_after armed (Some Arm) = true
-armed_after armed (Some Disarm) = false
-armed_after armed (Some Start) = armed
-armed_after armed (Some Return) = armed
-armed_after armed None = armed
+abbrev pub acts_by : SimState → Option Action → SimState
+acts_by sim None = sim
+acts_by sim (Some action) = acts sim action
 
 -- the answers of the parameters are all taken
 abbrev pub drone_served : DroneServices → ExecutorStep → ServerState → ServiceStep DroneServices
 drone_served v e s = record {
-  services = record v { armed = armed_after v.armed e.action; executor = e.executor; server = record s { waiting = [] } };
+  services = record v { sim = acts_by v.sim e.action; executor = e.executor; server = record s { waiting = [] } };
   answers = sent_of e.answer ++ s.waiting;
   last = [];
 }
@@ -107,6 +105,72 @@ drone_served v e s = record {
 abbrev pub drone_serves : DroneState → DroneServices → Stream → Message → ServiceStep DroneServices
 drone_serves drone v from message =
     drone_served v (executor_step v.executor from message (ready_of drone v)) (server_step v.server v.executor.me message)
+
+-- the mission is installed or emptied
+abbrev pub changes_mission : NodeEvent → Bool
+changes_mission (Installs Mission items by) = true
+changes_mission (Empties Mission) = true
+changes_mission event = false
+
+-- what a drone makes of a step of its plan core: its simulator is told of a change of the mission
+abbrev pub drone_notes : DroneServices → List NodeEvent → DroneServices
+drone_notes v events = if list_any changes_mission events then record v { sim = changes v.sim } else v
+
+-- ---- a tick of its simulator
+
+-- a step as SIM_STEP has it: one below 1 acts as 1
+abbrev pub step_of : ℤ → ℕ
+step_of (pos zero) = 1
+step_of (pos (suc n)) = suc n
+step_of (negsuc n) = 1
+
+-- the value of SIM_STEP
+abbrev pub sim_step : ServerState → ℕ
+sim_step server = step_of (cast_signed w32 (unwrap_or (word_in server.params (place_of server.params (id_of (codes "SIM_STEP")))) 0))
+
+-- GLOBAL_POSITION_INT, at a time in milliseconds: the latitude and the longitude; the heading is unknown
+abbrev pub position_message : ℕ → Point → Message
+position_message time position = GlobalPositionInt (record {
+  time_boot_ms = time;
+  lat = position.x;
+  lon = position.y;
+  alt = pos 0;
+  relative_alt = pos 0;
+  vx = pos 0;
+  vy = pos 0;
+  vz = pos 0;
+  hdg = 65535;
+})
+
+-- MISSION_ITEM_REACHED
+abbrev pub reached_message : ℕ → Message
+reached_message number = MissionItemReached (record { seq = number })
+
+abbrev pub reached_messages : Option ℕ → List Message
+reached_messages None = []
+reached_messages (Some number) = reached_message number ∷ []
+
+abbrev pub reached_events : Option ℕ → List NodeEvent
+reached_events None = []
+reached_events (Some number) = Reaches number ∷ []
+
+abbrev pub captured_events : Bool → ℕ → List NodeEvent
+captured_events captured total = if captured then Captures total ∷ [] else []
+
+-- a second later
+abbrev pub next_time : ℕ → ℕ
+next_time time = (time + 1000) % 2 ^ 32
+
+-- it says where it is and which item it has reached; and then what it reached, and how many pictures it has taken
+abbrev pub drone_flown : DroneServices → SimTick → ServiceStep DroneServices
+drone_flown v tick = record {
+  services = record v { sim = tick.sim; time = next_time v.time };
+  answers = position_message (next_time v.time) tick.sim.position ∷ reached_messages tick.reached;
+  last = reached_events tick.reached ++ captured_events tick.captured tick.sim.captures;
+}
+
+abbrev pub drone_flies : DroneState → DroneServices → ServiceStep DroneServices
+drone_flies drone v = drone_flown v (sim_tick v.sim drone.plans.mission (sim_step v.server))
 
 -- ---- a station's
 

@@ -8,12 +8,12 @@ use Rattle.plan_store.specs.declared.keepers.KeepFault.{KeepFault}
 use Rattle.plan_store.specs.declared.keepers.KeepFault.TheVariants.{Store as KeptStore, NoMemory as KeptNoMemory}
 use Rattle.mav_nodes.specs.declared.faults.StartFault.{StartFault}
 use Rattle.mav_nodes.specs.declared.faults.StartFault.TheVariants.{Store, BadKept, NoMemory}
-use Rattle.mav_nodes.specs.Services.{Home}
+use Rattle.drone_sim.specs.declared.points.Point.{Point}
 use Rattle.mav_nodes.specs.Nodes.{DroneView, IsDrone, new_drone}
 use Rattle.mav_nodes.specs.Restarts.{stored_drone}
 
 -- it starts from an image of its system
-pub record FromImage (key : List ℕ) (sys : ℕ) (home : Home) (node : DroneView) : Type 0 where
+pub record FromImage (key : List ℕ) (sys : ℕ) (home : Point) (node : DroneView) : Type 0 where
   pub low : ℕ
   pub plans : Plans
   pub bytes : List ℕ
@@ -21,11 +21,11 @@ pub record FromImage (key : List ℕ) (sys : ℕ) (home : Home) (node : DroneVie
   pub is : IsDrone (stored_drone key sys home low plans) node
 
 -- or anew
-abbrev pub IsStarted : List ℕ → ℕ → Home → DroneView → Type 0
+abbrev pub IsStarted : List ℕ → ℕ → Point → DroneView → Type 0
 IsStarted key sys home node = IsDrone (new_drone key sys home) node ⊎ FromImage key sys home node
 
 -- from these contents of its store: anew if they are empty, and else with the low bound and the plans of the image
-pub record StartedFrom (key : List ℕ) (sys : ℕ) (home : Home) (bytes : List ℕ) (node : DroneView) : Type 0 where
+pub record StartedFrom (key : List ℕ) (sys : ℕ) (home : Point) (bytes : List ℕ) (node : DroneView) : Type 0 where
   pub anew : bytes ≡ [] → IsDrone (new_drone key sys home) node
   pub stored : (low : ℕ) (plans : Plans) → IsImageOf sys low plans bytes → IsDrone (stored_drone key sys home low plans) node
   pub either : (bytes ≡ []) ⊎ IsImage sys bytes

@@ -29,9 +29,11 @@ pub record CoreStep (Core : Type 0) : Type 0 where
   pub answer : Option PlanMsg
   pub last : List NodeEvent
 
--- what a core does at a plan message of a stream, and what the services do at a message of theirs
+-- what a core does at a plan message of a stream; what the services make of the events of such a step before its reply;
+-- and what they do at a message of theirs
 pub record Rules (Core Services : Type 0) : Type 0 where
   pub take : Core → Stream → PlanMsg → CoreStep Core
+  pub note : Services → List NodeEvent → Services
   pub serve : Core → Services → Stream → Message → ServiceStep Services
 
 -- what is sent for a reply
@@ -52,6 +54,10 @@ steps clock link services step = behind step.first (with_core step.core services
 abbrev pub serves : {Core Services : Type 0} → ℕ → Link → Core → ServiceStep Services → Outcome (Side Core Services)
 serves clock link core step = with_core core step.services step.last (sends_all clock step.answers link)
 
+-- a core's step at a plan message is done, and the services have noted its events
+abbrev pub steps_noted : {Core Services : Type 0} → (Services → List NodeEvent → Services) → ℕ → Link → Services → CoreStep Core → Outcome (Side Core Services)
+steps_noted note clock link services step = steps clock link (note services step.first) step
+
 -- a node that receives a message of its services, or none
 abbrev pub serves_if : {Core Services : Type 0} → Rules Core Services → ℕ → Side Core Services → Stream → Option Message → Outcome (Side Core Services)
 serves_if rules clock node from None = done node []
@@ -60,7 +66,7 @@ serves_if rules clock node from (Some message) = serves clock node.link node.cor
 -- a node that receives a plan message, or another message or none
 abbrev pub takes : {Core Services : Type 0} → Rules Core Services → ℕ → Side Core Services → Stream → Option PlanMsg → Option Message → Outcome (Side Core Services)
 takes rules clock node from None other = serves_if rules clock node from other
-takes rules clock node from (Some message) other = steps clock node.link node.services (rules.take node.core from message)
+takes rules clock node from (Some message) other = steps_noted rules.note clock node.link node.services (rules.take node.core from message)
 
 -- the verdict on a frame; one that isn't admitted changes nothing else
 abbrev pub admits : {Core Services : Type 0} → Rules Core Services → ℕ → Side Core Services → Packet → Admit → Option SignatureBlock → Outcome (Side Core Services)

@@ -2,7 +2,7 @@
 ghost use Rattle.std.specs.Prelude.{◌≡◌, ◌≢◌, ◌≤◌, ℕ, List, Bool, None, Some, [], IfOk, IfErr, OnOk, IfSome};
 ghost use Rattle.mav_nodes.specs.Stores.{Holds, Serves, HasFailed, AllKept};
 ghost use Rattle.mav_nodes.specs.Images.{StoreHolds};
-ghost use Rattle.mav_nodes.specs.Nodes.{DroneSide, IsDrone, new_drone, drone_receives, drone_receives_keeping, drone_ticks, drone_beats};
+ghost use Rattle.mav_nodes.specs.Nodes.{DroneSide, IsDrone, new_drone, drone_receives, drone_receives_keeping, drone_ticks, drone_beats, drone_sims};
 ghost use Rattle.mav_nodes.specs.Promises.{DroneDid, DroneDidKeeping, Fails, FailsKeeping};
 ghost use Rattle.mav_nodes.specs.Restarts.{stored_drone};
 ghost use Rattle.mav_nodes.specs.Starts.{IsStarted, StartedFrom, StartFails};
@@ -11,6 +11,7 @@ use crate::drone_services::DroneServices;
 use crate::heartbeats::drone_heartbeat;
 use crate::link::Link;
 use crate::{News, NoMemory, NodeFault, StartFault, node};
+use drone_sim::Point;
 use mav_names::Stream;
 use mav_sign::Key;
 use plan_store::Keeper;
@@ -24,7 +25,8 @@ const AUTOPILOT: u8 = 1;
 const LINK: u8 = 0;
 
 /// A drone over datagrams, which keeps its plans in a store: the one that it was started with is handed to each call.
-/// Contracts see its end of the links, its plan core, and its services: it executes commands, and serves parameters.
+/// Contracts see its end of the links, its plan core, and its services: it executes commands, serves parameters, and flies
+/// as a simulated drone.
 ///
 /// It saves before a timestamp above the stored low bound is admitted or sent, and before its plans change. If a save
 /// fails it loads, and what the store then has decides: a change of plans that isn't stored is refused, and a bound that
@@ -123,12 +125,25 @@ impl DroneNode {
         }
     }
 
-    /// Where the drone starts, as x and y in units of 1e-7 degrees.
-    pub fn home(&self) -> (i32, i32)
-        ensures x { result.0 ≡ self.now.services.home.x }
-        ensures y { result.1 ≡ self.now.services.home.y }
+    /// Where the drone starts, and returns to.
+    pub fn home(&self) -> Point
+        ensures { result ≡ self.now.services.sim.home }
     {
-        self.services.home()
+        self.services.sim().home()
+    }
+
+    /// Where the drone is.
+    pub fn position(&self) -> Point
+        ensures { result ≡ self.now.services.sim.position }
+    {
+        self.services.sim().position()
+    }
+
+    /// How many pictures the drone has taken since its start; the count stays at 2^32 - 1.
+    pub fn captures(&self) -> u32
+        ensures { result ≡ self.now.services.sim.captures }
+    {
+        self.services.sim().captures()
     }
 
     /// The drone's plans.
@@ -188,6 +203,30 @@ impl DroneNode {
         )
     }
 
+    /// One tick of its simulator: it moves, or does an item of its mission, and says where it is and which item it has
+    /// reached.
+    pub fn sim<K: Keeper>(&mut self, clock: u64, keeper: &mut K) -> Result<Vec<News>, NodeFault>
+        ensures done { IfOk result (λ news. (node : DroneSide) → IsDrone node self.old
+            → DroneDid (drone_sims clock node) self.new [] news.items) }
+        ensures stored { OnOk result (StoreHolds (K.contents keeper.old) self.old → StoreHolds (K.contents keeper.new) self.new) }
+        ensures serves { Serves K.faults K.is_infallible keeper.old keeper.new }
+        ensures fault { IfErr result (λ fault. Fails fault (λ (node : DroneSide). IsDrone node self.old) (λ (node : DroneSide). drone_sims clock node)
+            (HasFailed K.faults K.is_infallible keeper.old keeper.new)) }
+    {
+        let mut news = Vec::new(self.alloc);
+        let served = self.services.fly(self.alloc, &self.drone)?;
+        node::say_served(
+            &mut self.link,
+            &self.drone,
+            &self.services,
+            keeper,
+            served,
+            clock,
+            &mut news,
+        )?;
+        Ok(news)
+    }
+
     /// Sends HEARTBEAT.
     pub fn heartbeat<K: Keeper>(
         &mut self,
@@ -201,7 +240,7 @@ impl DroneNode {
         ensures fault { IfErr result (λ fault. Fails fault (λ (node : DroneSide). IsDrone node self.old) (λ (node : DroneSide). drone_beats clock node)
             (HasFailed K.faults K.is_infallible keeper.old keeper.new)) }
     {
-        let message = drone_heartbeat(self.services.armed());
+        let message = drone_heartbeat(self.services.sim().armed());
         node::send(
             self.alloc,
             &mut self.link,

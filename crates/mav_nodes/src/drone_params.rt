@@ -11,7 +11,8 @@ use std::alloc::Global;
 // Parameters that users may set to what they like: SIM_USER_01 to SIM_USER_36.
 const USERS: u8 = 36;
 
-const STEP: [u8; 16] = *b"SIM_STEP\0\0\0\0\0\0\0\0";
+/// The parameter of the step of a drone's simulator.
+pub(crate) const STEP: [u8; 16] = *b"SIM_STEP\0\0\0\0\0\0\0\0";
 
 const HOME_X: [u8; 16] = *b"SIM_HOME_X\0\0\0\0\0\0";
 

@@ -1,26 +1,35 @@
-// A drone's services: commands and parameters.
+// A drone's services: commands, parameters and its simulator.
 ghost use Rattle.std.specs.Prelude.{◌≡◌, ◌++◌, [], OnOk, IfOk};
+ghost use Rattle.std.specs.List.{list_any};
 ghost use Rattle.param_proto.specs.Server.{new_server};
-ghost use Rattle.mav_nodes.specs.Services.{drone_params, new_drone_services, armed_after};
+ghost use Rattle.mav_nodes.specs.News.{Shows_emptied};
+ghost use Rattle.mav_nodes.specs.Cores.{IsServed, said_of_plans, shows_mission};
+ghost use Rattle.mav_nodes.specs.Services.{drone_params, new_drone_services, drone_flies};
 
 use crate::NoMemory;
+use crate::drone_flights::{say_flight, sim_step};
 use crate::drone_params::drone_params;
 use crate::services::{Served, Services};
+use crate::steps::PlanNews;
 use command_proto::{Executor, Ready};
+use drone_sim::Sim;
 use mav_messages::Message;
 use mav_names::{Name, Stream};
 use param_proto::ParamServer;
-use plan_items::{Action, PlanKind};
+use plan_items::PlanKind;
 use plan_upload::Drone;
 use std::alloc::{AllocError, Global};
 use std::marker::Model;
 
-/// Executes commands and serves parameters, of a drone that starts at x and y in units of 1e-7 degrees.
+// So many milliseconds pass in one tick of the simulator.
+const TICK: u32 = 1_000;
+
+/// Executes commands, serves parameters, and flies the drone: the time in milliseconds since its start is that of the
+/// simulator.
 #[derive(Drop)]
 pub(crate) struct DroneServices {
-    x: i32,
-    y: i32,
-    armed: bool,
+    sim: Sim,
+    time: u32,
     executor: Executor,
     server: ParamServer,
 }
@@ -30,17 +39,27 @@ impl Model for DroneServices {
 
     ghost Value = { DroneServices };
 
-    ghost view = { λ v. record { home = record { x = v.x; y = v.y }; armed = v.armed; executor = v.executor; server = v.server } };
+    ghost view = { λ v. record { sim = v.sim; time = v.time; executor = v.executor; server = v.server } };
 }
 
-// A command leaves the drone armed or not.
-fn armed_after(armed: bool, action: Option<Action>) -> bool
-    ensures { result ≡ armed_after armed action }
+fn is_mission(kind: PlanKind) -> bool
+    ensures { result ≡ shows_mission (Shows_emptied kind) }
 {
-    match action {
-        Some(Action::Arm) => true,
-        Some(Action::Disarm) => false,
-        Some(Action::Start) | Some(Action::Return) | None => armed,
+    match kind {
+        PlanKind::Mission => true,
+        PlanKind::Fence | PlanKind::Rally => false,
+    }
+}
+
+// The mission was installed or emptied.
+fn changes_mission(plans: &PlanNews) -> bool
+    ensures { result ≡ list_any shows_mission (said_of_plans plans.now) }
+{
+    match plans {
+        PlanNews::Same => false,
+        PlanNews::Installed(kind, _, _) => is_mission(*kind),
+        PlanNews::Emptied(Some(kind)) => is_mission(*kind),
+        PlanNews::Emptied(None) => true,
     }
 }
 
@@ -63,27 +82,28 @@ impl DroneServices {
         let executor = Executor::new(alloc, Name { sys, comp: 1 })?;
         let server = served_params(alloc, x, y)?;
         Ok(DroneServices {
-            x,
-            y,
-            armed: false,
+            sim: Sim::new(x, y),
+            time: 0,
             executor,
             server,
         })
     }
 
-    /// Where the drone starts, as x and y in units of 1e-7 degrees.
-    pub(crate) fn home(&self) -> (i32, i32)
-        ensures x { result.0 ≡ self.now.home.x }
-        ensures y { result.1 ≡ self.now.home.y }
+    /// The drone that is simulated.
+    pub(crate) fn sim(&self) -> &Sim
+        ensures { result.now ≡ self.now.sim }
     {
-        (self.x, self.y)
+        &self.sim
     }
 
-    /// Whether the drone is armed.
-    pub(crate) fn armed(&self) -> bool
-        ensures { result ≡ self.now.armed }
+    /// One tick of the simulator, over the mission of the plan core.
+    pub(crate) fn fly(&mut self, alloc: Global, core: &Drone) -> Result<Served, NoMemory>
+        ensures { IfOk result (IsServed (drone_flies core.now self.old) self.new) }
     {
-        self.armed
+        let step = sim_step(&self.server);
+        let news = self.sim.tick(core.plan(PlanKind::Mission), step);
+        self.time = self.time.wrapping_add(TICK);
+        say_flight(alloc, self.time, &news, self.sim.captures())
     }
 }
 
@@ -99,9 +119,17 @@ fn served_params(alloc: Global, x: i32, y: i32) -> Result<ParamServer, NoMemory>
 }
 
 impl Services<Drone> for DroneServices {
-    ghost use Rattle.mav_nodes.specs.Services.{drone_serves};
+    ghost use Rattle.mav_nodes.specs.Services.{drone_serves, drone_notes};
+
+    ghost noted = { drone_notes };
 
     ghost served = { drone_serves };
+
+    fn note(&mut self, plans: &PlanNews) {
+        if changes_mission(plans) {
+            self.sim.changed();
+        }
+    }
 
     fn serve(
         &mut self,
@@ -113,12 +141,14 @@ impl Services<Drone> for DroneServices {
         let me = self.executor.me();
         let planned = core.plan(PlanKind::Mission).len() > 0;
         let ready = Ready {
-            armed: self.armed,
+            armed: self.sim.armed(),
             planned,
         };
         let mut answers = Vec::new(alloc);
         if let Some((answer, action)) = self.executor.step(from, message, ready) {
-            self.armed = armed_after(self.armed, action);
+            if let Some(action) = action {
+                self.sim.act(action);
+            }
             answers.push(answer)?;
         }
         self.server.step(me, message);

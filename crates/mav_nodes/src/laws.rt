@@ -1,5 +1,5 @@
 //! Laws of what nodes send: functions without a body, whose contract is the law.
-ghost use Rattle.mav_nodes.specs.Laws.{ParsesAlone, SignedVerifies, PlanReadsBack, ServiceReadsBack, EverySendingReadsBack, EveryFrameReadsAlone, SameBytesSameFrame, HeartbeatsFit};
+ghost use Rattle.mav_nodes.specs.Laws.{ParsesAlone, SignedVerifies, PlanReadsBack, ServiceReadsBack, EverySendingReadsBack, EveryFrameReadsAlone, SameBytesSameFrame, HeartbeatsFit, FlightsFit};
 
 /// The bytes of a frame parse to exactly that frame.
 pub fn parses_alone()
@@ -39,4 +39,9 @@ pub fn same_bytes_same_frame()
 /// The HEARTBEAT of a node can be sent, and is no plan message.
 pub fn heartbeats_fit()
     ensures { HeartbeatsFit }
+{}
+
+/// What a drone says at a tick of its simulator can be sent, and is no message that a node takes.
+pub fn flights_fit()
+    ensures { FlightsFit }
 {}

@@ -13,6 +13,7 @@
 #![tactic(auto)]
 
 mod drone_core;
+mod drone_flights;
 mod drone_node;
 mod drone_params;
 mod drone_services;

@@ -36,6 +36,10 @@ pub enum News {
     /// The station's list of parameters has ended with so many values; or, with None, what it asked of parameters has ended
     /// without an answer.
     Params(Option<u16>),
+    /// The drone reached the item of this number.
+    Reached(u16),
+    /// The drone took a picture, and has taken so many.
+    Captured(u32),
 }
 
 /// One piece of news more.

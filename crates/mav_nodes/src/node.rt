@@ -1,6 +1,6 @@
 // A node over any core: what it does with the core at its end of the links.
 ghost use Rattle.std.specs.Prelude.{◌≡◌, Bool, List, [], IfOk, IfErr, OnOk};
-ghost use Rattle.mav_nodes.specs.Steps.{Side, Rules, steps, serves, hears, receives_keeping};
+ghost use Rattle.mav_nodes.specs.Steps.{Side, Rules, steps, steps_noted, serves, hears, receives_keeping};
 ghost use Rattle.mav_nodes.specs.Services.{ServiceStep};
 ghost use Rattle.mav_nodes.specs.Links.{Link as LinkState, IsLink, sends};
 ghost use Rattle.mav_nodes.specs.Stores.{Holds, Serves, HasFailed, IsKept, AllKept};
@@ -20,28 +20,30 @@ use plan_items::PlanMsg;
 use plan_store::Keeper;
 use std::alloc::Global;
 
-// The core takes a plan message, and its reply is sent. Returns whether the store has what changed.
-fn take<K: Keeper, C: Core, V>(
+// The core takes a plan message, the services hear what it did to the plans, and its reply is sent. Returns whether the
+// store has what changed.
+fn take<K: Keeper, C: Core, V: Services<C>>(
     link: &mut Link,
     core: &mut C,
-    _services: &V,
+    services: &mut V,
     keeper: &mut K,
     from: Stream,
     message: &PlanMsg,
     clock: u64,
     news: &mut Vec<News>,
 ) -> Result<bool, NodeFault>
-    ensures done { IfOk result (λ kept. (node : Side C V) → IsNode node link.old core.old _services.now
-        → NodeDid (steps clock node.link node.services (C.taken kept node.core from message.now)) link.new core.new _services.now news.old.items news.new.items) }
+    ensures done { IfOk result (λ kept. (node : Side C V) → IsNode node link.old core.old services.old
+        → NodeDid (steps_noted V.noted clock node.link node.services (C.taken kept node.core from message.now)) link.new core.new services.new news.old.items news.new.items) }
     ensures unkept { IfOk result (λ kept. IsKept kept (HasFailed K.faults K.is_infallible keeper.old keeper.new)) }
     ensures stored { OnOk result (Holds (K.contents keeper.old) (C.stored core.old) link.old.low → Holds (K.contents keeper.new) (C.stored core.new) link.new.low) }
     ensures serves { Serves K.faults K.is_infallible keeper.old keeper.new }
-    ensures fault { IfErr result (λ fault. FailsKeeping fault (λ (node : Side C V). IsNode node link.old core.old _services.now)
-        (λ (kept : Bool) (node : Side C V). steps clock node.link node.services (C.taken kept node.core from message.now))
+    ensures fault { IfErr result (λ fault. FailsKeeping fault (λ (node : Side C V). IsNode node link.old core.old services.old)
+        (λ (kept : Bool) (node : Side C V). steps_noted V.noted clock node.link node.services (C.taken kept node.core from message.now))
         (λ kept. IsKept kept (HasFailed K.faults K.is_infallible keeper.old keeper.new)) (HasFailed K.faults K.is_infallible keeper.old keeper.new)) }
 {
     let kept = save_step(core, keeper, link.alloc(), link.low(), from, message)?;
     let step = core.take(kept, from, message);
+    services.note(&step.plans);
     link.say(step, clock, core, keeper, news)?;
     Ok(kept)
 }
@@ -102,12 +104,12 @@ fn hear<K: Keeper, C: Core, V: Services<C>>(
     news: &mut Vec<News>,
 ) -> Result<bool, NodeFault>
     ensures done { IfOk result (λ kept. (node : Side C V) → IsNode node link.old core.old services.old
-        → NodeDid (hears (rules_of C.taken V.served kept) clock frame.now node) link.new core.new services.new news.old.items news.new.items) }
+        → NodeDid (hears (rules_of C.taken V.noted V.served kept) clock frame.now node) link.new core.new services.new news.old.items news.new.items) }
     ensures unkept { IfOk result (λ kept. IsKept kept (HasFailed K.faults K.is_infallible keeper.old keeper.new)) }
     ensures stored { OnOk result (Holds (K.contents keeper.old) (C.stored core.old) link.old.low → Holds (K.contents keeper.new) (C.stored core.new) link.new.low) }
     ensures serves { Serves K.faults K.is_infallible keeper.old keeper.new }
     ensures fault { IfErr result (λ fault. FailsKeeping fault (λ (node : Side C V). IsNode node link.old core.old services.old)
-        (λ (kept : Bool) (node : Side C V). hears (rules_of C.taken V.served kept) clock frame.now node)
+        (λ (kept : Bool) (node : Side C V). hears (rules_of C.taken V.noted V.served kept) clock frame.now node)
         (λ kept. IsKept kept (HasFailed K.faults K.is_infallible keeper.old keeper.new)) (HasFailed K.faults K.is_infallible keeper.old keeper.new)) }
 {
     match link.hear(frame, core, keeper)? {
@@ -138,11 +140,11 @@ pub(crate) fn receive<K: Keeper, C: Core, V: Services<C>>(
     clock: u64,
 ) -> Result<Vec<News>, NodeFault>
     ensures done { IfOk result (λ news. (node : Side C V) → IsNode node link.old core.old services.old
-        → NodeDidKeeping (λ (keeps : List Bool). receives_keeping (rules_of C.taken V.served) clock keeps datagram.now node) (AllKept (HasFailed K.faults K.is_infallible keeper.old keeper.new)) link.new core.new services.new news.items) }
+        → NodeDidKeeping (λ (keeps : List Bool). receives_keeping (rules_of C.taken V.noted V.served) clock keeps datagram.now node) (AllKept (HasFailed K.faults K.is_infallible keeper.old keeper.new)) link.new core.new services.new news.items) }
     ensures stored { OnOk result (Holds (K.contents keeper.old) (C.stored core.old) link.old.low → Holds (K.contents keeper.new) (C.stored core.new) link.new.low) }
     ensures serves { Serves K.faults K.is_infallible keeper.old keeper.new }
     ensures fault { IfErr result (λ fault. FailsKeeping fault (λ (node : Side C V). IsNode node link.old core.old services.old)
-        (λ (keeps : List Bool) (node : Side C V). receives_keeping (rules_of C.taken V.served) clock keeps datagram.now node)
+        (λ (keeps : List Bool) (node : Side C V). receives_keeping (rules_of C.taken V.noted V.served) clock keeps datagram.now node)
         (AllKept (HasFailed K.faults K.is_infallible keeper.old keeper.new)) (HasFailed K.faults K.is_infallible keeper.old keeper.new)) }
 {
     let mut news = Vec::new(alloc);

@@ -1,5 +1,6 @@
 // What a node does beside its plan core.
 
+use crate::steps::PlanNews;
 use crate::{News, NoMemory};
 use mav_messages::Message;
 use mav_names::Stream;
@@ -14,14 +15,22 @@ pub(crate) struct Served {
 
 /// The services of a node with a core. They have no link, no clock and no store.
 pub(crate) trait Services<C> {
-    ghost use Rattle.std.specs.Prelude.{◌≡◌, IfOk};
+    ghost use Rattle.std.specs.Prelude.{◌≡◌, List, map, IfOk};
     ghost use Rattle.mav_names.specs.declared.names.Stream.{Stream};
     ghost use Rattle.mav_messages.specs.declared.messages.Message.{Message};
     ghost use Rattle.mav_nodes.specs.Services.{ServiceStep};
-    ghost use Rattle.mav_nodes.specs.Cores.{IsServed};
+    ghost use Rattle.mav_nodes.specs.News.{NodeEvent, shown};
+    ghost use Rattle.mav_nodes.specs.Cores.{IsServed, said_of_plans};
+
+    /// What they make of the events of a step of the plan core.
+    ghost noted: { Self → List NodeEvent → Self };
 
     /// Their step at a message of a stream that is none of the mission protocol.
     ghost served: { C → Self → Stream → Message → ServiceStep Self };
+
+    /// Hears what a step of the plan core did to the plans, before the step's reply is sent.
+    fn note(&mut self, plans: &PlanNews)
+        ensures { (events : List NodeEvent) → said_of_plans plans.now ≡ map shown events → self.new ≡ noted self.old events };
 
     fn serve(
         &mut self,

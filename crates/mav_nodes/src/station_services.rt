@@ -11,6 +11,7 @@ ghost use Rattle.mav_nodes.specs.declared.faults.OrderFault.TheVariants.{Node};
 ghost use Rattle.mav_nodes.specs.Promises.{AcceptsService, RefusesService, KeepsService};
 
 use crate::services::{Served, Services};
+use crate::steps::PlanNews;
 use crate::{News, NoMemory, NodeFault, Order, OrderFault};
 use command_proto::{CommandTick, Commander};
 use mav_messages::Message;
@@ -179,7 +180,11 @@ impl StationServices {
 impl Services<Station> for StationServices {
     ghost use Rattle.mav_nodes.specs.Services.{station_serves};
 
+    ghost noted = { λ services events. services };
+
     ghost served = { λ station. station_serves };
+
+    fn note(&mut self, _plans: &PlanNews) {}
 
     fn serve(
         &mut self,

@@ -2,6 +2,7 @@
 use Rattle.std.proofs.Common.{refl}
 use Rattle.service_examples.specs.Commands.{WorkedCommands}
 use Rattle.service_examples.specs.Params.{WorkedParams}
+use Rattle.service_examples.specs.Flights.{WorkedFlights}
 
 pub worked_commands : WorkedCommands
 worked_commands = record { day = refl; armed = refl; last_stream = refl; one_more = refl; kept = refl }
@@ -15,4 +16,25 @@ worked_params = record {
   nearly = refl;
   whole = refl;
   ended = refl;
+}
+
+pub worked_flights : WorkedFlights
+worked_flights = record {
+  day = refl;
+  landed = refl;
+  stays = refl;
+  up = refl;
+  down = refl;
+  nearly = refl;
+  nearly_down = refl;
+  across = refl;
+  whole = refl;
+  stays_there = refl;
+  slow = refl;
+  full = refl;
+  stays_full = refl;
+  home = refl;
+  not_yet = refl;
+  at_home = refl;
+  stopped = refl;
 }

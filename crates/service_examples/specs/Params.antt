@@ -4,7 +4,6 @@ use Rattle.mav_names.specs.declared.names.Stream.{Stream}
 use Rattle.mav_names.specs.declared.names.Name.{Name}
 use Rattle.mav_messages.specs.declared.messages.Message.{Message}
 use Rattle.mav_messages.specs.declared.messages.Message.TheVariants.{ParamSet, ParamValue, ParamRequestRead}
-use Rattle.param_proto.specs.declared.params.Param.{Param}
 use Rattle.param_proto.specs.Server.{ServerState, new_server, server_step}
 use Rattle.param_proto.specs.Client.{ClientState, new_client, lists, client_step, client_tick, known_values}
 

@@ -28,15 +28,15 @@ returns-in_err-hear-in-Frame-clause-fault g c =
     let F = HasFailed faults sure then now in
     let G = HasFailed faults sure old now in
     let f = then_failed faults sure old then now c.loop-place.invariant.serves in
-    let total : Side g.row.C.Denot g.row.V.Denot → List Bool → _ = λ node keeps. receives_keeping (rules_of g.C.Core.taken g.V.Services.served) c.args.clock keeps bytes node in
-    rw p.1 (receive_fails (λ (kept : Bool) (node : Side g.row.C.Denot g.row.V.Denot). hears (rules_of g.C.Core.taken g.V.Services.served kept) c.args.clock frame node) (λ (keeps : List Bool) (node : Side g.row.C.Denot g.row.V.Denot). receives_keeping (rules_of g.C.Core.taken g.V.Services.served) c.args.clock keeps bytes node)
+    let total : Side g.row.C.Denot g.row.V.Denot → List Bool → _ = λ node keeps. receives_keeping (rules_of g.C.Core.taken g.V.Services.noted g.V.Services.served) c.args.clock keeps bytes node in
+    rw p.1 (receive_fails (λ (kept : Bool) (node : Side g.row.C.Denot g.row.V.Denot). hears (rules_of g.C.Core.taken g.V.Services.noted g.V.Services.served kept) c.args.clock frame node) (λ (keeps : List Bool) (node : Side g.row.C.Denot g.row.V.Denot). receives_keeping (rules_of g.C.Core.taken g.V.Services.noted g.V.Services.served) c.args.clock keeps bytes node)
     (λ node. IsNode node c.args.link.now c.args.core.now c.args.services.now) (λ node. IsNode node c.loop-place.link c.loop-place.core c.loop-place.services) F G p.0 f
     (λ node is.
     let l = c.loop-place.invariant.leads node is in
     let same = c.extras.ensures ∙ l.is.link.end.extras in
     let at = event_here c.extras.result.now l.node.link.extras bytes place size c.event_at-event.result.0 (Frame frame) same c.in-Frame.is c.event_at-event.ensures.event in
-    (l.node, l.is, leads_to_none (rules_of g.C.Core.taken g.V.Services.served) c.args.clock (total node) (drop place bytes) (drop (place + size) bytes) (λ n. IsNode n c.loop-place.link c.loop-place.core c.loop-place.services) (HasFailed faults sure old then) F G c.loop-place.news.items frame l (part_bytes bytes place small) (part_bytes bytes (place + size) small) at (λ failed. failed_then faults sure old then now failed c.hear.ensures.serves) f))
-    (subst (λ (fault : NodeFault). FailsKeeping fault (λ (node : Side g.row.C.Denot g.row.V.Denot). IsNode node c.loop-place.link c.loop-place.core c.loop-place.services) (λ (kept : Bool) (node : Side g.row.C.Denot g.row.V.Denot). hears (rules_of g.C.Core.taken g.V.Services.served kept) c.args.clock frame node) (λ kept. IsKept kept F) F) (sym p.2) c.in_err-hear-in-Frame.ensures.fault))
+    (l.node, l.is, leads_to_none (rules_of g.C.Core.taken g.V.Services.noted g.V.Services.served) c.args.clock (total node) (drop place bytes) (drop (place + size) bytes) (λ n. IsNode n c.loop-place.link c.loop-place.core c.loop-place.services) (HasFailed faults sure old then) F G c.loop-place.news.items frame l (part_bytes bytes place small) (part_bytes bytes (place + size) small) at (λ failed. failed_then faults sure old then now failed c.hear.ensures.serves) f))
+    (subst (λ (fault : NodeFault). FailsKeeping fault (λ (node : Side g.row.C.Denot g.row.V.Denot). IsNode node c.loop-place.link c.loop-place.core c.loop-place.services) (λ (kept : Bool) (node : Side g.row.C.Denot g.row.V.Denot). hears (rules_of g.C.Core.taken g.V.Services.noted g.V.Services.served kept) c.args.clock frame node) (λ kept. IsKept kept F) F) (sym p.2) c.in_err-hear-in-Frame.ensures.fault))
 
 pub loop-place-preserved : goal.loop-place-preserved
 loop-place-preserved g c =
@@ -60,7 +60,7 @@ loop-place-preserved g c =
                 let l = c.loop-place.invariant.leads node is in
                 let same = c.extras.ensures ∙ l.is.link.end.extras in
                 let at = event_here c.extras.result.now l.node.link.extras bytes place size c.event_at-event.result.0 (Frame w.in-Frame.frame) same w.in-Frame.is c.event_at-event.ensures.event in
-                leads_on (rules_of g.C.Core.taken g.V.Services.served) c.args.clock (λ (keeps : List Bool). receives_keeping (rules_of g.C.Core.taken g.V.Services.served) c.args.clock keeps bytes node) (drop place bytes) (drop (place + size) bytes) (λ n. IsNode n c.loop-place.link c.loop-place.core c.loop-place.services) (λ n. IsNode n w.hear.new.link w.hear.new.core w.hear.new.services) (HasFailed faults sure old then) (HasFailed faults sure old now) c.loop-place.news.items w.hear.new.news.items w.in-Frame.frame w.in_ok-hear-in-Frame.field-0 l (part_bytes bytes place small) (part_bytes bytes (place + size) small) at
+                leads_on (rules_of g.C.Core.taken g.V.Services.noted g.V.Services.served) c.args.clock (λ (keeps : List Bool). receives_keeping (rules_of g.C.Core.taken g.V.Services.noted g.V.Services.served) c.args.clock keeps bytes node) (drop place bytes) (drop (place + size) bytes) (λ n. IsNode n c.loop-place.link c.loop-place.core c.loop-place.services) (λ n. IsNode n w.hear.new.link w.hear.new.core w.hear.new.services) (HasFailed faults sure old then) (HasFailed faults sure old now) c.loop-place.news.items w.hear.new.news.items w.in-Frame.frame w.in_ok-hear-in-Frame.field-0 l (part_bytes bytes place small) (part_bytes bytes (place + size) small) at
                 (λ failed. failed_then faults sure old then now failed w.hear.ensures.serves)
                 (kept_so w.in_ok-hear-in-Frame.field-0 (then_failed faults sure old then now c.loop-place.invariant.serves) w.in_ok-hear-in-Frame.ensures.unkept)
                 (w.in_ok-hear-in-Frame.ensures.done l.node l.is);
@@ -74,7 +74,7 @@ loop-place-preserved g c =
                 let l = c.loop-place.invariant.leads node is in
                 let same = c.extras.ensures ∙ l.is.link.end.extras in
                 let at = event_here c.extras.result.now l.node.link.extras bytes place size c.event_at-event.result.0 (Skipped w.in-Skipped.field-0 w.in-Skipped.field-1) same w.in-Skipped.is c.event_at-event.ensures.event in
-                leads_past (rules_of g.C.Core.taken g.V.Services.served) c.args.clock (λ (keeps : List Bool). receives_keeping (rules_of g.C.Core.taken g.V.Services.served) c.args.clock keeps bytes node) (drop place bytes) (drop (place + size) bytes) (λ n. IsNode n c.loop-place.link c.loop-place.core c.loop-place.services) (HasFailed faults sure old then) c.loop-place.news.items w.in-Skipped.field-0 w.in-Skipped.field-1 l (part_bytes bytes place small) (part_bytes bytes (place + size) small) at;
+                leads_past (rules_of g.C.Core.taken g.V.Services.noted g.V.Services.served) c.args.clock (λ (keeps : List Bool). receives_keeping (rules_of g.C.Core.taken g.V.Services.noted g.V.Services.served) c.args.clock keeps bytes node) (drop place bytes) (drop (place + size) bytes) (λ n. IsNode n c.loop-place.link c.loop-place.core c.loop-place.services) (HasFailed faults sure old then) c.loop-place.news.items w.in-Skipped.field-0 w.in-Skipped.field-1 l (part_bytes bytes place small) (part_bytes bytes (place + size) small) at;
           })
     ]
 
@@ -83,7 +83,7 @@ loop-place-init g c = record {
   within = omega arith;
   serves = serves_same g.K.Keeper.faults g.K.Keeper.is_infallible c.args.keeper.now;
   stored = λ held. held;
-  leads = λ node is. leads_at_first (rules_of g.C.Core.taken g.V.Services.served) c.args.clock node c.args.datagram.now (λ n. IsNode n c.args.link.now c.args.core.now c.args.services.now) (HasFailed g.K.Keeper.faults g.K.Keeper.is_infallible c.args.keeper.now c.args.keeper.now) c.new-news.result.items c.new-news.ensures.items is;
+  leads = λ node is. leads_at_first (rules_of g.C.Core.taken g.V.Services.noted g.V.Services.served) c.args.clock node c.args.datagram.now (λ n. IsNode n c.args.link.now c.args.core.now c.args.services.now) (HasFailed g.K.Keeper.faults g.K.Keeper.is_infallible c.args.keeper.now c.args.keeper.now) c.new-news.result.items c.new-news.ensures.items is;
 }
 
 pub returns-clause-done : goal.returns-clause-done
@@ -91,4 +91,4 @@ returns-clause-done g c =
     λ node is.
     let bytes = c.args.datagram.now in
     let place = c.loop-place.place in
-    leads_whole (rules_of g.C.Core.taken g.V.Services.served) c.args.clock (λ (keeps : List Bool). receives_keeping (rules_of g.C.Core.taken g.V.Services.served) c.args.clock keeps bytes node) (drop place bytes) c.loop-place.link c.loop-place.core c.loop-place.services (HasFailed g.K.Keeper.faults g.K.Keeper.is_infallible c.args.keeper.now c.loop-place.keeper) c.loop-place.news.items (omega (arith, length-drop place bytes, c.loop-place-test.false)) (c.loop-place.invariant.leads node is)
+    leads_whole (rules_of g.C.Core.taken g.V.Services.noted g.V.Services.served) c.args.clock (λ (keeps : List Bool). receives_keeping (rules_of g.C.Core.taken g.V.Services.noted g.V.Services.served) c.args.clock keeps bytes node) (drop place bytes) c.loop-place.link c.loop-place.core c.loop-place.services (HasFailed g.K.Keeper.faults g.K.Keeper.is_infallible c.args.keeper.now c.loop-place.keeper) c.loop-place.news.items (omega (arith, length-drop place bytes, c.loop-place-test.false)) (c.loop-place.invariant.leads node is)

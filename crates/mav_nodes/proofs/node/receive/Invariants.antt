@@ -10,7 +10,7 @@ invariant-loop-place g l = record {
   within : l.place ≤ length l.datagram;
   serves : Serves g.K.Keeper.faults g.K.Keeper.is_infallible l.initial.keeper l.keeper;
   stored : Holds (g.K.Keeper.contents l.initial.keeper) (g.C.Core.stored l.initial.core) l.initial.link.low → Holds (g.K.Keeper.contents l.keeper) (g.C.Core.stored l.core) l.link.low;
-  leads : (node : Side g.row.C.Denot g.row.V.Denot) → IsNode node l.initial.link l.initial.core l.initial.services → Leads (rules_of g.C.Core.taken g.V.Services.served) l.clock (λ (keeps : List Bool). receives_keeping (rules_of g.C.Core.taken g.V.Services.served) l.clock keeps l.datagram node) (drop l.place l.datagram) (λ n. IsNode n l.link l.core l.services) (HasFailed g.K.Keeper.faults g.K.Keeper.is_infallible l.initial.keeper l.keeper) l.news.items;
+  leads : (node : Side g.row.C.Denot g.row.V.Denot) → IsNode node l.initial.link l.initial.core l.initial.services → Leads (rules_of g.C.Core.taken g.V.Services.noted g.V.Services.served) l.clock (λ (keeps : List Bool). receives_keeping (rules_of g.C.Core.taken g.V.Services.noted g.V.Services.served) l.clock keeps l.datagram node) (drop l.place l.datagram) (λ n. IsNode n l.link l.core l.services) (HasFailed g.K.Keeper.faults g.K.Keeper.is_infallible l.initial.keeper l.keeper) l.news.items;
 }
 
 abbrev pub decreases-loop-place : goal.decreases-loop-place

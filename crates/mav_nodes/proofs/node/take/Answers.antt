@@ -1,4 +1,4 @@
-use Rattle.std.proofs.Common.{sym, subst}
+use Rattle.std.proofs.Common.{sym, ap, ◌∙◌, subst}
 use Rattle.std.proofs.lemmas.Result.{err_from_is_err_and}
 use Rattle.mav_nodes.specs.declared.faults.NodeFault.{NodeFault}
 use Rattle.mav_nodes.specs.Links.{Link, IsLink}
@@ -20,7 +20,7 @@ returns-in_err-say-clause-fault g c =
     let old = c.args.keeper.now in
     let then = c.save_step.new.keeper in
     let now = c.say.new.keeper in
-    rw p.1 (step_fails c.args.clock (λ kept core. g.C.Core.taken kept core c.args.from c.args.message.now) kept c.args.link.now c.args.core.now c.take-step.new.self c.args._services.now step (HasFailed faults sure then now) (HasFailed faults sure old now) p.0 c.take-step.ensures
+    rw p.1 (step_fails c.args.clock (λ kept core. g.C.Core.taken kept core c.args.from c.args.message.now) g.V.Services.noted kept c.args.link.now c.args.core.now c.take-step.new.self c.args.services.now step (HasFailed faults sure then now) (HasFailed faults sure old now) p.0 c.take-step.ensures
     (kept_so kept (λ failed. failed_then faults sure old then now failed c.say.ensures.serves) c.in_ok-kept.ensures.unkept)
     (then_failed faults sure old then now c.save_step.ensures.serves)
     (λ first last. subst (λ (f : NodeFault). Fails f (λ (link : Link). IsLink link c.args.link.now) (λ (link : Link). says c.args.clock first step.answer last link) (HasFailed faults sure then now)) (sym p.2) (c.in_err-say.ensures.fault first last)))
@@ -32,4 +32,5 @@ returns-clause-done g c =
     let step = c.take-step.result in
     let did = g.C.Core.taken kept node.core c.args.from c.args.message.now in
     let s = subst (λ (core : g.row.C.Denot). IsStep (g.C.Core.taken kept core c.args.from c.args.message.now) c.take-step.new.self step) is.core c.take-step.ensures in
-    stepped c.args.clock node.link node.services c.args._services.now did c.take-step.new.self step c.say.new.self c.args.news.now.items c.say.new.news.items is.served s (c.in_ok-say.ensures.said node.link did.first did.last is.link s.first s.last)
+    let noted = c.note.ensures did.first s.first ∙ ap (λ (v : g.row.V.Denot). g.V.Services.noted v did.first) is.served in
+    stepped c.args.clock node.link (g.V.Services.noted node.services did.first) c.note.new.self did c.take-step.new.self step c.say.new.self c.args.news.now.items c.say.new.news.items noted s (c.in_ok-say.ensures.said node.link did.first did.last is.link s.first s.last)

@@ -1,5 +1,6 @@
 use Rattle.std.proofs.Common.{[], ap, ◌∙◌, sym, subst}
 use Rattle.mav_messages.specs.declared.messages.Message.{Message}
+use Rattle.drone_sim.specs.Sim.{armed}
 use Rattle.mav_nodes.specs.Links.{sends}
 use Rattle.mav_nodes.specs.Services.{DroneServices}
 use Rattle.mav_nodes.specs.Nodes.{DroneSide, IsDrone, drone_heartbeat}
@@ -11,5 +12,5 @@ pub returns-clause-done : goal.returns-clause-done
 returns-clause-done g c =
     if_ok c.send.result (λ news sent node is.
     let inside = subst (IsDrone node) (sym c.self.view_is) is in
-    let beat = subst (λ (m : Message). LinkDid (sends c.args.clock m node.link) c.send.new.link [] news.items) (c.drone_heartbeat-message.ensures ∙ ap drone_heartbeat (c.armed.ensures ∙ ap (λ (v : DroneServices). v.armed) inside.services)) (sent node.link inside.link) in
-    core_did node.core node.services (sends c.args.clock (drone_heartbeat node.services.armed) node.link) c.send.new.link (λ (n : DroneSide). IsDrone n (record { link = c.send.new.link; drone = c.self.inside.drone; services = c.self.inside.services })) [] news.items beat (λ link l. record { link = l; drone = inside.drone; services = inside.services })) c.send.ensures.sent
+    let beat = subst (λ (m : Message). LinkDid (sends c.args.clock m node.link) c.send.new.link [] news.items) (c.drone_heartbeat-message.ensures ∙ ap drone_heartbeat (c.armed.ensures ∙ ap armed (c.sim.ensures ∙ ap (λ (v : DroneServices). v.sim) inside.services))) (sent node.link inside.link) in
+    core_did node.core node.services (sends c.args.clock (drone_heartbeat (armed node.services.sim)) node.link) c.send.new.link (λ (n : DroneSide). IsDrone n (record { link = c.send.new.link; drone = c.self.inside.drone; services = c.self.inside.services })) [] news.items beat (λ link l. record { link = l; drone = inside.drone; services = inside.services })) c.send.ensures.sent

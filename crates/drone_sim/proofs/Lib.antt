@@ -1,0 +1,4 @@
+pub mod Ticks
+pub mod Ranges
+pub mod Ways
+pub mod Homewards
