@@ -1,5 +1,5 @@
 -- What happens in a scenario, and what the report prints of it.
-use Rattle.std.specs.Prelude.{ℕ, if◌then◌else◌, Bool, List, [], ◌∷◌, ◌++◌, length, codes, Option}
+use Rattle.std.specs.Prelude.{ℕ, ℤ, if◌then◌else◌, Bool, List, [], ◌∷◌, ◌++◌, length, codes, Option}
 use Rattle.std.specs.Fmt.{decimal}
 use Rattle.hex.specs.Hex.{encode_lower}
 use Rattle.mav_names.specs.declared.names.Name.{Name}
@@ -11,7 +11,7 @@ use Rattle.mav_frame.specs.Encoding.{encoding}
 use Rattle.mav_messages.specs.declared.messages.Message.{Message}
 use Rattle.param_proto.specs.declared.params.Param.{Param}
 use Rattle.mav_sign.specs.declared.admission.Admit.{Admit}
-use Rattle.fleet_report.specs.Texts.{space, newline, name_text, kind_text, message_text, items_text, code_of, refusal_text, outcome_text, param_text, result_text, values_text}
+use Rattle.fleet_report.specs.Texts.{space, newline, name_text, kind_text, location_text, message_text, items_text, code_of, refusal_text, outcome_text, param_text, result_text, values_text}
 
 pub data Event : Type 0 where
   Sent : (number : ℕ) (packet : Packet) (message : Message) → Event  -- the number-th frame of the scenario
@@ -27,6 +27,9 @@ pub data Event : Type 0 where
   Param_given : (station : Name) (param : Param) → Event  -- a read or a set ended
   Command_refused : (station : Name) → Event  -- a command is open
   Params_refused : (station : Name) → Event  -- a request for parameters is open
+  Reached : (drone : Name) (item : ℕ) → Event  -- its flight reached an item of its mission, counted from 0
+  Captured : (drone : Name) (total : ℕ) → Event  -- it took a picture, the total-th since its start
+  Located : (drone : Name) (x y : ℤ) (captures : ℕ) → Event  -- where it is, in units of 1e-7 degrees, and how many pictures it took
 
 -- the whole frame in hexadecimal digits, if frames are printed
 abbrev pub frame_text : Bool → Packet → List ℕ
@@ -50,6 +53,10 @@ event_text frames (Params_ended station values) = codes "params " ++ name_text s
 event_text frames (Param_given station param) = param_text station param
 event_text frames (Command_refused station) = codes "refused " ++ name_text station ++ codes " command busy" ++ newline
 event_text frames (Params_refused station) = codes "refused " ++ name_text station ++ codes " params busy" ++ newline
+event_text frames (Reached drone item) = codes "reached " ++ name_text drone ++ space ++ decimal item ++ newline
+event_text frames (Captured drone total) = codes "captured " ++ name_text drone ++ space ++ decimal total ++ newline
+event_text frames (Located drone x y captures) =
+    codes "at " ++ name_text drone ++ space ++ location_text x y ++ codes " captured " ++ decimal captures ++ newline
 
 abbrev pub events_text : Bool → List Event → List ℕ
 events_text frames [] = []

@@ -1,5 +1,5 @@
 -- How names, kinds, messages, items and causes are printed.
-use Rattle.std.specs.Prelude.{ℕ, ◌+◌, ◌/◌, ◌%◌, ◌==◌, if◌then◌else◌, Bool, List, [], ◌∷◌, ◌++◌, length, codes, Option, Some, None}
+use Rattle.std.specs.Prelude.{ℕ, ℤ, ◌+◌, ◌/◌, ◌%◌, ◌==◌, if◌then◌else◌, Bool, List, [], ◌∷◌, ◌++◌, length, codes, Option, Some, None}
 use Rattle.std.specs.List.{list_any}
 use Rattle.std.specs.Fmt.{decimal, signed_decimal}
 use Rattle.hex.specs.Hex.{encode_lower}
@@ -110,6 +110,10 @@ item_text seq item =
     ++ decimal item.current ++ space ++ decimal item.autocontinue ++ space
     ++ words_text item.p
     ++ signed_decimal item.x ++ space ++ signed_decimal item.y ++ space ++ word_text item.z ++ newline
+
+-- a location, in units of 1e-7 degrees
+abbrev pub location_text : ℤ → ℤ → List ℕ
+location_text x y = signed_decimal x ++ space ++ signed_decimal y
 
 -- the lines of items, the first of them with this number
 abbrev pub items_text : ℕ → List Item → List ℕ

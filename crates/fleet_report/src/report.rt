@@ -8,14 +8,14 @@ ghost use Rattle.mav_frame.specs.Encoding.{encoding};
 ghost use Rattle.hex.specs.Hex.{encode_lower};
 ghost use Rattle.std.specs.Fmt.{decimal};
 ghost use Rattle.fleet_report.specs.Texts.{newline};
-ghost use Rattle.fleet_report.specs.Events.{Sent, Installed, Emptied, Dropped, Missing, Restarted, Refused, Ended, Command_ended, Params_ended, Param_given, Command_refused, Params_refused, plan_text, frame_text};
+ghost use Rattle.fleet_report.specs.Events.{Sent, Installed, Emptied, Dropped, Missing, Restarted, Refused, Ended, Command_ended, Params_ended, Param_given, Command_refused, Params_refused, Reached, Captured, Located, plan_text, frame_text};
 ghost use Rattle.fleet_report.specs.Reports.{reported, with_text};
 
 use crate::NoMemory;
 use crate::items::put_items;
 use crate::messages::MessageText;
 use crate::params::{put_param, put_params};
-use crate::texts::{KindText, NameText, RefusalText, ResultText, code};
+use crate::texts::{KindText, LocationText, NameText, RefusalText, ResultText, code};
 use mav_frame::{Frame, encode};
 use mav_messages::Message;
 use mav_names::Name;
@@ -213,6 +213,28 @@ impl Report {
         ensures { OnOk result (self.new ≡ reported self.old (Params_refused station)) }
     {
         writeln!(self.text, "refused {} params busy", NameText(station))
+    }
+
+    /// A drone's flight reached the item of this number of its mission.
+    pub fn reached(&mut self, drone: Name, item: u16) -> Result<(), NoMemory>
+        ensures { OnOk result (self.new ≡ reported self.old (Reached drone item)) }
+    {
+        writeln!(self.text, "reached {} {item}", NameText(drone))
+    }
+
+    /// A drone took a picture, the `total`-th since its start.
+    pub fn captured(&mut self, drone: Name, total: u32) -> Result<(), NoMemory>
+        ensures { OnOk result (self.new ≡ reported self.old (Captured drone total)) }
+    {
+        writeln!(self.text, "captured {} {total}", NameText(drone))
+    }
+
+    /// Where a drone is, in units of 1e-7 degrees, and how many pictures it took since its start.
+    pub fn located(&mut self, drone: Name, x: i32, y: i32, captures: u32) -> Result<(), NoMemory>
+        ensures { OnOk result (self.new ≡ reported self.old (Located drone x y captures)) }
+    {
+        let (drone, location) = (NameText(drone), LocationText(x, y));
+        writeln!(self.text, "at {drone} {location} captured {captures}")
     }
 
     /// A plan of a drone at the end of a scenario.

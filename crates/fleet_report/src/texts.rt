@@ -1,6 +1,6 @@
 // How names, kinds and causes are written.
 ghost use Rattle.std.specs.Prelude.{◌≡◌, Some};
-ghost use Rattle.fleet_report.specs.Texts.{name_text, kind_text, refusal_text, code_of, result_text};
+ghost use Rattle.fleet_report.specs.Texts.{name_text, kind_text, location_text, refusal_text, code_of, result_text};
 
 use mav_names::Name;
 use mav_sign::Admit;
@@ -17,6 +17,18 @@ impl fmt::Display for NameText {
 
     fn fmt<W: fmt::Write>(&self, f: &mut fmt::Formatter<W>) -> fmt::Result {
         write!(f, "{}.{}", self.0.sys, self.0.comp)
+    }
+}
+
+/// A location, in units of 1e-7 degrees.
+#[derive(Drop)]
+pub(crate) struct LocationText(pub(crate) i32, pub(crate) i32);
+
+impl fmt::Display for LocationText {
+    ghost output = { λ text. Some (location_text text.0 text.1) };
+
+    fn fmt<W: fmt::Write>(&self, f: &mut fmt::Formatter<W>) -> fmt::Result {
+        write!(f, "{} {}", self.0, self.1)
     }
 }
 

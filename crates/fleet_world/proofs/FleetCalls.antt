@@ -17,8 +17,6 @@ use Rattle.fleet_world.specs.Steps.{as_station}
 use Rattle.fleet_world.specs.WorldView.{IsNode, Fleet, IsFleet}
 use Rattle.fleet_world.specs.Promises.{NodeOutcome, Moved, FleetOutcome, CallFails, Follows, Refuses}
 use Rattle.fleet_world.specs.StoredDrones.{FailsBy}
-use Rattle.param_proto.specs.declared.params.Param.{Param}
-use Rattle.fleet_world.specs.ParamLists.{params_of}
 use Rattle.fleet_world.proofs.NodeLists.{AtPlace, none, one, at_index, fleet_set, fleet_push}
 use Rattle.fleet_world.proofs.KeptNames.{KeepsName, obeys_keeps}
 
@@ -150,25 +148,25 @@ no_station inside seen k n nodes node same size past f found =
     nothing_there nodes seen.nodes k (Station node) (at_index nodes seen.nodes k f.are)
     (ap (λ (z : Fleet). slice_get z.nodes k) (sym same) ∙ slice_get_past inside.nodes k beyond) found
 
--- ---- the parameters that a node knows
+-- ---- what is read of a node: of the one at an index, or as if there were none
 
-values_there : (nodes : List Node) (seen : List ViewNode) (k : ℕ) (view : ViewNode) (values : List Param) → AtPlace nodes seen k → slice_get seen k ≡ Some view → ((node : Node) → IsNode node view → values ≡ params_of (Some node)) → values ≡ params_of (slice_get nodes k)
-values_there nodes seen k view values (none a b) found known = cc
-values_there nodes seen k view values (one node v a b is) found known =
+value_there : {A : Type 0} (of : Option Node → A) (nodes : List Node) (seen : List ViewNode) (k : ℕ) (view : ViewNode) (value : A) → AtPlace nodes seen k → slice_get seen k ≡ Some view → ((node : Node) → IsNode node view → value ≡ of (Some node)) → value ≡ of (slice_get nodes k)
+value_there of nodes seen k view value (none a b) found known = cc
+value_there of nodes seen k view value (one node v a b is) found known =
     let same : v ≡ view = cc in
-    known node (subst (IsNode node) same is) ∙ ap params_of (sym a)
+    known node (subst (IsNode node) same is) ∙ ap of (sym a)
 
-no_values : (nodes : List Node) (seen : List ViewNode) (k : ℕ) → AtPlace nodes seen k → slice_get seen k ≡ None → ◌≡◌ {A = List Param} [] (params_of (slice_get nodes k))
-no_values nodes seen k (none a b) past = ap params_of (sym a)
-no_values nodes seen k (one node v a b is) past = cc
+no_value_there : {A : Type 0} (of : Option Node → A) (nodes : List Node) (seen : List ViewNode) (k : ℕ) → AtPlace nodes seen k → slice_get seen k ≡ None → of None ≡ of (slice_get nodes k)
+no_value_there of nodes seen k (none a b) past = ap of (sym a)
+no_value_there of nodes seen k (one node v a b is) past = cc
 
-module _ (inside seen : Fleet) (k n : ℕ) (same : inside ≡ seen) (size : n ≡ length inside.nodes) where
-  pub params_found : (view : ViewNode) (values : List Param) → k < n → view ≡ get_or inside.nodes k view → ((node : Node) → IsNode node view → values ≡ params_of (Some node)) → (nodes : List Node) → IsFleet nodes seen → values ≡ params_of (slice_get nodes k)
-  params_found view values within read known nodes f =
-      values_there nodes seen.nodes k view values (at_index nodes seen.nodes k f.are)
+module _ {A : Type 0} (of : Option Node → A) (inside seen : Fleet) (k n : ℕ) (same : inside ≡ seen) (size : n ≡ length inside.nodes) where
+  pub value_found : (view : ViewNode) (value : A) → k < n → view ≡ get_or inside.nodes k view → ((node : Node) → IsNode node view → value ≡ of (Some node)) → (nodes : List Node) → IsFleet nodes seen → value ≡ of (slice_get nodes k)
+  value_found view value within read known nodes f =
+      value_there of nodes seen.nodes k view value (at_index nodes seen.nodes k f.are)
       (ap (λ (z : Fleet). slice_get z.nodes k) (sym same) ∙ slice_get_read inside.nodes n k view size within read) known
 
-  pub no_params : n ≤ k → (nodes : List Node) → IsFleet nodes seen → ◌≡◌ {A = List Param} [] (params_of (slice_get nodes k))
-  no_params past nodes f =
+  pub no_value : n ≤ k → (nodes : List Node) → IsFleet nodes seen → of None ≡ of (slice_get nodes k)
+  no_value past nodes f =
       let beyond : length inside.nodes ≤ k = omega arith in
-      no_values nodes seen.nodes k (at_index nodes seen.nodes k f.are) (ap (λ (z : Fleet). slice_get z.nodes k) (sym same) ∙ slice_get_past inside.nodes k beyond)
+      no_value_there of nodes seen.nodes k (at_index nodes seen.nodes k f.are) (ap (λ (z : Fleet). slice_get z.nodes k) (sym same) ∙ slice_get_past inside.nodes k beyond)

@@ -10,14 +10,15 @@ use Rattle.mav_sign.specs.declared.admission.Admit.{Admit}
 use Rattle.mav_sign.specs.declared.admission.Admit.TheVariants.{Admitted, Unsigned, BadSignature, BelowFloor, NotLater, TooOld, TooManyStreams}
 use Rattle.mav_sign.specs.History.{stream_of, answer_to}
 use Rattle.mav_sign.specs.Endpoints.{frames_of}
+use Rattle.drone_sim.specs.Sim.{armed}
 use Rattle.mav_nodes.specs.Payloads.{plan_in, service_in}
-use Rattle.mav_nodes.specs.Services.{ServiceStep, StationServices, station_waits, asks_command, asks_params, command_of}
+use Rattle.mav_nodes.specs.Services.{ServiceStep, StationServices, drone_flies, station_waits, asks_command, asks_params, command_of}
 use Rattle.command_proto.specs.Commander.{commands}
 use Rattle.param_proto.specs.Client.{reads, sets, lists}
 use Rattle.mav_nodes.specs.News.{NodeEvent}
 use Rattle.mav_nodes.specs.Links.{Link, Outcome, done, behind, and_then, tries, sends, sends_all}
 use Rattle.mav_nodes.specs.Steps.{Side, Rules, CoreStep, answers, with_core, steps, serves, serves_if, takes, admits, hears, hears_all, receives}
-use Rattle.mav_nodes.specs.Nodes.{DroneSide, StationSide, drone_rules, drone_receives, drone_beats, drone_ticks, drone_heartbeat, drone_waits, station_rules, station_heartbeat, services_tick, station_does, station_obeys}
+use Rattle.mav_nodes.specs.Nodes.{DroneSide, StationSide, drone_rules, drone_receives, drone_beats, drone_ticks, drone_sims, drone_heartbeat, drone_waits, station_rules, station_heartbeat, services_tick, station_does, station_obeys}
 use Rattle.mav_nodes.specs.LowBounds.{stored_low}
 use Rattle.mav_nodes.specs.Restarts.{started_again, restarted_drone, drone_restarts}
 use Rattle.mav_nodes.specs.declared.orders.Order.{Order}
@@ -29,11 +30,11 @@ use Rattle.plan_upload.specs.Drone.{DroneState, drone_tick}
 use Rattle.plan_upload.specs.Station.{StationState, station_tick, station_cancel, begin_upload, begin_clear, begin_get}
 use Rattle.fleet_world.specs.WorldState.{Node, Drone, Station, named}
 use Rattle.fleet_world.specs.declared.calls.Call.{Call}
-use Rattle.fleet_world.specs.declared.calls.Call.TheVariants.{Take, Noise, Heartbeat, Tick, Restart}
+use Rattle.fleet_world.specs.declared.calls.Call.TheVariants.{Take, Noise, Heartbeat, Tick, Sim, Restart}
 use Rattle.fleet_world.specs.declared.nodes.Node.{Node as ViewNode}
 use Rattle.fleet_world.specs.declared.nodes.Node.TheVariants.{Drone as ViewDrone, Station as ViewStation}
 use Rattle.fleet_world.specs.WorldView.{IsNode}
-use Rattle.fleet_world.specs.Steps.{as_drone, as_station, node_receives, node_beats, node_ticks}
+use Rattle.fleet_world.specs.Steps.{as_drone, as_station, node_receives, node_beats, node_ticks, node_flies}
 use Rattle.fleet_world.specs.NodeSteps.{node_restarts, node_called}
 use Rattle.fleet_world.proofs.Systems.{drone_stays, drone_tick_stays}
 
@@ -102,7 +103,7 @@ module _ {Core Services : Type 0} (of : Core → ℕ) where
 
     takes-keep : (node : Side Core Services) (from : Stream) (message : Option PlanMsg) (other : Option Message) → SideKeeps of node.link.me (of node.core) (takes rules clock node from message other)
     takes-keep node from None other = serves_if-keep node from other
-    takes-keep node from (Some message) other = steps-keep clock node.link node.services (of node.core) (rules.take node.core from message) (stays node.core from message)
+    takes-keep node from (Some message) other = steps-keep clock node.link (rules.note node.services (rules.take node.core from message).first) (of node.core) (rules.take node.core from message) (stays node.core from message)
 
     admits-keep : (node : Side Core Services) (packet : Packet) (answer : Admit) (block : Option SignatureBlock) → SideKeeps of node.link.me (of node.core) (admits rules clock node packet answer block)
     admits-keep node packet Admitted (Some block) = takes-keep node (stream_of packet block) (plan_in packet.id packet.payload) (service_in packet.id packet.payload)
@@ -138,10 +139,13 @@ pub drone_receiving : (clock : ℕ) (datagram : List ℕ) (n : DroneSide) → Si
 drone_receiving clock datagram n = receives-keep sys_of drone_rules clock (λ core from message. drone_stays true from core message) datagram n
 
 pub drone_beating : (clock : ℕ) (n : DroneSide) → SideKeeps sys_of n.link.me n.core.sys (drone_beats clock n)
-drone_beating clock n = with_core-keep sys_of n.link.me n.core.sys n.core n.services [] _ (sends-keep clock (drone_heartbeat n.services.armed) n.link) refl
+drone_beating clock n = with_core-keep sys_of n.link.me n.core.sys n.core n.services [] _ (sends-keep clock (drone_heartbeat (armed n.services.sim)) n.link) refl
 
 pub drone_ticking : (clock : ℕ) (n : DroneSide) → SideKeeps sys_of n.link.me n.core.sys (drone_ticks clock n)
 drone_ticking clock n = steps-keep sys_of clock n.link n.services n.core.sys (drone_waits (drone_tick n.core)) (drone_tick_stays n.core)
+
+pub drone_simming : (clock : ℕ) (n : DroneSide) → SideKeeps sys_of n.link.me n.core.sys (drone_sims clock n)
+drone_simming clock n = serves-keep sys_of clock n.link n.core (drone_flies n.core n.services)
 
 -- ---- nodes
 
@@ -172,12 +176,16 @@ ticks_keep clock (Station n) =
     station-keeps n _ (and_then-keep none_of n.link.me 0 (steps clock n.link n.services (station_does (station_tick n.core))) (services_tick clock)
     (steps-keep none_of clock n.link n.services 0 (station_does (station_tick n.core)) refl) (λ node. serves-keep none_of clock node.link node.core (station_waits node.services)))
 
+pub flies_keep : (clock : ℕ) (node : Node) → KeepsName node (node_flies clock node)
+flies_keep clock (Drone n) = drone-keeps n _ (drone_simming clock n)
+flies_keep clock (Station n) = refl
+
 -- a drone that starts again, on the stream of its system
 restarted_keeps : (key : List ℕ) (n : DroneSide) → n.link.me ≡ record { sys = n.core.sys; comp = 1; link = 0 }
     → ((restarted_drone key n).link.me ≡ n.link.me) × ((restarted_drone key n).core.sys ≡ n.core.sys)
 restarted_keeps key n me = by_low (stored_low n.link.history)
   where
-    by_low : (low : Option ℕ) → ((started_again key n.core.sys n.services.home low n.core.plans).link.me ≡ n.link.me) × ((started_again key n.core.sys n.services.home low n.core.plans).core.sys ≡ n.core.sys)
+    by_low : (low : Option ℕ) → ((started_again key n.core.sys n.services.sim.home low n.core.plans).link.me ≡ n.link.me) × ((started_again key n.core.sys n.services.sim.home low n.core.plans).core.sys ≡ n.core.sys)
     by_low None = (sym me, refl)
     by_low (Some low) = (sym me, refl)
 
@@ -194,6 +202,7 @@ calls_keep (Take number) datagram clock node view is = receives_keeps clock data
 calls_keep (Noise bytes) datagram clock node view is = receives_keeps clock datagram node
 calls_keep Heartbeat datagram clock node view is = beats_keep clock node
 calls_keep Tick datagram clock node view is = ticks_keep clock node
+calls_keep Sim datagram clock node view is = flies_keep clock node
 calls_keep (Restart key) datagram clock node view is = restarts_keep key clock node view is
 
 -- a station's step, of its core and of its services

@@ -15,7 +15,7 @@ use Rattle.mav_nodes.specs.declared.faults.NodeFault.TheVariants.{StampsSpent, S
 use Rattle.fleet_world.specs.declared.faults.Bound.TheVariants.{Frames}
 use Rattle.fleet_world.specs.WorldState.{WorldState, Node, node_name}
 use Rattle.fleet_world.specs.WorldView.{WorldView, IsState}
-use Rattle.fleet_world.specs.Steps.{Step, StepError, At_limit, rests, behind, and_then, most_frames, packets_in, reported_by, node_does, node_receives, given_to, given_from, given_to_all, flow_next, flows}
+use Rattle.fleet_world.specs.Steps.{Step, StepError, At_limit, rests, behind, and_then, most_frames, packets_in, reported_by, node_does, node_receives, given_to, given_from, given_to_all, flow_next, flows, calls, node_flies, flies}
 use Rattle.fleet_world.specs.Flowing.{IsTaken}
 use Rattle.fleet_world.specs.NodeSteps.{reports}
 use Rattle.fleet_world.specs.Promises.{WorldOutcome, IsStepError}
@@ -254,3 +254,45 @@ flow_error frames w turn most number now taken start mid fault within is_taken f
     leads_error frames (flows most state) (λ t. Unit {0}) (flows (most - turn)) (flows (most - (turn + 1)))
     (given_to_all s n.packet) now start mid fault l (flow_one l.state turn most (Some n.packet) within n.found)
     (did s n.packet (subst (λ (f : Bool). IsState s f taken) (sym same) (taken_state l.state frames now taken l.is is_taken.2)) n.numbered)
+
+-- ---- a flight
+
+-- what is done of a flight before a turn
+abbrev pub Flown : Bool → WorldView → Name → ℕ → ℕ → WorldView → ReportState → ReportState → Type 0
+Flown frames w drone turn ticks now start mid =
+    (state : WorldState) → IsState state frames w → Leads frames (flies ticks drone state) (flies (ticks - turn) drone) (λ t. Unit {0}) now start mid
+
+pub fly_start : (frames : Bool) (w : WorldView) (drone : Name) (ticks : ℕ) (report : ReportState) → Flown frames w drone 0 ticks w report report
+fly_start frames w drone ticks report state is =
+    let all : ticks ≡ ticks - 0 = omega arith in
+    leads_start frames (flies ticks drone state) (λ t. Unit {0}) (λ t. Unit {0}) (flies (ticks - 0) drone) state w report is tt (ap (λ (n : ℕ). flies n drone state) all)
+
+pub fly_end : (frames : Bool) (w : WorldView) (drone : Name) (turn ticks : ℕ) (now : WorldView) (start mid : ReportState) → ticks ≤ turn → Flown frames w drone turn ticks now start mid → (state : WorldState) → IsState state frames w → WorldOutcome (flies ticks drone state) frames now start mid
+fly_end frames w drone turn ticks now start mid past flown state is =
+    let e : ticks - turn ≡ zero = omega arith in
+    let l = flown state is in
+    leads_end frames (flies ticks drone state) (λ t. Unit {0}) (flies (ticks - turn) drone) now start mid l (ap (λ (n : ℕ). flies n drone l.state) e)
+
+fly_one : (s : WorldState) (drone : Name) (turn ticks : ℕ) → turn < ticks → flies (ticks - turn) drone s ≡ and_then (calls s drone (node_flies s.clock)) (flies (ticks - (turn + 1)) drone)
+fly_one s drone turn ticks within =
+    let one : ticks - turn ≡ suc (ticks - (turn + 1)) = omega arith in
+    ap (λ (n : ℕ). flies n drone s) one
+
+pub fly_more : (frames : Bool) (w : WorldView) (drone : Name) (turn ticks : ℕ) (now next : WorldView) (start mid last : ReportState) → turn < ticks → Flown frames w drone turn ticks now start mid → ((state : WorldState) → IsState state now.frames now → WorldOutcome (calls state drone (node_flies state.clock)) now.frames next mid last) → Flown frames w drone (turn + 1) ticks next start last
+fly_more frames w drone turn ticks now next start mid last within flown did state is =
+    let l = flown state is in
+    let same = l.is.frames_is in
+    let one = calls l.state drone (node_flies l.state.clock) in
+    let does : WorldOutcome one frames next mid last =
+    subst (λ (f : Bool). WorldOutcome one f next mid last) same
+    (did l.state (subst (λ (f : Bool). IsState l.state f now) (sym same) l.is)) in
+    leads_step frames (flies ticks drone state) (λ t. Unit {0}) (λ t. Unit {0}) (flies (ticks - turn) drone) (flies (ticks - (turn + 1)) drone)
+    one now next start mid last l (fly_one l.state drone turn ticks within) (λ t e. tt) does
+
+pub fly_error : (frames : Bool) (w : WorldView) (drone : Name) (turn ticks : ℕ) (now : WorldView) (start mid : ReportState) (fault : WorldFault) → turn < ticks → Flown frames w drone turn ticks now start mid → ((state : WorldState) → IsState state now.frames now → IsStepError (calls state drone (node_flies state.clock)) fault) → (state : WorldState) → IsState state frames w → IsStepError (flies ticks drone state) fault
+fly_error frames w drone turn ticks now start mid fault within flown did state is =
+    let l = flown state is in
+    let same = l.is.frames_is in
+    leads_error frames (flies ticks drone state) (λ t. Unit {0}) (flies (ticks - turn) drone) (flies (ticks - (turn + 1)) drone)
+    (calls l.state drone (node_flies l.state.clock)) now start mid fault l (fly_one l.state drone turn ticks within)
+    (did l.state (subst (λ (f : Bool). IsState l.state f now) (sym same) l.is))

@@ -27,18 +27,19 @@ use Rattle.param_proto.specs.declared.params.Param.{Param}
 use Rattle.param_proto.specs.Params.{same_id}
 use Rattle.param_proto.specs.Client.{ClientState, ClientStep, Operation, Task, Reads, Sets_to, All_listed, ParamsEnd, One_value, All_values, No_answer, known_values, with_value, was_taken, heard_at, rests, param_in, one_comes, listed, value_comes, answered, told, client_step, idle_limit, operation_ticks, client_tick, reads, sets, lists}
 use Rattle.param_proto.proofs.ListLaws.{every_end, idle_message, idle_tick}
-use Rattle.mav_nodes.specs.News.{NodeEvent, Sends, Installs, Empties, Drops, Ends, Ends_command, Gives_param, Ends_params}
+use Rattle.drone_sim.specs.Sim.{armed, sim_tick}
+use Rattle.mav_nodes.specs.News.{NodeEvent, Sends, Installs, Empties, Drops, Ends, Ends_command, Gives_param, Ends_params, Reaches, Captures}
 use Rattle.mav_nodes.specs.Payloads.{plan_in, service_in}
-use Rattle.mav_nodes.specs.Services.{ServiceStep, DroneServices, StationServices, command_events, params_events, station_serves, station_waits, asks_command, asks_params, command_of}
+use Rattle.mav_nodes.specs.Services.{ServiceStep, DroneServices, drone_flies, sim_step, reached_events, captured_events, StationServices, command_events, params_events, station_serves, station_waits, asks_command, asks_params, command_of}
 use Rattle.mav_nodes.specs.Links.{Link, Outcome, done, behind, and_then, tries, sends, sends_all}
 use Rattle.mav_nodes.specs.Steps.{Side, Rules, CoreStep, answers, with_core, steps, serves, serves_if, takes, admits, hears, hears_all, receives}
-use Rattle.mav_nodes.specs.Nodes.{DroneSide, StationSide, change_events, told_events, drone_rules, drone_receives, drone_beats, drone_ticks, drone_heartbeat, drone_waits, station_rules, station_does, station_heartbeat, services_tick, station_obeys}
+use Rattle.mav_nodes.specs.Nodes.{DroneSide, StationSide, change_events, told_events, drone_rules, drone_receives, drone_beats, drone_ticks, drone_sims, drone_heartbeat, drone_waits, station_rules, station_does, station_heartbeat, services_tick, station_obeys}
 use Rattle.mav_nodes.specs.Restarts.{restarted_drone}
 use Rattle.mav_nodes.specs.declared.orders.Order.{Order}
 use Rattle.mav_nodes.specs.declared.orders.Order.TheVariants.{Begin, Cancel, Clear, Get, Command, ParamRead, ParamSet, ParamList}
 use Rattle.fleet_world.specs.WorldState.{Node, Drone, Station}
 use Rattle.fleet_world.specs.declared.calls.Call.{Call}
-use Rattle.fleet_world.specs.declared.calls.Call.TheVariants.{Take, Noise, Heartbeat, Tick, Restart}
+use Rattle.fleet_world.specs.declared.calls.Call.TheVariants.{Take, Noise, Heartbeat, Tick, Sim, Restart}
 use Rattle.fleet_world.specs.Steps.{as_drone, as_station}
 use Rattle.fleet_world.specs.NodeSteps.{node_called}
 use Rattle.fleet_world.specs.ParamLists.{params_of, HasValues, HaveValues}
@@ -55,6 +56,8 @@ IsQuiet (Drops answer) = Unit {0}
 IsQuiet (Ends told) = Unit {0}
 IsQuiet (Ends_command result) = Unit {0}
 IsQuiet (Gives_param param) = Unit {0}
+IsQuiet (Reaches number) = Unit {0}
+IsQuiet (Captures total) = Unit {0}
 
 abbrev AreQuiet : List NodeEvent → Type 0
 AreQuiet [] = Unit {0}
@@ -74,6 +77,8 @@ quiet_event values (Drops answer) q = tt
 quiet_event values (Ends told) q = tt
 quiet_event values (Ends_command result) q = tt
 quiet_event values (Gives_param param) q = tt
+quiet_event values (Reaches number) q = tt
+quiet_event values (Captures total) q = tt
 
 quiet_have : (values : List Param) (es : List NodeEvent) → AreQuiet es → HaveValues values es
 quiet_have values [] q = tt
@@ -122,13 +127,17 @@ module _ {Core Services : Type 0} (R : Services → Services → List NodeEvent 
     with_core-did before core services last None q r = tt
     with_core-did before core services last (Some d) q r = both before before services d.events last (quiet before d.events q) r
 
-    behind-did : (s : Services) (first : List NodeEvent) (o : Outcome (Side Core Services)) → AreQuiet first → Did s o → Did s (behind first o)
-    behind-did s first None q r = tt
-    behind-did s first (Some d) q r = both s s d.node.services first d.events (quiet s first q) r
+    behind-did : (s after : Services) (first : List NodeEvent) (o : Outcome (Side Core Services)) → R s after first → Did after o → Did s (behind first o)
+    behind-did s after first None q r = tt
+    behind-did s after first (Some d) q r = both s after d.node.services first d.events q r
+
+    -- the services have noted the first events of the step
+    noted-did : (clock : ℕ) (link : Link) (s after : Services) (step : CoreStep Core) → R s after step.first → AreQuiet step.last → Did s (steps clock link after step)
+    noted-did clock link s after step first last =
+        behind-did s after step.first _ first (with_core-did after step.core after step.last _ (answers-quiet clock step.answer link) (quiet after step.last last))
 
     steps-did : (clock : ℕ) (link : Link) (s : Services) (step : CoreStep Core) → AreQuiet step.first → AreQuiet step.last → Did s (steps clock link s step)
-    steps-did clock link s step first last =
-        behind-did s step.first _ first (with_core-did s step.core s step.last _ (answers-quiet clock step.answer link) (quiet s step.last last))
+    steps-did clock link s step first last = noted-did clock link s s step (quiet s step.first first) last
 
     serves-did : (clock : ℕ) (link : Link) (core : Core) (s : Services) (step : ServiceStep Services) → R s step.services step.last → Did s (serves clock link core step)
     serves-did clock link core s step r = with_core-did s core step.services step.last _ (sends_all-quiet clock step.answers link) r
@@ -141,14 +150,14 @@ module _ {Core Services : Type 0} (R : Services → Services → List NodeEvent 
         joined None k = tt
         joined (Some e) k = both s d.node.services e.node.services d.events e.events h k
 
-    module _ (rules : Rules Core Services) (clock : ℕ) (first : (core : Core) (from : Stream) (m : PlanMsg) → AreQuiet (rules.take core from m).first) (last : (core : Core) (from : Stream) (m : PlanMsg) → AreQuiet (rules.take core from m).last) (served : (core : Core) (s : Services) (from : Stream) (m : Message) → R s (rules.serve core s from m).services (rules.serve core s from m).last) where
+    module _ (rules : Rules Core Services) (clock : ℕ) (first : (core : Core) (s : Services) (from : Stream) (m : PlanMsg) → R s (rules.note s (rules.take core from m).first) (rules.take core from m).first) (last : (core : Core) (from : Stream) (m : PlanMsg) → AreQuiet (rules.take core from m).last) (served : (core : Core) (s : Services) (from : Stream) (m : Message) → R s (rules.serve core s from m).services (rules.serve core s from m).last) where
       serves_if-did : (node : Side Core Services) (from : Stream) (message : Option Message) → Did node.services (serves_if rules clock node from message)
       serves_if-did node from None = quiet node.services [] tt
       serves_if-did node from (Some m) = serves-did clock node.link node.core node.services (rules.serve node.core node.services from m) (served node.core node.services from m)
 
       takes-did : (node : Side Core Services) (from : Stream) (message : Option PlanMsg) (other : Option Message) → Did node.services (takes rules clock node from message other)
       takes-did node from None other = serves_if-did node from other
-      takes-did node from (Some m) other = steps-did clock node.link node.services (rules.take node.core from m) (first node.core from m) (last node.core from m)
+      takes-did node from (Some m) other = noted-did clock node.link node.services (rules.note node.services (rules.take node.core from m).first) (rules.take node.core from m) (first node.core node.services from m) (last node.core from m)
 
       admits-did : (node : Side Core Services) (packet : Packet) (answer : Admit) (block : Option SignatureBlock) → Did node.services (admits rules clock node packet answer block)
       admits-did node packet Admitted (Some block) = takes-did node (stream_of packet block) (plan_in packet.id packet.payload) (service_in packet.id packet.payload)
@@ -187,13 +196,28 @@ changes_quiet by plans (Empty (Some kind)) = (tt, tt)
 drone_receiving : (clock : ℕ) (datagram : List ℕ) (n : DroneSide) → Did DroneListed n.services (drone_receives clock datagram n)
 drone_receiving clock datagram n =
     receives-did DroneListed (λ s es q. q) drone_both drone_rules clock
-    (λ core from m. changes_quiet from (drone_step true core from m).drone.plans (change_by (drone_step true core from m).event)) (λ core from m. tt) (λ core s from m. tt) datagram n
+    (λ core s from m. changes_quiet from (drone_step true core from m).drone.plans (change_by (drone_step true core from m).event)) (λ core from m. tt) (λ core s from m. tt) datagram n
 
 drone_beating : (clock : ℕ) (n : DroneSide) → Did DroneListed n.services (drone_beats clock n)
-drone_beating clock n = with_core-did DroneListed (λ s es q. q) drone_both n.services n.core n.services [] _ (sends-quiet clock (drone_heartbeat n.services.armed) n.link) tt
+drone_beating clock n = with_core-did DroneListed (λ s es q. q) drone_both n.services n.core n.services [] _ (sends-quiet clock (drone_heartbeat (armed n.services.sim)) n.link) tt
 
 drone_ticking : (clock : ℕ) (n : DroneSide) → Did DroneListed n.services (drone_ticks clock n)
 drone_ticking clock n = steps-did DroneListed (λ s es q. q) drone_both clock n.link n.services (drone_waits (drone_tick n.core)) tt tt
+
+reached_quiet : (reached : Option ℕ) → AreQuiet (reached_events reached)
+reached_quiet None = tt
+reached_quiet (Some number) = (tt, tt)
+
+captured_quiet : (captured : Bool) (total : ℕ) → AreQuiet (captured_events captured total)
+captured_quiet true total = (tt, tt)
+captured_quiet false total = tt
+
+drone_simming : (clock : ℕ) (n : DroneSide) → Did DroneListed n.services (drone_sims clock n)
+drone_simming clock n =
+    let step = drone_flies n.core n.services in
+    let tick = sim_tick n.services.sim n.core.plans.mission (sim_step n.services.server) in
+    serves-did DroneListed (λ s es q. q) drone_both clock n.link n.core n.services step
+    (quiet-append (reached_events tick.reached) (captured_events tick.captured tick.sim.captures) (reached_quiet tick.reached) (captured_quiet tick.captured tick.sim.captures))
 
 -- ---- a client of parameters
 
@@ -341,7 +365,7 @@ steps_known clock n step = steps-did StationListed station_quiet station_both cl
 pub receives_known : (clock : ℕ) (datagram : List ℕ) (node : Node) → ListsKnown (node_called (Noise datagram) datagram clock node)
 receives_known clock datagram (Drone n) = drone_known n.services _ (drone_receiving clock datagram n)
 receives_known clock datagram (Station n) =
-    station_known n.services _ (receives-did StationListed station_quiet station_both station_rules clock (λ core from m. tt)
+    station_known n.services _ (receives-did StationListed station_quiet station_both station_rules clock (λ core s from m. station_quiet s [] tt)
     (λ core from m. told_quiet (station_step core from m).station.outcome) (λ core s from m. served s from m) datagram n)
 
 beats_known : (clock : ℕ) (node : Node) → ListsKnown (node_called Heartbeat [] clock node)
@@ -360,6 +384,8 @@ calls_known (Take number) datagram clock node = receives_known clock datagram no
 calls_known (Noise bytes) datagram clock node = receives_known clock datagram node
 calls_known Heartbeat datagram clock node = beats_known clock node
 calls_known Tick datagram clock node = ticks_known clock node
+calls_known Sim datagram clock (Drone n) = drone_known n.services _ (drone_simming clock n)
+calls_known Sim datagram clock (Station n) = tt
 calls_known (Restart key) datagram clock (Drone n) = drone_known (restarted_drone key n).services _ (drone_beating clock (restarted_drone key n))
 calls_known (Restart key) datagram clock (Station n) = tt
 

@@ -6,9 +6,9 @@ use Rattle.mav_names.specs.declared.names.Name.{Name}
 use Rattle.param_proto.specs.declared.params.Param.{Param}
 use Rattle.mav_frame.specs.Packet.{Packet}
 use Rattle.mav_messages.specs.declared.messages.Message.{Message}
-use Rattle.mav_nodes.specs.News.{NodeEvent, Sends, Installs, Empties, Drops, Ends, Ends_command, Gives_param, Ends_params, Shown, Shows_sent, Shows_installed, Shows_emptied, Shows_dropped, Shows_ended, Shows_command, Shows_param, Shows_params, shown, said_by, events_of}
+use Rattle.mav_nodes.specs.News.{NodeEvent, Sends, Installs, Empties, Drops, Ends, Ends_command, Gives_param, Ends_params, Reaches, Captures, Shown, Shows_sent, Shows_installed, Shows_emptied, Shows_dropped, Shows_ended, Shows_command, Shows_param, Shows_params, Shows_reached, Shows_captured, shown, said_by, events_of}
 use Rattle.mav_nodes.specs.declared.news.News.{News}
-use Rattle.mav_nodes.specs.declared.news.News.TheVariants.{Sent, Installed, Emptied, Dropped, Outcome, Command, Param as Told_param, Params}
+use Rattle.mav_nodes.specs.declared.news.News.TheVariants.{Sent, Installed, Emptied, Dropped, Outcome, Command, Param as Told_param, Params, Reached, Captured}
 use Rattle.fleet_report.specs.Events.{Event, Sent as SentEvent, Command_ended, Params_ended, Param_given}
 use Rattle.fleet_report.specs.Reports.{ReportState, reported}
 use Rattle.fleet_world.specs.WorldView.{Kept, kept_as}
@@ -31,6 +31,8 @@ packets-append (Ends outcome ∷ xs) ys = packets-append xs ys
 packets-append (Ends_command result ∷ xs) ys = packets-append xs ys
 packets-append (Gives_param param ∷ xs) ys = packets-append xs ys
 packets-append (Ends_params values ∷ xs) ys = packets-append xs ys
+packets-append (Reaches number ∷ xs) ys = packets-append xs ys
+packets-append (Captures total ∷ xs) ys = packets-append xs ys
 
 behind_event : (event : Event) {xs ys : List Event} → xs ≡ ys → event ∷ xs ≡ event ∷ ys
 behind_event event e = ap (λ (l : List Event). event ∷ l) e
@@ -48,6 +50,8 @@ reported_by-append name before after (Ends outcome ∷ xs) ys e = behind_event _
 reported_by-append name before after (Ends_command result ∷ xs) ys e = behind_event _ (reported_by-append name before after xs ys e)
 reported_by-append name before after (Gives_param param ∷ xs) ys e = behind_event _ (reported_by-append name before after xs ys e)
 reported_by-append name before after (Ends_params values ∷ xs) ys e = behind_event _ (reported_by-append name before after xs ys e)
+reported_by-append name before after (Reaches number ∷ xs) ys e = behind_event _ (reported_by-append name before after xs ys e)
+reported_by-append name before after (Captures total ∷ xs) ys e = behind_event _ (reported_by-append name before after xs ys e)
 
 -- ---- reported
 
@@ -153,6 +157,8 @@ frame_reported (Ok t) piece name values kept more number packet message before a
     by_event (Ends_command result) e = cc
     by_event (Gives_param param) e = cc
     by_event (Ends_params values) e = cc
+    by_event (Reaches number) e = cc
+    by_event (Captures total) e = cc
 
 -- ---- what ended
 
@@ -184,6 +190,8 @@ module _ {T E : Type 0} (r : Result T E) (piece : News) (name : Name) (values : 
           record { sent = one.0; report = one.1 }
       by_event h (Gives_param param) e = cc
       by_event h (Ends_params listed) e = cc
+      by_event h (Reaches number) e = cc
+      by_event h (Captures total) e = cc
 
   pub param_reported : (param : Param) → piece ≡ Told_param param → OnOk r (after ≡ reported before (Param_given name param)) → Told
   param_reported param is did = by_result (after ≡ reported before (Param_given name param)) r did (λ h event e have. by_event h event (sym (ap said_by is) ∙ e))
@@ -200,6 +208,8 @@ module _ {T E : Type 0} (r : Result T E) (piece : News) (name : Name) (values : 
           let one = event_reported (Param_given name other) kept more before after same (h ∙ ap (λ (p : Param). reported before (Param_given name p)) e_is) in
           record { sent = one.0; report = one.1 }
       by_event h (Ends_params listed) e = cc
+      by_event h (Reaches number) e = cc
+      by_event h (Captures total) e = cc
 
   -- the values of a list, which news don't have, are those that the node knows
   pub list_reported : (count : ℕ) → piece ≡ Params (Some count) → OnOk r (after ≡ reported before (Params_ended name (Some values))) → Told
@@ -213,6 +223,8 @@ module _ {T E : Type 0} (r : Result T E) (piece : News) (name : Name) (values : 
       by_event h (Ends outcome) e have = cc
       by_event h (Ends_command other) e have = cc
       by_event h (Gives_param other) e have = cc
+      by_event h (Reaches number) e have = cc
+      by_event h (Captures total) e have = cc
       by_event h (Ends_params None) e have = cc
       by_event h (Ends_params (Some listed)) e have =
           let one = event_reported (Params_ended name (Some listed)) kept more before after same (h ∙ ap (λ (l : List Param). reported before (Params_ended name (Some l))) (sym have.0)) in
@@ -233,6 +245,8 @@ module _ {T E : Type 0} (r : Result T E) (piece : News) (name : Name) (values : 
           let one = event_reported (Params_ended name None) kept more before after same h in
           record { sent = one.0; report = one.1 }
       by_event h (Ends_params (Some listed)) e = cc
+      by_event h (Reaches number) e = cc
+      by_event h (Captures total) e = cc
 
 -- ---- how many frames are among news
 
@@ -251,6 +265,8 @@ is_sent (Shows_ended told) = false
 is_sent (Shows_command result) = false
 is_sent (Shows_param param) = false
 is_sent (Shows_params count) = false
+is_sent (Shows_reached number) = false
+is_sent (Shows_captured total) = false
 
 piece_sent : (piece : News) → is_frame piece ≡ is_sent (said_by piece)
 piece_sent (Sent frame message) = refl
@@ -261,6 +277,8 @@ piece_sent (Outcome outcome) = refl
 piece_sent (Command result) = refl
 piece_sent (Told_param param) = refl
 piece_sent (Params count) = refl
+piece_sent (Reached number) = refl
+piece_sent (Captured total) = refl
 
 event_sent : (event : NodeEvent) (xs : List NodeEvent) → cond (is_sent (shown event)) 1 0 + length (packets_in xs) ≡ length (packets_in (event ∷ xs))
 event_sent (Sends packet message) xs = one_more _
@@ -271,6 +289,8 @@ event_sent (Ends told) xs = none_more _
 event_sent (Ends_command result) xs = none_more _
 event_sent (Gives_param param) xs = none_more _
 event_sent (Ends_params values) xs = none_more _
+event_sent (Reaches number) xs = none_more _
+event_sent (Captures total) xs = none_more _
 
 frames_counted : (ns : List News) (xs : List NodeEvent) (piece : News) (event : NodeEvent) → counted is_frame ns ≡ length (packets_in xs) → said_by piece ≡ shown event → counted is_frame (piece ∷ ns) ≡ length (packets_in (event ∷ xs))
 frames_counted ns xs piece event more e =

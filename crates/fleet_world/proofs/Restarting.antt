@@ -13,7 +13,8 @@ use Rattle.mav_nodes.specs.Links.{Outcome}
 use Rattle.mav_nodes.specs.Stores.{Holds}
 use Rattle.mav_nodes.specs.Images.{IsStored, StoreHolds}
 use Rattle.mav_nodes.specs.Starts.{StartedFrom}
-use Rattle.mav_nodes.specs.Services.{Home, DroneServices}
+use Rattle.drone_sim.specs.declared.points.Point.{Point}
+use Rattle.mav_nodes.specs.Services.{DroneServices}
 use Rattle.mav_nodes.specs.Restarts.{stored_drone, started_again, restarted_drone, drone_restarts}
 use Rattle.mav_nodes.specs.Nodes.{DroneSide, DroneView, IsDrone, new_drone}
 use Rattle.mav_nodes.specs.Promises.{Did, DroneDid}
@@ -60,7 +61,7 @@ holds_of : (new : DroneView) (low : Option ℕ) (drone : DroneState) (contents :
 holds_of new low drone contents is_low is_drone h =
     subst (λ (l : Option ℕ). Holds contents (IsStored new.drone) l) (sym is_low) (subst (λ (d : DroneState). Holds contents (IsStored d) low) (sym is_drone) h)
 
-module _ (key : List ℕ) (home : Home) (view : StoredView) (new : DroneView) (store : MemStore) (same : ◌≡◌ {A = Option (List ℕ)} (Some store.contents) (Some view.store.contents)) (infallible : store.fails ≡ []) where
+module _ (key : List ℕ) (home : Point) (view : StoredView) (new : DroneView) (store : MemStore) (same : ◌≡◌ {A = Option (List ℕ)} (Some store.contents) (Some view.store.contents)) (infallible : store.fails ≡ []) where
   by_low : (sys : ℕ) (plans : Plans) (drone : DroneState) (low : Option ℕ) → drone.sys ≡ sys → drone.plans ≡ plans → Holds (Some view.store.contents) (IsStored drone) low → StartedFrom key sys home view.store.contents new
       → IsStoredDrone (started_again key sys home low plans) (record { node = new; store = store })
   by_low sys plans drone None is_sys is_plans holds from =
@@ -83,7 +84,7 @@ module _ (key : List ℕ) (home : Home) (view : StoredView) (new : DroneView) (s
       }
 
 -- it starts with nothing stored
-pub starts_new : (key : List ℕ) (sys : ℕ) (home : Home) (new : DroneView) (store : MemStore) → ◌≡◌ {A = Option (List ℕ)} (Some store.contents) (Some []) → store.fails ≡ [] → StartedFrom key sys home [] new → IsStoredDrone (new_drone key sys home) (record { node = new; store = store })
+pub starts_new : (key : List ℕ) (sys : ℕ) (home : Point) (new : DroneView) (store : MemStore) → ◌≡◌ {A = Option (List ℕ)} (Some store.contents) (Some []) → store.fails ≡ [] → StartedFrom key sys home [] new → IsStoredDrone (new_drone key sys home) (record { node = new; store = store })
 starts_new key sys home new store same infallible from =
     let is = from.anew refl in
     record {
@@ -94,12 +95,12 @@ starts_new key sys home new store same infallible from =
     }
 
 -- it starts again as what is stored
-pub starts_stored : (key : List ℕ) (view : StoredView) (new : DroneView) (store : MemStore) → ◌≡◌ {A = Option (List ℕ)} (Some store.contents) (Some view.store.contents) → store.fails ≡ [] → (node : DroneSide) → IsStoredDrone node view → StartedFrom key view.node.drone.sys view.node.services.home view.store.contents new → IsStoredDrone (restarted_drone key node) (record { node = new; store = store })
+pub starts_stored : (key : List ℕ) (view : StoredView) (new : DroneView) (store : MemStore) → ◌≡◌ {A = Option (List ℕ)} (Some store.contents) (Some view.store.contents) → store.fails ≡ [] → (node : DroneSide) → IsStoredDrone node view → StartedFrom key view.node.drone.sys view.node.services.sim.home view.store.contents new → IsStoredDrone (restarted_drone key node) (record { node = new; store = store })
 starts_stored key view new store same infallible node is from =
-    by_low key node.services.home view new store same infallible node.core.sys node.core.plans node.core (stored_low node.link.history) refl refl
+    by_low key node.services.sim.home view new store same infallible node.core.sys node.core.plans node.core (stored_low node.link.history) refl refl
     (subst (λ (l : Option ℕ). Holds (Some view.store.contents) (IsStored node.core) l) is.drone.link.low (subst (λ (d : DroneState). Holds (Some view.store.contents) (IsStored d) view.node.link.low) is.drone.drone is.holds))
-    (subst (λ (v : DroneServices). StartedFrom key node.core.sys v.home view.store.contents new) is.drone.services
-    (subst (λ (d : DroneState). StartedFrom key d.sys view.node.services.home view.store.contents new) is.drone.drone from))
+    (subst (λ (v : DroneServices). StartedFrom key node.core.sys v.sim.home view.store.contents new) is.drone.services
+    (subst (λ (d : DroneState). StartedFrom key d.sys view.node.services.sim.home view.store.contents new) is.drone.drone from))
 
 -- ---- the world
 

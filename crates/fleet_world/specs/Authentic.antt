@@ -10,7 +10,7 @@ use Rattle.mav_sign.specs.Signing.{Verifies}
 use Rattle.mav_sign.specs.Endpoints.{frames_of}
 use Rattle.scenario_lines.specs.declared.faults.Reason.{Reason}
 use Rattle.scenario_lines.specs.declared.lines.Line.{Line}
-use Rattle.scenario_lines.specs.declared.lines.Line.TheVariants.{Blank, Drone, Station, Item as OneItem, Items, Empty, Begin, Cancel, Clear, Get, Command, Params, Heartbeat, Deliver, Flow, Noise, Tick, Clock, Restart}
+use Rattle.scenario_lines.specs.declared.lines.Line.TheVariants.{Blank, Drone, Station, Item as OneItem, Items, Empty, Begin, Cancel, Clear, Get, Command, Params, Heartbeat, Deliver, Flow, Noise, Tick, Clock, Restart, Sim, WhereIs}
 use Rattle.scenario_lines.specs.Grammar.{line_of, most_line_bytes}
 use Rattle.scenario_lines.specs.Reasons.{reason_against}
 use Rattle.fleet_world.specs.WorldState.{WorldState, context_of}
@@ -47,6 +47,8 @@ AuthenticLine s (Flow k) = Unit {0}
 AuthenticLine s (Tick node) = Unit {0}
 AuthenticLine s (Clock n) = Unit {0}
 AuthenticLine s (Restart drone) = Unit {0}
+AuthenticLine s (Sim drone n) = Unit {0}
+AuthenticLine s (WhereIs drone) = Unit {0}
 
 -- what a text says, if there is no reason against it
 abbrev pub line_read : List ℕ → Option Reason → Option Line

@@ -15,10 +15,10 @@ use Rattle.fleet_report.specs.Events.{Event, Refused, Command_refused, Params_re
 use Rattle.fleet_report.specs.Reports.{ReportState, with_text}
 use Rattle.fleet_world.specs.declared.faults.Bound.TheVariants.{Frames}
 use Rattle.fleet_world.specs.declared.calls.Call.{Call}
-use Rattle.fleet_world.specs.declared.calls.Call.TheVariants.{Take, Noise, Heartbeat, Tick, Restart}
+use Rattle.fleet_world.specs.declared.calls.Call.TheVariants.{Take, Noise, Heartbeat, Tick, Sim, Restart}
 use Rattle.fleet_world.specs.WorldState.{WorldState, Node, Drone, Station}
 use Rattle.fleet_world.specs.WorldView.{Kept, WorldView, bytes_of}
-use Rattle.fleet_world.specs.Steps.{Step, StepError, At_limit, behind, most_frames, packets_in, reported_by, as_drone, as_station, node_does, node_receives, node_beats, node_ticks}
+use Rattle.fleet_world.specs.Steps.{Step, StepError, At_limit, behind, most_frames, packets_in, reported_by, as_drone, as_station, node_does, node_receives, node_beats, node_ticks, node_flies}
 
 -- a report with the text of these events more
 abbrev pub reports : ReportState → List Event → ReportState
@@ -44,6 +44,7 @@ node_called (Take number) datagram clock node = node_receives clock datagram nod
 node_called (Noise bytes) datagram clock node = node_receives clock datagram node
 node_called Heartbeat datagram clock node = node_beats clock node
 node_called Tick datagram clock node = node_ticks clock node
+node_called Sim datagram clock node = node_flies clock node
 node_called (Restart key) datagram clock node = node_restarts key clock node
 
 -- the datagram of a call, after these frames were sent
@@ -52,6 +53,7 @@ datagram_of sent (Take number) = bytes_of (slice_get sent number)
 datagram_of sent (Noise bytes) = bytes
 datagram_of sent Heartbeat = []
 datagram_of sent Tick = []
+datagram_of sent Sim = []
 datagram_of sent (Restart key) = []
 
 -- what a node of a world does at a call

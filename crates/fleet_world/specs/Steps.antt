@@ -10,15 +10,16 @@ use Rattle.plan_upload.specs.Kinds.{clear_number}
 use Rattle.plan_upload.specs.declared.faults.OpFault.{OpFault}
 use Rattle.plan_upload.specs.Addresses.{node_of, same_name}
 use Rattle.plan_upload.specs.Refusals.{upload_refusal, refusal}
-use Rattle.mav_nodes.specs.News.{NodeEvent, Sends, Installs, Empties, Drops, Ends, Ends_command, Gives_param, Ends_params}
+use Rattle.mav_nodes.specs.News.{NodeEvent, Sends, Installs, Empties, Drops, Ends, Ends_command, Gives_param, Ends_params, Reaches, Captures}
 use Rattle.mav_nodes.specs.Links.{Outcome, done}
 use Rattle.command_proto.specs.Commander.{open_command}
 use Rattle.param_proto.specs.Client.{Operation as ParamOperation}
 use Rattle.mav_nodes.specs.Restarts.{drone_restarts}
-use Rattle.mav_nodes.specs.Nodes.{DroneSide, StationSide, new_drone, drone_receives, drone_beats, drone_ticks, new_station, station_receives, station_beats, station_ticks, station_begins, station_cancels, station_clears, station_gets, station_commands, station_lists_params}
+use Rattle.mav_nodes.specs.Nodes.{DroneSide, StationSide, new_drone, drone_receives, drone_beats, drone_ticks, drone_sims, new_station, station_receives, station_beats, station_ticks, station_begins, station_cancels, station_clears, station_gets, station_commands, station_lists_params}
 use Rattle.scenario_lines.specs.declared.lines.Line.{Line}
-use Rattle.scenario_lines.specs.declared.lines.Line.TheVariants.{Blank, Drone as DroneLine, Station as StationLine, Item as OneItem, Items, Empty, Begin, Cancel, Clear, Get, Command, Params, Heartbeat, Deliver, Flow, Noise, Tick, Clock, Restart}
-use Rattle.fleet_report.specs.Events.{Event, Sent, Installed, Emptied, Dropped, Missing, Restarted, Refused, Ended, Command_ended, Params_ended, Param_given, Command_refused, Params_refused, plan_text}
+use Rattle.scenario_lines.specs.declared.lines.Line.TheVariants.{Blank, Drone as DroneLine, Station as StationLine, Item as OneItem, Items, Empty, Begin, Cancel, Clear, Get, Command, Params, Heartbeat, Deliver, Flow, Noise, Tick, Clock, Restart, Sim, WhereIs}
+use Rattle.fleet_report.specs.Events.{Event, Sent, Installed, Emptied, Dropped, Missing, Restarted, Refused, Ended, Command_ended, Params_ended, Param_given, Command_refused, Params_refused, Reached, Captured, Located, plan_text}
+use Rattle.fleet_world.specs.declared.locations.Location.{Location}
 use Rattle.fleet_world.specs.declared.faults.Bound.{Bound}
 use Rattle.fleet_world.specs.declared.faults.Bound.TheVariants.{Frames, Drones, Stations, Restarts}
 use Rattle.fleet_world.specs.WorldState.{WorldState, Node, Drone, Station, stream_of, node_name, is_named, is_drone_named, is_station_named, drones_in, stations_in}
@@ -71,6 +72,8 @@ packets_in (Ends outcome ∷ es) = packets_in es
 packets_in (Ends_command result ∷ es) = packets_in es
 packets_in (Gives_param param ∷ es) = packets_in es
 packets_in (Ends_params values ∷ es) = packets_in es
+packets_in (Reaches item ∷ es) = packets_in es
+packets_in (Captures total ∷ es) = packets_in es
 
 -- what is reported of what happened in a node, after so many frames were sent
 abbrev pub reported_by : Name → ℕ → List NodeEvent → List Event
@@ -83,6 +86,8 @@ reported_by node before (Ends outcome ∷ es) = Ended node outcome ∷ reported_
 reported_by node before (Ends_command result ∷ es) = Command_ended node result ∷ reported_by node before es
 reported_by node before (Gives_param param ∷ es) = Param_given node param ∷ reported_by node before es
 reported_by node before (Ends_params values ∷ es) = Params_ended node values ∷ reported_by node before es
+reported_by node before (Reaches item ∷ es) = Reached node item ∷ reported_by node before es
+reported_by node before (Captures total ∷ es) = Captured node total ∷ reported_by node before es
 
 abbrev pub as_drone : Outcome DroneSide → Outcome Node
 as_drone None = None
@@ -103,6 +108,11 @@ node_beats clock (Station n) = as_station (station_beats clock n)
 abbrev pub node_ticks : ℕ → Node → Outcome Node
 node_ticks clock (Drone n) = as_drone (drone_ticks clock n)
 node_ticks clock (Station n) = as_station (station_ticks clock n)
+
+-- one tick of a drone's simulator; a station does nothing
+abbrev pub node_flies : ℕ → Node → Outcome Node
+node_flies clock (Drone n) = as_drone (drone_sims clock n)
+node_flies clock (Station n) = done (Station n) []
 
 -- the node at index `k` has done this: its frames are the next of the scenario
 abbrev pub node_does : WorldState → ℕ → Name → Outcome Node → Result Step StepError
@@ -157,6 +167,40 @@ flows (suc k) s = flow_next s (slice_get s.sent s.given) (flows k)
 abbrev pub delivers : WorldState → ℕ → Name → Option Packet → Result Step StepError
 delivers s number name None = Ok (record { state = s; events = Missing number ∷ [] })
 delivers s number name (Some p) = calls s name (node_receives s.clock (encoding p))
+
+-- ---- drones that fly
+
+-- n ticks of the simulator of the drone of this name
+abbrev pub flies : ℕ → Name → WorldState → Result Step StepError
+flies zero drone s = rests s
+flies (suc n) drone s = and_then (calls s drone (node_flies s.clock)) (flies n drone)
+
+-- where a drone is, and how many pictures it took since its start
+abbrev pub drone_location : DroneSide → Location
+drone_location n = record { x = n.services.sim.position.x; y = n.services.sim.position.y; captures = n.services.sim.captures }
+
+abbrev pub location_of : Node → Option Location
+location_of (Drone n) = Some (drone_location n)
+location_of (Station n) = None
+
+abbrev pub location_at : Option Node → Option Location
+location_at None = None
+location_at (Some node) = location_of node
+
+-- of the drone of a name, if there is one
+abbrev pub location_found : List Node → Option ℕ → Option Location
+location_found nodes None = None
+location_found nodes (Some k) = location_at (slice_get nodes k)
+
+abbrev pub location_in : List Node → Name → Option Location
+location_in nodes drone = location_found nodes (position (is_drone_named drone) nodes)
+
+abbrev pub locates_as : WorldState → Name → Option Location → Result Step StepError
+locates_as s drone None = rests s
+locates_as s drone (Some at) = Ok (record { state = s; events = Located drone at.x at.y at.captures ∷ [] })
+
+abbrev pub locates : WorldState → Name → Result Step StepError
+locates s drone = locates_as s drone (location_in s.nodes drone)
 
 -- ---- drones that start again
 
@@ -285,6 +329,8 @@ after_line s (Flow k) = flows k s
 after_line s (Noise node bytes) = calls s node (node_receives s.clock bytes)
 after_line s (Tick node) = calls s node (node_ticks s.clock)
 after_line s (Clock n) = rests (record s { clock = s.clock + n })
+after_line s (Sim drone n) = flies n drone s
+after_line s (WhereIs drone) = locates s drone
 after_line s (Restart drone) = if nat_lt s.restarts most_restarts then starts_again (restart_line s) drone else Err (At_limit Restarts)
 
 -- the closing plans: of each drone in the order named, and each kind

@@ -10,6 +10,8 @@ pub enum Call {
     Noise(Label),
     Heartbeat,
     Tick,
+    /// To fly for one tick of its simulator. A station does nothing.
+    Sim,
     /// To start again, under this key. A station goes on.
     Restart(Key),
 }

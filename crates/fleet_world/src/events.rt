@@ -77,6 +77,8 @@ fn report_one(
         News::Param(param) => report.param_given(name, param),
         News::Params(Some(_)) => report.params_listed(name, values),
         News::Params(None) => report.params_unanswered(name),
+        News::Reached(item) => report.reached(name, *item),
+        News::Captured(total) => report.captured(name, *total),
     }
 }
 

@@ -3,7 +3,7 @@ ghost use Rattle.std.specs.Prelude.{◌≡◌, if◌then◌else◌, ◌+◌, ◌
 ghost use Rattle.mav_nodes.specs.Nodes.{StationSide, new_drone, new_station, station_obeys};
 ghost use Rattle.fleet_world.specs.WorldState.{Node as StateNode, Drone as StateDrone, Station as StateStation, node_name, is_named, is_drone_named, is_station_named, drones_in, stations_in, stream_of};
 ghost use Rattle.fleet_world.specs.WorldView.{no_fleet, IsFleet};
-ghost use Rattle.fleet_world.specs.Steps.{as_station};
+ghost use Rattle.fleet_world.specs.Steps.{as_station, location_at, location_in};
 ghost use Rattle.fleet_world.specs.NodeSteps.{node_called};
 ghost use Rattle.fleet_world.specs.ParamLists.{params_of};
 ghost use Rattle.fleet_world.specs.Promises.{FleetOutcome, Moved, CallFails, Follows, Refuses};
@@ -11,6 +11,7 @@ ghost use Rattle.fleet_world.specs.Counts.{is_drone_view, counted};
 
 use crate::NoMemory;
 use crate::calls::Call;
+use crate::locations::Location;
 use crate::nodes::Node;
 use crate::stored_drone::StoredDrone;
 use mav_names::{Name, Stream};
@@ -230,6 +231,27 @@ impl Fleet {
         ensures { (nodes : List StateNode) → IsFleet nodes self.now → result ≡ position (is_station_named name) nodes }
     {
         self.roster.index_of(Role::Station, name)
+    }
+
+    // Where the drone at an index is.
+    fn location_at(&self, index: usize) -> Option<Location>
+        ensures { (nodes : List StateNode) → IsFleet nodes self.now → result ≡ location_at (slice_get nodes index) }
+    {
+        if index < self.nodes.len() {
+            self.nodes[index].location()
+        } else {
+            None
+        }
+    }
+
+    /// Where the drone of a name is, if there is one.
+    pub(crate) fn location_of(&self, drone: Name) -> Option<Location>
+        ensures { (nodes : List StateNode) → IsFleet nodes self.now → result ≡ location_in nodes drone }
+    {
+        match self.index_of_drone(drone) {
+            Some(index) => self.location_at(index),
+            None => None,
+        }
     }
 
     pub(crate) fn len(&self) -> usize

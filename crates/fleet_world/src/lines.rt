@@ -70,6 +70,8 @@ impl World {
             Line::Tick { node } => self.call(node, &Call::Tick, report),
             Line::Clock { n } => self.advance(n),
             Line::Restart { drone } => self.restart(drone, report),
+            Line::Sim { drone, n } => self.fly(drone, n, report),
+            Line::WhereIs { drone } => self.locate(drone, report),
         }
     }
 

@@ -33,7 +33,7 @@ fn datagram_of<'a>(sent: &'a SentFrames, call: &'a Call) -> &'a [u8]
     match call {
         Call::Take(number) => sent.bytes(*number),
         Call::Noise(bytes) => bytes.bytes(),
-        Call::Heartbeat | Call::Tick | Call::Restart(_) => &[],
+        Call::Heartbeat | Call::Tick | Call::Sim | Call::Restart(_) => &[],
     }
 }
 

@@ -4,12 +4,13 @@ ghost use Rattle.mav_nodes.specs.Nodes.{StationSide, station_obeys};
 ghost use Rattle.fleet_world.specs.WorldState.{Node as StateNode, Station as StateStation};
 ghost use Rattle.fleet_world.specs.StoredDrones.{FailsBy};
 ghost use Rattle.fleet_world.specs.WorldView.{IsNode};
-ghost use Rattle.fleet_world.specs.Steps.{as_station};
+ghost use Rattle.fleet_world.specs.Steps.{as_station, location_of};
 ghost use Rattle.fleet_world.specs.NodeSteps.{node_called};
 ghost use Rattle.fleet_world.specs.ParamLists.{params_of};
 ghost use Rattle.fleet_world.specs.Promises.{NodeOutcome, Follows, Refuses};
 
 use crate::calls::Call;
+use crate::locations::Location;
 use crate::stored_drone::StoredDrone;
 use mav_nodes::{News, NodeFault, Order, OrderFault, StationNode};
 use param_proto::Param;
@@ -22,7 +23,7 @@ pub enum Node {
 }
 
 impl Node {
-    /// Does what it is asked: takes a datagram, sends HEARTBEAT, lets time pass, or starts again.
+    /// Does what it is asked: takes a datagram, sends HEARTBEAT, lets time pass, flies, or starts again.
     pub(crate) fn call(
         &mut self,
         alloc: Global,
@@ -40,11 +41,13 @@ impl Node {
             (Node::Drone(drone), Call::Noise(_)) => drone.receive(datagram, clock),
             (Node::Drone(drone), Call::Heartbeat) => drone.heartbeat(clock),
             (Node::Drone(drone), Call::Tick) => drone.tick(clock),
+            (Node::Drone(drone), Call::Sim) => drone.sim(clock),
             (Node::Drone(drone), Call::Restart(key)) => drone.restart(alloc, *key, clock),
             (Node::Station(station), Call::Take(_)) => station.receive(datagram, clock),
             (Node::Station(station), Call::Noise(_)) => station.receive(datagram, clock),
             (Node::Station(station), Call::Heartbeat) => station.heartbeat(clock),
             (Node::Station(station), Call::Tick) => station.tick(clock),
+            (Node::Station(_), Call::Sim) => Ok(Vec::new(alloc)),
             (Node::Station(station), Call::Restart(_)) => Ok(Vec::new(alloc)),
         }
     }
@@ -64,6 +67,16 @@ impl Node {
         match self {
             Node::Drone(_) => Ok(Vec::new(alloc)),
             Node::Station(station) => station.order(order, clock),
+        }
+    }
+
+    /// Where a drone is; a station has no location.
+    pub(crate) fn location(&self) -> Option<Location>
+        ensures { (node : StateNode) → IsNode node self.now → result ≡ location_of node }
+    {
+        match self {
+            Node::Drone(drone) => Some(drone.location()),
+            Node::Station(_) => None,
         }
     }
 

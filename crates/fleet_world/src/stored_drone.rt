@@ -1,10 +1,12 @@
 // A drone of a scenario, over a store in memory that never fails.
 ghost use Rattle.std.specs.Prelude.{◌≡◌, [], IfOk, IfErr, OnOk};
-ghost use Rattle.mav_nodes.specs.Nodes.{DroneSide, new_drone, drone_receives, drone_ticks, drone_beats};
+ghost use Rattle.mav_nodes.specs.Nodes.{DroneSide, new_drone, drone_receives, drone_ticks, drone_sims, drone_beats};
+ghost use Rattle.fleet_world.specs.Steps.{drone_location};
 ghost use Rattle.mav_nodes.specs.Promises.{Did};
 ghost use Rattle.mav_nodes.specs.Restarts.{restarted_drone, drone_restarts};
 ghost use Rattle.fleet_world.specs.StoredDrones.{IsStoredDrone, FailsBy};
 
+use crate::locations::Location;
 use mav_nodes::{DroneNode, News, NodeFault, StartFault};
 use mav_sign::Key;
 use plan_store::MemKeeper;
@@ -81,14 +83,36 @@ impl StoredDrone {
         self.node.heartbeat(clock, &mut self.store)
     }
 
+    /// One tick of its simulator.
+    pub(crate) fn sim(&mut self, clock: u64) -> Result<Vec<News>, NodeFault>
+        ensures done { IfOk result (λ news. (node : DroneSide) → IsStoredDrone node self.old
+            → Did (drone_sims clock node) (λ n. IsStoredDrone n self.new) [] news.items) }
+        ensures fault { IfErr result (λ fault. (node : DroneSide) → IsStoredDrone node self.old
+            → FailsBy fault (drone_sims clock node)) }
+    {
+        self.node.sim(clock, &mut self.store)
+    }
+
+    /// Where it is.
+    pub(crate) fn location(&self) -> Location
+        ensures { (node : DroneSide) → IsStoredDrone node self.now → result ≡ drone_location node }
+    {
+        let position = self.node.position();
+        Location {
+            x: position.x,
+            y: position.y,
+            captures: self.node.captures(),
+        }
+    }
+
     // The node ends, and one starts from what the store has.
     fn start_again(&mut self, alloc: Global, key: Key) -> Result<(), StartFault>
         ensures done { OnOk result ((node : DroneSide) → IsStoredDrone node self.old → IsStoredDrone (restarted_drone key node) self.new) }
         ensures fault { IfErr result (λ fault. (node : DroneSide) → IsStoredDrone node self.old → fault ≡ StartFault.NoMemory) }
     {
         let sys = self.node.plans().sys();
-        let (x, y) = self.node.home();
-        self.node = DroneNode::start(alloc, key, sys, x, y, &mut self.store)?;
+        let home = self.node.home();
+        self.node = DroneNode::start(alloc, key, sys, home.x, home.y, &mut self.store)?;
         Ok(())
     }
 

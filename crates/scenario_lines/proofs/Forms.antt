@@ -7,12 +7,12 @@ use Rattle.plan_items.specs.declared.kinds.PlanKind.{PlanKind}
 use Rattle.scenario_lines.specs.declared.faults.Reason.{Reason}
 use Rattle.scenario_lines.specs.declared.faults.Reason.TheVariants.{Count, Number, Kind as KindReason, Hex, Twice, Range, Draft, Clock as ClockReason}
 use Rattle.scenario_lines.specs.declared.lines.Line.{Line}
-use Rattle.scenario_lines.specs.declared.lines.Line.TheVariants.{Drone, Station, Item as OneItem, Items, Begin, Cancel, Clear, Get, Command, Params, Heartbeat, Deliver, Flow, Noise, Tick, Clock, Restart}
+use Rattle.scenario_lines.specs.declared.lines.Line.TheVariants.{Drone, Station, Item as OneItem, Items, Begin, Cancel, Clear, Get, Command, Params, Heartbeat, Deliver, Flow, Noise, Tick, Clock, Restart, Sim, WhereIs}
 use Rattle.scenario_lines.specs.Words.{word_at, number_in, integer_of, wire_word, bytes_word, name_of_word}
 use Rattle.scenario_lines.specs.LineContext.{LineContext, drone_name, has_name, has_drone, has_station}
-use Rattle.scenario_lines.specs.Grammar.{first_reason, against, whole_at, signed_at, wire_at, name_at, kind_at, kind_or_all_at, bytes_at, kind_word, kind_or_all, most_whole, most_draft, most_clock}
+use Rattle.scenario_lines.specs.Grammar.{first_reason, against, whole_at, signed_at, wire_at, name_at, kind_at, kind_or_all_at, bytes_at, kind_word, kind_or_all, most_whole, most_sim_ticks, most_draft, most_clock}
 use Rattle.scenario_lines.specs.Reasons.{state_reason, leaves_range}
-use Rattle.scenario_lines.specs.Readings.{answered, reading, of_words, read_drone, read_station, read_one_item, read_items, read_empty, read_begin, read_cancel, read_clear, read_get, read_command, read_params, read_heartbeat, read_deliver, read_flow, read_noise, read_tick, read_clock, read_restart}
+use Rattle.scenario_lines.specs.Readings.{answered, reading, of_words, read_drone, read_station, read_one_item, read_items, read_empty, read_begin, read_cancel, read_clear, read_get, read_command, read_params, read_heartbeat, read_deliver, read_flow, read_noise, read_tick, read_clock, read_restart, read_sim, read_where}
 use Rattle.scenario_lines.proofs.ReadWords.{first, step, named_step, the_value, number_wider, too_few, too_many, enough}
 use Rattle.scenario_lines.proofs.ReadItems.{item-reads, item_said}
 
@@ -270,6 +270,25 @@ restart_at s ws =
     (named_step (has_drone s.nodes) (name_of_word (word_at (codes "restart" ∷ ws) 1)) None None _ _ (λ drone is_drone.
     ap (λ name. Ok (Restart name)) (sym (the_value _ _ drone is_drone))))
 
+-- sim DRONE N
+sim_said : (words : List (List ℕ)) (drone : Name) (n : ℕ) → name_at words 1 ≡ drone → whole_at words 2 ≡ n
+    → answered None (Sim drone n) ≡ answered None (Sim (name_at words 1) (whole_at words 2))
+sim_said words drone n e0 e1 = rw (← e0, ← e1) refl
+
+sim_at : (s : LineContext) (ws : List (List ℕ)) → reading s (codes "sim" ∷ ws) ≡ read_sim s.nodes (codes "sim" ∷ ws)
+sim_at s ws =
+    counted_first 3 (codes "sim" ∷ ws) _ _ _
+    (named_step (has_drone s.nodes) (name_of_word (word_at (codes "sim" ∷ ws) 1)) _ None _ _ (λ drone is_drone.
+    step (number_in 1 most_sim_ticks (word_at (codes "sim" ∷ ws) 2)) None None Number _ _ (λ n is_n.
+    sim_said (codes "sim" ∷ ws) drone n (the_value _ _ drone is_drone) (number_wider 1 most_sim_ticks n (word_at (codes "sim" ∷ ws) 2) (lit≤ tt) is_n))))
+
+-- where DRONE
+where_at : (s : LineContext) (ws : List (List ℕ)) → reading s (codes "where" ∷ ws) ≡ read_where s.nodes (codes "where" ∷ ws)
+where_at s ws =
+    counted_first 2 (codes "where" ∷ ws) _ _ _
+    (named_step (has_drone s.nodes) (name_of_word (word_at (codes "where" ∷ ws) 1)) None None _ _ (λ drone is_drone.
+    ap (λ name. Ok (WhereIs name)) (sym (the_value _ _ drone is_drone))))
+
 -- words of which the first is given
 pub starts : (P : List (List ℕ) → Type 0) (b : ℕ) (bs : List ℕ) → ((ws : List (List ℕ)) → P ((b ∷ bs) ∷ ws)) → (words : List (List ℕ)) → word_at words 0 ≡ b ∷ bs → P words
 starts P b bs h [] e = cc
@@ -328,3 +347,9 @@ clock_reads s words e = starts (λ ws. reading s ws ≡ read_clock s.clock ws) _
 
 pub restart_reads : (s : LineContext) (words : List (List ℕ)) → word_at words 0 ≡ codes "restart" → reading s words ≡ read_restart s.nodes words
 restart_reads s words e = starts (λ ws. reading s ws ≡ read_restart s.nodes ws) _ _ (restart_at s) words e
+
+pub sim_reads : (s : LineContext) (words : List (List ℕ)) → word_at words 0 ≡ codes "sim" → reading s words ≡ read_sim s.nodes words
+sim_reads s words e = starts (λ ws. reading s ws ≡ read_sim s.nodes ws) _ _ (sim_at s) words e
+
+pub where_reads : (s : LineContext) (words : List (List ℕ)) → word_at words 0 ≡ codes "where" → reading s words ≡ read_where s.nodes words
+where_reads s words e = starts (λ ws. reading s ws ≡ read_where s.nodes ws) _ _ (where_at s) words e

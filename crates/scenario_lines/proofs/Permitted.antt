@@ -1,5 +1,5 @@
 -- A line that has no reason against it is one that the world may be asked to do.
-use Rattle.std.proofs.Common.{◌≡◌, ℕ, ◌≤◌, ◌<◌, ◌&&◌, ◌||◌, not, Bool, true, false, IsTrue, cond, if◌then◌else◌, List, [], ◌∷◌, ◌++◌, length, codes, refl, arith, lit≤, leb, nat_lt, Option, Some, None, Result, Ok, Err, is_some, unwrap_or}
+use Rattle.std.proofs.Common.{◌≡◌, ℕ, ◌≤◌, ◌<◌, ◌&&◌, not, Bool, true, false, IsTrue, cond, if◌then◌else◌, List, [], ◌∷◌, ◌++◌, length, codes, refl, arith, lit≤, leb, nat_lt, Option, Some, None, Result, Ok, Err, is_some, unwrap_or}
 use Rattle.std.specs.Str.{bytes_eq}
 use Rattle.std.specs.Result.{result_ok}
 use Rattle.std.proofs.lemmas.Bool.{and_parts, leb-true, ltb-true}
@@ -12,8 +12,8 @@ use Rattle.scenario_lines.specs.declared.lines.Line.{Line}
 use Rattle.scenario_lines.specs.declared.lines.Line.TheVariants.{Blank}
 use Rattle.scenario_lines.specs.Words.{words_of, word_at, is_numeral, digits_value, number_in, name_of_word}
 use Rattle.scenario_lines.specs.LineContext.{LineContext, has_name, has_drone, has_station}
-use Rattle.scenario_lines.specs.Grammar.{Form, form, Argument, Whole, Signed, Wire, A_station, A_drone, A_node, A_kind, A_kind_or_all, Digits, form_of, counts, arguments_at, misfit, known, item_words, first_reason, line_from, line_of, is_blank, most_whole, most_line_bytes, whole_at, name_at, bytes_at, no_name}
-use Rattle.scenario_lines.specs.Reasons.{state_reason, words_reason, reason_against, is_unbuilt}
+use Rattle.scenario_lines.specs.Grammar.{Form, form, Argument, Whole, Signed, Wire, A_station, A_drone, A_node, A_kind, A_kind_or_all, Digits, form_of, counts, arguments_at, misfit, known, item_words, first_reason, line_from, line_of, is_blank, most_whole, most_sim_ticks, most_line_bytes, whole_at, name_at, bytes_at, no_name}
+use Rattle.scenario_lines.specs.Reasons.{state_reason, words_reason, reason_against}
 use Rattle.scenario_lines.specs.Permits.{IsInRange, IsPermitted}
 use Rattle.scenario_lines.proofs.ReadWords.{number_wider}
 
@@ -31,8 +31,7 @@ neither (Some r) n h = cc
 fitted : (s : LineContext) (words : List (List ℕ)) (f : Form) → words_reason s words (Some f) ≡ None
     → (misfit s.nodes (arguments_at f (length words)) words 1 ≡ None) × (state_reason s (line_from words) ≡ None)
 fitted s words f h =
-    let built = no_first (is_unbuilt (word_at words 0)) _ _ h in
-    let counted = no_first (not (counts f (length words))) _ _ built.1 in
+    let counted = no_first (not (counts f (length words))) _ _ h in
     neither _ _ counted.1
 
 no_state_reason : (s : LineContext) (words : List (List ℕ)) (form : Option Form) → words_reason s words form ≡ None → state_reason s (line_from words) ≡ None
@@ -90,20 +89,6 @@ bytes_some word false is h = cc
 choose : {A B : Type 0} (P : A → B → Type 0) (b : Bool) (x y : A) (u v : B) → P x u → P y v → P (if b then x else y) (if b then u else v)
 choose P true x y u v f g = f
 choose P false x y u v f g = g
-
--- a form that no line goes with, since its line isn't built
-unbuilt : {A B : Type 0} (P : A → B → Type 0) (b : Bool) (x y : A) (v : B) → (b ≡ true → P x v) → P y v → P (if b then x else y) v
-unbuilt P true x y v f g = f refl
-unbuilt P false x y v f g = g
-
--- the second of two tests holds
-second : (a : Bool) → (a || true) ≡ true
-second true = refl
-second false = refl
-
-no_line : (s : LineContext) (words : List (List ℕ)) (args : List Argument) (P : Type 0) → is_unbuilt (word_at words 0) ≡ true
-    → words_reason s words (form args) ≡ None → P
-no_line s words args P is h = let built = no_first (is_unbuilt (word_at words 0)) _ _ h in cc
 
 abbrev Ranged : LineContext → List (List ℕ) → Option Form → Line → Type 0
 Ranged s words form line = words_reason s words form ≡ None → IsInRange s line
@@ -171,6 +156,13 @@ noise_ranged s words h =
     let bytes = fits_first _ _ _ node.1 in
     (node.0, bytes_some (word_at words 2) (nat_lt 0 (length (word_at words 2))) refl bytes.0)
 
+sim_ranged : (s : LineContext) (words : List (List ℕ)) → words_reason s words (form (A_drone ∷ Whole 1 most_sim_ticks ∷ [])) ≡ None
+    → IsTrue (has_drone s.nodes (name_at words 1)) × (1 ≤ whole_at words 2) × (whole_at words 2 ≤ most_sim_ticks)
+sim_ranged s words h =
+    let drone = drone_named s words (Whole 1 most_sim_ticks ∷ []) h in
+    let ticks = whole_bounds 1 most_sim_ticks words 2 (lit≤ tt) (fits_first _ _ _ drone.1).0 in
+    (drone.0, ticks.0, ticks.1)
+
 in_range : (s : LineContext) (words : List (List ℕ)) → words_reason s words (form_of (word_at words 0)) ≡ None → IsInRange s (line_from words)
 in_range s words =
     let w = word_at words 0 in
@@ -192,8 +184,8 @@ in_range s words =
     (choose (Ranged s words) (bytes_eq w (codes "tick")) _ _ _ _ (λ h. (node_named s words [] h).0)
     (choose (Ranged s words) (bytes_eq w (codes "clock")) _ _ _ _ (λ h. tt)
     (choose (Ranged s words) (bytes_eq w (codes "restart")) _ _ _ _ (λ h. (drone_named s words [] h).0)
-    (unbuilt (Ranged s words) (bytes_eq w (codes "sim")) _ _ Blank (λ is h. no_line s words (A_drone ∷ Whole 1 10000 ∷ []) _ (rw is refl) h)
-    (unbuilt (Ranged s words) (bytes_eq w (codes "where")) _ _ Blank (λ is h. no_line s words (A_drone ∷ []) _ (rw is (second (bytes_eq w (codes "sim")))) h)
+    (choose (Ranged s words) (bytes_eq w (codes "sim")) _ _ _ _ (sim_ranged s words)
+    (choose (Ranged s words) (bytes_eq w (codes "where")) _ _ _ _ (λ h. (drone_named s words [] h).0)
     (λ h. tt))))))))))))))))))))
 
 words_permitted : (s : LineContext) (words : List (List ℕ)) → words_reason s words (form_of (word_at words 0)) ≡ None → IsPermitted s (line_from words)

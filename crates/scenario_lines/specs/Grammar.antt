@@ -9,7 +9,7 @@ use Rattle.plan_items.specs.declared.kinds.PlanKind.TheVariants.{Mission, Fence,
 use Rattle.scenario_lines.specs.declared.faults.Reason.{Reason}
 use Rattle.scenario_lines.specs.declared.faults.Reason.TheVariants.{Number, Node as NodeReason, Kind as KindReason, Hex}
 use Rattle.scenario_lines.specs.declared.lines.Line.{Line}
-use Rattle.scenario_lines.specs.declared.lines.Line.TheVariants.{Blank, Drone, Station, Item as OneItem, Items, Empty, Begin, Cancel, Clear, Get, Command, Params, Heartbeat, Deliver, Flow, Noise, Tick, Clock, Restart}
+use Rattle.scenario_lines.specs.declared.lines.Line.TheVariants.{Blank, Drone, Station, Item as OneItem, Items, Empty, Begin, Cancel, Clear, Get, Command, Params, Heartbeat, Deliver, Flow, Noise, Tick, Clock, Restart, Sim, WhereIs}
 use Rattle.scenario_lines.specs.declared.roster.Named.{Named}
 use Rattle.scenario_lines.specs.Words.{words_of, word_at, number_in, integer_of, wire_word, bytes_word, name_of_word}
 use Rattle.scenario_lines.specs.LineContext.{has_name, has_drone, has_station}
@@ -36,6 +36,10 @@ form needed = Some (record { needed = needed; further = [] })
 
 abbrev pub most_whole : ℕ
 most_whole = 2 ^ 64 - 1
+
+-- the most simulator ticks of one line
+abbrev pub most_sim_ticks : ℕ
+most_sim_ticks = 10000
 
 -- Z, P1, P2, P3 and P4 of an item
 abbrev pub item_words : List (List Argument)
@@ -83,7 +87,7 @@ form_of word =
     -- restart DRONE
     else if bytes_eq word (codes "restart") then form (A_drone ∷ [])
     -- sim DRONE N
-    else if bytes_eq word (codes "sim") then form (A_drone ∷ Whole 1 10000 ∷ [])
+    else if bytes_eq word (codes "sim") then form (A_drone ∷ Whole 1 most_sim_ticks ∷ [])
     -- where DRONE
     else if bytes_eq word (codes "where") then form (A_drone ∷ [])
     else None
@@ -197,7 +201,7 @@ kind_or_all_at words k = unwrap_or (kind_or_all (word_at words k)) None
 abbrev pub bytes_at : List (List ℕ) → ℕ → List ℕ
 bytes_at words k = unwrap_or (bytes_word (word_at words k)) []
 
--- what a line says, for the lines that are built
+-- what a line says
 abbrev pub line_from : List (List ℕ) → Line
 line_from words =
     let first = word_at words 0 in
@@ -219,6 +223,8 @@ line_from words =
     else if bytes_eq first (codes "tick") then Tick (name_at words 1)
     else if bytes_eq first (codes "clock") then Clock (whole_at words 1)
     else if bytes_eq first (codes "restart") then Restart (name_at words 1)
+    else if bytes_eq first (codes "sim") then Sim (name_at words 1) (whole_at words 2)
+    else if bytes_eq first (codes "where") then WhereIs (name_at words 1)
     else Blank
 
 -- an empty line, or a comment

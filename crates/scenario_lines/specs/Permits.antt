@@ -2,8 +2,9 @@
 -- nothing known of the world against them.
 use Rattle.std.specs.Prelude.{◌≡◌, ◌≤◌, IsTrue, None, length}
 use Rattle.scenario_lines.specs.declared.lines.Line.{Line}
-use Rattle.scenario_lines.specs.declared.lines.Line.TheVariants.{Blank, Drone, Station, Item as OneItem, Items, Empty, Begin, Cancel, Clear, Get, Command, Params, Heartbeat, Deliver, Flow, Noise, Tick, Clock, Restart}
+use Rattle.scenario_lines.specs.declared.lines.Line.TheVariants.{Blank, Drone, Station, Item as OneItem, Items, Empty, Begin, Cancel, Clear, Get, Command, Params, Heartbeat, Deliver, Flow, Noise, Tick, Clock, Restart, Sim, WhereIs}
 use Rattle.scenario_lines.specs.LineContext.{LineContext, has_name, has_drone, has_station}
+use Rattle.scenario_lines.specs.Grammar.{most_sim_ticks}
 use Rattle.scenario_lines.specs.Reasons.{state_reason}
 
 -- the ranges of a line's numbers, and its names
@@ -27,6 +28,8 @@ IsInRange s (Noise node bytes) = IsTrue (has_name s.nodes node) × (1 ≤ length
 IsInRange s (Tick node) = IsTrue (has_name s.nodes node)
 IsInRange s (Clock n) = Unit {0}
 IsInRange s (Restart drone) = IsTrue (has_drone s.nodes drone)
+IsInRange s (Sim drone n) = IsTrue (has_drone s.nodes drone) × (1 ≤ n) × (n ≤ most_sim_ticks)
+IsInRange s (WhereIs drone) = IsTrue (has_drone s.nodes drone)
 
 abbrev pub IsPermitted : LineContext → Line → Type 0
 IsPermitted s line = IsInRange s line × (state_reason s line ≡ None)
@@ -52,3 +55,5 @@ IsOfItems (Noise node bytes) = ⊥
 IsOfItems (Tick node) = ⊥
 IsOfItems (Clock n) = ⊥
 IsOfItems (Restart drone) = ⊥
+IsOfItems (Sim drone n) = ⊥
+IsOfItems (WhereIs drone) = ⊥

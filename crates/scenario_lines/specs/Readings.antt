@@ -10,11 +10,11 @@ use Rattle.scenario_lines.specs.declared.faults.Reason.TheVariants.{Count, Numbe
 use Rattle.scenario_lines.specs.declared.faults.LineFault.{LineFault}
 use Rattle.scenario_lines.specs.declared.faults.LineFault.TheVariants.{Bad, NoMemory}
 use Rattle.scenario_lines.specs.declared.lines.Line.{Line}
-use Rattle.scenario_lines.specs.declared.lines.Line.TheVariants.{Drone, Station, Item as OneItem, Items, Empty, Begin, Cancel, Clear, Get, Command, Params, Heartbeat, Deliver, Flow, Noise, Tick, Clock, Restart}
+use Rattle.scenario_lines.specs.declared.lines.Line.TheVariants.{Drone, Station, Item as OneItem, Items, Empty, Begin, Cancel, Clear, Get, Command, Params, Heartbeat, Deliver, Flow, Noise, Tick, Clock, Restart, Sim, WhereIs}
 use Rattle.scenario_lines.specs.declared.roster.Named.{Named}
 use Rattle.scenario_lines.specs.Words.{word_at, number_in, integer_of, wire_word, bytes_word, name_of_word}
 use Rattle.scenario_lines.specs.LineContext.{LineContext, drone_name, has_name, has_drone, has_station}
-use Rattle.scenario_lines.specs.Grammar.{form_of, kind_word, kind_or_all, line_from, most_whole, most_draft, most_clock}
+use Rattle.scenario_lines.specs.Grammar.{form_of, kind_word, kind_or_all, line_from, most_whole, most_sim_ticks, most_draft, most_clock}
 use Rattle.scenario_lines.specs.Reasons.{leaves_range, words_reason, item_words_reason}
 
 -- a value, unless there is a reason against it
@@ -206,6 +206,16 @@ read_clock clock words =
 
 abbrev pub read_restart : List Named → List (List ℕ) → Result Line Reason
 read_restart nodes words = of_words 2 words (and_then (named (has_drone nodes) words 1) (λ drone. Ok (Restart drone)))
+
+abbrev pub read_sim : List Named → List (List ℕ) → Result Line Reason
+read_sim nodes words =
+    of_words 3 words
+    (and_then (named (has_drone nodes) words 1) (λ drone.
+    and_then (whole words 2 1 most_sim_ticks) (λ n.
+    Ok (Sim drone n))))
+
+abbrev pub read_where : List Named → List (List ℕ) → Result Line Reason
+read_where nodes words = of_words 2 words (and_then (named (has_drone nodes) words 1) (λ drone. Ok (WhereIs drone)))
 
 -- what is read of the words of a line of items
 abbrev pub reading_items : ℕ → List (List ℕ) → Result Line Reason

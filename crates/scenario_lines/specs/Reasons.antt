@@ -3,16 +3,12 @@ use Rattle.std.specs.Prelude.{ℕ, ℤ, pos, negsuc, ◌+◌, ◌-◌, ◌^◌, 
 use Rattle.std.specs.Str.{bytes_eq}
 use Rattle.plan_items.specs.declared.items.Item.{Item}
 use Rattle.scenario_lines.specs.declared.faults.Reason.{Reason}
-use Rattle.scenario_lines.specs.declared.faults.Reason.TheVariants.{Long, Word, Later, Count, Twice, Range, Draft, Clock as ClockReason}
+use Rattle.scenario_lines.specs.declared.faults.Reason.TheVariants.{Long, Word, Count, Twice, Range, Draft, Clock as ClockReason}
 use Rattle.scenario_lines.specs.declared.lines.Line.{Line}
-use Rattle.scenario_lines.specs.declared.lines.Line.TheVariants.{Blank, Drone, Station, Item as OneItem, Items, Empty, Begin, Cancel, Clear, Get, Command, Params, Heartbeat, Deliver, Flow, Noise, Tick, Clock, Restart}
+use Rattle.scenario_lines.specs.declared.lines.Line.TheVariants.{Blank, Drone, Station, Item as OneItem, Items, Empty, Begin, Cancel, Clear, Get, Command, Params, Heartbeat, Deliver, Flow, Noise, Tick, Clock, Restart, Sim, WhereIs}
 use Rattle.scenario_lines.specs.Words.{words_of, word_at}
 use Rattle.scenario_lines.specs.LineContext.{LineContext, context_of, drone_name, has_name}
 use Rattle.scenario_lines.specs.Grammar.{Form, form_of, counts, arguments_at, misfit, first_reason, against, line_from, is_blank, most_line_bytes, most_draft, most_clock}
-
--- the first words of lines that aren't built yet
-abbrev pub is_unbuilt : List ℕ → Bool
-is_unbuilt word = bytes_eq word (codes "sim") || bytes_eq word (codes "where")
 
 -- the last of n items, x apart by one, leaves 32 bits
 abbrev pub is_too_great : ℤ → Bool
@@ -44,12 +40,13 @@ state_reason s (Noise node bytes) = None
 state_reason s (Tick node) = None
 state_reason s (Clock n) = against (nat_lt most_clock (s.clock + n)) ClockReason
 state_reason s (Restart drone) = None
+state_reason s (Sim drone n) = None
+state_reason s (WhereIs drone) = None
 
 abbrev pub words_reason : LineContext → List (List ℕ) → Option Form → Option Reason
 words_reason s words None = Some Word
 words_reason s words (Some f) =
-    if is_unbuilt (word_at words 0) then Some Later
-    else if not (counts f (length words)) then Some Count
+    if not (counts f (length words)) then Some Count
     else first_reason (misfit s.nodes (arguments_at f (length words)) words 1) (state_reason s (line_from words))
 
 -- the first reason against a line

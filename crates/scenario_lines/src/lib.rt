@@ -8,6 +8,7 @@
 mod arguments;
 mod delivery_lines;
 mod faults;
+mod flight_lines;
 mod items;
 mod laws;
 mod lines;

@@ -94,4 +94,13 @@ pub enum Line {
     Restart {
         drone: Name,
     },
+    /// `n` ticks of the drone's simulator.
+    Sim {
+        drone: Name,
+        n: u64,
+    },
+    /// The report says where the drone is.
+    WhereIs {
+        drone: Name,
+    },
 }

@@ -5,13 +5,14 @@ ghost use Rattle.scenario_lines.specs.Words.{word_at};
 ghost use Rattle.scenario_lines.specs.LineContext.{context_of};
 ghost use Rattle.scenario_lines.specs.Faults.{IfBad};
 ghost use Rattle.scenario_lines.specs.Grammar.{is_blank, line_of};
-ghost use Rattle.scenario_lines.specs.Reasons.{is_unbuilt, reason_against, item_reason_against};
+ghost use Rattle.scenario_lines.specs.Reasons.{reason_against, item_reason_against};
 ghost use Rattle.scenario_lines.specs.Readings.{Says, reading, reading_items};
 ghost use Rattle.scenario_lines.specs.Permits.{IsPermitted, IsOfItems};
 
 use crate::delivery_lines::{
     read_clock, read_deliver, read_flow, read_heartbeat, read_noise, read_restart, read_tick,
 };
+use crate::flight_lines::{read_sim, read_where};
 use crate::items::{read_item, read_items};
 use crate::name_words::is_word;
 use crate::nodes::{read_drone, read_station};
@@ -33,13 +34,6 @@ fn is_blank(text: &[u8]) -> bool
         [] => true,
         [first, ..] => *first == b'#',
     }
-}
-
-/// The first word of a line that isn't built yet.
-fn is_unbuilt(word: &[u8]) -> bool
-    ensures { result ≡ is_unbuilt word.now }
-{
-    is_word(word, "sim") || is_word(word, "where")
 }
 
 /// The line of some words but `noise`.
@@ -65,7 +59,8 @@ fn read_words(roster: &Roster, drafted: usize, clock: u64, words: &Words) -> Res
         first if is_word(first, "tick") => read_tick(roster, words),
         first if is_word(first, "clock") => read_clock(clock, words),
         first if is_word(first, "restart") => read_restart(roster, words),
-        first if is_unbuilt(first) => Err(Reason::Later),
+        first if is_word(first, "sim") => read_sim(roster, words),
+        first if is_word(first, "where") => read_where(roster, words),
         _ => Err(Reason::Word),
     }
 }

@@ -1,8 +1,8 @@
 -- Each form, read word by word, is what the grammar says of its first word.
 use Rattle.std.proofs.Common.{sym, ◌∙◌}
 use Rattle.scenario_lines.specs.LineContext.{context_of}
-use Rattle.scenario_lines.proofs.Forms.{drone_reads, station_reads, item_reads, items_reads, empty_reads, begin_reads, cancel_reads, clear_reads, get_reads, command_reads, params_reads, heartbeat_reads, deliver_reads, flow_reads, tick_reads, clock_reads, restart_reads}
-use Rattle.scenario_lines.proofs.FirstWords.{spelled, unbuilt_reads}
+use Rattle.scenario_lines.proofs.Forms.{drone_reads, station_reads, item_reads, items_reads, empty_reads, begin_reads, cancel_reads, clear_reads, get_reads, command_reads, params_reads, heartbeat_reads, deliver_reads, flow_reads, tick_reads, clock_reads, restart_reads, sim_reads, where_reads}
+use Rattle.scenario_lines.proofs.FirstWords.{spelled}
 use Rattle.scenario_lines.proofs.reading.read_words.Goals as goal
 
 pub returns-then-is_word : goal.returns-then-is_word
@@ -90,5 +90,12 @@ returns-then-is_word-17 c =
     c.read_restart.ensures
     ∙ sym (restart_reads (context_of c.args.roster.now c.args.drafted c.args.clock) c.args.words.now (sym c.at-first.ensures ∙ spelled _ _ c.if-is_word-17.ensures))
 
-pub returns-then-is_unbuilt : goal.returns-then-is_unbuilt
-returns-then-is_unbuilt c = sym (unbuilt_reads (context_of c.args.roster.now c.args.drafted c.args.clock) c.args.words.now _ c.at-first.ensures c.if-is_unbuilt.ensures)
+pub returns-then-is_word-18 : goal.returns-then-is_word-18
+returns-then-is_word-18 c =
+    c.read_sim.ensures
+    ∙ sym (sim_reads (context_of c.args.roster.now c.args.drafted c.args.clock) c.args.words.now (sym c.at-first.ensures ∙ spelled _ _ c.if-is_word-18.ensures))
+
+pub returns-then-is_word-19 : goal.returns-then-is_word-19
+returns-then-is_word-19 c =
+    c.read_where.ensures
+    ∙ sym (where_reads (context_of c.args.roster.now c.args.drafted c.args.clock) c.args.words.now (sym c.at-first.ensures ∙ spelled _ _ c.if-is_word-19.ensures))

@@ -3,7 +3,7 @@ use Rattle.std.specs.Prelude.{FitsSigned}
 use Rattle.std.specs.Int.{cast_signed, cast_unsigned}
 use Rattle.std.proofs.lemmas.Int.{to_z-of_z}
 use Rattle.plan_upload.specs.Drone.{DroneState}
-use Rattle.mav_nodes.specs.Services.{Home}
+use Rattle.drone_sim.specs.declared.points.Point.{Point}
 use Rattle.mav_nodes.specs.Starts.{StartedFrom}
 use Rattle.fleet_world.specs.StoredDrones.{IsStoredDrone}
 use Rattle.fleet_world.proofs.Restarting.{starts_stored}
@@ -12,10 +12,10 @@ use Rattle.fleet_world.proofs.stored_drone.StoredDrone.start_again.Goals as goal
 pub returns-clause-done : goal.returns-clause-done
 returns-clause-done c = λ node is.
     let seen = subst (IsStoredDrone node) (sym c.self.view_is) is in
-    let x_fits : FitsSigned w32 c.home-x.result.0 = search rules in
-    let y_fits : FitsSigned w32 c.home-x.result.1 = search rules in
-    let x = to_z-of_z w32 c.home-x.result.0 x_fits ∙ c.home-x.ensures.x in
-    let y = to_z-of_z w32 c.home-x.result.1 y_fits ∙ c.home-x.ensures.y in
+    let x_fits : FitsSigned w32 c.home-home.result.x = search rules in
+    let y_fits : FitsSigned w32 c.home-home.result.y = search rules in
+    let x = to_z-of_z w32 c.home-home.result.x x_fits ∙ ap (λ (p : Point). p.x) c.home-home.ensures in
+    let y = to_z-of_z w32 c.home-home.result.y y_fits ∙ ap (λ (p : Point). p.y) c.home-home.ensures in
     starts_stored c.args.key (record { node = c.self.inside.node; store = c.self.inside.store }) c.in_ok-self-inside.field-0 c.start.new.keeper c.start.ensures.stays (c.start.ensures.serves.infallible seen.infallible) node seen
-    (subst (λ (home : Home). StartedFrom c.args.key c.self.inside.node.drone.sys home c.self.inside.store.contents c.in_ok-self-inside.field-0) (λ i. record { x = x i; y = y i })
-    (subst (λ (sys : ℕ). StartedFrom c.args.key sys (record { x = cast_signed w32 (cast_unsigned w32 c.home-x.result.0); y = cast_signed w32 (cast_unsigned w32 c.home-x.result.1) }) c.self.inside.store.contents c.in_ok-self-inside.field-0) (c.sys-sys.ensures ∙ ap (λ (d : DroneState). d.sys) c.plans.ensures) c.in_ok-self-inside.ensures.from))
+    (subst (λ (home : Point). StartedFrom c.args.key c.self.inside.node.drone.sys home c.self.inside.store.contents c.in_ok-self-inside.field-0) (λ i. record { x = x i; y = y i })
+    (subst (λ (sys : ℕ). StartedFrom c.args.key sys (record { x = cast_signed w32 (cast_unsigned w32 c.home-home.result.x); y = cast_signed w32 (cast_unsigned w32 c.home-home.result.y) }) c.self.inside.store.contents c.in_ok-self-inside.field-0) (c.sys-sys.ensures ∙ ap (λ (d : DroneState). d.sys) c.plans.ensures) c.in_ok-self-inside.ensures.from))
