@@ -22,18 +22,20 @@ use Rattle.mav_sign.specs.Signing.{Verifies, signature_of}
 use Rattle.mav_sign.specs.Endpoints.{frames_of}
 use Rattle.command_proto.specs.declared.executor.Ready.{Ready}
 use Rattle.command_proto.specs.Executor.{ExecutorState, new_executor}
+use Rattle.drone_sim.specs.Sim.{armed, sim_tick}
 use Rattle.mav_nodes.specs.News.{Drops}
 use Rattle.mav_nodes.specs.Links.{Link, sends, sends_all}
 use Rattle.mav_nodes.specs.Payloads.{plan_in, service_in}
-use Rattle.mav_nodes.specs.Services.{ServiceStep, DroneServices, ready_of, drone_serves}
+use Rattle.mav_nodes.specs.Services.{ServiceStep, DroneServices, ready_of, drone_serves, drone_notes, sim_step, drone_flies}
 use Rattle.mav_nodes.specs.Steps.{CoreStep, answers, steps, serves, takes, admits, hears, hears_all}
-use Rattle.mav_nodes.specs.Nodes.{DroneSide, drone_rules, drone_core, drone_receives, drone_waits, drone_ticks, drone_beats, drone_heartbeat, change_events}
+use Rattle.mav_nodes.specs.Nodes.{DroneSide, drone_rules, drone_core, drone_receives, drone_waits, drone_ticks, drone_beats, drone_heartbeat, change_events, drone_sims}
 use Rattle.mav_nodes.specs.Restarts.{started_again, restarted_drone, drone_restarts}
 use Rattle.mav_nodes.specs.LowBounds.{stored_low}
 use Rattle.fleet_world.specs.WorldState.{WorldState}
 use Rattle.fleet_invariants.specs.Sound.{IsSent}
 use Rattle.fleet_invariants.specs.Kept.{IsAmong, Known}
-use Rattle.fleet_invariants.proofs.Hearing.{KnownFrames}
+use Rattle.fleet_commands.proofs.Since.{noted_executor}
+use Rattle.fleet_invariants.proofs.Hearing.{KnownFrames, flown_silent}
 use Rattle.fleet_invariants.proofs.Doing.{known_frames}
 use Rattle.mav_profile.specs.Messages.{extras_of}
 use Rattle.mav_profile.specs.Profile.{profile_definitions}
@@ -222,7 +224,9 @@ module _ (s : WorldState) (me : Stream) (sent : (p : Packet) → IsAmong s.sent 
       taking from None (Some m) k = serving (after Admitted).link n.core ps (drone_serves n.core n.services from m) tt k
       taking from (Some m) service k =
           let step = drone_step true n.core from m in
-          stepping (after Admitted).link n.services ps (drone_core n.core from m) (changes_silent from step.drone.plans (change_by step.event)) tt k
+          let services = drone_notes n.services (drone_core n.core from m).first in
+          stepping (after Admitted).link services ps (drone_core n.core from m) (changes_silent from step.drone.plans (change_by step.event)) tt
+          (subst (λ (e : ExecutorState). LinkTells e (after Admitted).link ps) (sym (noted_executor n.services (drone_core n.core from m).first)) k)
 
       of_block : (block : Option SignatureBlock) → LinkTells (hears_frame n.services.executor (ready_of n.core n.services) p block).executor (after Admitted).link ps → Goes DroneTells ps (admits drone_rules clock (after Admitted) p Admitted block)
       of_block None k = goes_still DroneTells ps (after Admitted) (Drops Admitted ∷ []) tt k
@@ -259,10 +263,15 @@ module _ (s : WorldState) (me : Stream) (sent : (p : Packet) → IsAmong s.sent 
       pub drone_ticking : Goes DroneTells [] (drone_ticks clock n)
       drone_ticking = stepping n.link n.services [] (drone_waits (drone_tick n.core)) tt tt h
 
+      pub drone_simming : Goes DroneTells [] (drone_sims clock n)
+      drone_simming =
+          let tick = sim_tick n.services.sim n.core.plans.mission (sim_step n.services.server) in
+          serving n.link n.core [] (drone_flies n.core n.services) (flown_silent tick.reached tick.captured tick.sim.captures) h
+
       pub drone_beating : Goes DroneTells [] (drone_beats clock n)
       drone_beating =
-          goes_core DroneTells n.core n.services (LinkTells n.services.executor) [] [] (sends clock (drone_heartbeat n.services.armed) n.link) (λ l qs k. k) tt
-          (goes_sends (LinkTells n.services.executor) clock (drone_heartbeat n.services.armed) n.link [] (steady n.services.executor (drone_heartbeat n.services.armed) n.link [] tt h))
+          goes_core DroneTells n.core n.services (LinkTells n.services.executor) [] [] (sends clock (drone_heartbeat (armed n.services.sim)) n.link) (λ l qs k. k) tt
+          (goes_sends (LinkTells n.services.executor) clock (drone_heartbeat (armed n.services.sim)) n.link [] (steady n.services.executor (drone_heartbeat (armed n.services.sim)) n.link [] tt h))
 
 -- ---- a drone that starts again
 
@@ -270,7 +279,7 @@ module _ (s : WorldState) (sent : (p : Packet) → IsAmong s.sent p → IsSent s
   abbrev mine : Stream
   mine = record { sys = n.core.sys; comp = 1; link = 0 }
 
-  starts_by : (low : Option ℕ) → DroneTells s mine sent (started_again s.key n.core.sys n.services.home low n.core.plans) []
+  starts_by : (low : Option ℕ) → DroneTells s mine sent (started_again s.key n.core.sys n.services.sim.home low n.core.plans) []
   starts_by None = record { me_is = refl; key_is = refl; tells = tells_nothing s.sent (node_of mine); own = tt }
   starts_by (Some low) = record { me_is = refl; key_is = refl; tells = tells_start s.sent (node_of mine) low; own = tt }
 

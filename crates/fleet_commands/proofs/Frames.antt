@@ -15,14 +15,14 @@ use Rattle.command_proto.specs.Executor.{ExecutorState, executor_step}
 use Rattle.mav_nodes.specs.News.{Drops}
 use Rattle.mav_nodes.specs.Links.{Done, Outcome, sends_all}
 use Rattle.mav_nodes.specs.Payloads.{plan_in, service_in}
-use Rattle.mav_nodes.specs.Services.{ready_of, drone_serves}
+use Rattle.mav_nodes.specs.Services.{ready_of, drone_serves, drone_notes}
 use Rattle.mav_nodes.specs.Steps.{answers, takes, admits, hears}
 use Rattle.mav_nodes.specs.Nodes.{DroneSide, drone_rules, drone_core}
 use Rattle.fleet_world.specs.Steps.{packets_in}
 use Rattle.fleet_commands.specs.Done.{hears_message, hears_frame, step_at}
 use Rattle.fleet_commands.specs.Since.{GoesOn, EveryFrameHeard}
 use Rattle.fleet_commands.proofs.Outcomes.{Goes, goes_quietly, goes_still, goes_all, goes_answers, goes_core}
-use Rattle.fleet_commands.proofs.Since.{still, LinkOn, Any, steady, all_any, changes_silent}
+use Rattle.fleet_commands.proofs.Since.{still, LinkOn, Any, steady, all_any, changes_silent, noted_executor}
 
 -- after an entry that makes this of the executor
 record Heard (h : List Entry) (e : ExecutorState) (n : DroneSide) (ps : List Packet) : Type 0 where
@@ -53,7 +53,7 @@ module _ (clock : ℕ) (n : DroneSide) (p : Packet) where
       let step = drone_step true n.core from m in
       let core = drone_core n.core from m in
       goes_quietly (So Admitted n.services.executor) [] core.first _ (changes_silent h clock from step.drone.plans (change_by step.event))
-      (goes_core (So Admitted n.services.executor) core.core n.services (LinkOn h clock) core.last [] (answers clock core.answer (after Admitted).link) (λ l qs k. record { history = k; executor = refl }) tt
+      (goes_core (So Admitted n.services.executor) core.core (drone_notes n.services core.first) (LinkOn h clock) core.last [] (answers clock core.answer (after Admitted).link) (λ l qs k. record { history = k; executor = noted_executor n.services core.first }) tt
       (goes_answers (LinkOn h clock) (Any h clock) clock (steady h clock) (λ m. tt) core.answer (after Admitted).link [] (still h)))
 
   of_block : (block : Option SignatureBlock) → Goes (So Admitted (hears_frame n.services.executor ready p block).executor) [] (admits drone_rules clock (after Admitted) p Admitted block)

@@ -9,17 +9,18 @@ use Rattle.fleet_world.specs.WorldState.{WorldState, Node, Drone, Station, named
 use Rattle.mav_nodes.specs.Nodes.{StationSide}
 use Rattle.scenario_lines.specs.declared.roster.Named.{Named}
 use Rattle.scenario_lines.specs.declared.roster.Role.TheVariants.{Drone as DroneRole, Station as StationRole}
-use Rattle.fleet_world.specs.Steps.{Step, StepError, and_then, node_receives, given_to, given_from, given_to_all, flow_next, flows}
+use Rattle.fleet_world.specs.Steps.{Step, StepError, and_then, node_receives, given_to, given_from, given_to_all, flow_next, flows, calls, node_flies, flies}
 use Rattle.fleet_invariants.specs.Sound.{Sound}
 use Rattle.fleet_invariants.specs.Kept.{Kept, StepKeeps, Keeps}
 use Rattle.fleet_invariants.proofs.Lists.{within}
 use Rattle.fleet_invariants.proofs.Tests.{by_test}
 use Rattle.fleet_invariants.proofs.Restated.{regiven}
 use Rattle.fleet_invariants.proofs.Heard.{sent_known}
-use Rattle.fleet_invariants.proofs.Gives.{sound_gives}
+use Rattle.fleet_invariants.proofs.Calls.{sound_does}
+use Rattle.fleet_invariants.proofs.Gives.{sound_gives, sound_calls}
 use Rattle.fleet_commands.specs.Lines.{lines_begun}
 use Rattle.fleet_commands.specs.Accepted.{HasStation}
-use Rattle.fleet_commands.proofs.Worlds.{Commanded, After, Stays, no_line, rests_so, stays_behind, does_so, receives_so}
+use Rattle.fleet_commands.proofs.Worlds.{Commanded, After, Stays, no_line, rests_so, stays_behind, does_so, receives_so, calls_so, flies_so}
 
 record IsStation (n : StationSide) (b : Node) : Type 0 where
   node : StationSide
@@ -80,3 +81,11 @@ flow_goes s g c (Some p) e next each =
 pub flows_so : (k : ℕ) (s : WorldState) (g : Sound s) (c : Commanded s) → Stays s no_line (flows k s)
 flows_so zero s g c = rests_so s c
 flows_so (suc k) s g c = flow_goes s g c (slice_get s.sent s.given) refl (flows k) (λ t h d. flows_so k t h d)
+
+-- ---- a flight
+
+pub flights_so : (n : ℕ) (drone : Name) (s : WorldState) (g : Sound s) (c : Commanded s) → Stays s no_line (flies n drone s)
+flights_so zero drone s g c = rests_so s c
+flights_so (suc n) drone s g c =
+    then_stays s (calls s drone (node_flies s.clock)) (flies n drone) (sound_calls s g (node_flies s.clock) (sound_does s g).flies drone)
+    (calls_so s g c (node_flies s.clock) (flies_so s g c) drone) (λ t h _ d. flights_so n drone t h d)

@@ -19,13 +19,14 @@ use Rattle.mav_nodes.specs.Restarts.{drone_restarts}
 use Rattle.plan_ranges.specs.Ranges.{Is16, Is32, NameInRange, ItemInRange}
 use Rattle.scenario_lines.specs.declared.faults.Reason.{Reason}
 use Rattle.scenario_lines.specs.declared.lines.Line.{Line}
-use Rattle.scenario_lines.specs.declared.lines.Line.TheVariants.{Blank, Drone as DroneLine, Station as StationLine, Item as OneItem, Items, Empty, Begin, Cancel, Clear, Get, Command, Params, Heartbeat, Deliver, Flow, Noise, Tick, Clock, Restart}
+use Rattle.scenario_lines.specs.declared.lines.Line.TheVariants.{Blank, Drone as DroneLine, Station as StationLine, Item as OneItem, Items, Empty, Begin, Cancel, Clear, Get, Command, Params, Heartbeat, Deliver, Flow, Noise, Tick, Clock, Restart, Sim, WhereIs}
 use Rattle.scenario_lines.specs.LineContext.{has_name, has_drone}
 use Rattle.scenario_lines.specs.LineContext as context
 use Rattle.scenario_lines.specs.Grammar.{against}
 use Rattle.scenario_lines.specs.Permits.{IsPermitted}
 use Rattle.fleet_world.specs.WorldState.{WorldState, Node, Drone, Station, node_name, names_of, stream_of, is_station_named, is_drone_named, drones_in, stations_in, context_of}
-use Rattle.fleet_world.specs.Steps.{Step, StepError, most_drones, most_stations, most_restarts, starts_again, restarts_at, restarts_found, restart_line, node_receives, node_beats, node_ticks, node_does, as_station, as_drone, station_line, orders, upload_begins, orders_at, orders_found, orders_to, begins, cancels, clears, gets, asks, command_busy, params_busy, commands, lists_params, delivers, items_from, after_line}
+use Rattle.fleet_world.specs.declared.locations.Location.{Location}
+use Rattle.fleet_world.specs.Steps.{Step, StepError, most_drones, most_stations, most_restarts, starts_again, restarts_at, restarts_found, restart_line, node_receives, node_beats, node_ticks, node_does, as_station, as_drone, station_line, orders, upload_begins, orders_at, orders_found, orders_to, begins, cancels, clears, gets, asks, command_busy, params_busy, commands, lists_params, delivers, items_from, after_line, location_in, locates_as}
 use Rattle.fleet_world.specs.Authentic.{AuthenticLine}
 use Rattle.fleet_invariants.specs.Sound.{link_of, SoundDrone, Sound}
 use Rattle.fleet_invariants.specs.Kept.{LineFits}
@@ -44,7 +45,7 @@ use Rattle.fleet_commands.proofs.Stations.{Voice}
 use Rattle.fleet_commands.proofs.StationCalls.{StationSays, station_beginning, station_cancelling, station_clearing, station_getting, station_commanding, station_listing}
 use Rattle.fleet_commands.proofs.Drones.{Tells, tells_nothing, drone_restarting}
 use Rattle.fleet_commands.proofs.Worlds.{Commanded, sent_of, After, Stays, no_line, none_of, rests_so, stays_behind, does_count, does_so, station_before, of_station, of_drone, receives_so, beats_so, ticks_so, calls_so}
-use Rattle.fleet_commands.proofs.Gives.{flows_so, stays_like}
+use Rattle.fleet_commands.proofs.Gives.{flows_so, stays_like, flights_so}
 
 -- ---- no reason against it
 
@@ -279,6 +280,10 @@ same_nodes s t c nodes sent = record {
   begun = λ name is. let e = ap (lines_begun name) sent in omega (arith, e);
 }
 
+located : (s : WorldState) → Commanded s → (drone : Name) (at : Option Location) → Stays s no_line (locates_as s drone at)
+located s c drone None = rests_so s c
+located s c drone (Some at) = rests_so s c
+
 from_line : (s : WorldState) (count : Name → ℕ) (r : Result Step StepError) → Stays (station_line s) count r → Stays s count r
 from_line s count r h = stays_like s (station_line s) count r refl refl h
 
@@ -315,6 +320,8 @@ commanded_line s g c (Noise node bytes) permitted fits authentic =
     calls_so s g c (node_receives s.clock bytes) (receives_so s g c bytes (authentic_known s g bytes fits authentic)) node
 commanded_line s g c (Tick node) permitted fits authentic = calls_so s g c (node_ticks s.clock) (ticks_so s g c) node
 commanded_line s g c (Clock n) permitted fits authentic = same_nodes s (record s { clock = s.clock + n }) c refl refl
+commanded_line s g c (Sim drone n) permitted fits authentic = flights_so n drone s g c
+commanded_line s g c (WhereIs drone) permitted fits authentic = located s c drone (location_in s.nodes drone)
 commanded_line s g c (Restart drone) permitted fits authentic =
     by_test (Stays s no_line) (nat_lt s.restarts most_restarts) _ _
     (λ few. stays_like s (restart_line s) no_line (starts_again (restart_line s) drone) refl refl (restarts_so (restart_line s) (sound_counted s g (less _ _ few)) (record { stations = c.stations; drones = c.drones }) drone)) (λ _. tt)

@@ -28,18 +28,22 @@ use Rattle.mav_sign.specs.History.{Entry, tried, answer_to, next_in}
 use Rattle.mav_sign.specs.History as history
 use Rattle.mav_sign.specs.Endpoints.{frames_of}
 use Rattle.command_proto.specs.Commander.{open_command}
-use Rattle.mav_nodes.specs.News.{Drops}
+use Rattle.drone_sim.specs.Sim.{armed, changes, sim_tick}
+use Rattle.mav_nodes.specs.News.{NodeEvent, Drops}
 use Rattle.mav_nodes.specs.Links.{Link, Outcome, tries, sends, sends_all}
 use Rattle.mav_nodes.specs.Payloads.{plan_in, service_in}
-use Rattle.mav_nodes.specs.Services.{ServiceStep, DroneServices, drone_serves}
+use Rattle.mav_nodes.specs.Services.{ServiceStep, DroneServices, drone_serves, drone_notes, changes_mission, sim_step, drone_flies}
 use Rattle.mav_nodes.specs.Steps.{CoreStep, answers, steps, serves, takes, admits, hears, hears_all}
-use Rattle.mav_nodes.specs.Nodes.{DroneSide, StationSide, drone_rules, drone_core, drone_receives, drone_waits, drone_ticks, drone_beats, drone_heartbeat, change_events, new_drone, new_station, station_begins, station_cancels, station_clears, station_gets, station_commands, station_lists_params}
+use Rattle.mav_nodes.specs.Nodes.{DroneSide, StationSide, drone_rules, drone_core, drone_receives, drone_waits, drone_ticks, drone_beats, drone_heartbeat, change_events, new_drone, new_station, station_begins, station_cancels, station_clears, station_gets, station_commands, station_lists_params, drone_sims}
 use Rattle.mav_nodes.specs.Restarts.{restarted_drone, drone_restarts}
 use Rattle.fleet_report.specs.Events.{Event, Restarted}
 use Rattle.scenario_lines.specs.declared.lines.Line.{Line}
-use Rattle.scenario_lines.specs.declared.lines.Line.TheVariants.{Blank, Drone as DroneLine, Station as StationLine, Item as OneItem, Items, Empty, Begin, Cancel, Clear, Get, Command, Params, Heartbeat, Deliver, Flow, Noise, Tick, Clock, Restart}
+use Rattle.scenario_lines.specs.declared.lines.Line.TheVariants.{Blank, Drone as DroneLine, Station as StationLine, Item as OneItem, Items, Empty, Begin, Cancel, Clear, Get, Command, Params, Heartbeat, Deliver, Flow, Noise, Tick, Clock, Restart, Sim, WhereIs}
 use Rattle.fleet_world.specs.WorldState.{WorldState, Node, Drone, Station, node_name, stream_of, is_named, is_station_named, is_drone_named, drones_in, stations_in}
-use Rattle.fleet_world.specs.Steps.{Step, StepError, behind, and_then, most_frames, most_drones, most_stations, most_restarts, packets_in, as_drone, as_station, node_does, node_receives, node_beats, node_ticks, calls_at, calls_found, calls, given_to, given_from, given_to_all, flow_next, flows, delivers, restarts_at, restarts_found, starts_again, restart_line, station_line, orders, upload_begins, orders_at, orders_found, orders_to, asks, command_busy, params_busy, after_line}
+use Rattle.std.specs.List.{list_any}
+use Rattle.fleet_world.specs.declared.locations.Location.{Location}
+use Rattle.fleet_invariants.proofs.Hearing.{flown_silent}
+use Rattle.fleet_world.specs.Steps.{Step, StepError, behind, and_then, most_frames, most_drones, most_stations, most_restarts, packets_in, as_drone, as_station, node_does, node_receives, node_beats, node_ticks, calls_at, calls_found, calls, given_to, given_from, given_to_all, flow_next, flows, delivers, restarts_at, restarts_found, starts_again, restart_line, station_line, orders, upload_begins, orders_at, orders_found, orders_to, asks, command_busy, params_busy, after_line, node_flies, flies, location_in, locates_as}
 use Rattle.fleet_invariants.proofs.Lists.{stays_where, more_there}
 use Rattle.fleet_invariants.proofs.Tests.{by_test}
 use Rattle.fleet_invariants.proofs.Nodes.{Silent}
@@ -56,6 +60,11 @@ goes_further : (h j k : List Entry) → GoesOn h j → GoesOn j k → GoesOn h k
 goes_further h j k f g = record { more = f.more ++ g.more; is = g.is ∙ ap (λ es. es ++ g.more) f.is ∙ append_assoc h f.more g.more }
 
 -- ---- a drone
+
+-- what a drone's services make of a step of its plan core leaves its executor
+pub noted_executor : (v : DroneServices) (events : List NodeEvent) → (drone_notes v events).executor ≡ v.executor
+noted_executor v events =
+    by_test (λ (w : DroneServices). w.executor ≡ v.executor) (list_any changes_mission events) (record v { sim = changes v.sim }) v (λ _. refl) (λ _. refl)
 
 module _ (h : List Entry) (clock : ℕ) where
   abbrev pub LinkOn : Link → List Packet → Type 0
@@ -94,7 +103,7 @@ module _ (h : List Entry) (clock : ℕ) where
   taking n ps from None (Some m) g = serving n.link n.core ps (drone_serves n.core n.services from m) tt g
   taking n ps from (Some m) service g =
       let step = drone_step true n.core from m in
-      stepping n.link n.services ps (drone_core n.core from m) (changes_silent from step.drone.plans (change_by step.event)) tt g
+      stepping n.link (drone_notes n.services (drone_core n.core from m).first) ps (drone_core n.core from m) (changes_silent from step.drone.plans (change_by step.event)) tt g
 
   admitting : (n : DroneSide) (ps : List Packet) (p : Packet) (answer : Admit) (block : Option SignatureBlock) → DroneOn n ps → Goes DroneOn ps (admits drone_rules clock n p answer block)
   admitting n ps p Admitted None g = goes_still DroneOn ps n (Drops Admitted ∷ []) tt g
@@ -113,10 +122,15 @@ module _ (h : List Entry) (clock : ℕ) where
       goes_then DroneOn DroneOn ps (hears drone_rules clock p n) (hears_all drone_rules clock packets)
       (admitting (record n { link = tries p n.link }) ps p answer p.block (one_more h n.link.history (tried p answer) g)) (λ a qs k. hearing_all packets a qs k)
 
+  simming : (n : DroneSide) → DroneOn n [] → Goes DroneOn [] (drone_sims clock n)
+  simming n g =
+      let tick = sim_tick n.services.sim n.core.plans.mission (sim_step n.services.server) in
+      serving n.link n.core [] (drone_flies n.core n.services) (flown_silent tick.reached tick.captured tick.sim.captures) g
+
   beating : (n : DroneSide) → DroneOn n [] → Goes DroneOn [] (drone_beats clock n)
   beating n g =
-      goes_core DroneOn n.core n.services LinkOn [] [] (sends clock (drone_heartbeat n.services.armed) n.link) (λ l qs k. k) tt
-      (goes_sends LinkOn clock (drone_heartbeat n.services.armed) n.link [] (steady (drone_heartbeat n.services.armed) n.link [] tt g))
+      goes_core DroneOn n.core n.services LinkOn [] [] (sends clock (drone_heartbeat (armed n.services.sim)) n.link) (λ l qs k. k) tt
+      (goes_sends LinkOn clock (drone_heartbeat (armed n.services.sim)) n.link [] (steady (drone_heartbeat (armed n.services.sim)) n.link [] tt g))
 
 -- ---- a node
 
@@ -154,6 +168,10 @@ ticks_on clock (Station n) = no_drone [] n (node_ticks clock (Station n))
 beats_on : (clock : ℕ) → CallOn (node_beats clock)
 beats_on clock (Drone n) = of_drone n.link.history clock n (drone_beats clock n) (beating n.link.history clock n (still n.link.history))
 beats_on clock (Station n) = no_drone [] n (node_beats clock (Station n))
+
+flies_on : (clock : ℕ) → CallOn (node_flies clock)
+flies_on clock (Drone n) = of_drone n.link.history clock n (drone_sims clock n) (simming n.link.history clock n (still n.link.history))
+flies_on clock (Station n) = no_drone [] n (node_flies clock (Station n))
 
 -- ---- the world
 
@@ -257,6 +275,15 @@ flow_on s (Some p) next each =
 flows_on : (k : ℕ) (s : WorldState) → On s (flows k s)
 flows_on zero s = rests_on s s refl
 flows_on (suc k) s = flow_on s (slice_get s.sent s.given) (flows k) (λ t. flows_on k t)
+
+flights_on : (n : ℕ) (drone : Name) (s : WorldState) → On s (flies n drone s)
+flights_on zero drone s = rests_on s s refl
+flights_on (suc n) drone s =
+    then_on s (calls s drone (node_flies s.clock)) (flies n drone) (calls_on s (node_flies s.clock) (flies_on s.clock) drone) (λ t. flights_on n drone t)
+
+located : (s : WorldState) (drone : Name) (at : Option Location) → On s (locates_as s drone at)
+located s drone None = rests_on s s refl
+located s drone (Some at) = rests_on s s refl
 
 begin_on : (s : WorldState) (drone : Name) (kind k : ℕ) (n : StationSide) → slice_get s.nodes k ≡ Some (Station n) → (why : Option OpFault) → On s (upload_begins s k n drone kind why)
 begin_on s drone kind k n found (Some why) = rests_on s s refl
@@ -385,5 +412,8 @@ every_history s (Noise node bytes) =
     by_on s (Noise node bytes) (λ t k d h. h) (after_line s (Noise node bytes)) (calls_on s (node_receives s.clock bytes) (receives_on s.clock bytes) node)
 every_history s (Tick node) = by_on s (Tick node) (λ t k d h. h) (after_line s (Tick node)) (calls_on s (node_ticks s.clock) (ticks_on s.clock) node)
 every_history s (Clock n) = by_on s (Clock n) (λ t k d h. h) (after_line s (Clock n)) (λ k d found. rests_on s _ refl k d found)
+every_history s (Sim drone n) = by_on s (Sim drone n) (λ t k d h. h) (after_line s (Sim drone n)) (flights_on n drone s)
+every_history s (WhereIs drone) =
+    by_on s (WhereIs drone) (λ t k d h. h) (after_line s (WhereIs drone)) (located s drone (location_in s.nodes drone))
 every_history s (Restart drone) =
     by_test (HistoriesAfter s (Restart drone)) (nat_lt s.restarts most_restarts) _ _ (λ _. of_restart s drone (starts_again (restart_line s) drone) (restarts_on s drone)) (λ _. tt)

@@ -7,10 +7,10 @@ use Rattle.mav_names.specs.declared.names.Name.{Name}
 use Rattle.mav_names.specs.Addresses.{same_name, node_of}
 use Rattle.mav_frame.specs.Packet.{Packet}
 use Rattle.mav_nodes.specs.Links.{Outcome}
-use Rattle.mav_nodes.specs.Nodes.{DroneSide, StationSide, drone_receives, station_receives, drone_ticks, station_ticks, drone_beats, station_beats}
+use Rattle.mav_nodes.specs.Nodes.{DroneSide, StationSide, drone_receives, station_receives, drone_ticks, station_ticks, drone_beats, station_beats, drone_sims}
 use Rattle.fleet_report.specs.Events.{Event}
 use Rattle.fleet_world.specs.WorldState.{WorldState, Node, Drone, Station, node_name, is_named}
-use Rattle.fleet_world.specs.Steps.{Step, StepError, behind, most_frames, packets_in, as_drone, as_station, node_does, node_receives, node_beats, node_ticks, calls_at, calls_found, calls}
+use Rattle.fleet_world.specs.Steps.{Step, StepError, behind, most_frames, packets_in, as_drone, as_station, node_does, node_receives, node_beats, node_ticks, calls_at, calls_found, calls, node_flies}
 use Rattle.fleet_invariants.specs.Sound.{link_of, IsSent, Sound}
 use Rattle.fleet_invariants.specs.Kept.{IsAmong, Known}
 use Rattle.fleet_invariants.proofs.Lists.{which}
@@ -20,7 +20,7 @@ use Rattle.fleet_commands.specs.Accepted.{HasStation}
 use Rattle.fleet_commands.proofs.Outcomes.{Goes}
 use Rattle.fleet_commands.proofs.Stations.{AllBy, Voice, voice_others, none_begun, begun_more, Speaks}
 use Rattle.fleet_commands.proofs.StationCalls.{StationSays, station_receiving, station_ticking, station_beating}
-use Rattle.fleet_commands.proofs.Drones.{Tells, tells_more, LinkTells, DroneTells, drone_receiving, drone_ticking, drone_beating}
+use Rattle.fleet_commands.proofs.Drones.{Tells, tells_more, LinkTells, DroneTells, drone_receiving, drone_ticking, drone_beating, drone_simming}
 
 pub record Commanded (s : WorldState) : Type 0 where
   pub stations : (k : ℕ) (n : StationSide) → slice_get s.nodes k ≡ Some (Station n) → Voice s.sent (node_of n.link.me) n.link.history n.services.commander.issue
@@ -177,6 +177,10 @@ module _ (s : WorldState) (g : Sound s) (c : Commanded s) where
   pub beats_so : CallSays (node_beats s.clock)
   beats_so k (Drone n) found = of_drone n (drone_beats s.clock n) (drone_beating s n.link.me (sent_of s g) s.clock n (drone_before k n found))
   beats_so k (Station n) found = of_station 0 n (station_beats s.clock n) (station_beating s.sent n.link.me s.clock 0 n (station_before k n found))
+
+  pub flies_so : CallSays (node_flies s.clock)
+  flies_so k (Drone n) found = of_drone n (drone_sims s.clock n) (drone_simming s n.link.me (sent_of s g) s.clock n (drone_before k n found))
+  flies_so k (Station n) found = station_before k n found
 
   pub ticks_so : CallSays (node_ticks s.clock)
   ticks_so k (Drone n) found = of_drone n (drone_ticks s.clock n) (drone_ticking s n.link.me (sent_of s g) s.clock n (drone_before k n found))

@@ -7,7 +7,7 @@ use Rattle.mav_names.specs.Addresses.{same_name, node_of}
 use Rattle.command_proto.specs.Commander.{open_command}
 use Rattle.mav_nodes.specs.Nodes.{StationSide}
 use Rattle.scenario_lines.specs.declared.lines.Line.{Line}
-use Rattle.scenario_lines.specs.declared.lines.Line.TheVariants.{Blank, Drone as DroneLine, Station as StationLine, Item as OneItem, Items, Empty, Begin, Cancel, Clear, Get, Command, Params, Heartbeat, Deliver, Flow, Noise, Tick, Clock, Restart}
+use Rattle.scenario_lines.specs.declared.lines.Line.TheVariants.{Blank, Drone as DroneLine, Station as StationLine, Item as OneItem, Items, Empty, Begin, Cancel, Clear, Get, Command, Params, Heartbeat, Deliver, Flow, Noise, Tick, Clock, Restart, Sim, WhereIs}
 use Rattle.fleet_world.specs.WorldState.{WorldState, Node, Drone, Station, is_station_named}
 use Rattle.fleet_world.specs.Steps.{Step, StepError, after_line}
 use Rattle.fleet_world.specs.Scenario.{Played, at_start, line_played, lines_played, whole_lines, unfinished, without_cr}
@@ -50,6 +50,8 @@ accepted_by s (Noise node bytes) name = 0
 accepted_by s (Tick node) name = 0
 accepted_by s (Clock n) name = 0
 accepted_by s (Restart drone) name = 0
+accepted_by s (Sim drone n) name = 0
+accepted_by s (WhereIs drone) name = 0
 
 -- a station of this name
 pub record HasStation (s : WorldState) (name : Name) : Type 0 where

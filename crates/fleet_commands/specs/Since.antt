@@ -11,7 +11,7 @@ use Rattle.mav_nodes.specs.Steps.{hears}
 use Rattle.mav_nodes.specs.Nodes.{DroneSide, drone_rules}
 use Rattle.mav_nodes.specs.Restarts.{restarted_drone}
 use Rattle.scenario_lines.specs.declared.lines.Line.{Line}
-use Rattle.scenario_lines.specs.declared.lines.Line.TheVariants.{Blank, Drone as DroneLine, Station as StationLine, Item as OneItem, Items, Empty, Begin, Cancel, Clear, Get, Command, Params, Heartbeat, Deliver, Flow, Noise, Tick, Clock, Restart}
+use Rattle.scenario_lines.specs.declared.lines.Line.TheVariants.{Blank, Drone as DroneLine, Station as StationLine, Item as OneItem, Items, Empty, Begin, Cancel, Clear, Get, Command, Params, Heartbeat, Deliver, Flow, Noise, Tick, Clock, Restart, Sim, WhereIs}
 use Rattle.fleet_world.specs.WorldState.{WorldState, Drone}
 use Rattle.fleet_world.specs.Steps.{Step, StepError, after_line}
 use Rattle.fleet_commands.specs.Done.{step_at}
@@ -49,6 +49,8 @@ HistoryAfter (Flow n) s t k d = HasHistory t k d.link.history
 HistoryAfter (Noise node bytes) s t k d = HasHistory t k d.link.history
 HistoryAfter (Tick node) s t k d = HasHistory t k d.link.history
 HistoryAfter (Clock n) s t k d = HasHistory t k d.link.history
+HistoryAfter (Sim drone n) s t k d = HasHistory t k d.link.history
+HistoryAfter (WhereIs drone) s t k d = HasHistory t k d.link.history
 
 abbrev pub HistoriesAfter : WorldState → Line → Result Step StepError → Type 0
 HistoriesAfter s line (Ok t) = (k : ℕ) (d : DroneSide) → slice_get s.nodes k ≡ Some (Drone d) → HistoryAfter line s t.state k d

@@ -8,14 +8,14 @@ use Rattle.mav_nodes.specs.Links.{Done, Outcome}
 use Rattle.mav_nodes.specs.Nodes.{station_begins, station_cancels, station_clears, station_gets, station_commands, station_lists_params}
 use Rattle.plan_ranges.specs.Ranges.{ItemInRange}
 use Rattle.fleet_world.specs.WorldState.{WorldState, Node, stream_of}
-use Rattle.fleet_world.specs.Steps.{most_frames, packets_in, node_does, node_receives, node_beats, node_ticks, as_station}
+use Rattle.fleet_world.specs.Steps.{most_frames, packets_in, node_does, node_receives, node_beats, node_ticks, as_station, node_flies}
 use Rattle.fleet_invariants.specs.Kept.{OutcomeReads, StepKeeps, Keeps}
 use Rattle.fleet_invariants.specs.Laws.{EveryCallKeeps}
 use Rattle.fleet_invariants.proofs.Tests.{by_test, at_most}
 use Rattle.fleet_invariants.proofs.Restated.{restated, steady_restated, restated_keeps}
 use Rattle.fleet_invariants.proofs.Moves.{steady_of, sound_of}
 use Rattle.fleet_invariants.proofs.Nodes.{NodeDoes, NodeGoes, advanced}
-use Rattle.fleet_invariants.proofs.Doing.{node_receiving, node_ticking, node_beating, station_beginning, station_cancelling, station_clearing, station_getting, station_commanding, station_listing}
+use Rattle.fleet_invariants.proofs.Doing.{node_receiving, node_ticking, node_beating, station_beginning, station_cancelling, station_clearing, station_getting, station_commanding, station_listing, node_flying}
 
 module _ (s : WorldState) (k : ℕ) (name : Name) where
   within : (d : Done Node) → NodeGoes s k d → length s.sent + length (packets_in d.events) ≤ most_frames → StepKeeps s (advanced s k d.node d.events)
@@ -47,6 +47,7 @@ sound_does s sound =
       receives = λ bytes known k a name found. let h = node_receiving s k g bytes known a found in (keeps s k name (node_receives s.clock bytes a) h, reads s k name (node_receives s.clock bytes a) h);
       beats = λ k a name found. let h = node_beating s k g a found in (keeps s k name (node_beats s.clock a) h, reads s k name (node_beats s.clock a) h);
       ticks = λ k a name found. let h = node_ticking s k g a found in (keeps s k name (node_ticks s.clock a) h, reads s k name (node_ticks s.clock a) h);
+      flies = λ k a name found. let h = node_flying s k g a found in (keeps s k name (node_flies s.clock a) h, reads s k name (node_flies s.clock a) h);
       begins = λ k n drone kind range small free name found.
           let o = as_station (station_begins s.clock (stream_of drone) kind s.draft n) in
           let h = station_beginning (undrafted s) k (steady_restated s s.given [] s.clock g sound.given (All-nil ItemInRange) (omega arith) sound.clock) n found drone kind s.draft range small sound.draft free in

@@ -16,7 +16,7 @@ use Rattle.mav_sign.specs.Endpoints.{frames_of}
 use Rattle.scenario_lines.specs.declared.faults.Reason.{Reason}
 use Rattle.scenario_lines.specs.declared.faults.Reason.TheVariants.{Long}
 use Rattle.scenario_lines.specs.declared.lines.Line.{Line}
-use Rattle.scenario_lines.specs.declared.lines.Line.TheVariants.{Blank, Drone as DroneLine, Station as StationLine, Item as OneItem, Items, Empty, Begin, Cancel, Clear, Get, Command, Params, Heartbeat, Deliver, Flow, Noise, Tick, Clock, Restart}
+use Rattle.scenario_lines.specs.declared.lines.Line.TheVariants.{Blank, Drone as DroneLine, Station as StationLine, Item as OneItem, Items, Empty, Begin, Cancel, Clear, Get, Command, Params, Heartbeat, Deliver, Flow, Noise, Tick, Clock, Restart, Sim, WhereIs}
 use Rattle.scenario_lines.specs.Words.{is_space, words_of, word_at, bytes_word}
 use Rattle.scenario_lines.specs.LineContext.{LineContext}
 use Rattle.scenario_lines.specs.Grammar.{bytes_at, line_from, line_of, is_blank, most_line_bytes}
@@ -116,6 +116,8 @@ IsShort (Flow k) = Unit {0}
 IsShort (Tick node) = Unit {0}
 IsShort (Clock n) = Unit {0}
 IsShort (Restart drone) = Unit {0}
+IsShort (Sim drone n) = Unit {0}
+IsShort (WhereIs drone) = Unit {0}
 
 words_short : (words : List (List ℕ)) → length (bytes_at words 2) ≤ 4096 → IsShort (line_from words)
 words_short words few =
@@ -137,7 +139,9 @@ words_short words few =
     by_test IsShort (bytes_eq w (codes "noise")) _ _ (λ _. few) (λ _.
     by_test IsShort (bytes_eq w (codes "tick")) _ _ (λ _. tt) (λ _.
     by_test IsShort (bytes_eq w (codes "clock")) _ _ (λ _. tt) (λ _.
-    by_test IsShort (bytes_eq w (codes "restart")) _ _ (λ _. tt) (λ _. tt))))))))))))))))))
+    by_test IsShort (bytes_eq w (codes "restart")) _ _ (λ _. tt) (λ _.
+    by_test IsShort (bytes_eq w (codes "sim")) _ _ (λ _. tt) (λ _.
+    by_test IsShort (bytes_eq w (codes "where")) _ _ (λ _. tt) (λ _. tt))))))))))))))))))))
 
 not_long : (long : Bool) (r : Reason) (o : Option Reason) → (if long then Some r else o) ≡ None → long ≡ false
 not_long true r o e = absurd (let wrong : ◌≡◌ {A = Option Reason} (Some r) None = e in cc)

@@ -15,15 +15,17 @@ use Rattle.plan_upload.specs.Station.{StationState, station_tick, station_cancel
 use Rattle.plan_upload.specs.Refusals.{upload_refusal}
 use Rattle.mav_frame.specs.FinalParse.{final_parse}
 use Rattle.mav_sign.specs.Endpoints.{frames_of}
+use Rattle.drone_sim.specs.Sim.{armed, sim_tick}
 use Rattle.mav_nodes.specs.Links.{Outcome, behind, sends}
 use Rattle.mav_nodes.specs.Steps.{Side, CoreStep, with_core, steps}
-use Rattle.mav_nodes.specs.Nodes.{DroneSide, StationSide, drone_receives, drone_waits, tick_answer, drone_ticks, drone_heartbeat, drone_beats, station_receives, station_does, services_tick, station_ticks, station_heartbeat, station_beats, station_begins, station_cancels, station_clears, station_gets, station_commands, station_lists_params}
+use Rattle.mav_nodes.specs.Nodes.{DroneSide, StationSide, drone_receives, drone_waits, tick_answer, drone_ticks, drone_heartbeat, drone_beats, station_receives, station_does, services_tick, station_ticks, station_heartbeat, station_beats, station_begins, station_cancels, station_clears, station_gets, station_commands, station_lists_params, drone_sims}
+use Rattle.mav_nodes.specs.Services.{sim_step, drone_flies}
 use Rattle.mav_nodes.proofs.Sendings.{heartbeats_fit}
 use Rattle.plan_ranges.specs.Ranges.{InRange, ItemInRange, NameInRange, StreamInRange}
 use Rattle.plan_ranges.proofs.DroneRanges as drones
 use Rattle.plan_ranges.proofs.StationRanges as stations
 use Rattle.fleet_world.specs.WorldState.{WorldState, Node, Drone, Station, stream_of}
-use Rattle.fleet_world.specs.Steps.{as_drone, as_station, node_receives, node_beats, node_ticks}
+use Rattle.fleet_world.specs.Steps.{as_drone, as_station, node_receives, node_beats, node_ticks, node_flies}
 use Rattle.fleet_invariants.specs.Kept.{Known}
 use Rattle.fleet_world.proofs.Systems.{drone_tick_stays}
 use Rattle.fleet_invariants.proofs.Roles.{drone_tick_plans, station_tick_stays, station_cancel_stays, begin_stays}
@@ -31,10 +33,10 @@ use Rattle.fleet_invariants.proofs.Moves.{Steady}
 use Rattle.fleet_invariants.specs.Sound.{has_heard}
 use Rattle.fleet_invariants.proofs.Rooms.{roomy_tick}
 use Rattle.fleet_invariants.proofs.Links.{link_sends}
-use Rattle.fleet_invariants.proofs.Nodes.{advanced, NodeDoes, as_node, drone_done, drone_steps, station_done, then_next}
-use Rattle.fleet_invariants.proofs.Services.{station_waiting, command_asked, params_asked}
-use Rattle.fleet_invariants.proofs.Serving.{station_serves_so}
-use Rattle.fleet_invariants.proofs.Hearing.{KnownFrames, drone_hears_all, station_hears_all, station_goes, station_services}
+use Rattle.fleet_invariants.proofs.Nodes.{advanced, NodeDoes, as_node, drone_done, drone_steps, station_done, then_next, rests}
+use Rattle.fleet_invariants.proofs.Services.{station_waiting, command_asked, params_asked, drone_flying}
+use Rattle.fleet_invariants.proofs.Serving.{station_serves_so, drone_serves_so}
+use Rattle.fleet_invariants.proofs.Hearing.{KnownFrames, drone_hears_all, station_hears_all, station_goes, station_services, flown_silent}
 
 as_drone_is : (o : Outcome DroneSide) → as_node Drone o ≡ as_drone o
 as_drone_is None = refl
@@ -70,15 +72,22 @@ module _ (s : WorldState) (k : ℕ) (g : Steady s) where
         let own = g.cores k (Drone n) found in
         let tick = drone_tick n.core in
         let r = drones.ticks n.core own.range in
-        a_drone (drone_ticks s.clock n) (drone_steps s k n g found (drone_waits tick) tt tt r.drone (drone_tick_stays n.core) (roomy_tick (has_heard n.link) n.core own.roomy) (λ none. drone_tick_plans n.core ∙ own.unstored none) (ticks_say tick.answer r.answer))
+        a_drone (drone_ticks s.clock n) (drone_steps s k n g found n.services own.services (drone_waits tick) tt tt r.drone (drone_tick_stays n.core) (roomy_tick (has_heard n.link) n.core own.roomy) (λ none. drone_tick_plans n.core ∙ own.unstored none) (ticks_say tick.answer r.answer))
 
     drone_beating : NodeDoes s k (as_drone (drone_beats s.clock n))
     drone_beating =
         let own = g.cores k (Drone n) found in
         let step : CoreStep DroneState = record { core = n.core; first = []; answer = None; last = [] } in
-        let said = sends s.clock (drone_heartbeat n.services.armed) n.link in
+        let said = sends s.clock (drone_heartbeat (armed n.services.sim)) n.link in
         a_drone (drone_beats s.clock n) (subst (λ (o : Outcome DroneSide). NodeDoes s k (as_node Drone o)) (behind_none (with_core n.core n.services [] said))
-        (drone_done s k n g found step tt tt own.range refl own.roomy own.unstored said (link_sends s n.link (g.links k (Drone n) found) (drone_heartbeat n.services.armed) (heartbeats_fit.drone n.services.armed))))
+        (drone_done s k n g found n.services own.services step tt tt own.range refl own.roomy own.unstored said (link_sends s n.link (g.links k (Drone n) found) (drone_heartbeat (armed n.services.sim)) (heartbeats_fit.drone (armed n.services.sim)))))
+
+    drone_simming : NodeDoes s k (as_drone (drone_sims s.clock n))
+    drone_simming =
+        let own = g.cores k (Drone n) found in
+        let tick = sim_tick n.services.sim n.core.plans.mission (sim_step n.services.server) in
+        a_drone (drone_sims s.clock n) (drone_serves_so s k g n found (drone_flies n.core n.services) (drone_flying (has_heard n.link) (node_of n.link.me) n.core n.services own.range.plans.mission.items own.services)
+        (flown_silent tick.reached tick.captured tick.sim.captures))
 
   -- ---- a station
   module _ (n : StationSide) (found : slice_get s.nodes k ≡ Some (Station n)) where
@@ -143,3 +152,7 @@ module _ (s : WorldState) (k : ℕ) (g : Steady s) where
   pub node_beating : (a : Node) → slice_get s.nodes k ≡ Some a → NodeDoes s k (node_beats s.clock a)
   node_beating (Drone n) found = drone_beating n found
   node_beating (Station n) found = station_beating n found
+
+  pub node_flying : (a : Node) → slice_get s.nodes k ≡ Some a → NodeDoes s k (node_flies s.clock a)
+  node_flying (Drone n) found = drone_simming n found
+  node_flying (Station n) found = rests s k (Station n) g found

@@ -1,4 +1,4 @@
--- Frames that are given leave a sound state.
+-- Frames that are given, and flights, leave a sound state.
 use Rattle.std.proofs.Common.{◌≡◌, ℕ, zero, suc, ◌+◌, List, length, slice_get, Option, Some, None, Ok, Err, refl, arith, ◌∙◌}
 use Rattle.std.specs.Prelude.{position}
 use Rattle.std.specs.declared.result.Result.{Result}
@@ -9,7 +9,7 @@ use Rattle.plan_upload.specs.Addresses.{same_name}
 use Rattle.mav_nodes.specs.Links.{Outcome}
 use Rattle.fleet_report.specs.Events.{Event}
 use Rattle.fleet_world.specs.WorldState.{WorldState, Node, node_name, is_named}
-use Rattle.fleet_world.specs.Steps.{Step, StepError, behind, and_then, node_receives, calls_at, calls_found, calls, given_to, given_from, given_to_all, flow_next, flows}
+use Rattle.fleet_world.specs.Steps.{Step, StepError, behind, and_then, node_receives, calls_at, calls_found, calls, given_to, given_from, given_to_all, flow_next, flows, node_flies, flies}
 use Rattle.fleet_invariants.specs.Sound.{Sound}
 use Rattle.fleet_invariants.specs.Kept.{StepKeeps, Keeps}
 use Rattle.fleet_invariants.specs.Laws.{CallKeeps, EveryGivingKeeps}
@@ -78,6 +78,13 @@ flow_goes s g (Some p) e next each =
 pub sound_flows : (k : ℕ) (s : WorldState) → Sound s → Keeps s (flows k s)
 sound_flows zero s g = rests_so s g
 sound_flows (suc k) s g = flow_goes s g (slice_get s.sent s.given) refl (flows k) (λ t h. sound_flows k t h)
+
+-- ---- a flight
+
+pub sound_flies : (n : ℕ) (drone : Name) (s : WorldState) → Sound s → Keeps s (flies n drone s)
+sound_flies zero drone s g = rests_so s g
+sound_flies (suc n) drone s g =
+    then_keeps s (calls s drone (node_flies s.clock)) (flies n drone) (sound_calls s g (node_flies s.clock) (sound_does s g).flies drone) (λ t h. sound_flies n drone t h.sound)
 
 pub sound_gives : EveryGivingKeeps
 sound_gives s g = record {

@@ -1,5 +1,5 @@
 -- What a node does at frames that it hears, at ticks and at orders.
-use Rattle.std.proofs.Common.{◌≡◌, ◌≢◌, ℕ, suc, ◌≤◌, List, [], ◌∷◌, ◌++◌, slice_get, Option, Some, None, true, IfSome, refl, sym, ap, subst, ◌∙◌}
+use Rattle.std.proofs.Common.{Bool, true, false, ◌≡◌, ◌≢◌, ℕ, suc, ◌≤◌, List, [], ◌∷◌, ◌++◌, slice_get, Option, Some, None, IfSome, refl, sym, ap, subst, ◌∙◌}
 use Rattle.std.specs.Prelude.{is_some}
 use Rattle.mav_names.specs.declared.names.Stream.{Stream}
 use Rattle.plan_items.specs.declared.messages.PlanMsg.{PlanMsg}
@@ -23,11 +23,11 @@ use Rattle.mav_sign.specs.declared.admission.Admit.TheVariants.{Admitted, Unsign
 use Rattle.mav_sign.specs.History.{tried, last_of, answer_to, stream_of}
 use Rattle.mav_sign.specs.Signing.{Verifies}
 use Rattle.mav_nodes.specs.LowBounds.{stored_low}
-use Rattle.mav_nodes.specs.News.{NodeEvent, Sends, Installs, Empties, Drops, Ends, Ends_command, Gives_param, Ends_params}
+use Rattle.mav_nodes.specs.News.{NodeEvent, Sends, Installs, Empties, Drops, Ends, Ends_command, Gives_param, Ends_params, Reaches, Captures}
 use Rattle.mav_nodes.specs.Links.{tries}
 use Rattle.mav_nodes.specs.Steps.{steps, serves, takes, admits, hears, hears_all}
 use Rattle.mav_nodes.specs.Payloads.{plan_in, service_in, service_of}
-use Rattle.mav_nodes.specs.Services.{drone_serves, station_served, command_events, params_events}
+use Rattle.mav_nodes.specs.Services.{drone_serves, drone_notes, reached_events, captured_events, station_served, command_events, params_events}
 use Rattle.mav_nodes.specs.Nodes.{DroneSide, StationSide, change_events, drone_core, drone_rules, told_events, station_does, station_rules}
 use Rattle.mav_nodes.proofs.Bounds.{payload_small}
 use Rattle.mav_nodes.proofs.Sendings.{plan_reads_back, service_reads_back}
@@ -47,7 +47,7 @@ use Rattle.fleet_invariants.proofs.Messages.{carried_in_range}
 use Rattle.fleet_invariants.proofs.Moves.{Steady}
 use Rattle.fleet_invariants.proofs.Rooms.{roomy_step, heard_it}
 use Rattle.fleet_invariants.specs.Services.{SoundStationServices}
-use Rattle.fleet_invariants.proofs.Services.{Serves, drone_serving, station_serving}
+use Rattle.fleet_invariants.proofs.Services.{Serves, drone_serving, drone_noting, station_serving}
 use Rattle.fleet_invariants.proofs.Serving.{drone_serves_so, station_serves_so}
 use Rattle.fleet_invariants.proofs.Links.{admitted_verifies, block_is}
 use Rattle.fleet_invariants.proofs.Nodes.{Silent, advanced, NodeGoes, NodeDoes, as_node, after_first, then_next, rests, drone_steps, drone_tries, station_steps, station_tries}
@@ -125,6 +125,19 @@ both_silent (Ends told ∷ es) fs h k = both_silent es fs h k
 both_silent (Ends_command result ∷ es) fs h k = both_silent es fs h k
 both_silent (Gives_param param ∷ es) fs h k = both_silent es fs h k
 both_silent (Ends_params values ∷ es) fs h k = both_silent es fs h k
+both_silent (Reaches number ∷ es) fs h k = both_silent es fs h k
+both_silent (Captures total ∷ es) fs h k = both_silent es fs h k
+
+reached_silent : (reached : Option ℕ) → Silent (reached_events reached)
+reached_silent None = tt
+reached_silent (Some number) = tt
+
+captured_silent : (captured : Bool) (total : ℕ) → Silent (captured_events captured total)
+captured_silent true total = tt
+captured_silent false total = tt
+
+pub flown_silent : (reached : Option ℕ) (captured : Bool) (total : ℕ) → Silent (reached_events reached ++ captured_events captured total)
+flown_silent reached captured total = both_silent (reached_events reached) (captured_events captured total) (reached_silent reached) (captured_silent captured total)
 
 pub services_silent : (c : CommanderStep) (p : ClientStep) → Silent (station_served c p).last
 services_silent c p = both_silent (command_events c.end) (params_events p.end) (command_silent c.end) (params_silent p.end)
@@ -175,7 +188,8 @@ module _ (s : WorldState) (k : ℕ) (packet : Packet) (g : Steady s) (known : Ve
         let step = drone_step true n.core from m in
         let r = drones.steps true from fits n.core m (g.cores k (Drone n) found).range range in
         after_first s k (Drone drone_tried) _ first
-        (drone_steps (advanced s k (Drone drone_tried) []) k drone_tried first.steady first.there (drone_core n.core from m) (changes_silent from step.drone.plans (change_by step.event)) tt r.drone (drone_stays true from n.core m) (roomy_step (has_heard drone_tried.link) from heard.0 n.core (first.steady.cores k (Drone drone_tried) first.there).roomy m) (λ none. absurd (heard.1 none)) r.answer)
+        (drone_steps (advanced s k (Drone drone_tried) []) k drone_tried first.steady first.there (drone_notes n.services (drone_core n.core from m).first)
+        (drone_noting (has_heard drone_tried.link) (node_of n.link.me) n.services (drone_core n.core from m).first (first.steady.cores k (Drone drone_tried) first.there).services) (drone_core n.core from m) (changes_silent from step.drone.plans (change_by step.event)) tt r.drone (drone_stays true from n.core m) (roomy_step (has_heard drone_tried.link) from heard.0 n.core (first.steady.cores k (Drone drone_tried) first.there).roomy m) (λ none. absurd (heard.1 none)) r.answer)
 
     drone_admits : (answer : Admit) (block : Option SignatureBlock) → (answer ≡ Admitted → IsAmong s.sent packet) → (answer ≡ Admitted → (b : SignatureBlock) → block ≡ Some b → Knows (stream_of packet b)) → NodeDoes s k (as_node Drone (admits drone_rules s.clock drone_tried packet answer block))
     drone_admits Admitted None sent heard = dropped (Drone drone_tried) Admitted (drone_tries s k n g found packet known)

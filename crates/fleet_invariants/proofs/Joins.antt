@@ -6,7 +6,8 @@ use Rattle.mav_names.specs.declared.names.Stream.{Stream}
 use Rattle.mav_profile.specs.Messages.{extras_of}
 use Rattle.mav_profile.specs.Profile.{profile_definitions}
 use Rattle.mav_nodes.specs.Links.{new_link}
-use Rattle.mav_nodes.specs.Services.{Home}
+use Rattle.drone_sim.specs.declared.points.Point.{Point}
+use Rattle.drone_sim.specs.Laws.{PointInRange}
 use Rattle.mav_nodes.specs.Nodes.{new_drone, new_station}
 use Rattle.scenario_lines.specs.LineContext.{is_called, has_name}
 use Rattle.scenario_lines.specs.LineContext as context
@@ -124,15 +125,15 @@ fresh_link s me h = record {
   near = omega arith;
 }
 
-pub drone_joins : (s : WorldState) (sys : ℕ) (home : Home) → Sound s → 1 ≤ sys → sys < 256 → has_name (names_of s.nodes) (record { sys = sys; comp = 1 }) ≡ false → drones_in s.nodes < most_drones → Sound (joined s (Drone (new_drone s.key sys home)))
-drone_joins s sys home g some small none few =
+pub drone_joins : (s : WorldState) (sys : ℕ) (home : Point) → Sound s → 1 ≤ sys → sys < 256 → PointInRange home → has_name (names_of s.nodes) (record { sys = sys; comp = 1 }) ≡ false → drones_in s.nodes < most_drones → Sound (joined s (Drone (new_drone s.key sys home)))
+drone_joins s sys home g some small range none few =
     sound_joined s (Drone (new_drone s.key sys home)) g (unnamed s.nodes (record { sys = sys; comp = 1 }) none) (fresh_link s (record { sys = sys; comp = 1; link = 0 }) (some, small, omega arith, omega arith, refl)) (record {
       range = drones.fresh sys small;
       sys = refl;
       comp = refl;
       roomy = roomy_fresh (has_heard (new_link s.key (record { sys = sys; comp = 1; link = 0 }) (extras_of profile_definitions))) sys no_plans;
       unstored = λ none. refl;
-      services = drone_services_fresh (has_heard (new_link s.key (record { sys = sys; comp = 1; link = 0 }) (extras_of profile_definitions))) sys home;
+      services = drone_services_fresh (has_heard (new_link s.key (record { sys = sys; comp = 1; link = 0 }) (extras_of profile_definitions))) sys home range;
     }) (omega (arith, few)) (let h = g.stations in omega (arith, h))
 
 pub station_joins : (s : WorldState) (name : Name) → Sound s → 1 ≤ name.sys → name.sys < 256 → 1 ≤ name.comp → name.comp < 256 → has_name (names_of s.nodes) name ≡ false → stations_in s.nodes < most_stations → Sound (joined s (Station (new_station s.key (stream_of name) 0)))

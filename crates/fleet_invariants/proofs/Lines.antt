@@ -21,12 +21,13 @@ use Rattle.mav_nodes.specs.Nodes.{StationSide, new_drone, new_station, station_c
 use Rattle.plan_ranges.specs.Ranges.{Is8, Is16, Is32, NameInRange, ItemInRange}
 use Rattle.scenario_lines.specs.declared.faults.Reason.{Reason}
 use Rattle.scenario_lines.specs.declared.lines.Line.{Line}
-use Rattle.scenario_lines.specs.declared.lines.Line.TheVariants.{Blank, Drone as DroneLine, Station as StationLine, Item as OneItem, Items, Empty, Begin, Cancel, Clear, Get, Command, Params, Heartbeat, Deliver, Flow, Noise, Tick, Clock, Restart}
+use Rattle.scenario_lines.specs.declared.lines.Line.TheVariants.{Blank, Drone as DroneLine, Station as StationLine, Item as OneItem, Items, Empty, Begin, Cancel, Clear, Get, Command, Params, Heartbeat, Deliver, Flow, Noise, Tick, Clock, Restart, Sim, WhereIs}
 use Rattle.scenario_lines.specs.LineContext.{is_in_role, has_name, has_drone}
 use Rattle.scenario_lines.specs.LineContext as context
 use Rattle.scenario_lines.specs.Grammar.{against, first_reason}
 use Rattle.fleet_world.specs.WorldState.{WorldState, Node, Drone, Station, node_name, names_of, stream_of, is_station_named, drones_in, stations_in}
-use Rattle.fleet_world.specs.Steps.{Step, StepError, rests, most_drones, most_stations, most_restarts, starts_again, restart_line, node_receives, node_beats, node_ticks, node_does, as_station, station_line, orders, upload_begins, orders_at, orders_found, orders_to, begins, cancels, clears, gets, asks, command_busy, params_busy, commands, lists_params, delivers, items_from, after_line}
+use Rattle.fleet_world.specs.declared.locations.Location.{Location}
+use Rattle.fleet_world.specs.Steps.{Step, StepError, rests, most_drones, most_stations, most_restarts, starts_again, restart_line, node_receives, node_beats, node_ticks, node_does, as_station, station_line, orders, upload_begins, orders_at, orders_found, orders_to, begins, cancels, clears, gets, asks, command_busy, params_busy, commands, lists_params, delivers, items_from, after_line, location_in, locates_as}
 use Rattle.fleet_invariants.specs.Sound.{link_of, Sound}
 use Rattle.fleet_invariants.specs.Kept.{StepKeeps, Keeps, names_joined, KeepsLine}
 use Rattle.fleet_invariants.specs.Laws.{EveryLineKeeps}
@@ -37,7 +38,7 @@ use Rattle.fleet_invariants.proofs.ItemRows.{rows_in_range}
 use Rattle.fleet_invariants.proofs.Calls.{sound_does}
 use Rattle.fleet_invariants.proofs.Heard.{authentic_known}
 use Rattle.fleet_invariants.proofs.Restarting.{sound_restarts}
-use Rattle.fleet_invariants.proofs.Gives.{rests_so, sound_calls, sound_flows, sound_gives}
+use Rattle.fleet_invariants.proofs.Gives.{rests_so, sound_calls, sound_flows, sound_gives, sound_flies}
 
 -- ---- a step that names no node
 
@@ -189,13 +190,17 @@ delivered : (s : WorldState) → Sound s → (number : ℕ) (name : Name) (o : O
 delivered s g number name None e = rests_so s g
 delivered s g number name (Some p) e = (sound_gives s g).again (number - 1) p e name
 
+located : (s : WorldState) → Sound s → (drone : Name) (at : Option Location) → Keeps s (locates_as s drone at)
+located s g drone None = rests_so s g
+located s g drone (Some at) = rests_so s g
+
 pub sound_line : EveryLineKeeps
 sound_line s g Blank permitted fits authentic = line_of_step s Blank (rests s) refl (rests_so s g)
 sound_line s g (DroneLine sys x y) permitted fits authentic =
     let free = not_against _ _ permitted.1 in
     by_test (KeepsLine s (DroneLine sys x y)) (nat_lt (drones_in s.nodes) most_drones) _ _
     (λ few. record {
-      sound = drone_joins s sys (record { x = x; y = y }) g permitted.0 fits free (less _ _ few);
+      sound = drone_joins s sys (record { x = x; y = y }) g permitted.0 fits.0 fits.1 free (less _ _ few);
       kept = kept_joined s (Drone (new_drone s.key sys (record { x = x; y = y })));
       names = names_joined_are s (Drone (new_drone s.key sys (record { x = x; y = y })));
     })
@@ -249,3 +254,6 @@ sound_line s g (Restart drone) permitted fits authentic =
     by_test (KeepsLine s (Restart drone)) (nat_lt s.restarts most_restarts) _ _
     (λ few. line_of_step s (Restart drone) (starts_again (restart_line s) drone) refl (sound_restarts s g (less _ _ few) drone))
     (λ _. tt)
+sound_line s g (Sim drone n) permitted fits authentic = line_of_step s (Sim drone n) (after_line s (Sim drone n)) refl (sound_flies n drone s g)
+sound_line s g (WhereIs drone) permitted fits authentic =
+    line_of_step s (WhereIs drone) (after_line s (WhereIs drone)) refl (located s g drone (location_in s.nodes drone))

@@ -11,7 +11,7 @@ use Rattle.plan_upload.specs.Station.{StationState}
 use Rattle.mav_frame.specs.Packet.{Packet}
 use Rattle.mav_sign.specs.Signing.{Verifies}
 use Rattle.mav_nodes.specs.LowBounds.{stored_low}
-use Rattle.mav_nodes.specs.News.{NodeEvent, Sends, Installs, Empties, Drops, Ends, Ends_command, Gives_param, Ends_params}
+use Rattle.mav_nodes.specs.News.{NodeEvent, Sends, Installs, Empties, Drops, Ends, Ends_command, Gives_param, Ends_params, Reaches, Captures}
 use Rattle.mav_nodes.specs.Links.{Link, Done, Outcome, done, behind, and_then, tries}
 use Rattle.mav_nodes.specs.Services.{DroneServices, StationServices}
 use Rattle.mav_nodes.specs.Steps.{Side, CoreStep, answers, with_core, steps}
@@ -41,6 +41,8 @@ Silent (Ends told ∷ es) = Silent es
 Silent (Ends_command result ∷ es) = Silent es
 Silent (Gives_param param ∷ es) = Silent es
 Silent (Ends_params values ∷ es) = Silent es
+Silent (Reaches number ∷ es) = Silent es
+Silent (Captures total ∷ es) = Silent es
 
 pub packets_more : (es fs : List NodeEvent) → packets_in (es ++ fs) ≡ packets_in es ++ packets_in fs
 packets_more [] fs = refl
@@ -52,6 +54,8 @@ packets_more (Ends told ∷ es) fs = packets_more es fs
 packets_more (Ends_command result ∷ es) fs = packets_more es fs
 packets_more (Gives_param param ∷ es) fs = packets_more es fs
 packets_more (Ends_params values ∷ es) fs = packets_more es fs
+packets_more (Reaches number ∷ es) fs = packets_more es fs
+packets_more (Captures total ∷ es) fs = packets_more es fs
 
 pub silent_none : (es : List NodeEvent) → Silent es → packets_in es ≡ []
 silent_none [] h = refl
@@ -63,6 +67,8 @@ silent_none (Ends told ∷ es) h = silent_none es h
 silent_none (Ends_command result ∷ es) h = silent_none es h
 silent_none (Gives_param param ∷ es) h = silent_none es h
 silent_none (Ends_params values ∷ es) h = silent_none es h
+silent_none (Reaches number ∷ es) h = silent_none es h
+silent_none (Captures total ∷ es) h = silent_none es h
 
 pub silent_read : (es : List NodeEvent) → Silent es → AllRead es
 silent_read [] h = tt
@@ -74,6 +80,8 @@ silent_read (Ends told ∷ es) h = (tt, silent_read es h)
 silent_read (Ends_command result ∷ es) h = (tt, silent_read es h)
 silent_read (Gives_param param ∷ es) h = (tt, silent_read es h)
 silent_read (Ends_params values ∷ es) h = (tt, silent_read es h)
+silent_read (Reaches number ∷ es) h = (tt, silent_read es h)
+silent_read (Captures total ∷ es) h = (tt, silent_read es h)
 
 pub all_read : (es fs : List NodeEvent) → AllRead es → AllRead fs → AllRead (es ++ fs)
 all_read [] fs h k = k
@@ -158,19 +166,19 @@ module _ (s : WorldState) (k : ℕ) (n : DroneSide) (g : Steady s) (found : slic
         };
       }
 
-  pub drone_done : (step : CoreStep DroneState) → Silent step.first → Silent step.last → DroneInRange step.core → step.core.sys ≡ n.core.sys → Roomy (has_heard n.link) step.core → Unstored step.core
-      → (o : Outcome Link) → LinkDoes s n.link o → NodeDoes s k (as_node Drone (behind step.first (with_core step.core n.services step.last o)))
-  drone_done step h l range same room unstored None m = tt
-  drone_done step h l range same room unstored (Some d) m =
+  pub drone_done : (services : DroneServices) → SoundDroneServices (has_heard n.link) (node_of n.link.me) services → (step : CoreStep DroneState) → Silent step.first → Silent step.last → DroneInRange step.core → step.core.sys ≡ n.core.sys → Roomy (has_heard n.link) step.core → Unstored step.core
+      → (o : Outcome Link) → LinkDoes s n.link o → NodeDoes s k (as_node Drone (behind step.first (with_core step.core services step.last o)))
+  drone_done services served step h l range same room unstored None m = tt
+  drone_done services served step h l range same room unstored (Some d) m =
       let all : List NodeEvent = step.first ++ (d.events ++ step.last) in
       let sends = between step.first d.events step.last h l in
-      node_goes s k (Drone n) (Drone (record { link = d.node; core = step.core; services = n.services })) all g found
-      (drone_moves d.node step.core n.services (packets_in all) range same room unstored (g.cores k (Drone n) found).services (subst (LinkGrows s n.link d.node) (sym sends) m.link))
+      node_goes s k (Drone n) (Drone (record { link = d.node; core = step.core; services = services })) all g found
+      (drone_moves d.node step.core services (packets_in all) range same room unstored served (subst (LinkGrows s n.link d.node) (sym sends) m.link))
       (all_read step.first (d.events ++ step.last) (silent_read step.first h) (all_read d.events step.last m.reads (silent_read step.last l)))
 
-  pub drone_steps : (step : CoreStep DroneState) → Silent step.first → Silent step.last → DroneInRange step.core → step.core.sys ≡ n.core.sys → Roomy (has_heard n.link) step.core → Unstored step.core → IfSome step.answer InRange → NodeDoes s k (as_node Drone (steps s.clock n.link n.services step))
-  drone_steps step h l range same room unstored says =
-      drone_done step h l range same room unstored (answers s.clock step.answer n.link) (link_answers s n.link (g.links k (Drone n) found) step.answer says)
+  pub drone_steps : (services : DroneServices) → SoundDroneServices (has_heard n.link) (node_of n.link.me) services → (step : CoreStep DroneState) → Silent step.first → Silent step.last → DroneInRange step.core → step.core.sys ≡ n.core.sys → Roomy (has_heard n.link) step.core → Unstored step.core → IfSome step.answer InRange → NodeDoes s k (as_node Drone (steps s.clock n.link services step))
+  drone_steps services served step h l range same room unstored says =
+      drone_done services served step h l range same room unstored (answers s.clock step.answer n.link) (link_answers s n.link (g.links k (Drone n) found) step.answer says)
 
   pub drone_tries : (packet : Packet) → (Verifies s.key packet packet.block → IsAmong s.sent packet) → NodeGoes s k (record { node = Drone (record n { link = tries packet n.link }); events = [] })
   drone_tries packet known =

@@ -38,7 +38,9 @@ module _ (s : WorldState) where
       by_test Own (bytes_eq w (codes "noise")) _ _ (λ is. absurd (differ (bytes_eq w (codes "noise")) is quiet)) (λ _.
       by_test Own (bytes_eq w (codes "tick")) _ _ (λ _. tt) (λ _.
       by_test Own (bytes_eq w (codes "clock")) _ _ (λ _. tt) (λ _.
-      by_test Own (bytes_eq w (codes "restart")) _ _ (λ _. tt) (λ _. tt))))))))))))))))))
+      by_test Own (bytes_eq w (codes "restart")) _ _ (λ _. tt) (λ _.
+      by_test Own (bytes_eq w (codes "sim")) _ _ (λ _. tt) (λ _.
+      by_test Own (bytes_eq w (codes "where")) _ _ (λ _. tt) (λ _. tt))))))))))))))))))))
 
   from_text : (text : List ℕ) → is_noise text ≡ false → Own (line_of text)
   from_text text quiet = by_test Own (is_blank text) Blank (line_from (words_of text)) (λ _. tt) (λ _. from_words (words_of text) quiet)

@@ -1,18 +1,19 @@
 -- A line that has no reason against it may be asked for, and its numbers are in the ranges of their types.
-use Rattle.std.proofs.Common.{◌≡◌, ℕ, ◌<◌, ◌≤◌, Bool, true, false, not, ◌||◌, if◌then◌else◌, nat_lt, List, [], ◌∷◌, length, codes, Option, Some, None, refl, arith}
+use Rattle.std.proofs.Common.{◌≡◌, ℕ, ◌<◌, ◌≤◌, Bool, true, false, not, if◌then◌else◌, nat_lt, List, [], ◌∷◌, length, codes, Option, Some, None, refl, arith}
 use Rattle.std.specs.Str.{bytes_eq}
 use Rattle.scenario_lines.specs.declared.faults.Reason.{Reason}
 use Rattle.scenario_lines.specs.declared.lines.Line.{Line}
 use Rattle.scenario_lines.specs.declared.lines.Line.TheVariants.{Blank}
 use Rattle.scenario_lines.specs.Words.{words_of, word_at}
 use Rattle.scenario_lines.specs.LineContext.{LineContext}
-use Rattle.scenario_lines.specs.Grammar.{Form, form, Argument, Whole, Signed, Wire, A_station, A_drone, form_of, counts, arguments_at, misfit, item_words, first_reason, line_from, is_blank, most_line_bytes, whole_at, wire_at}
-use Rattle.scenario_lines.specs.Reasons.{words_reason, is_unbuilt}
+use Rattle.scenario_lines.specs.Grammar.{Form, form, Argument, Whole, Signed, Wire, A_station, A_drone, form_of, counts, arguments_at, misfit, item_words, first_reason, line_from, is_blank, most_line_bytes, whole_at, signed_at, wire_at}
+use Rattle.scenario_lines.specs.Reasons.{words_reason}
 use Rattle.scenario_lines.proofs.Permitted.{read_is_permitted}
+use Rattle.drone_sim.specs.Laws.{PointInRange}
 use Rattle.plan_ranges.specs.Ranges.{Is8, Is16, Is32}
 use Rattle.fleet_invariants.specs.Kept.{LineFits}
 use Rattle.fleet_invariants.specs.Laws.{EveryReadLineFits}
-use Rattle.fleet_invariants.proofs.Words.{bytes_small, wire_small, whole_within, item_in_range}
+use Rattle.fleet_invariants.proofs.Words.{bytes_small, signed_small, wire_small, whole_within, item_in_range}
 
 -- ---- no reason of several
 
@@ -30,8 +31,7 @@ fits_first false r m h = absurd (let wrong : ◌≡◌ {A = Option Reason} (Some
 
 fitted : (s : LineContext) (words : List (List ℕ)) (f : Form) → words_reason s words (Some f) ≡ None → misfit s.nodes (arguments_at f (length words)) words 1 ≡ None
 fitted s words f h =
-    let built = no_reason (is_unbuilt (word_at words 0)) _ _ h in
-    let counted = no_reason (not (counts f (length words))) _ _ built in
+    let counted = no_reason (not (counts f (length words))) _ _ h in
     no_first _ _ counted
 
 -- ---- by the first word
@@ -40,23 +40,6 @@ fitted s words f h =
 choose : {A B : Type 0} (P : A → B → Type 0) (b : Bool) (x y : A) (u v : B) → P x u → P y v → P (if b then x else y) (if b then u else v)
 choose P true x y u v f g = f
 choose P false x y u v f g = g
-
--- a form that no line goes with, since its line isn't built
-unbuilt : {A B : Type 0} (P : A → B → Type 0) (b : Bool) (x y : A) (v : B) → (b ≡ true → P x v) → P y v → P (if b then x else y) v
-unbuilt P true x y v f g = f refl
-unbuilt P false x y v f g = g
-
--- the second of two tests holds
-second : (a : Bool) → (a || true) ≡ true
-second true = refl
-second false = refl
-
-later : (b : Bool) (r : Reason) (m : Option Reason) → b ≡ true → (if b then Some r else m) ≡ None → ⊥
-later true r m e h = absurd (let wrong : ◌≡◌ {A = Option Reason} (Some r) None = h in cc)
-later false r m e h = absurd (let wrong : false ≡ true = e in cc)
-
-no_line : (s : LineContext) (words : List (List ℕ)) (args : List Argument) (P : Type 0) → is_unbuilt (word_at words 0) ≡ true → words_reason s words (form args) ≡ None → P
-no_line s words args P is h = absurd (later (is_unbuilt (word_at words 0)) _ _ is h)
 
 abbrev Fits : LineContext → List (List ℕ) → Option Form → Line → Type 0
 Fits s words form line = words_reason s words form ≡ None → LineFits line
@@ -68,10 +51,10 @@ narrow : (n : ℕ) → n ≤ 65535 → n < 65536
 narrow n h = omega arith
 
 module _ (s : LineContext) (words : List (List ℕ)) where
-  of_drone : (further : List (List Argument)) → words_reason s words (Some (record { needed = Whole 1 255 ∷ []; further = further })) ≡ None → Is8 (whole_at words 1)
+  of_drone : (further : List (List Argument)) → words_reason s words (Some (record { needed = Whole 1 255 ∷ []; further = further })) ≡ None → Is8 (whole_at words 1) × PointInRange (record { x = signed_at words 2; y = signed_at words 3 })
   of_drone further h =
       let sys = fits_first _ _ _ (fitted s words (record { needed = Whole 1 255 ∷ []; further = further }) h) in
-      small (whole_at words 1) (whole_within 1 255 words 1 sys.0)
+      (small (whole_at words 1) (whole_within 1 255 words 1 sys.0), record { x = signed_small words 2; y = signed_small words 3 })
 
   of_station : words_reason s words (form (Whole 1 255 ∷ Whole 1 255 ∷ [])) ≡ None → Is8 (whole_at words 1) × Is8 (whole_at words 2)
   of_station h =
@@ -120,8 +103,8 @@ module _ (s : LineContext) (words : List (List ℕ)) where
       (choose (Fits s words) (bytes_eq w (codes "tick")) _ _ _ _ (λ h. tt)
       (choose (Fits s words) (bytes_eq w (codes "clock")) _ _ _ _ (λ h. tt)
       (choose (Fits s words) (bytes_eq w (codes "restart")) _ _ _ _ (λ h. tt)
-      (unbuilt (Fits s words) (bytes_eq w (codes "sim")) _ _ Blank (λ is h. no_line s words (A_drone ∷ Whole 1 10000 ∷ []) _ (rw is refl) h)
-      (unbuilt (Fits s words) (bytes_eq w (codes "where")) _ _ Blank (λ is h. no_line s words (A_drone ∷ []) _ (rw is (second (bytes_eq w (codes "sim")))) h)
+      (choose (Fits s words) (bytes_eq w (codes "sim")) _ _ _ _ (λ h. tt)
+      (choose (Fits s words) (bytes_eq w (codes "where")) _ _ _ _ (λ h. tt)
       (λ h. tt))))))))))))))))))))
 
 text_fits : (s : LineContext) (text : List ℕ) (blank : Bool) → (if blank then None else words_reason s (words_of text) (form_of (word_at (words_of text) 0))) ≡ None → LineFits (if blank then Blank else line_from (words_of text))

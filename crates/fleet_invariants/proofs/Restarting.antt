@@ -90,7 +90,7 @@ module _ (s : WorldState) (g : Steady s) (k : ℕ) (n : DroneSide) (found : slic
   near : (low : Option ℕ) → stored_low n.link.history ≡ low → unwrap_or low 0 ≤ local_of n.link.history + headroom
   near low is = subst (λ (o : Option ℕ). unwrap_or o 0 ≤ local_of n.link.history + headroom) is end.near
 
-  starts_by : (low : Option ℕ) → stored_low n.link.history ≡ low → Moves (restart_line s) (Drone n) (Drone (started_again s.key n.core.sys n.services.home low n.core.plans)) []
+  starts_by : (low : Option ℕ) → stored_low n.link.history ≡ low → Moves (restart_line s) (Drone n) (Drone (started_again s.key n.core.sys n.services.sim.home low n.core.plans)) []
   starts_by None is = record {
     named_is = named_is;
     link = record {
@@ -109,9 +109,9 @@ module _ (s : WorldState) (g : Steady s) (k : ℕ) (n : DroneSide) (found : slic
       range = drones.fresh n.core.sys own.range.sys;
       sys = refl;
       comp = refl;
-      roomy = roomy_fresh (has_heard (started_again s.key n.core.sys n.services.home None n.core.plans).link) n.core.sys no_plans;
+      roomy = roomy_fresh (has_heard (started_again s.key n.core.sys n.services.sim.home None n.core.plans).link) n.core.sys no_plans;
       unstored = λ none. refl;
-      services = drone_services_fresh (has_heard (started_again s.key n.core.sys n.services.home None n.core.plans).link) n.core.sys n.services.home;
+      services = drone_services_fresh (has_heard (started_again s.key n.core.sys n.services.sim.home None n.core.plans).link) n.core.sys n.services.sim.home own.services.sim.home;
     };
   }
   starts_by (Some low) is = record {
@@ -132,9 +132,9 @@ module _ (s : WorldState) (g : Steady s) (k : ℕ) (n : DroneSide) (found : slic
       range = drones.again n.core own.range;
       sys = refl;
       comp = refl;
-      roomy = roomy_fresh (has_heard (started_again s.key n.core.sys n.services.home (Some low) n.core.plans).link) n.core.sys n.core.plans;
+      roomy = roomy_fresh (has_heard (started_again s.key n.core.sys n.services.sim.home (Some low) n.core.plans).link) n.core.sys n.core.plans;
       unstored = λ none. absurd (no_low (max 0 low) none);
-      services = drone_services_fresh (has_heard (started_again s.key n.core.sys n.services.home (Some low) n.core.plans).link) n.core.sys n.services.home;
+      services = drone_services_fresh (has_heard (started_again s.key n.core.sys n.services.sim.home (Some low) n.core.plans).link) n.core.sys n.services.sim.home own.services.sim.home;
     };
   }
 

@@ -13,8 +13,17 @@ use Rattle.mav_messages.specs.declared.commands.CommandAck.{CommandAck}
 use Rattle.mav_messages.specs.declared.messages.Message.{Message}
 use Rattle.mav_messages.specs.declared.messages.Message.TheVariants.{CommandLong as Commands, CommandAck as Acknowledges}
 use Rattle.mav_messages.specs.Messages.{definition_of, values_of}
+use Rattle.std.specs.List.{list_any}
+use Rattle.plan_items.specs.declared.actions.Action.{Action}
+use Rattle.plan_items.specs.declared.items.Item.{Item}
+use Rattle.drone_sim.specs.declared.points.Point.{Point}
+use Rattle.drone_sim.specs.Sim.{SimState, SimTick, changes, location_of, sim_tick}
+use Rattle.drone_sim.specs.Laws.{PointInRange, LocationsInRange, SimInRange}
+use Rattle.drone_sim.proofs.Ranges.{new_fits, acts_fit, changes_fit, ticks_fit}
+use Rattle.mav_nodes.specs.News.{NodeEvent}
+use Rattle.mav_nodes.proofs.Sendings.{flights_fit}
 use Rattle.mav_nodes.specs.Payloads.{ItemFits, ServiceFits}
-use Rattle.plan_ranges.specs.Ranges.{StreamInRange}
+use Rattle.plan_ranges.specs.Ranges.{ItemInRange, StreamInRange}
 use Rattle.command_proto.specs.declared.commands.Issue.{Issue}
 use Rattle.command_proto.specs.declared.commands.LastCommand.{LastCommand}
 use Rattle.command_proto.specs.declared.executor.Ready.{Ready}
@@ -28,7 +37,7 @@ use Rattle.param_proto.specs.Server.{server_step}
 use Rattle.param_proto.specs.Ranges.{MessageInRange, StepInRange}
 use Rattle.param_proto.proofs.ParamRanges.{server_stays}
 use Rattle.param_proto.proofs.ClientRanges.{lists_in_range, step_in_range, tick_in_range}
-use Rattle.mav_nodes.specs.Services.{ServiceStep, sent_of, Home, DroneServices, StationServices, drone_params, ready_of, drone_serves, new_drone_services, new_station_services, station_served, station_serves, station_waits, command_of, asks_command, asks_params}
+use Rattle.mav_nodes.specs.Services.{ServiceStep, sent_of, DroneServices, StationServices, drone_params, ready_of, acts_by, drone_serves, drone_notes, position_message, reached_messages, next_time, sim_step, drone_flown, drone_flies, new_drone_services, new_station_services, station_served, station_serves, station_waits, command_of, asks_command, asks_params, changes_mission}
 use Rattle.fleet_invariants.specs.Services.{param_count, SoundDroneServices, SoundStationServices}
 use Rattle.fleet_invariants.proofs.Tests.{by_test}
 use Rattle.fleet_invariants.proofs.Params.{Sendable, AllSendable, all_sendable, served, ClientGoes, client_hears, client_waits, one_asked, all_normal}
@@ -123,6 +132,11 @@ one_service drone v from (Commands m) h =
     omega (arith, both, one)
 one_service drone v from m h = (served v.server h v.executor.me m).few
 
+-- what its simulator does by a command
+acted_fit : (sim : SimState) (action : Option Action) → SimInRange sim → SimInRange (acts_by sim action)
+acted_fit sim None h = h
+acted_fit sim (Some action) h = acts_fit sim action h
+
 pub drone_serving : (known : Stream → Bool) (me : Name) (drone : DroneState) (v : DroneServices) (from : Stream) (m : Message)
     → SoundDroneServices known me v → StreamInRange from → known from ≡ true → FitsLayout (definition_of m) (values_of m)
     → Serves (SoundDroneServices known me) (drone_serves drone v from m)
@@ -140,6 +154,8 @@ drone_serving known me drone v from m h range is fits =
         server = record { few = stays.few; params = stays.params; waiting = All-nil MessageInRange };
         count = s.count;
         waiting = refl;
+        sim = acted_fit v.sim e.action h.sim;
+        time = h.time;
       };
       answers = both_sendable (sent_of e.answer) _ (one_sendable e.answer (some_sendable e.answer in_range.answer goes.answer)) (all_sendable (server_step v.server v.executor.me m).waiting s.are stays.waiting);
       few = one_service drone v from m h.count;
@@ -151,6 +167,62 @@ pub drone_few : (drone : DroneState) (v : DroneServices) (from : Stream) (m : Me
 drone_few drone v from m h =
     (one_service drone v from m h, (served v.server h v.executor.me m).count)
 
+-- what its services make of a step of its core
+pub drone_noting : (known : Stream → Bool) (me : Name) (v : DroneServices) (events : List NodeEvent) → SoundDroneServices known me v → SoundDroneServices known me (drone_notes v events)
+drone_noting known me v events h =
+    by_test (SoundDroneServices known me) (list_any changes_mission events) (record v { sim = changes v.sim }) v
+    (λ _. record {
+      me_is = h.me_is;
+      executor = h.executor;
+      heard = h.heard;
+      server = h.server;
+      count = h.count;
+      waiting = h.waiting;
+      sim = changes_fit v.sim h.sim;
+      time = h.time;
+    }) (λ _. h)
+
+-- ---- a tick of its simulator
+
+position_sendable : (time : ℕ) (position : Point) → time < 2 ^ 32 → PointInRange position → Sendable (position_message time position)
+position_sendable time position h range = record { fits = flights_fit.position time position h range; no_plan = flights_fit.position_plan time position }
+
+reached_sendable : (reached : Option ℕ) → IfSome reached (λ number. number < 65536) → AllSendable (reached_messages reached)
+reached_sendable None h = tt
+reached_sendable (Some number) h = (record { fits = flights_fit.reached number h; no_plan = flights_fit.reached_plan number }, tt)
+
+reached_few : (reached : Option ℕ) → length (reached_messages reached) ≤ 1
+reached_few None = omega arith
+reached_few (Some number) = omega arith
+
+pub flown_few : (v : DroneServices) (tick : SimTick) → length (drone_flown v tick).answers ≤ most_answers
+flown_few v tick = let few = reached_few tick.reached in omega (arith, few)
+
+-- where the items of a mission are
+locations_fit : (items : List Item) → All ItemInRange items → LocationsInRange items
+locations_fit items h = All-weaker ItemInRange (λ (item : Item). PointInRange (location_of item)) (λ item range. record { x = range.x; y = range.y }) items h
+
+pub drone_flying : (known : Stream → Bool) (me : Name) (drone : DroneState) (v : DroneServices) → All ItemInRange drone.plans.mission → SoundDroneServices known me v
+    → Serves (SoundDroneServices known me) (drone_flies drone v)
+drone_flying known me drone v items h =
+    let tick = sim_tick v.sim drone.plans.mission (sim_step v.server) in
+    let fit = ticks_fit v.sim drone.plans.mission (sim_step v.server) h.sim (locations_fit drone.plans.mission items) in
+    let later : next_time v.time < 2 ^ 32 = omega arith in
+    record {
+      services = record {
+        me_is = h.me_is;
+        executor = h.executor;
+        heard = h.heard;
+        server = h.server;
+        count = h.count;
+        waiting = h.waiting;
+        sim = fit.sim;
+        time = later;
+      };
+      answers = (position_sendable (next_time v.time) tick.sim.position later fit.sim.position, reached_sendable tick.reached fit.reached);
+      few = flown_few v tick;
+    }
+
 -- as many streams are known, or more
 pub drone_services_more : (known more : Stream → Bool) → ((q : Stream) → known q ≡ true → more q ≡ true) → (me other : Name) → me ≡ other → (v : DroneServices)
     → SoundDroneServices known me v → SoundDroneServices more other v
@@ -161,19 +233,23 @@ drone_services_more known more h me other same v k = record {
   server = k.server;
   count = k.count;
   waiting = k.waiting;
+  sim = k.sim;
+  time = k.time;
 }
 
-forty : (home : Home) → length (drone_params home) ≡ 40
+forty : (home : Point) → length (drone_params home) ≡ 40
 forty home = refl
 
-pub drone_services_fresh : (known : Stream → Bool) (sys : ℕ) (home : Home) → SoundDroneServices known (record { sys = sys; comp = 1 }) (new_drone_services sys home)
-drone_services_fresh known sys home = record {
+pub drone_services_fresh : (known : Stream → Bool) (sys : ℕ) (home : Point) → PointInRange home → SoundDroneServices known (record { sys = sys; comp = 1 }) (new_drone_services sys home)
+drone_services_fresh known sys home range = record {
   me_is = refl;
   executor = fresh (record { sys = sys; comp = 1 });
   heard = All-nil (Known known);
   server = record { few = omega arith; params = all_normal (drone_params home) refl; waiting = All-nil MessageInRange };
   count = refl;
   waiting = refl;
+  sim = new_fits home range;
+  time = omega arith;
 }
 
 -- ---- a station's

@@ -118,6 +118,7 @@ tries_near clock key n link p h near = record {
 pub record SendsFew {Core Services : Type 0} (rules : Rules Core Services) (Few : Services → Type 0) : Type 0 where
   pub few : (core : Core) (v : Services) (from : Stream) (m : Message) → Few v → length (rules.serve core v from m).answers ≤ most_answers
   pub again : (core : Core) (v : Services) (from : Stream) (m : Message) → Few v → Few (rules.serve core v from m).services
+  pub noted : (v : Services) (events : List NodeEvent) → Few v → Few (rules.note v events)
 
 module _ {Core Services : Type 0} (clock : ℕ) (key : List ℕ) (Few : Services → Type 0) where
   abbrev pub IsNear : ℕ → Side Core Services → Type 0
@@ -157,8 +158,10 @@ module _ {Core Services : Type 0} (clock : ℕ) (key : List ℕ) (Few : Services
     takes_near n node from None (Some m) h room =
         serves_near n node.link node.core (rules.serve node.core node.services from m) (sends_few.again node.core node.services from m h.1) (sends_few.few node.core node.services from m h.1) h.0 room
     takes_near n node from (Some m) other h room =
-        ends_on (IsNear (n + 1)) (IsNear (n + most_answers)) (node_later (n + 1) (n + most_answers) (omega arith)) (steps clock node.link node.services (rules.take node.core from m))
-        (steps_near n node.link node.services (rules.take node.core from m) h.1 h.0 (omega (arith, room)))
+        let step = rules.take node.core from m in
+        let services = rules.note node.services step.first in
+        ends_on (IsNear (n + 1)) (IsNear (n + most_answers)) (node_later (n + 1) (n + most_answers) (omega arith)) (steps clock node.link services step)
+        (steps_near n node.link services step (sends_few.noted node.services step.first h.1) h.0 (omega (arith, room)))
 
     admits_near : (n : ℕ) (node : Side Core Services) (p : Packet) (answer : Admit) (block : Option SignatureBlock) → IsNear n node → clock + (n + most_answers) ≤ greatest_stamp → Ends (IsNear (n + most_answers)) (admits rules clock node p answer block)
     admits_near n node p Admitted None h room = node_later n (n + most_answers) (omega arith) node h

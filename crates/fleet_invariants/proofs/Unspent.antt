@@ -18,23 +18,28 @@ use Rattle.mav_frame.specs.FinalParse.{final_parse}
 use Rattle.mav_messages.specs.declared.messages.Message.{Message}
 use Rattle.mav_sign.specs.Endpoints.{frames_of}
 use Rattle.mav_sign.specs.History.{greatest_stamp}
+use Rattle.drone_sim.specs.Sim.{armed, changes, sim_tick}
+use Rattle.fleet_invariants.proofs.Calls.{sound_does}
+use Rattle.mav_nodes.specs.News.{NodeEvent}
+use Rattle.std.specs.List.{list_any}
 use Rattle.mav_nodes.specs.Links.{Link, Outcome, sends}
-use Rattle.mav_nodes.specs.Services.{ServiceStep, DroneServices, StationServices, station_waits, command_of, asks_command, asks_params}
+use Rattle.mav_nodes.specs.Services.{ServiceStep, DroneServices, StationServices, station_waits, command_of, asks_command, asks_params, sim_step, drone_flies, changes_mission, drone_notes}
 use Rattle.mav_nodes.specs.Steps.{Side, Rules, CoreStep, with_core, steps, serves, receives}
 use Rattle.command_proto.specs.Commander.{open_command, commands as gives, commander_step, commander_tick}
 use Rattle.param_proto.specs.Client.{client_step, client_tick, lists}
-use Rattle.mav_nodes.specs.Nodes.{DroneSide, StationSide, drone_rules, drone_waits, drone_heartbeat, drone_receives, drone_ticks, drone_beats, station_rules, station_does, station_heartbeat, station_receives, station_ticks, station_beats, station_begins, station_cancels, station_clears, station_gets, station_commands, station_lists_params}
+use Rattle.mav_nodes.specs.Nodes.{DroneSide, StationSide, drone_rules, drone_waits, drone_heartbeat, drone_receives, drone_ticks, drone_beats, station_rules, station_does, station_heartbeat, station_receives, station_ticks, station_beats, station_begins, station_cancels, station_clears, station_gets, station_commands, station_lists_params, drone_sims}
 use Rattle.scenario_lines.specs.declared.faults.Reason.{Reason}
 use Rattle.scenario_lines.specs.declared.faults.Reason.TheVariants.{Long}
 use Rattle.scenario_lines.specs.declared.lines.Line.{Line}
-use Rattle.scenario_lines.specs.declared.lines.Line.TheVariants.{Blank, Drone as DroneLine, Station as StationLine, Item as OneItem, Items, Empty, Begin, Cancel, Clear, Get, Command, Params, Heartbeat, Deliver, Flow, Noise, Tick, Clock, Restart}
+use Rattle.scenario_lines.specs.declared.lines.Line.TheVariants.{Blank, Drone as DroneLine, Station as StationLine, Item as OneItem, Items, Empty, Begin, Cancel, Clear, Get, Command, Params, Heartbeat, Deliver, Flow, Noise, Tick, Clock, Restart, Sim, WhereIs}
 use Rattle.scenario_lines.specs.Grammar.{line_of, most_line_bytes}
 use Rattle.scenario_lines.specs.Reasons.{reason_against}
 use Rattle.mav_nodes.specs.Restarts.{restarted_drone, drone_restarts}
 use Rattle.std.proofs.lemmas.List.{append-nil}
 use Rattle.fleet_report.specs.Events.{Event, Restarted}
 use Rattle.fleet_world.specs.WorldState.{WorldState, Node, Drone, Station, node_name, is_named, is_drone_named, is_station_named, stream_of, context_of, drones_in, stations_in}
-use Rattle.fleet_world.specs.Steps.{Step, StepError, At_limit, Stamps_spent, most_frames, most_drones, most_stations, most_restarts, restarts_at, restarts_found, starts_again, restart_line, behind, and_then, packets_in, as_drone, as_station, node_receives, node_beats, node_ticks, node_does, calls_at, calls_found, calls, given_to, given_from, given_to_all, flow_next, flows, delivers, station_line, orders, upload_begins, orders_at, orders_found, orders_to, begins, cancels, clears, gets, asks, command_busy, params_busy, commands, lists_params, after_line}
+use Rattle.fleet_world.specs.declared.locations.Location.{Location}
+use Rattle.fleet_world.specs.Steps.{Step, StepError, At_limit, Stamps_spent, most_frames, most_drones, most_stations, most_restarts, restarts_at, restarts_found, starts_again, restart_line, behind, and_then, packets_in, as_drone, as_station, node_receives, node_beats, node_ticks, node_does, calls_at, calls_found, calls, given_to, given_from, given_to_all, flow_next, flows, delivers, station_line, orders, upload_begins, orders_at, orders_found, orders_to, begins, cancels, clears, gets, asks, command_busy, params_busy, commands, lists_params, after_line, node_flies, flies, location_in, locates_as}
 use Rattle.fleet_world.specs.Scenario.{ScenarioError, Bad, Too_many_lines, Not_done, Played, most_lines, whole_lines, unfinished, without_cr, stopped, goes_on, judged, line_played, unless_stopped, lines_played, at_start, last_played, rest_played, played}
 use Rattle.fleet_world.specs.Authentic.{AuthenticLine, line_read, line_done, AuthenticDone, UnlessStopped, AuthenticLines, AuthenticLast}
 use Rattle.fleet_invariants.specs.Sound.{ahead, link_of, Sound}
@@ -51,13 +56,13 @@ use Rattle.fleet_invariants.proofs.Hearing.{KnownFrames}
 use Rattle.fleet_invariants.proofs.Doing.{known_frames}
 use Rattle.fleet_invariants.proofs.Restated.{restated, sound_restated}
 use Rattle.fleet_invariants.proofs.Heard.{heard_is, sent_known, authentic_known}
-use Rattle.fleet_invariants.proofs.Gives.{sound_gives}
+use Rattle.fleet_invariants.proofs.Gives.{sound_gives, sound_calls}
 use Rattle.fleet_invariants.proofs.Readings.{read_fits}
 use Rattle.fleet_invariants.proofs.Plays.{choosing, one_line, sound_start, sound_lines}
 use Rattle.fleet_invariants.proofs.Counts.{few_frames, IsShort, line_short}
 use Rattle.fleet_invariants.proofs.Timestamps.{IsDone, Near, IsNear, SendsFew, ends_done, beats_near, steps_near, serves_near, both_done, NearFrame, all_done}
 use Rattle.fleet_invariants.specs.Services.{param_count}
-use Rattle.fleet_invariants.proofs.Services.{most_answers, drone_few, station_few}
+use Rattle.fleet_invariants.proofs.Services.{most_answers, drone_few, station_few, flown_few}
 
 -- ---- what a node does
 
@@ -69,11 +74,15 @@ station_done : (o : Outcome StationSide) → IsDone o → IsDone (as_station o)
 station_done None h = h
 station_done (Some d) h = tt
 
+params_noted : (v : DroneServices) (events : List NodeEvent) → length v.server.params ≡ param_count → length (drone_notes v events).server.params ≡ param_count
+params_noted v events h =
+    by_test (λ (w : DroneServices). length w.server.params ≡ param_count) (list_any changes_mission events) (record v { sim = changes v.sim }) v (λ _. h) (λ _. h)
+
 pub drones_send_few : SendsFew drone_rules (λ (v : DroneServices). length v.server.params ≡ param_count)
-drones_send_few = record { few = λ core v from m h. (drone_few core v from m h).0; again = λ core v from m h. (drone_few core v from m h).1 }
+drones_send_few = record { few = λ core v from m h. (drone_few core v from m h).0; again = λ core v from m h. (drone_few core v from m h).1; noted = params_noted }
 
 pub stations_send_few : SendsFew station_rules (λ (v : StationServices). Unit {0})
-stations_send_few = record { few = λ core v from m h. station_few (commander_step v.commander from m) (client_step v.client from m); again = λ core v from m h. tt }
+stations_send_few = record { few = λ core v from m h. station_few (commander_step v.commander from m) (client_step v.client from m); again = λ core v from m h. tt; noted = λ v events h. tt }
 
 -- a datagram with no more frames than a line has bytes
 abbrev HasFew : List ℕ → Type 0
@@ -136,8 +145,14 @@ module _ (s : WorldState) (g : Sound s) where
       (both_done s.clock s.key Any (ahead s) n.link n.services (station_does (station_tick n.core)) station_waits tt (λ v _. (tt, station_few (commander_tick v.commander) (client_tick v.client))) (near_at k (Station n) found) more_room)
 
   heartbeats_done : EachDone (node_beats s.clock)
-  heartbeats_done k (Drone n) found = drone_done (drone_beats s.clock n) (beats_done n.link n.core n.services (drone_heartbeat n.services.armed) (near_at k (Drone n) found))
+  heartbeats_done k (Drone n) found = drone_done (drone_beats s.clock n) (beats_done n.link n.core n.services (drone_heartbeat (armed n.services.sim)) (near_at k (Drone n) found))
   heartbeats_done k (Station n) found = station_done (station_beats s.clock n) (beats_done n.link n.core n.services station_heartbeat (near_at k (Station n) found))
+
+  flights_done : EachDone (node_flies s.clock)
+  flights_done k (Drone n) found =
+      drone_done (drone_sims s.clock n) (serves_done n.link n.core (drone_flies n.core n.services)
+      (flown_few n.services (sim_tick n.services.sim n.core.plans.mission (sim_step n.services.server))) (near_at k (Drone n) found))
+  flights_done k (Station n) found = tt
 
   receives_done : (bytes : List ℕ) → Known s bytes → HasFew bytes → EachDone (node_receives s.clock bytes)
   receives_done bytes known few k (Drone n) found =
@@ -210,6 +225,18 @@ flow_unspent s g (Some p) e next each =
 flows_unspent : (k : ℕ) (s : WorldState) → Sound s → Unspent (flows k s)
 flows_unspent zero s g = tt
 flows_unspent (suc k) s g = flow_unspent s g (slice_get s.sent s.given) refl (flows k) (λ t h. flows_unspent k t h)
+
+-- ---- a flight
+
+flies_unspent : (n : ℕ) (drone : Name) (s : WorldState) → Sound s → Unspent (flies n drone s)
+flies_unspent zero drone s g = tt
+flies_unspent (suc n) drone s g =
+    then_unspent s (calls s drone (node_flies s.clock)) (flies n drone) (sound_calls s g (node_flies s.clock) (sound_does s g).flies drone)
+    (calls_unspent s g drone (node_flies s.clock) (flights_done s g)) (λ t h. flies_unspent n drone t h.sound)
+
+located : (s : WorldState) (drone : Name) (at : Option Location) → Unspent (locates_as s drone at)
+located s drone None = tt
+located s drone (Some at) = tt
 
 -- ---- orders
 
@@ -330,6 +357,8 @@ line_unspent s g (Noise node bytes) fits authentic short =
     calls_unspent s g node (node_receives s.clock bytes) (receives_done s g bytes (authentic_known s g bytes fits authentic) few)
 line_unspent s g (Tick node) fits authentic short = calls_unspent s g node (node_ticks s.clock) (ticks_done s g)
 line_unspent s g (Clock n) fits authentic short = tt
+line_unspent s g (Sim drone n) fits authentic short = flies_unspent n drone s g
+line_unspent s g (WhereIs drone) fits authentic short = located s drone (location_in s.nodes drone)
 line_unspent s g (Restart drone) fits authentic short =
     by_test Unspent (nat_lt s.restarts most_restarts) _ _ (λ few. restarts_unspent s g (less _ _ few) drone) (λ _. tt)
 

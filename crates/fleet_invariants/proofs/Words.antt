@@ -129,7 +129,7 @@ integer_small (b ∷ bs) =
 zero_fits : FitsSigned w32 (pos 0)
 zero_fits = omega (arith, ints)
 
-signed_small : (words : List (List ℕ)) (k : ℕ) → FitsSigned w32 (signed_at words k)
+pub signed_small : (words : List (List ℕ)) (k : ℕ) → FitsSigned w32 (signed_at words k)
 signed_small words k = or_none (FitsSigned w32) (integer_of (word_at words k)) (pos 0) (integer_small (word_at words k)) zero_fits
 
 -- ---- an item

@@ -10,14 +10,15 @@ use Rattle.mav_messages.specs.Plans.{plan_of}
 use Rattle.mav_sign.specs.Signing.{Verifies, signature_of}
 use Rattle.mav_sign.specs.History.{previous_in}
 use Rattle.mav_sign.specs.Endpoints.{frames_of}
-use Rattle.mav_nodes.specs.News.{NodeEvent, Sends, Installs, Empties, Drops, Ends, Ends_command, Gives_param, Ends_params}
+use Rattle.mav_nodes.specs.News.{NodeEvent, Sends, Installs, Empties, Drops, Ends, Ends_command, Gives_param, Ends_params, Reaches, Captures}
 use Rattle.mav_nodes.specs.Links.{Outcome}
 use Rattle.mav_nodes.specs.Payloads.{plan_in, service_in, service_of}
 use Rattle.scenario_lines.specs.declared.lines.Line.{Line}
-use Rattle.scenario_lines.specs.declared.lines.Line.TheVariants.{Blank, Drone as DroneLine, Station as StationLine, Item as OneItem, Items, Empty, Begin, Cancel, Clear, Get, Command, Params, Heartbeat, Deliver, Flow, Noise, Tick, Clock, Restart}
+use Rattle.scenario_lines.specs.declared.lines.Line.TheVariants.{Blank, Drone as DroneLine, Station as StationLine, Item as OneItem, Items, Empty, Begin, Cancel, Clear, Get, Command, Params, Heartbeat, Deliver, Flow, Noise, Tick, Clock, Restart, Sim, WhereIs}
 use Rattle.scenario_lines.specs.declared.roster.Named.{Named}
 use Rattle.scenario_lines.specs.declared.roster.Role.TheVariants.{Drone as DroneRole, Station as StationRole}
 use Rattle.plan_ranges.specs.Ranges.{Is8, Is16, Is32, ItemInRange}
+use Rattle.drone_sim.specs.Laws.{PointInRange}
 use Rattle.fleet_world.specs.WorldState.{WorldState, Node, named, names_of}
 use Rattle.fleet_world.specs.Steps.{Step, StepError}
 use Rattle.fleet_invariants.specs.Sound.{link_of, IsSent, Sound}
@@ -51,6 +52,8 @@ Reads (Ends told) = Unit {0}
 Reads (Ends_command result) = Unit {0}
 Reads (Gives_param param) = Unit {0}
 Reads (Ends_params values) = Unit {0}
+Reads (Reaches number) = Unit {0}
+Reads (Captures total) = Unit {0}
 
 abbrev pub AllRead : List NodeEvent → Type 0
 AllRead [] = Unit {0}
@@ -110,6 +113,8 @@ names_joined (Noise node bytes) = []
 names_joined (Tick node) = []
 names_joined (Clock n) = []
 names_joined (Restart drone) = []
+names_joined (Sim drone n) = []
+names_joined (WhereIs drone) = []
 
 pub record LineKeeps (s : WorldState) (line : Line) (t : WorldState) : Type 0 where
   pub sound : Sound t
@@ -122,7 +127,7 @@ KeepsLine s line (Err error) = Unit {0}
 
 -- the numbers of a line are in the ranges of their types
 abbrev pub LineFits : Line → Type 0
-LineFits (DroneLine sys x y) = Is8 sys
+LineFits (DroneLine sys x y) = Is8 sys × PointInRange (record { x = x; y = y })
 LineFits (StationLine sys comp) = Is8 sys × Is8 comp
 LineFits (OneItem item) = ItemInRange item
 LineFits (Items n first) = ItemInRange first
@@ -141,3 +146,5 @@ LineFits (Flow k) = Unit {0}
 LineFits (Tick node) = Unit {0}
 LineFits (Clock n) = Unit {0}
 LineFits (Restart drone) = Unit {0}
+LineFits (Sim drone n) = Unit {0}
+LineFits (WhereIs drone) = Unit {0}

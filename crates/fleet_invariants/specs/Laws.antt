@@ -21,7 +21,7 @@ use Rattle.scenario_lines.specs.Grammar.{line_of}
 use Rattle.scenario_lines.specs.Reasons.{reason_against}
 use Rattle.scenario_lines.specs.Permits.{IsPermitted}
 use Rattle.fleet_world.specs.WorldState.{WorldState, Node, Drone, Station, stream_of, context_of}
-use Rattle.fleet_world.specs.Steps.{node_receives, node_beats, node_ticks, node_does, as_station, given_to, given_from, given_to_all, flows, calls, after_line, Stamps_spent}
+use Rattle.fleet_world.specs.Steps.{node_receives, node_beats, node_ticks, node_does, as_station, given_to, given_from, given_to_all, flows, calls, after_line, Stamps_spent, node_flies}
 use Rattle.fleet_world.specs.Scenario.{Played, Not_done, played, lines_played, whole_lines, unfinished, without_cr}
 use Rattle.fleet_world.specs.Authentic.{AuthenticBytes, AuthenticLine, AuthenticLines, Authentic}
 use Rattle.fleet_invariants.specs.Sound.{IsSent, Sound}
@@ -66,6 +66,7 @@ pub record EachCallKeeps (s : WorldState) : Type 0 where
   pub receives : (bytes : List ℕ) → Known s bytes → CallKeeps s (node_receives s.clock bytes)
   pub beats : CallKeeps s (node_beats s.clock)
   pub ticks : CallKeeps s (node_ticks s.clock)
+  pub flies : CallKeeps s (node_flies s.clock)
   pub begins : (k : ℕ) (node : StationSide) (drone : Name) (kind : ℕ) → NameInRange drone → Is8 kind → upload_refusal node.core kind s.draft ≡ None
       → OrderKeeps s (record s { draft = [] }) k node (station_begins s.clock (stream_of drone) kind s.draft node)
   pub cancels : (k : ℕ) (node : StationSide) → OrderKeeps s s k node (station_cancels s.clock node)

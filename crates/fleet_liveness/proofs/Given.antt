@@ -60,18 +60,19 @@ module _ (s : WorldState) (g : Sound s) (i : ℕ) (f : Packet) (found : slice_ge
   extras = ap (λ (l : Link). l.extras) (sym (role.link_is y)) ∙ (g.links j (role.as_node y) there).extras
 
   -- the node as it is then
-  abbrev become : Core → Node
-  become core = role.as_node (record y { link = after; core = core })
+  abbrev become : Core → Services → Node
+  become core services = role.as_node (record { link = after; core = core; services = services })
 
   pub record Still (core : Core) (t : Step) : Type 0 where
+    pub services : Services
     pub events : List Event
-    pub moves : Moves s j (become core) [] events t
+    pub moves : Moves s j (become core services) [] events t
 
   stills : (core : Core) → Quiet s.key f stamp m c rules s.clock y key extras core → IfOk (node_does s j name call) (Still core)
   stills core q =
-      let node = become core in
+      let node = become core q.services in
       weaker (Moves s j node [] (reported_by name (length s.sent) q.events)) (Still core) (node_does s j name call)
-      (λ t h. record { events = reported_by name (length s.sent) q.events; moves = h })
+      (λ t h. record { services = q.services; events = reported_by name (length s.sent) q.events; moves = h })
       (does_moves s j name call (record { node = node; events = q.events }) [] (role.receives_is s.clock (encoding f) y ∙ ap role.as_outcome q.is ∙ role.some _ q.events) q.none keeps.0)
 
   -- a message that its core doesn't answer
@@ -85,7 +86,7 @@ module _ (s : WorldState) (g : Sound s) (i : ℕ) (f : Packet) (found : slice_ge
   pub record Said (r : CoreStep Core) (answer : PlanMsg) (t : Step) : Type 0 where
     pub packet : Packet
     pub from : packet.from ≡ node_of y.link.me
-    pub moves : Moves s j (role.as_node (record y { link = sent_at (next_in after.history s.clock) after; core = r.core })) (packet ∷ []) (reported_by name (length s.sent) (r.first ++ Sends packet (message_of_plan answer) ∷ r.last)) t
+    pub moves : Moves s j (role.as_node (record { link = sent_at (next_in after.history s.clock) after; core = r.core; services = rules.note y.services r.first })) (packet ∷ []) (reported_by name (length s.sent) (r.first ++ Sends packet (message_of_plan answer) ∷ r.last)) t
     pub carries : Carries s.key packet (next_in after.history s.clock) answer
 
   one_packet : (first last : List NodeEvent) (packet : Packet) (answer : PlanMsg) → packets_in first ≡ [] → packets_in last ≡ [] → packets_in (first ++ Sends packet (message_of_plan answer) ∷ last) ≡ packet ∷ []
@@ -99,7 +100,7 @@ module _ (s : WorldState) (g : Sound s) (i : ℕ) (f : Packet) (found : slice_ge
       by_says (Spent e) = does_nothing (Said r answer) s j name call (role.receives_is s.clock (encoding f) y ∙ ap role.as_outcome e ∙ role.none)
       by_says (Was_said packet made e) =
           let t = next_in after.history s.clock in
-          let node = role.as_node (record y { link = sent_at t after; core = r.core }) in
+          let node = role.as_node (record { link = sent_at t after; core = r.core; services = rules.note y.services r.first }) in
           let events = r.first ++ Sends packet (message_of_plan answer) ∷ r.last in
           let whole : call ≡ done node events = role.receives_is s.clock (encoding f) y ∙ ap role.as_outcome e ∙ role.some _ events in
           let reads = reads_at r.first r.last packet (message_of_plan answer) (subst OutcomeReads whole keeps.1) in
@@ -126,7 +127,7 @@ module _ (s : WorldState) (g : Sound s) (i : ℕ) (f : Packet) (found : slice_ge
       → IfOk (node_does s j name call) (λ t. t.events ≡ reported_by name (length s.sent) ((r.first ++ r.last) ++ []))
   ends_so admitted r is no_answer first last =
       let events = (r.first ++ r.last) ++ [] in
-      let node = become r.core in
+      let node = become r.core (rules.note y.services r.first) in
       weaker (Moves s j node [] (reported_by name (length s.sent) events)) (λ t. t.events ≡ reported_by name (length s.sent) events) (node_does s j name call) (λ t h. h.events_are)
       (does_moves s j name call (record { node = node; events = events }) []
       (role.receives_is s.clock (encoding f) y ∙ ap role.as_outcome (ended s.key f stamp m c rules s.clock y key extras r is no_answer admitted) ∙ role.some _ events)

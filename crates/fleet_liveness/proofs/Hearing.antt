@@ -15,7 +15,7 @@ use Rattle.mav_sign.specs.declared.admission.Admit.TheVariants.{Admitted, Unsign
 use Rattle.mav_sign.specs.Signing.{signature_of}
 use Rattle.mav_sign.specs.Endpoints.{frames_of}
 use Rattle.mav_sign.specs.History.{Entry, answer_to, block_answer, stamp_answer, answer_after, unless_below, low_of, one_minute, stream_limit, last_of, local_of, streams_of, next_in, greatest_stamp}
-use Rattle.mav_nodes.specs.News.{NodeEvent, Sends, Installs, Empties, Drops, Ends, Ends_command, Gives_param, Ends_params}
+use Rattle.mav_nodes.specs.News.{NodeEvent, Sends, Installs, Empties, Drops, Ends, Ends_command, Gives_param, Ends_params, Reaches, Captures}
 use Rattle.mav_nodes.specs.Payloads.{plan_in, service_in}
 use Rattle.mav_nodes.specs.Links.{Link, Outcome, done, behind, and_then, tries, sent_at, sends}
 use Rattle.mav_nodes.specs.Signed.{signed_packet}
@@ -72,6 +72,8 @@ packets_append (Ends told ∷ es) fs = packets_append es fs
 packets_append (Ends_command result ∷ es) fs = packets_append es fs
 packets_append (Gives_param param ∷ es) fs = packets_append es fs
 packets_append (Ends_params values ∷ es) fs = packets_append es fs
+packets_append (Reaches number ∷ es) fs = packets_append es fs
+packets_append (Captures total ∷ es) fs = packets_append es fs
 
 module _ (key : List ℕ) (p : Packet) (stamp : ℕ) (m : PlanMsg) (c : Carries key p stamp m) where
   abbrev block : SignatureBlock
@@ -103,19 +105,25 @@ module _ (key : List ℕ) (p : Packet) (stamp : ℕ) (m : PlanMsg) (c : Carries 
         ap (λ x. admits rules clock (record y { link = after }) p x p.block) is
         ∙ ap (admits rules clock (record y { link = after }) p a) c.block
 
-    taken : answer_to y.link.key y.link.history p ≡ Admitted → Received ≡ and_then (steps clock after y.services (rules.take y.core (stream_of p.from) m)) (hears_all rules clock [])
+    -- what its services make of a step of its core
+    abbrev noted : CoreStep Core → Services
+    noted r = rules.note y.services r.first
+
+    taken : answer_to y.link.key y.link.history p ≡ Admitted → Received ≡ and_then (steps clock after (noted (rules.take y.core (stream_of p.from) m)) (rules.take y.core (stream_of p.from) m)) (hears_all rules clock [])
     taken is =
         received
         ∙ ap (λ o. and_then o (hears_all rules clock [])) (heard Admitted is ∙ ap (λ o. takes rules clock (record y { link = after }) (stream_of p.from) o (service_in p.id p.payload)) c.plan)
 
     -- nothing is sent
     pub record Quiet (core : Core) : Type 0 where
+      pub services : Services
       pub events : List NodeEvent
-      pub is : Received ≡ done (record y { link = after; core = core }) events
+      pub is : Received ≡ done (record { link = after; core = core; services = services }) events
       pub none : packets_in events ≡ []
 
     dropped : (a : Admit) → answer_to y.link.key y.link.history p ≡ a → hears rules clock p y ≡ done (record y { link = after }) (Drops a ∷ []) → Quiet y.core
     dropped a is h = record {
+      services = y.services;
       events = Drops a ∷ [];
       is = received ∙ ap (λ o. and_then o (hears_all rules clock [])) h;
       none = refl;
@@ -124,14 +132,15 @@ module _ (key : List ℕ) (p : Packet) (stamp : ℕ) (m : PlanMsg) (c : Carries 
     pub none_of : (first last : List NodeEvent) → packets_in first ≡ [] → packets_in last ≡ [] → packets_in ((first ++ last) ++ []) ≡ []
     none_of first last f l = ap packets_in (append-nil (first ++ last)) ∙ packets_append first last ∙ ap (λ ps. ps ++ packets_in last) f ∙ l
 
-    pub ended : (r : CoreStep Core) → rules.take y.core (stream_of p.from) m ≡ r → r.answer ≡ None → answer_to y.link.key y.link.history p ≡ Admitted → Received ≡ done (record y { link = after; core = r.core }) ((r.first ++ r.last) ++ [])
+    pub ended : (r : CoreStep Core) → rules.take y.core (stream_of p.from) m ≡ r → r.answer ≡ None → answer_to y.link.key y.link.history p ≡ Admitted → Received ≡ done (record { link = after; core = r.core; services = noted r }) ((r.first ++ r.last) ++ [])
     ended r is no_answer admitted =
         taken admitted
-        ∙ ap (λ z. and_then (steps clock after y.services z) (hears_all rules clock [])) is
-        ∙ ap (λ z. and_then (steps clock after y.services (record r { answer = z })) (hears_all rules clock [])) no_answer
+        ∙ ap (λ z. and_then (steps clock after (noted z) z) (hears_all rules clock [])) is
+        ∙ ap (λ z. and_then (steps clock after (noted r) (record r { answer = z })) (hears_all rules clock [])) no_answer
 
     silent : (r : CoreStep Core) → rules.take y.core (stream_of p.from) m ≡ r → r.answer ≡ None → packets_in r.first ≡ [] → packets_in r.last ≡ [] → answer_to y.link.key y.link.history p ≡ Admitted → Quiet r.core
     silent r is no_answer first last admitted = record {
+      services = noted r;
       events = (r.first ++ r.last) ++ [];
       is = ended r is no_answer admitted;
       none = none_of r.first r.last first last;
@@ -157,17 +166,17 @@ module _ (key : List ℕ) (p : Packet) (stamp : ℕ) (m : PlanMsg) (c : Carries 
     pub data Says (r : CoreStep Core) (answer : PlanMsg) : Type 0 where
       Spent : Received ≡ None → Says r answer
       Said : (packet : Packet) → packet ≡ signed_packet y.link.key y.link.extras y.link.me y.link.seq (next_in after.history clock) (message_of_plan answer)
-          → Received ≡ done (record y { link = sent_at (next_in after.history clock) after; core = r.core }) (r.first ++ Sends packet (message_of_plan answer) ∷ r.last) → Says r answer
+          → Received ≡ done (record { link = sent_at (next_in after.history clock) after; core = r.core; services = noted r }) (r.first ++ Sends packet (message_of_plan answer) ∷ r.last) → Says r answer
 
     pub says : (r : CoreStep Core) → rules.take y.core (stream_of p.from) m ≡ r → (answer : PlanMsg) → r.answer ≡ Some answer → answer_to y.link.key y.link.history p ≡ Admitted → Says r answer
     says r is answer answers admitted =
         let stamp = next_in after.history clock in
         let packet = signed_packet y.link.key y.link.extras y.link.me y.link.seq stamp (message_of_plan answer) in
-        let whole : Received ≡ and_then (behind r.first (with_core r.core y.services r.last (sends clock (message_of_plan answer) after))) (hears_all rules clock []) =
+        let whole : Received ≡ and_then (behind r.first (with_core r.core (noted r) r.last (sends clock (message_of_plan answer) after))) (hears_all rules clock []) =
         taken admitted
-        ∙ ap (λ z. and_then (steps clock after y.services z) (hears_all rules clock [])) is
-        ∙ ap (λ z. and_then (steps clock after y.services (record r { answer = z })) (hears_all rules clock [])) answers in
-        by_test (λ (o : Outcome Link). Received ≡ and_then (behind r.first (with_core r.core y.services r.last o)) (hears_all rules clock []) → Says r answer) (nat_lt greatest_stamp stamp) _ _
+        ∙ ap (λ z. and_then (steps clock after (noted z) z) (hears_all rules clock [])) is
+        ∙ ap (λ z. and_then (steps clock after (noted r) (record r { answer = z })) (hears_all rules clock [])) answers in
+        by_test (λ (o : Outcome Link). Received ≡ and_then (behind r.first (with_core r.core (noted r) r.last o)) (hears_all rules clock []) → Says r answer) (nat_lt greatest_stamp stamp) _ _
         (λ _ e. Spent e)
-        (λ _ e. Said packet refl (e ∙ ap (done (record y { link = sent_at stamp after; core = r.core })) (append-nil (r.first ++ Sends packet (message_of_plan answer) ∷ r.last))))
+        (λ _ e. Said packet refl (e ∙ ap (done (record { link = sent_at stamp after; core = r.core; services = noted r })) (append-nil (r.first ++ Sends packet (message_of_plan answer) ∷ r.last))))
         whole

@@ -209,7 +209,7 @@ module _ (sys : ℕ) (me : Name) (kind : PlanKind) (plan : List Item) (valid : I
       pub own_drone : f.from ≢ sends_it (is_up p) → drone_step true w.drone.core (stream_of f.from) m ≡ rests w.drone.core → Given dp (Drone w.drone) 0
       own_drone ne is =
           weaker (StillDrone dp w.drone w.drone_there w.drone.core) (Near s 0 r p) (node_does s dp name (node_receives s.clock (encoding f) (Drone w.drone)))
-          (λ t h. let d : DroneSide = record w.drone { link = tries f w.drone.link; core = w.drone.core } in
+          (λ t h. let d : DroneSide = record { link = tries f w.drone.link; core = w.drone.core; services = h.services } in
           near_moved dp (Drone d) [] h.events t h.moves (λ sound.
           goes_on dp (Drone d) [] sound d (set_there s.nodes dp (Drone w.drone) (Drone d) w.drone_there) refl refl
           w.station (set_elsewhere s.nodes dp sp (Drone d) (λ e. apart_indices (sym e)) ∙ w.station_there) refl w.station_is (low_tried w.drone.link f) refl refl
@@ -218,7 +218,7 @@ module _ (sys : ℕ) (me : Name) (kind : PlanKind) (plan : List Item) (valid : I
 
       own_still : f.from ≢ sends_it (is_up p) → (core : StationState) → StationIs sys me kind plan valid p core → (t : Step) → StillStation sp w.station w.station_there core t → Near s 0 r p t
       own_still ne core is t h =
-          let y : StationSide = record w.station { link = tries f w.station.link; core = core } in
+          let y : StationSide = record { link = tries f w.station.link; core = core; services = h.services } in
           near_moved sp (Station y) [] h.events t h.moves (λ sound.
           goes_on sp (Station y) [] sound w.drone (set_elsewhere s.nodes sp dp (Station y) apart_indices ∙ w.drone_there) refl refl
           y (set_there s.nodes sp (Station w.station) (Station y) w.station_there) refl is refl (low_tried w.station.link f) (trying_previous w.station.link.history f (answer_to w.station.link.key w.station.link.history f))

@@ -135,7 +135,9 @@ module _ {Core Services : Type 0} (rules : Rules Core Services) (quiet : Quiet r
   short_takes : (y : Side Core Services) → Few y.services → (from : Stream) (m : Option PlanMsg) (other : Option Message) → AtMost most_answers (takes rules clock y from m other)
   short_takes y few from None None = omega arith
   short_takes y few from None (Some m) = short_serves y.link y.services y.core from m few
-  short_takes y few from (Some m) other = at_most_more 1 most_answers (steps clock y.link y.services (rules.take y.core from m)) (omega arith) (short_steps y.link y.services y.core from m)
+  short_takes y few from (Some m) other =
+      let noted = rules.note y.services (rules.take y.core from m).first in
+      at_most_more 1 most_answers (steps clock y.link noted (rules.take y.core from m)) (omega arith) (short_steps y.link noted y.core from m)
 
   short_admits : (y : Side Core Services) → Few y.services → (p : Packet) (a : Admit) (block : Option SignatureBlock) → AtMost most_answers (admits rules clock y p a block)
   short_admits y few p Admitted None = omega arith

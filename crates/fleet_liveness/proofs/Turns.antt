@@ -20,6 +20,7 @@ use Rattle.mav_sign.specs.declared.admission.Admit.TheVariants.{Admitted}
 use Rattle.mav_sign.specs.History.{answer_to, last_of, next_in}
 use Rattle.mav_nodes.specs.Links.{Link, tries, sent_at}
 use Rattle.mav_nodes.specs.Nodes.{DroneSide, StationSide, drone_core, drone_rules, station_core, station_rules, change_events, station_does, told_events}
+use Rattle.mav_nodes.specs.Services.{drone_notes}
 use Rattle.mav_nodes.specs.Steps.{CoreStep}
 use Rattle.fleet_report.specs.Events.{Event}
 use Rattle.fleet_world.specs.WorldState.{WorldState, Node, Drone, Station, node_name, stream_of, names_of}
@@ -116,7 +117,7 @@ module _ (sys : ℕ) (me : Name) (kind : PlanKind) (plan : List Item) (valid : I
             (said s w.sound i f found stamp m c drone_rules drones j y there name admitted reply
             (ap (drone_core y.core (stream_of f.from)) is ∙ ap (λ n. drone_core y.core (stream_of n) (Ping everyone boot ping)) from) (Ping me boot ping) refl refl refl refl))
             (λ t h. near_more sys me kind plan valid dp sp s 0 1 r p t (omega arith)
-            (near_other sys me kind plan valid dp sp s r p w j (Drone (record y { link = tries f y.link })) [] h.events t nd ns h.moves (λ q at. absurd (no_packet q at))))
+            (near_other sys me kind plan valid dp sp s r p w j (Drone (record y { link = tries f y.link; services = h.services })) [] h.events t nd ns h.moves (λ q at. absurd (no_packet q at))))
 
     -- another node is given a message of the upload
     pub others : (q : Stage plan) (i : ℕ) (f : Packet) (found : slice_get s.sent i ≡ Some f) (stamp : ℕ) (c : Carries s.key f stamp (says q)) (name : Name) → f.from ≡ sends_it (is_up q)
@@ -188,7 +189,7 @@ module _ (sys : ℕ) (me : Name) (kind : PlanKind) (plan : List Item) (valid : I
       DroneSaid t = Said s w.sound r f w.flies.found w.flies.stamp m w.flies.carries drone_rules drones dp w.drone w.drone_there (node_name (Drone w.drone)) drone_took (says goes.next) t
 
       abbrev drone_new : DroneSide
-      drone_new = record w.drone { link = sent_at drone_stamp drone_after; core = goes.step.drone }
+      drone_new = record { link = sent_at drone_stamp drone_after; core = goes.step.drone; services = drone_notes w.drone.services drone_took.first }
 
       drone_waits : (t : Step) (h : DroneSaid t) → Sound (moved s dp (Drone drone_new) (h.packet ∷ [])) → IsWaiting (moved s dp (Drone drone_new) (h.packet ∷ [])) (length s.sent) goes.next
       drone_waits t h sound = record {

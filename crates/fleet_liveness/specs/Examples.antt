@@ -3,7 +3,7 @@ use Rattle.std.specs.Prelude.{ℕ, ◌||◌, Bool, true, false, List, [], ◌∷
 use Rattle.plan_items.specs.declared.items.Item.{Item}
 use Rattle.plan_items.specs.declared.kinds.PlanKind.TheVariants.{Mission}
 use Rattle.plan_upload.specs.Station.{Told, Told_installed, Told_not_installed, Told_unknown, Told_cleared, Told_got, Told_ended}
-use Rattle.fleet_report.specs.Events.{Event, Sent, Installed, Emptied, Dropped, Missing, Restarted, Refused, Ended, Command_ended, Params_ended, Param_given, Command_refused, Params_refused}
+use Rattle.fleet_report.specs.Events.{Event, Sent, Installed, Emptied, Dropped, Missing, Restarted, Refused, Ended, Command_ended, Params_ended, Param_given, Command_refused, Params_refused, Reached, Captured, Located}
 use Rattle.fleet_liveness.specs.Uncontended.{Lines, NextLine, Whole, Upload}
 
 -- a drone, a station, and one item or two
@@ -77,3 +77,6 @@ acknowledges (Params_ended station values ∷ es) = acknowledges es
 acknowledges (Param_given station param ∷ es) = acknowledges es
 acknowledges (Command_refused station ∷ es) = acknowledges es
 acknowledges (Params_refused station ∷ es) = acknowledges es
+acknowledges (Reached drone number ∷ es) = acknowledges es
+acknowledges (Captured drone total ∷ es) = acknowledges es
+acknowledges (Located drone x y captures ∷ es) = acknowledges es

@@ -3,7 +3,7 @@ use Rattle.std.proofs.Common.{false, ◌≡◌, ℕ, zero, suc, ◌+◌, ◌-◌
 use Rattle.std.specs.Prelude.{unwrap_or}
 use Rattle.std.specs.List.{position_or_len}
 use Rattle.std.specs.declared.result.Result.{Result}
-use Rattle.std.proofs.lemmas.List.{append-nil}
+use Rattle.std.proofs.lemmas.List.{append-nil, length-append}
 use Rattle.mav_names.specs.declared.names.Name.{Name}
 use Rattle.mav_names.specs.declared.names.Stream.{Stream}
 use Rattle.mav_frame.specs.Packet.{Packet, SignatureBlock}
@@ -22,30 +22,33 @@ use Rattle.plan_upload.specs.Refusals.{upload_refusal, refusal}
 use Rattle.plan_safety.specs.World as world
 use Rattle.plan_safety.specs.World.{Begins, Clears, Gets, Cancels, Drone_ticks, Station_ticks, To_drone, To_station, Speaks, Drone_waits, Station_waits}
 use Rattle.plan_safety.proofs.Keys.{by_test, bool_split, name_eq}
+use Rattle.drone_sim.specs.Sim.{armed}
 use Rattle.mav_nodes.specs.News.{NodeEvent}
 use Rattle.mav_nodes.specs.Links.{Link, Outcome, behind, and_then, tries, sends, sends_all}
 use Rattle.mav_nodes.specs.LowBounds.{stored_low}
 use Rattle.mav_nodes.specs.Restarts.{restarted_drone}
 use Rattle.mav_nodes.specs.Payloads.{plan_in, service_in}
-use Rattle.mav_nodes.specs.Services.{ServiceStep}
+use Rattle.mav_nodes.specs.Services.{ServiceStep, drone_flies}
 use Rattle.mav_messages.specs.declared.messages.Message.{Message}
 use Rattle.mav_messages.specs.Plans.{message_of_plan}
 use Rattle.command_proto.specs.Commander.{open_command}
 use Rattle.mav_nodes.specs.Steps.{Side, Rules, CoreStep, answers, with_core, takes, admits, hears}
-use Rattle.mav_nodes.specs.Nodes.{DroneSide, StationSide, drone_rules, station_rules, drone_heartbeat, drone_beats, station_heartbeat, station_beats, station_cancels, station_clears, station_gets, station_commands, station_lists_params}
+use Rattle.mav_nodes.specs.Nodes.{DroneSide, StationSide, drone_rules, station_rules, drone_heartbeat, drone_beats, station_heartbeat, station_beats, station_cancels, station_clears, station_gets, station_commands, station_lists_params, drone_sims}
 use Rattle.fleet_report.specs.Events.{Event}
 use Rattle.scenario_lines.specs.declared.lines.Line.{Line}
 use Rattle.scenario_lines.specs.declared.lines.Line.TheVariants as line
 use Rattle.fleet_world.specs.WorldState.{WorldState, Node, Drone, Station, node_name, stream_of, is_named, is_drone_named, is_station_named}
-use Rattle.fleet_world.specs.Steps.{Step, StepError, as_drone, as_station, given_to, given_to_all, node_does, node_beats, node_ticks, station_line, restart_line, orders, upload_begins, command_busy, params_busy, asks}
+use Rattle.fleet_world.specs.declared.locations.Location.{Location}
+use Rattle.fleet_world.specs.Steps.{Step, StepError, as_drone, as_station, given_to, given_to_all, node_does, node_beats, node_ticks, station_line, restart_line, orders, upload_begins, command_busy, params_busy, asks, node_flies, calls, location_in, locates_as}
 use Rattle.fleet_invariants.specs.Sound.{link_of, Sound}
 use Rattle.fleet_invariants.proofs.Heard.{heard_is}
-use Rattle.fleet_safety.specs.Actions.{Action, Order, Accepts_upload, Accepts_clear, Accepts_get, spoken, spoken_in, asking, command_at, params_at, moves, ticks, comes_to, accepted, cancelled, ticked, beaten, restarted_at, restarted, at_drone, if_drone, to_drone, upload_at, clear_at, get_at, cancel_at, if_admitted, if_plan, if_sent, hearing, index_of, ordering, node_hears, state_with, at_index, if_found, at_node, and_next, at_station, if_ordered, to_station, acts, hears_then, frames_heard, datagram_heard, frame_given, row_given, flown, flow_actions, delivered, calls_of}
+use Rattle.fleet_safety.specs.Actions.{Action, Order, Accepts_upload, Accepts_clear, Accepts_get, spoken, spoken_in, asking, command_at, params_at, moves, ticks, comes_to, accepted, cancelled, ticked, beaten, restarted_at, restarted, at_drone, if_drone, to_drone, upload_at, clear_at, get_at, cancel_at, if_admitted, if_plan, if_sent, hearing, index_of, ordering, node_hears, state_with, at_index, if_found, at_node, and_next, at_station, if_ordered, to_station, acts, hears_then, frames_heard, datagram_heard, frame_given, row_given, flown, flow_actions, delivered, calls_of, simmed, flight_actions}
 use Rattle.fleet_safety.specs.Safe.{events_of}
-use Rattle.fleet_safety.specs.Causes.{without_waits, AtMostOne, EachEvent, Of, Gives, Talks, Hears, HearsOne, TicksOnce, StartsAgain, Causes}
+use Rattle.fleet_safety.specs.Causes.{without_waits, AtMostOne, EachEvent, Of, Gives, Talks, Hears, HearsOne, TicksOnce, StartsAgain, Causes, Flies}
 use Rattle.fleet_safety.proofs.Lists.{some_is}
 use Rattle.fleet_safety.proofs.Follows.{events_on}
-use Rattle.fleet_safety.proofs.Talks.{waits_on, each_on, each_maps, at_most_one, spoken_talks, outcome_talks, Few, drone_wait, station_wait, sends_few, commands_few, params_few, plan_silent, drone_ticks_silent, drone_few, station_few, station_ticks_few}
+use Rattle.fleet_safety.proofs.Services.{few_flown, flown_aside}
+use Rattle.fleet_safety.proofs.Talks.{waits_on, each_on, each_maps, at_most_one, spoken_talks, outcome_talks, Few, drone_wait, station_wait, sends_few, commands_few, params_few, plan_silent, drone_ticks_silent, drone_few, station_few, station_ticks_few, all_few}
 
 -- ---- the node at the index of a name has that name
 
@@ -184,7 +187,8 @@ module _ {Core Services : Type 0} (me : Stream) where
         core_keeps a.core done.services done.last (sends_all clock done.answers a.link) (all_sent me clock done.answers a.link h)
     takes_keep a from (Some m) s h =
         let done : CoreStep Core = rules.take a.core from m in
-        steps_keep done.first (with_core done.core a.services done.last (answers clock done.answer a.link)) (core_keeps done.core a.services done.last (answers clock done.answer a.link) (answers_keep me clock done.answer a.link h))
+        let noted : Services = rules.note a.services done.first in
+        steps_keep done.first (with_core done.core noted done.last (answers clock done.answer a.link)) (core_keeps done.core noted done.last (answers clock done.answer a.link) (answers_keep me clock done.answer a.link h))
 
     admits_keep : (a : Side Core Services) (p : Packet) (answer : Admit) (block : Option SignatureBlock) → a.link.me ≡ me → Keeps (admits rules clock a p answer block)
     admits_keep a p Admitted None h = h
@@ -262,8 +266,16 @@ asked_one name a is (Some event) o few = inl refl
 asked_one name a is None o few = outcome_one name (Station a) is (as_station o) (station_few a o 1 few)
 
 beats_few : (clock : ℕ) (a : Node) → length (without_waits (spoken_in a (node_beats clock a))) ≤ 1
-beats_few clock (Drone a) = drone_few a (drone_beats clock a) 1 (sends_few (Drone_waits a.link.me) a.link.me (drone_wait a.link.me) a.core a.services [] refl clock (drone_heartbeat a.services.armed) a.link)
+beats_few clock (Drone a) = drone_few a (drone_beats clock a) 1 (sends_few (Drone_waits a.link.me) a.link.me (drone_wait a.link.me) a.core a.services [] refl clock (drone_heartbeat (armed a.services.sim)) a.link)
 beats_few clock (Station a) = station_few a (station_beats clock a) 1 (sends_few (Station_waits a.link.me) a.link.me (station_wait a.link.me) a.core a.services [] refl clock station_heartbeat a.link)
+
+sims_few : (clock : ℕ) (a : Node) → length (without_waits (spoken_in a (node_flies clock a))) ≤ 2
+sims_few clock (Drone a) =
+    let step = drone_flies a.core a.services in
+    let sent = few_flown a.core a.services in
+    let said = drone_few a (drone_sims clock a) (length step.answers) (all_few (Drone_waits a.link.me) a.link.me (drone_wait a.link.me) a.core step.services step.last ((flown_aside a.core a.services).unspoken (Drone_waits a.link.me) a.link.me) clock step.answers a.link) in
+    omega (arith, sent, said)
+sims_few clock (Station a) = omega arith
 
 ticks_once : (clock : ℕ) (name : Name) (a : Node) → node_of (link_of a).me ≡ name → TicksOnce name (without_waits (moves clock a (ticks a) ++ spoken_in a (node_ticks clock a)))
 ticks_once clock name (Drone a) is = record {
@@ -337,6 +349,31 @@ module _ (number : ℕ) where
   delivered_gives : (s : WorldState) (which : ℕ) (name : Name) (o : Option Packet) → EachEvent (Of name Hears) (main (delivered number s which name o))
   delivered_gives s which name None = tt
   delivered_gives s which name (Some p) = at_node_has (EachEvent (Of name Hears)) s name (datagram_heard number (encoding p)) tt (λ k a is. datagram_of (encoding p) s name k a is)
+
+  -- ---- a flight
+
+  next_flies : (name : Name) (ticks : ℕ) (r : Result Step StepError) (actions : List Action) (next : WorldState → List Action) → Flies name 1 (main actions) → ((t : WorldState) → Flies name ticks (main (next t))) → Flies name (suc ticks) (main (and_next r actions next))
+  next_flies name ticks (Ok t) actions next a b =
+      let later = b t.state in
+      let both = ap length (ap without_waits (events_on actions (next t.state)) ∙ waits_on (events_of actions) (events_of (next t.state))) ∙ length-append (main actions) (main (next t.state)) in
+      let first = a.few in
+      let rest = later.few in
+      record { talks = main_on (Of name Talks) actions (next t.state) a.talks later.talks; few = omega (arith, both, first, rest) }
+  next_flies name ticks (Err error) actions next a b = record { talks = tt; few = omega arith }
+
+  flight_flies : (ticks : ℕ) (name : Name) (s : WorldState) → Flies name ticks (main (flight_actions number ticks name s))
+  flight_flies zero name s = record { talks = tt; few = omega arith }
+  flight_flies (suc ticks) name s =
+      next_flies name ticks (calls s name (node_flies s.clock)) (at_node s name (simmed number)) (flight_actions number ticks name)
+      (at_node_has (Flies name 1) s name (simmed number) (record { talks = tt; few = omega arith })
+      (λ k a is.
+      acts_one (Flies name 1) number (spoken_in a (node_flies s.clock a)) [] (node_does s k (node_name a) (node_flies s.clock a)) (record { talks = tt; few = omega arith })
+      (record { talks = of_talks name a is (node_flies s.clock a); few = sims_few s.clock a })))
+      (λ t. flight_flies ticks name t)
+
+  located : (s : WorldState) (drone : Name) (at : Option Location) → main (acts number [] [] (locates_as s drone at)) ≡ []
+  located s drone None = refl
+  located s drone (Some at) = refl
 
   -- ---- each line
 
@@ -412,6 +449,8 @@ module _ (number : ℕ) where
       acts_one (λ es. (es ≡ []) ⊎ TicksOnce node es) number (moves s.clock a (ticks a) ++ spoken_in a (node_ticks s.clock a)) [] (node_does s k (node_name a) (node_ticks s.clock a)) (inl refl)
       (inr (ticks_once s.clock node a is)))
   every_cause s (line.Clock n) = refl
+  every_cause s (line.Sim drone ticks) = flight_flies ticks drone s
+  every_cause s (line.WhereIs drone) = located s drone (location_in s.nodes drone)
   every_cause s (line.Restart drone) = to_drone_has (λ es. (es ≡ []) ⊎ StartsAgain drone es) number (restart_line s) drone (inl refl) (λ k a is. inr (starting (restart_line s) drone k a is))
     where
       starting : (t : WorldState) (name : Name) (k : ℕ) (a : DroneSide) → node_of a.link.me ≡ name → StartsAgain name (main (restarted number t k a))

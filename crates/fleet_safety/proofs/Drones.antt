@@ -32,13 +32,14 @@ use Rattle.mav_sign.specs.declared.admission.Admit.TheVariants.{Admitted, Unsign
 use Rattle.mav_sign.specs.Signing.{Verifies}
 use Rattle.mav_sign.specs.History.{Entry, Stamped, tried, stamped, next_in, answer_to, block_answer, stamp_answer, greatest_stamp}
 use Rattle.mav_sign.specs.History as signed
+use Rattle.drone_sim.specs.Sim.{armed}
 use Rattle.mav_nodes.specs.News.{NodeEvent, Sends, Drops}
 use Rattle.mav_nodes.specs.Links.{Link, Done, Outcome, done, behind, sends, sends_all}
 use Rattle.mav_nodes.specs.Links as links
 use Rattle.mav_nodes.specs.Payloads.{plan_in, service_in}
-use Rattle.mav_nodes.specs.Services.{ServiceStep, DroneServices, drone_serves}
+use Rattle.mav_nodes.specs.Services.{ServiceStep, DroneServices, drone_serves, drone_notes, drone_flies}
 use Rattle.mav_nodes.specs.Steps.{answers, with_core, steps, serves, takes, admits, hears}
-use Rattle.mav_nodes.specs.Nodes.{DroneSide, change_events, drone_core, drone_rules, drone_ticks, drone_heartbeat, drone_beats, tick_answer}
+use Rattle.mav_nodes.specs.Nodes.{DroneSide, change_events, drone_core, drone_rules, drone_ticks, drone_heartbeat, drone_beats, tick_answer, drone_sims}
 use Rattle.fleet_world.specs.WorldState.{Node, Drone}
 use Rattle.fleet_world.specs.Steps.{packets_in}
 use Rattle.fleet_safety.specs.Reporting.{sent_seen, reported, changes_reported, ends_reported, step_reported, refused_reported}
@@ -51,7 +52,7 @@ use Rattle.fleet_safety.proofs.Own.{IsTame, own_of, tame_nothing, tame_drone, or
 use Rattle.fleet_safety.proofs.Reports.{Chain, chain_end, chain_on, silent_step, seen_by, packets_on, changes_are, no_ends}
 use Rattle.fleet_safety.proofs.Sendings.{packet_of, sent_frame, read_second, step_is, quiet_seen, sends_seen}
 use Rattle.fleet_safety.proofs.Fits.{Stands, Reached, Fits, reached_all, MovesTo, fits_on, Alike, Led, Leads}
-use Rattle.fleet_safety.proofs.Services.{IsOther, AllOther, IsAside, aside_nothing, drone_others}
+use Rattle.fleet_safety.proofs.Services.{IsOther, AllOther, IsAside, aside_nothing, drone_others, flown_others, flown_aside}
 use Rattle.fleet_safety.proofs.Spoken.{Spoke, spoke_led, Speaker, says_all, said, answers_unsaid, unsaid_leads, says_leads, then_says}
 
 -- the world after a step of a drone
@@ -352,16 +353,20 @@ module _ (n : Nodes) (sound : Distinct n) (clock : ℕ) (nodes : List Node) (sen
       ranged : DroneStepInRange r
       ranged = ranges.steps true from (subst StreamInRange stream_from its.same.stream) a.core m stands.2 (subst (λ o. IfSome o InRange) (its.same.message ∙ carries) its.same.range)
 
-      plan : Leads n clock nodes sent w k (Drone a) Drone (steps clock b.link b.services (drone_core b.core from m)) (brought p) []
+      -- what its services make of the step
+      abbrev noted : DroneServices
+      noted = drone_notes b.services (drone_core b.core from m).first
+
+      plan : Leads n clock nodes sent w k (Drone a) Drone (steps clock b.link noted (drone_core b.core from m)) (brought p) []
       plan =
-          subst (λ es. Leads n clock nodes sent w k (Drone a) Drone (steps clock b.link b.services (drone_core b.core from m)) es []) (sym brought_is)
-          (answers_lead b.link r.drone b.services last next (drone_news x r.event) (change_events from r.drone.plans (change_by r.event)) ready ranged.drone refl refl
+          subst (λ es. Leads n clock nodes sent w k (Drone a) Drone (steps clock b.link noted (drone_core b.core from m)) es []) (sym brought_is)
+          (answers_lead b.link r.drone noted last next (drone_news x r.event) (change_events from r.drone.plans (change_by r.event)) ready ranged.drone refl refl
           (no_packets from r.drone.plans (change_by r.event)) (changes_are n a.core x from r shaped) (no_ends x r.event) (tame_drone x r.event) (no_order_of_drone x r.event) r.answer ranged.answer (To_drone its.index x true) is refl)
 
-      planned : Goes (steps clock b.link b.services (drone_core b.core from m)) (brought p) []
+      planned : Goes (steps clock b.link noted (drone_core b.core from m)) (brought p) []
       planned =
-          unsaid_leads n clock nodes sent w k (Drone a) Drone (Drone_waits x) x (steps clock b.link b.services (drone_core b.core from m)) (brought p) [] plan
-          (answers_unsaid (Drone_waits x) x clock (change_events from r.drone.plans (change_by r.event)) [] r.drone b.services r.answer b.link (changes_unspoken (Drone_waits x) x from r.drone.plans (change_by r.event)) refl)
+          unsaid_leads n clock nodes sent w k (Drone a) Drone (Drone_waits x) x (steps clock b.link noted (drone_core b.core from m)) (brought p) [] plan
+          (answers_unsaid (Drone_waits x) x clock (change_events from r.drone.plans (change_by r.event)) [] r.drone noted r.answer b.link (changes_unspoken (Drone_waits x) x from r.drone.plans (change_by r.event)) refl)
 
     takes_lead : (o : Option PlanMsg) (s : Option Message) → plan_in p.id p.payload ≡ o → Goes (takes drone_rules clock b from o s) (if_plan o (brought p)) []
     takes_lead None None e = other
@@ -408,11 +413,15 @@ module _ (n : Nodes) (sound : Distinct n) (clock : ℕ) (nodes : List Node) (sen
           drone_ticks_on n u x (drone_node a.core waited.last waited.next) here (own ∙ core_of_waited)
           ∙ ap (λ o. drone_after u x (says_node (drone_node (drone_tick a.core).drone waited.last waited.next) o) (says_frame x waited.next o) []) (answer_is (drone_tick a.core).answer)
 
+  -- one tick of its simulator
+  pub sims_lead : Speaker n clock k Drone Drone_waits → Goes (drone_sims clock a) [] []
+  sims_lead speaker = serves_say speaker a.link.history stands.1 (drone_flies a.core a.services) (flown_others a.core a.services) (flown_aside a.core a.services)
+
   pub beats_lead : Goes (drone_beats clock a) [] []
   beats_lead =
       by_test (λ o. Goes (with_core a.core a.services [] o) [] []) (nat_lt greatest_stamp now) _ _ (λ _. tt)
       (λ _ reads.
-      let m : Message = drone_heartbeat a.services.armed in
+      let m : Message = drone_heartbeat (armed a.services.sim) in
       spoke_led n clock nodes sent w k (Drone a) (record { node = Drone (record a { link = links.sent_at now a.link }); events = Sends (packet_of a.link clock m) m ∷ [] }) (Drone_waits x now ∷ Speaks x ∷ []) (one_spoken m refl reads.0))
 
 -- how a drone sends a message of another service
@@ -425,3 +434,7 @@ speaker n distinct clock k = record {
 pub frame_leads : (n : Nodes) → Distinct n → (clock : ℕ) (nodes : List Node) (sent : List Packet) (w : World) → Fits n clock nodes sent w → (k : ℕ) (a : DroneSide) → slice_get nodes k ≡ Some (Drone a) → (p : Packet) → (Verifies a.link.key p p.block → IsFirst sent p)
     → Leads n clock nodes sent w k (Drone a) Drone (hears drone_rules clock p a) (hearing clock sent (Drone a) p ++ said (Drone_waits a.link.me) a.link.me (hears drone_rules clock p a)) []
 frame_leads n distinct clock nodes sent w fits k a there p known = frame_goes n distinct clock nodes sent w fits k a there (speaker n distinct clock k) p known
+
+pub flight_leads : (n : Nodes) → Distinct n → (clock : ℕ) (nodes : List Node) (sent : List Packet) (w : World) → Fits n clock nodes sent w → (k : ℕ) (a : DroneSide) → slice_get nodes k ≡ Some (Drone a)
+    → Leads n clock nodes sent w k (Drone a) Drone (drone_sims clock a) (said (Drone_waits a.link.me) a.link.me (drone_sims clock a)) []
+flight_leads n distinct clock nodes sent w fits k a there = sims_lead n distinct clock nodes sent w fits k a there (speaker n distinct clock k)

@@ -17,6 +17,7 @@ pub mod Stations
 pub mod Datagrams
 pub mod States
 pub mod Orders
+pub mod Flights
 pub mod Restarting
 pub mod Lines
 pub mod Plays

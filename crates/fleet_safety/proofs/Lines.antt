@@ -8,7 +8,7 @@ use Rattle.plan_safety.proofs.Keys.{by_test}
 use Rattle.plan_ranges.specs.Ranges.{Is8}
 use Rattle.plan_ranges.proofs.DroneRanges as drone_ranges
 use Rattle.plan_ranges.proofs.StationRanges as station_ranges
-use Rattle.mav_nodes.specs.Services.{Home}
+use Rattle.drone_sim.specs.declared.points.Point.{Point}
 use Rattle.mav_nodes.specs.Nodes.{new_drone, new_station}
 use Rattle.scenario_lines.specs.declared.faults.Reason.{Reason}
 use Rattle.scenario_lines.specs.declared.faults.Reason.TheVariants.{Twice}
@@ -18,19 +18,20 @@ use Rattle.scenario_lines.specs.LineContext.{has_name}
 use Rattle.scenario_lines.specs.Grammar.{against}
 use Rattle.scenario_lines.specs.Permits.{IsPermitted}
 use Rattle.fleet_world.specs.WorldState.{WorldState, Node, Drone, Station, node_name, stream_of, names_of, context_of, drones_in, stations_in}
-use Rattle.fleet_world.specs.Steps.{Step, StepError, node_ticks, node_beats, node_receives, rests, joins, station_line, begins, cancels, clears, gets, commands, lists_params, calls, delivers, flows, after_line, items_from, most_drones, most_stations, most_restarts, starts_again, restart_line}
+use Rattle.fleet_world.specs.Steps.{Step, StepError, node_ticks, node_beats, node_receives, rests, joins, station_line, begins, cancels, clears, gets, commands, lists_params, calls, delivers, flows, after_line, items_from, most_drones, most_stations, most_restarts, starts_again, restart_line, flies, locates, location_in}
 use Rattle.fleet_world.specs.Authentic.{AuthenticLine}
 use Rattle.fleet_invariants.proofs.Restated.{sound_restated}
 use Rattle.fleet_invariants.specs.Sound.{Sound}
 use Rattle.fleet_invariants.specs.Kept.{LineFits}
 use Rattle.fleet_invariants.specs.Laws.{EveryCallKeeps, SentKnown, AuthenticKnown}
-use Rattle.fleet_safety.specs.Actions.{Action, at_node, ticked, beaten, datagram_heard, flow_actions, delivered, to_drone, calls_of}
+use Rattle.fleet_safety.specs.Actions.{Action, at_node, ticked, beaten, datagram_heard, flow_actions, delivered, to_drone, calls_of, acts, flight_actions}
 use Rattle.fleet_safety.proofs.Lists.{at_end, more_there}
 use Rattle.fleet_safety.proofs.Names.{Named, Covers, Kept, kept, Proper, more_kept, more_named, unnamed}
 use Rattle.fleet_safety.proofs.Times.{KeepsTime, first_keeps}
 use Rattle.fleet_safety.proofs.Fits.{Stands, Fits, clock_fits}
-use Rattle.fleet_safety.proofs.States.{StateLeads, state_maps, state_rests, Goes, bytes_lead, calls_lead, delivers_lead, flows_lead}
+use Rattle.fleet_safety.proofs.States.{StateLeads, state_maps, state_rests, Goes, bytes_lead, calls_lead, delivers_lead, flows_lead, locates_lead}
 use Rattle.fleet_safety.proofs.Restarting.{restart_leads}
+use Rattle.fleet_safety.proofs.Flights.{flights_lead}
 use Rattle.fleet_safety.proofs.Orders.{ticks_lead, beats_lead, begins_lead, cancels_lead, clears_lead, gets_lead, commands_lead, params_lead}
 
 -- after a line: its nodes are those before and perhaps one more, and if the fleet has them, the state fits the world
@@ -73,7 +74,7 @@ module _ (number : ℕ) (n : Nodes) (distinct : Distinct n) (every_call : EveryC
         reached = fits.reached;
       }
 
-  drone_joins : (sys : ℕ) (home : Home) → Is8 sys → has_name (names_of s.nodes) (record { sys = sys; comp = 1 }) ≡ false → StateLeads n w (Done n s) (joins s (Drone (new_drone s.key sys home))) []
+  drone_joins : (sys : ℕ) (home : Point) → Is8 sys → has_name (names_of s.nodes) (record { sys = sys; comp = 1 }) ≡ false → StateLeads n w (Done n s) (joins s (Drone (new_drone s.key sys home))) []
   drone_joins sys home small none =
       let fresh = (fits.unnamed (record { sys = sys; comp = 1 }) (unnamed s.nodes (record { sys = sys; comp = 1 }) none)).0 in
       joins_lead (Drone (new_drone s.key sys home)) none (refl, refl, record { sys = small; comp = omega arith })
@@ -101,7 +102,7 @@ module _ (number : ℕ) (n : Nodes) (distinct : Distinct n) (every_call : EveryC
   pub line_leads : (l : Line) → IsPermitted (context_of s) l → LineFits l → AuthenticLine s l → StateLeads n w (Done n s) (after_line s l) (calls_of number s l)
   line_leads line.Blank p f a = unmoved s refl fits
   line_leads (line.Drone sys x y) p f a =
-      by_test (λ r. StateLeads n w (Done n s) r []) (nat_lt (drones_in s.nodes) most_drones) _ _ (λ _. drone_joins sys (record { x = x; y = y }) f (no_reason _ Twice p.1)) (λ _. tt)
+      by_test (λ r. StateLeads n w (Done n s) r []) (nat_lt (drones_in s.nodes) most_drones) _ _ (λ _. drone_joins sys (record { x = x; y = y }) f.0 (no_reason _ Twice p.1)) (λ _. tt)
   line_leads (line.Station sys comp) p f a =
       by_test (λ r. StateLeads n w (Done n s) r []) (nat_lt (stations_in s.nodes) most_stations) _ _ (λ _. station_joins sys comp f.0 f.1 (let z = p.0.1 in omega arith) (no_reason _ Twice p.1)) (λ _. tt)
   line_leads (line.Item item) p f a = unmoved (record s { draft = s.draft ++ item ∷ [] }) refl fits
@@ -130,6 +131,9 @@ module _ (number : ℕ) (n : Nodes) (distinct : Distinct n) (every_call : EveryC
   line_leads (line.Tick node) p f a =
       went (calls s node (node_ticks s.clock)) (at_node s node (ticked number)) (calls_lead number n distinct every_call sent_known s w sound fits node (node_ticks s.clock) (ticked number) (ticks_lead number n distinct every_call s w sound fits))
   line_leads (line.Clock more) p f a = unmoved (record s { clock = s.clock + more }) refl (clock_fits n s.clock more s.nodes s.sent w fits)
+  line_leads (line.Sim drone ticks) p f a = went (flies ticks drone s) (flight_actions number ticks drone s) (flights_lead number n distinct every_call sent_known ticks drone s w sound fits)
+  line_leads (line.WhereIs drone) p f a =
+      went (locates s drone) (acts number [] [] (locates s drone)) (locates_lead number n distinct every_call sent_known s w sound fits drone (location_in s.nodes drone))
   line_leads (line.Restart drone) p f a =
       by_test (λ r. StateLeads n w (Done n s) r (to_drone number (restart_line s) drone)) (nat_lt s.restarts most_restarts) _ _
       (λ few. went (starts_again (restart_line s) drone) (to_drone number (restart_line s) drone) (restart_leads number n distinct every_call s w sound fits (fewer s.restarts few) drone))

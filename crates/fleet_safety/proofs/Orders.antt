@@ -19,15 +19,15 @@ use Rattle.plan_ranges.specs.Ranges.{NameInRange, StreamInRange, Is8, Is16, Is32
 use Rattle.command_proto.specs.Commander.{open_command}
 use Rattle.param_proto.specs.Client.{Operation as ParamOperation}
 use Rattle.mav_nodes.specs.Links.{Outcome}
-use Rattle.mav_nodes.specs.Nodes.{StationSide, drone_ticks, drone_beats, station_ticks, station_beats, station_begins, station_cancels, station_clears, station_gets, station_commands, station_lists_params}
+use Rattle.mav_nodes.specs.Nodes.{StationSide, drone_ticks, drone_beats, station_ticks, station_beats, station_begins, station_cancels, station_clears, station_gets, station_commands, station_lists_params, drone_sims}
 use Rattle.scenario_lines.specs.LineContext.{has_drone}
 use Rattle.fleet_world.specs.WorldState.{WorldState, Node, Drone, Station, node_name, stream_of, names_of, is_station_named}
-use Rattle.fleet_world.specs.Steps.{Step, StepError, node_ticks, node_beats, node_does, as_station, refuses, orders, upload_begins, orders_at, orders_found, orders_to, begins, cancels, clears, gets, command_busy, params_busy, asks, commands, lists_params}
+use Rattle.fleet_world.specs.Steps.{Step, StepError, node_ticks, node_beats, node_does, as_station, refuses, orders, upload_begins, orders_at, orders_found, orders_to, begins, cancels, clears, gets, command_busy, params_busy, asks, commands, lists_params, node_flies}
 use Rattle.fleet_report.specs.Events.{Event, Command_refused, Params_refused}
 use Rattle.fleet_invariants.specs.Sound.{Sound}
 use Rattle.fleet_invariants.specs.Laws.{OrderKeeps, EveryCallKeeps, EachCallKeeps}
 use Rattle.fleet_safety.specs.Reporting.{seen, Refused, refused_reported, refusal_reported, step_reported}
-use Rattle.fleet_safety.specs.Actions.{Action, Order, Accepts_upload, Accepts_clear, Accepts_get, spoken_in, moves, ticks, asking, cancelled, acts, ticked, beaten, at_station, if_ordered, to_station, upload_at, clear_at, get_at, cancel_at, command_at, params_at}
+use Rattle.fleet_safety.specs.Actions.{Action, Order, Accepts_upload, Accepts_clear, Accepts_get, spoken_in, moves, ticks, asking, cancelled, acts, ticked, beaten, at_station, if_ordered, to_station, upload_at, clear_at, get_at, cancel_at, command_at, params_at, simmed}
 use Rattle.fleet_safety.proofs.Names.{kept, HoldsDrone, a_drone, stream_named}
 use Rattle.fleet_safety.proofs.Reports.{silent_step}
 use Rattle.fleet_safety.proofs.Fits.{Stands, Reached, Fits, reached_on, Leads}
@@ -77,6 +77,15 @@ module _ (number : ℕ) (n : Nodes) (distinct : Distinct n) (every_call : EveryC
   beat_of : (k : ℕ) (a : Node) → slice_get s.nodes k ≡ Some a → Leads n s.clock s.nodes s.sent w k a (λ x. x) (node_beats s.clock a) (spoken_in a (node_beats s.clock a)) []
   beat_of k (Drone a) e = drone_saying n s.clock s.nodes s.sent w k a (drone_beats s.clock a) [] [] (drones.beats_lead n distinct s.clock s.nodes s.sent w fits k a e)
   beat_of k (Station a) e = station_saying n s.clock s.nodes s.sent w k a (station_beats s.clock a) [] [] (stations.beats_lead n distinct s.clock s.nodes s.sent w fits k a e)
+
+  sim_of : (k : ℕ) (a : Node) → slice_get s.nodes k ≡ Some a → Leads n s.clock s.nodes s.sent w k a (λ x. x) (node_flies s.clock a) (spoken_in a (node_flies s.clock a)) []
+  sim_of k (Drone a) e = drone_saying n s.clock s.nodes s.sent w k a (drone_sims s.clock a) [] [] (drones.flight_leads n distinct s.clock s.nodes s.sent w fits k a e)
+  sim_of k (Station a) e = stations.rests_lead n distinct s.clock s.nodes s.sent w fits k a e
+
+  pub sims_lead : (k : ℕ) (a : Node) → slice_get s.nodes k ≡ Some a → StateLeads n w (Goes n s) (node_does s k (node_name a) (node_flies s.clock a)) (simmed number s k a)
+  sims_lead k a e =
+      let keeps = calls_keep.flies k a (node_name a) e in
+      does_leads number n s s w k a e (λ i p h. h) (node_flies s.clock a) (spoken_in a (node_flies s.clock a)) [] (sim_of k a e) keeps.1 keeps.0
 
   pub ticks_lead : (k : ℕ) (a : Node) → slice_get s.nodes k ≡ Some a → StateLeads n w (Goes n s) (node_does s k (node_name a) (node_ticks s.clock a)) (ticked number s k a)
   ticks_lead k a e =

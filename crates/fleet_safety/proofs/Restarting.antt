@@ -94,7 +94,7 @@ module _ (number : ℕ) (n : Nodes) (distinct : Distinct n) (every_call : EveryC
     abbrev Same : DroneSide → ℕ → Type 0
     Same b low = (restored (w.drone x).state ≡ b.core) × KeepsTime s.clock b.link.history (λ q. max ((w.drone x).last q) low) (max (w.drone x).next (low + 1))
 
-    by_low : (low : Option ℕ) → stored_low a.link.history ≡ low → Same (started_again s.key a.core.sys a.services.home low a.core.plans) (unwrap_or low 0)
+    by_low : (low : Option ℕ) → stored_low a.link.history ≡ low → Same (started_again s.key a.core.sys a.services.sim.home low a.core.plans) (unwrap_or low 0)
     by_low None is =
         let own : SoundDrone a = sound.cores k (Drone a) there in
         let end = sound.links k (Drone a) there in (

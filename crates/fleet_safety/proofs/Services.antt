@@ -1,5 +1,5 @@
 -- What the services of nodes send carries no message of the mission protocol, and what ends with it is reported elsewhere.
-use Rattle.std.proofs.Common.{◌≡◌, ℕ, ℤ, pos, negsuc, zero, suc, ◌+◌, ◌≤◌, ◌==◌, Bool, nat_lt, List, [], ◌∷◌, ◌++◌, length, slice_get, Option, Some, None, IfSome, refl, arith}
+use Rattle.std.proofs.Common.{◌≡◌, ℕ, ℤ, pos, negsuc, zero, suc, ◌+◌, ◌≤◌, ◌==◌, Bool, nat_lt, List, [], ◌∷◌, ◌++◌, length, slice_get, Option, Some, None, IfSome, refl, arith, true, false}
 use Rattle.std.specs.Prelude.{nat_le}
 use Rattle.mav_names.specs.declared.names.Name.{Name}
 use Rattle.mav_names.specs.declared.names.Stream.{Stream}
@@ -22,7 +22,8 @@ use Rattle.param_proto.specs.Server.{ServerState, values_from, value_of, value_a
 use Rattle.param_proto.specs.Client.{Task, Reads, Sets_to, All_listed, Operation, ClientState, ClientStep, ParamsEnd, One_value, All_values, No_answer as No_params_answer, idle_limit as client_limit, known_values, with_value, was_taken, list_message, asks_all, request_of, lists, rests, param_in, one_comes, listed, heard_at, answered, told, client_step, operation_ticks, client_tick}
 use Rattle.param_proto.specs.Params.{same_id}
 use Rattle.mav_nodes.specs.News.{NodeEvent}
-use Rattle.mav_nodes.specs.Services.{sent_of, DroneServices, StationServices, ready_of, drone_serves, station_served, station_serves, station_waits, command_of, asks_command, asks_params, command_events, params_events}
+use Rattle.drone_sim.specs.Sim.{sim_tick}
+use Rattle.mav_nodes.specs.Services.{sent_of, DroneServices, StationServices, ready_of, drone_serves, station_served, station_serves, station_waits, command_of, asks_command, asks_params, command_events, params_events, reached_messages, reached_events, captured_events, sim_step, drone_flies}
 use Rattle.fleet_world.specs.Steps.{packets_in}
 use Rattle.fleet_safety.specs.Actions.{speaks_all}
 use Rattle.fleet_safety.proofs.Reports.{seen_by}
@@ -91,6 +92,13 @@ pub drone_others : (drone : DroneState) (v : DroneServices) (from : Stream) (m :
 drone_others drone v from m =
     let e = executor_step v.executor from m (ready_of drone v) in
     others_on (sent_of e.answer) (server_step v.server v.executor.me m).waiting (one_other e.answer (executes v.executor from m (ready_of drone v))) (server_sends v.server v.executor.me m)
+
+reached_other : (reached : Option ℕ) → AllOther (reached_messages reached)
+reached_other None = tt
+reached_other (Some number) = (refl, tt)
+
+pub flown_others : (drone : DroneState) (v : DroneServices) → AllOther (drone_flies drone v).answers
+flown_others drone v = (refl, reached_other (sim_tick v.sim drone.plans.mission (sim_step v.server)).reached)
 
 -- ---- a station's
 
@@ -182,7 +190,27 @@ ends_aside c p = both c.end (params_events p.end) (params_aside p.end)
     both None es h = h
     both (Some result) es h = record { none = h.none; unseen = h.unseen; unspoken = h.unspoken }
 
+captured_aside : (captured : Bool) (total : ℕ) → IsAside (captured_events captured total)
+captured_aside true total = record { none = refl; unseen = λ name before. refl; unspoken = λ wait me. refl }
+captured_aside false total = aside_nothing
+
+pub flown_aside : (drone : DroneState) (v : DroneServices) → IsAside (drone_flies drone v).last
+flown_aside drone v =
+    let tick = sim_tick v.sim drone.plans.mission (sim_step v.server) in
+    both tick.reached (captured_events tick.captured tick.sim.captures) (captured_aside tick.captured tick.sim.captures)
+  where
+    both : (reached : Option ℕ) (es : List NodeEvent) → IsAside es → IsAside (reached_events reached ++ es)
+    both None es h = h
+    both (Some number) es h = record { none = h.none; unseen = h.unseen; unspoken = h.unspoken }
+
 -- at most two messages
+pub few_flown : (drone : DroneState) (v : DroneServices) → length (drone_flies drone v).answers ≤ 2
+few_flown drone v = both (sim_tick v.sim drone.plans.mission (sim_step v.server)).reached
+  where
+    both : (reached : Option ℕ) → suc (length (reached_messages reached)) ≤ 2
+    both None = omega arith
+    both (Some number) = omega arith
+
 pub few_sent : (c : CommanderStep) (p : ClientStep) → length (station_served c p).answers ≤ 2
 few_sent c p = both c.answer p.answer
   where

@@ -19,7 +19,8 @@ use Rattle.plan_safety.proofs.Keys.{by_test}
 use Rattle.mav_sign.specs.Signing.{Verifies}
 use Rattle.mav_nodes.specs.Links.{Outcome}
 use Rattle.fleet_world.specs.WorldState.{WorldState, Node, Drone, node_name, is_named}
-use Rattle.fleet_world.specs.Steps.{Step, StepError, rests, behind, and_then, most_frames, packets_in, reported_by, node_does, node_receives, calls_at, calls_found, calls, given_to, given_from, given_to_all, flow_next, flows, delivers}
+use Rattle.fleet_world.specs.declared.locations.Location.{Location}
+use Rattle.fleet_world.specs.Steps.{Step, StepError, rests, behind, and_then, most_frames, packets_in, reported_by, node_does, node_receives, calls_at, calls_found, calls, given_to, given_from, given_to_all, flow_next, flows, delivers, locates_as}
 use Rattle.fleet_invariants.proofs.Restated.{sound_restated}
 use Rattle.fleet_invariants.proofs.Heard.{reads_alone}
 use Rattle.fleet_invariants.specs.Sound.{link_of, Sound}
@@ -157,6 +158,19 @@ module _ (number : ℕ) (n : Nodes) (distinct : Distinct n) (every_call : EveryC
       holds = goes_still n s w sound fits;
     }
     delivers_lead which name i (Some p) e = calls_lead name (node_receives s.clock (encoding p)) (datagram_heard number (encoding p)) (bytes_lead s w sound fits (encoding p) (sent_known s sound i p e))
+
+    -- where a drone is
+    pub locates_lead : (drone : Name) (at : Option Location) → StateLeads n w (Goes n s) (locates_as s drone at) (acts number [] [] (locates_as s drone at))
+    locates_lead drone None = record {
+      follows = (record { report = refl; own = own_nothing n w; drones = λ index d e. (fits.stands index (Drone d) e).0 }, tt);
+      report = refl;
+      holds = goes_still n s w sound fits;
+    }
+    locates_lead drone (Some at) = record {
+      follows = (record { report = refl; own = own_nothing n w; drones = λ index d e. (fits.stands index (Drone d) e).0 }, tt);
+      report = refl;
+      holds = goes_still n s w sound fits;
+    }
 
     given_leads : (p : Packet) (i : ℕ) → slice_get s.sent i ≡ Some p → (k : ℕ) (o : Option Node) → slice_get s.nodes k ≡ o → StateLeads n w (Goes n s) (given_to s k p o) (frame_given number s k p o)
     given_leads p i sent_p k None e = state_rests n w (Goes n s) s (goes_still n s w sound fits)

@@ -550,3 +550,7 @@ module _ (n : Nodes) (distinct : Distinct n) (clock : ℕ) (nodes : List Node) (
   pub params_lead : (d : Stream) → Leads n clock nodes sent w k (Station a) Station (station_lists_params clock d a) (said (Station_waits a.link.me) a.link.me (station_lists_params clock d a)) []
   params_lead d =
       serves_lead n distinct clock nodes sent w fits k a there (speaker n distinct clock k) a.link.history in_time (asks_params a.services (lists a.services.client d)) (params_others a.services d) aside_nothing
+
+  -- a simulator's tick is nothing to it
+  pub rests_lead : Leads n clock nodes sent w k (Station a) (λ x. x) (done (Station a) []) [] []
+  rests_lead _ = still_led n distinct clock nodes sent w fits k a there a [] (record { role = refl; key = refl }) refl in_time refl refl

@@ -16,7 +16,7 @@ use Rattle.mav_sign.specs.declared.admission.Admit.TheVariants.{Admitted, Unsign
 use Rattle.mav_sign.specs.History.{next_in, answer_to, stream_of, greatest_stamp}
 use Rattle.command_proto.specs.Commander.{commands, commander_tick}
 use Rattle.param_proto.specs.Client.{lists, client_tick}
-use Rattle.mav_nodes.specs.News.{NodeEvent, Sends, Installs, Empties, Drops, Ends, Ends_command, Gives_param, Ends_params}
+use Rattle.mav_nodes.specs.News.{NodeEvent, Sends, Installs, Empties, Drops, Ends, Ends_command, Gives_param, Ends_params, Reaches, Captures}
 use Rattle.mav_nodes.specs.Links.{Link, Outcome, behind, and_then, tries, sends, sends_all, sent_at}
 use Rattle.mav_nodes.specs.Payloads.{plan_in, service_in}
 use Rattle.mav_nodes.specs.Services.{station_waits, command_of, asks_command, asks_params}
@@ -84,6 +84,8 @@ spoken_talks a me h (Ends told ∷ es) = spoken_talks a me h es
 spoken_talks a me h (Ends_command result ∷ es) = spoken_talks a me h es
 spoken_talks a me h (Gives_param param ∷ es) = spoken_talks a me h es
 spoken_talks a me h (Ends_params values ∷ es) = spoken_talks a me h es
+spoken_talks a me h (Reaches number ∷ es) = spoken_talks a me h es
+spoken_talks a me h (Captures total ∷ es) = spoken_talks a me h es
 
 pub outcome_talks : (a : Node) (me : Stream) → (link_of a).me ≡ me → (o : Outcome Node) → EachEvent (Talks me) (without_waits (spoken_in a o))
 outcome_talks a me h None = tt
@@ -146,7 +148,7 @@ module _ {Core Services : Type 0} (wait : ℕ → world.Event) (me : Stream) (ru
   taken_unsaid a from m s =
       let step : CoreStep Core = rules.take a.core from m in
       let h = plain a.core from m in
-      answers_unsaid wait me clock step.first step.last step.core a.services step.answer a.link h.0 h.1
+      answers_unsaid wait me clock step.first step.last step.core (rules.note a.services step.first) step.answer a.link h.0 h.1
 
   admits_unsaid : (a : Side Core Services) (p : Packet) (m : PlanMsg) → plan_in p.id p.payload ≡ Some m → (answer : Admit) (block : Option SignatureBlock) → Unsaid wait me (admits rules clock a p answer block)
   admits_unsaid a p m e Admitted None = refl

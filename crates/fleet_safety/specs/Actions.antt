@@ -30,13 +30,13 @@ use Rattle.mav_nodes.specs.LowBounds.{stored_low}
 use Rattle.mav_nodes.specs.Restarts.{restarted_drone}
 use Rattle.mav_nodes.specs.Payloads.{plan_in}
 use Rattle.mav_nodes.specs.Steps.{hears}
-use Rattle.mav_nodes.specs.News.{NodeEvent, Sends, Installs, Empties, Drops, Ends, Ends_command, Gives_param, Ends_params}
+use Rattle.mav_nodes.specs.News.{NodeEvent, Sends, Installs, Empties, Drops, Ends, Ends_command, Gives_param, Ends_params, Reaches, Captures}
 use Rattle.mav_nodes.specs.Nodes.{DroneSide, StationSide, drone_rules, station_rules, station_cancels, station_clears, station_gets, station_commands, station_lists_params}
 use Rattle.scenario_lines.specs.declared.lines.Line.{Line}
 use Rattle.scenario_lines.specs.declared.lines.Line.TheVariants as line
 use Rattle.fleet_report.specs.Events.{Event, Restarted}
 use Rattle.fleet_world.specs.WorldState.{WorldState, Node, Drone, Station, stream_of, node_name, is_named, is_drone_named, is_station_named}
-use Rattle.fleet_world.specs.Steps.{Step, StepError, packets_in, reported_by, as_drone, as_station, node_beats, node_ticks, node_does, given_to, given_to_all, delivers, station_line, restart_line, orders, upload_begins, asks, command_busy, params_busy, after_line}
+use Rattle.fleet_world.specs.Steps.{Step, StepError, packets_in, reported_by, as_drone, as_station, node_beats, node_ticks, node_does, given_to, given_to_all, delivers, station_line, restart_line, orders, upload_begins, asks, command_busy, params_busy, after_line, node_flies, calls, locates}
 use Rattle.fleet_world.specs.Scenario.{ScenarioError, Played, at_start, line_played, lines_played, whole_lines, unfinished, without_cr}
 use Rattle.fleet_world.specs.Authentic.{line_done}
 use Rattle.fleet_invariants.specs.Sound.{link_of}
@@ -107,6 +107,8 @@ speaks_all wait me (Ends told ∷ es) = speaks_all wait me es
 speaks_all wait me (Ends_command result ∷ es) = speaks_all wait me es
 speaks_all wait me (Gives_param param ∷ es) = speaks_all wait me es
 speaks_all wait me (Ends_params values ∷ es) = speaks_all wait me es
+speaks_all wait me (Reaches number ∷ es) = speaks_all wait me es
+speaks_all wait me (Captures total ∷ es) = speaks_all wait me es
 
 -- the messages of other services that a node sends in a call, if it is done
 abbrev pub spoken : Node → List NodeEvent → List world.Event
@@ -246,6 +248,15 @@ module _ (number : ℕ) where
   abbrev pub beaten : WorldState → ℕ → Node → List Action
   beaten s k a = acts (spoken_in a (node_beats s.clock a)) [] (node_does s k (node_name a) (node_beats s.clock a))
 
+  -- one tick of a drone's simulator
+  abbrev pub simmed : WorldState → ℕ → Node → List Action
+  simmed s k a = acts (spoken_in a (node_flies s.clock a)) [] (node_does s k (node_name a) (node_flies s.clock a))
+
+  -- so many ticks of the drone of a name
+  abbrev pub flight_actions : ℕ → Name → WorldState → List Action
+  flight_actions zero drone s = []
+  flight_actions (suc n) drone s = and_next (calls s drone (node_flies s.clock)) (at_node s drone simmed) (flight_actions n drone)
+
   -- ---- of a drone that starts again
 
   -- with the low bound that it has stored; and then it sends HEARTBEAT
@@ -365,6 +376,8 @@ module _ (number : ℕ) where
   calls_of s (line.Tick node) = at_node s node ticked
   calls_of s (line.Clock n) = []
   calls_of s (line.Restart drone) = to_drone (restart_line s) drone
+  calls_of s (line.Sim drone n) = flight_actions n drone s
+  calls_of s (line.WhereIs drone) = acts [] [] (locates s drone)
 
   -- the end of a line
   abbrev pub line_end : WorldState → Action

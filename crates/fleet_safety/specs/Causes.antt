@@ -1,5 +1,5 @@
 -- Which events each line of a scenario is in the world of messages, and that its calls are no others.
-use Rattle.std.specs.Prelude.{ℕ, ◌≡◌, ◌≤◌, ◌⊎◌, true, List, [], ◌∷◌, length}
+use Rattle.std.specs.Prelude.{ℕ, ◌≡◌, ◌≤◌, ◌⊎◌, true, List, [], ◌∷◌, length, ◌*◌}
 use Rattle.mav_names.specs.declared.names.Name.{Name}
 use Rattle.mav_names.specs.declared.names.Stream.{Stream}
 use Rattle.plan_upload.specs.Addresses.{node_of}
@@ -75,6 +75,11 @@ pub record StartsAgain (name : Name) (es : List Event) : Type 0 where
   pub is : es ≡ Restarts stream low ∷ later
   pub beats : AtMostOne (λ e. (me : Stream) × (e ≡ Speaks me)) later
 
+-- in so many ticks of its simulator a drone of this name sends at most two messages of other services each
+pub record Flies (name : Name) (ticks : ℕ) (es : List Event) : Type 0 where
+  pub talks : EachEvent (Of name Talks) es
+  pub few : length es ≤ 2 * ticks
+
 -- the events of a line in a state
 abbrev pub Causes : WorldState → Line → List Event → Type 0
 -- an order: that one, once, and for an upload of the draft
@@ -94,7 +99,10 @@ Causes s (line.Noise node bytes) es = EachEvent (Of node Hears) es
 Causes s (line.Flow k) es = EachEvent (λ e. (me : Stream) × Hears me e) es
 -- the drone starts again, once, and sends one HEARTBEAT
 Causes s (line.Restart drone) es = (es ≡ []) ⊎ StartsAgain drone es
+-- where the drone is and what it has reached
+Causes s (line.Sim drone n) es = Flies drone n es
 -- nothing
+Causes s (line.WhereIs drone) es = es ≡ []
 Causes s line.Blank es = es ≡ []
 Causes s (line.Drone sys x y) es = es ≡ []
 Causes s (line.Station sys comp) es = es ≡ []

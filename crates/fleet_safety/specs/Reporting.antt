@@ -19,7 +19,7 @@ use Rattle.plan_safety.specs.World as world
 use Rattle.plan_safety.specs.World.{Nodes, World, happens}
 use Rattle.mav_messages.specs.Plans.{plan_of}
 use Rattle.fleet_report.specs.Events as report
-use Rattle.fleet_report.specs.Events.{Dropped, Missing, Command_ended, Params_ended, Param_given, Command_refused, Params_refused}
+use Rattle.fleet_report.specs.Events.{Dropped, Missing, Command_ended, Params_ended, Param_given, Command_refused, Params_refused, Reached, Captured, Located}
 
 -- what a report says of the mission protocol
 pub data ProtocolEvent : Type 0 where
@@ -51,6 +51,9 @@ event_seen (Params_ended station values) = []
 event_seen (Param_given station param) = []
 event_seen (Command_refused station) = []
 event_seen (Params_refused station) = []
+event_seen (Reached drone number) = []
+event_seen (Captured drone total) = []
+event_seen (Located drone x y captures) = []
 
 abbrev pub seen : List report.Event → List ProtocolEvent
 seen [] = []
