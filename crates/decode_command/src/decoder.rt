@@ -12,13 +12,12 @@ ghost use Rattle.decode_command.specs.Decodes.{Decoding, Drained, Halted, Front,
 
 use crate::known::Known;
 use crate::prepared::Prepared;
-use crate::writing::{ENOUGH_BYTES, write, write_enough};
 use dialect::Dialect;
 use mav_frame::Why;
 use mav_ports::{NoMemory, Sink};
 use mav_scan::{NextSpan, Scanner};
 use mav_text::{Chunk, SkipBlocks, put_decimal, put_skips};
-use run_status::RunEnd;
+use run_status::{ENOUGH_BYTES, RunEnd, write_enough, write_held};
 use std::alloc::Global;
 
 // More than the lines of one span have.
@@ -110,7 +109,7 @@ impl Decoder {
             place += self.reader.feed(&piece[place..]);
             self.drain(out)?;
         }
-        write(&mut self.text, out)
+        write_held(&mut self.text, out)
     }
 
     /// The input ended: writes the lines of what is held, and the last line.
@@ -131,7 +130,7 @@ impl Decoder {
         self.reader.end();
         self.drain(out)?;
         put_counts(self.frames, self.skipped, &mut self.text)?;
-        write(&mut self.text, out)
+        write_held(&mut self.text, out)
     }
 
     // The lines of the events until the reader needs more bytes.

@@ -12,7 +12,6 @@ mod decoder;
 mod known;
 pub mod laws;
 mod prepared;
-mod writing;
 
 pub use commands::{decode, decode_by};
 pub use known::Known;

@@ -7,7 +7,7 @@ use Rattle.mav_ports.proofs.Known.{append_known_nil, sent_start}
 use Rattle.field_layout.specs.Definition.{Definition}
 use Rattle.mav_text.specs.LayoutText.{dialect_text}
 use Rattle.run_status.specs.declared.run_ends.RunEnd.{RunEnd}
-use Rattle.run_status.specs.declared.run_ends.RunEnd.TheVariants.{Usage, Stopped, ReadFault, WriteFault, NoMemory, TurnsSpent}
+use Rattle.run_status.specs.declared.run_ends.RunEnd.TheVariants.{Usage, Stopped, ReadFault, WriteFault, NoMemory, TurnsSpent, Live}
 use Rattle.run_status.specs.declared.input_errors.InputError.{InputError}
 use Rattle.run_status.specs.Runs.{port_outcome, text_so_far, RunBeforeStatus}
 use Rattle.dialect_command.specs.Spec.{refusal_of, text_of, reading, dialect_spec, telling}
@@ -31,6 +31,7 @@ untold_unread closing spent fb fa ib ia rb ra lb la sb sa ReadFault same h = rec
 untold_unread closing spent fb fa ib ia rb ra lb la sb sa WriteFault same h = absurd h.cause
 untold_unread closing spent fb fa ib ia rb ra lb la sb sa NoMemory same h = record { taken = h.taken; ended = h.ended; took = h.took; at_end = h.at_end; cause = tt; wrote = nothing_front sb sa (text_so_far (reading closing) h.ended h.taken) same }
 untold_unread closing spent fb fa ib ia rb ra lb la sb sa TurnsSpent same h = record { taken = h.taken; ended = h.ended; took = h.took; at_end = h.at_end; cause = h.cause; wrote = nothing_sent sb sa same }
+untold_unread closing spent fb fa ib ia rb ra lb la sb sa (Live end) same h = absurd h.cause
 
 -- the definitions were read, and their text was written, or a prefix of it
 module _ (spent : Type 0) (fb fa ib ia rb ra : ℕ) (lb la sb sa : Option (List ℕ)) (defs : List Definition) (h : Holds spent lb la defs) where
@@ -45,6 +46,7 @@ module _ (spent : Type 0) (fb fa ib ia rb ra : ℕ) (lb la sb sa : Option (List 
   untold_written (Some WriteFault) wrote = record { taken = h.taken; ended = true; took = h.took; at_end = λ ended. h.at_end; cause = wrote.1; wrote = subst (SentPrefix sb sa) is_text wrote.0 }
   untold_written (Some NoMemory) wrote = record { taken = h.taken; ended = true; took = h.took; at_end = λ ended. h.at_end; cause = tt; wrote = subst (SentPrefix sb sa) is_text wrote.0 }
   untold_written (Some TurnsSpent) wrote = absurd wrote
+  untold_written (Some (Live end)) wrote = absurd wrote
 
 -- the same for definitions that are known
 untold_telling : (defs : List Definition) (rb ra : ℕ) (sb sa : Option (List ℕ)) (end : Option RunEnd) → WroteText (dialect_text defs) end rb ra sb sa → RunBeforeStatus (telling defs) (port_outcome (Unit {0}) 0 0 0 0 rb ra) (Some []) (Some []) sb sa end
@@ -55,6 +57,7 @@ untold_telling defs rb ra sb sa (Some ReadFault) wrote = absurd wrote
 untold_telling defs rb ra sb sa (Some WriteFault) wrote = record { taken = []; ended = true; took = refl; at_end = λ ended. tt; cause = wrote.1; wrote = wrote.0 }
 untold_telling defs rb ra sb sa (Some NoMemory) wrote = record { taken = []; ended = true; took = refl; at_end = λ ended. tt; cause = tt; wrote = wrote.0 }
 untold_telling defs rb ra sb sa (Some TurnsSpent) wrote = absurd wrote
+untold_telling defs rb ra sb sa (Some (Live end)) wrote = absurd wrote
 
 pub untold_known : (defs known : List Definition) → defs ≡ known → (rb ra : ℕ) (sb sa : Option (List ℕ)) (end : Option RunEnd) → WroteText (dialect_text defs) end rb ra sb sa → RunBeforeStatus (telling known) (port_outcome (Unit {0}) 0 0 0 0 rb ra) (Some []) (Some []) sb sa end
 untold_known defs known same rb ra sb sa end wrote =
@@ -73,6 +76,7 @@ sound_written text rb ra sb sa (Err ReadFault) wrote other = absurd wrote
 sound_written text rb ra sb sa (Err WriteFault) wrote other = absurd (other refl)
 sound_written text rb ra sb sa (Err NoMemory) wrote other = wrote.1
 sound_written text rb ra sb sa (Err TurnsSpent) wrote other = absurd wrote
+sound_written text rb ra sb sa (Err (Live end)) wrote other = absurd wrote
 
 -- no error of an input ends the writing
 pub unstopped_written : {P : Type 0} (text : List ℕ) (rb ra : ℕ) (sb sa : Option (List ℕ)) (r : Result (Unit {0}) RunEnd) (stop : InputError) → WroteText text (result_err r) rb ra sb sa → IsErrOf r (Stopped stop) → P
@@ -83,6 +87,7 @@ unstopped_written text rb ra sb sa (Err ReadFault) stop wrote e = absurd wrote
 unstopped_written text rb ra sb sa (Err WriteFault) stop wrote e = absurd (cc e)
 unstopped_written text rb ra sb sa (Err NoMemory) stop wrote e = absurd (cc e)
 unstopped_written text rb ra sb sa (Err TurnsSpent) stop wrote e = absurd wrote
+unstopped_written text rb ra sb sa (Err (Live end)) stop wrote e = absurd wrote
 
 -- all of it was written if the writing was done
 pub told_written : (spent : Type 0) (rb ra : ℕ) (lb la sb sa : Option (List ℕ)) (defs : List Definition) (r : Result (Unit {0}) RunEnd) → Holds spent lb la defs → WroteText (dialect_text defs) (result_err r) rb ra sb sa → OnOk r (Told spent lb la sb sa)

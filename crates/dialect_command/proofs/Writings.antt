@@ -10,7 +10,7 @@ use Rattle.mav_ports.proofs.Known.{sent_in, sent_start, sent_step, sent_all}
 use Rattle.field_layout.specs.Definition.{Definition}
 use Rattle.mav_text.specs.LayoutText.{layout_text}
 use Rattle.run_status.specs.declared.run_ends.RunEnd.{RunEnd}
-use Rattle.run_status.specs.declared.run_ends.RunEnd.TheVariants.{Usage, Stopped, ReadFault, WriteFault, NoMemory, TurnsSpent}
+use Rattle.run_status.specs.declared.run_ends.RunEnd.TheVariants.{Usage, Stopped, ReadFault, WriteFault, NoMemory, TurnsSpent, Live}
 use Rattle.dialect_command.specs.Writes.{WroteText}
 
 -- the lines of a message come before those of the messages after it
@@ -44,6 +44,7 @@ module _ (sb sm sa : Option (List ℕ)) (rb rm ra : ℕ) (same : rm ≡ rb) wher
   wrote_front text next rest WriteFault sent wrote = (front_more text next rest sent wrote.0, subst (λ n. Rose n ra) same wrote.1)
   wrote_front text next rest NoMemory sent wrote = (front_more text next rest sent wrote.0, wrote.1 ∙ same)
   wrote_front text next rest TurnsSpent sent wrote = wrote
+  wrote_front text next rest (Live end) sent wrote = wrote
 
   -- the last piece
   pub wrote_last : (text last : List ℕ) (end : Option RunEnd) → Sent sb sm text last → WroteText last end rm ra sm sa → WroteText text end rb ra sb sa

@@ -6,7 +6,7 @@ use Rattle.mav_ports.specs.Counts.{Rose}
 use Rattle.mav_ports.specs.Puts.{SentPrefix}
 use Rattle.mav_text.specs.LayoutText.{line}
 use Rattle.run_status.specs.declared.run_ends.RunEnd.{RunEnd}
-use Rattle.run_status.specs.declared.run_ends.RunEnd.TheVariants.{Usage, Stopped, ReadFault, WriteFault, NoMemory, TurnsSpent}
+use Rattle.run_status.specs.declared.run_ends.RunEnd.TheVariants.{Usage, Stopped, ReadFault, WriteFault, NoMemory, TurnsSpent, Live}
 
 -- the last line of a dialect's text
 abbrev pub count_line : ℕ → List ℕ
@@ -21,3 +21,4 @@ WroteText text (Some ReadFault) refusals_before refusals_after before after = �
 WroteText text (Some WriteFault) refusals_before refusals_after before after = SentPrefix before after text × Rose refusals_before refusals_after
 WroteText text (Some NoMemory) refusals_before refusals_after before after = SentPrefix before after text × (refusals_after ≡ refusals_before)
 WroteText text (Some TurnsSpent) refusals_before refusals_after before after = ⊥
+WroteText text (Some (Live end)) refusals_before refusals_after before after = ⊥

@@ -7,6 +7,7 @@
 #![tactic(auto)]
 
 mod boxed;
+mod closing_stream;
 mod file_link;
 mod links;
 mod mem_link;
@@ -15,6 +16,7 @@ mod tcp_link;
 mod udp_link;
 mod writing;
 
+pub use closing_stream::ClosingStream;
 pub use file_link::FileLink;
 pub use links::Link;
 pub use mem_link::MemLink;

@@ -19,7 +19,7 @@ mod switch;
 
 pub use ends::{How, PortEnd, RouteEnd, RouteFault, RoutePlan};
 pub use entries::{Entry, SwitchFault};
-pub use routing::route_one;
+pub use routing::{route_links, route_one};
 use std::alloc::AllocError;
 pub use switch::Switch;
 

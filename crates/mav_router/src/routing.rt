@@ -207,8 +207,8 @@ fn route_switch<L: Link>(
     route_lanes(alloc, switch, lanes.as_mut_slice(), links, plan.turns)
 }
 
-// Routes between links on one thread.
-fn route_links<L: Link>(
+/// Routes between links on one thread, as [`route_one`] does.
+pub fn route_links<L: Link>(
     alloc: Global,
     key: &Key,
     known: &Dialect,
@@ -219,6 +219,7 @@ fn route_links<L: Link>(
     requires to { length links.old ≤ 8 }
     requires turns { plan.turns ≤ 1_000_000_000 }
     ensures journal { IfOk result (λ end. IsJournal (record { key = key.now; known = known.now; ports = length links.old; plain = plan.plain }) [] end.journal.items) }
+    ensures few { IfOk result (λ end. length end.journal.items ≤ 1000000) }
     ensures ports { IfOk result (λ end. length end.ports.items ≡ length links.old) }
     ensures each { IfOk result (λ end. (k : ℕ) (b c : _) (e : PortEnd) → slice_get links.old k ≡ Some b
         → slice_get links.new k ≡ Some c → slice_get end.ports.items k ≡ Some e
@@ -259,6 +260,7 @@ pub fn route_one(
     requires turns { plan.turns ≤ 1_000_000_000 }
     ensures links { length ports.new.items ≡ length ports.old.items }
     ensures journal { IfOk result (λ end. IsJournal (record { key = key.now; known = known.now; ports = length ports.old.items; plain = plan.plain }) [] end.journal.items) }
+    ensures few { IfOk result (λ end. length end.journal.items ≤ 1000000) }
     ensures ports { IfOk result (λ end. length end.ports.items ≡ length ports.old.items) }
     // What was read from each port, and what was written to it.
     ensures each { IfOk result (λ end. (k : ℕ) (b c : _) (e : PortEnd) → slice_get ports.old.items k ≡ Some b

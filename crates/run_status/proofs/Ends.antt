@@ -10,7 +10,7 @@ use Rattle.run_status.specs.declared.input_errors.Bound.{Bound}
 use Rattle.run_status.specs.declared.input_errors.InputError.{InputError}
 use Rattle.run_status.specs.declared.input_errors.InputError.TheVariants.{Bad, AtLimit, StampsSpent}
 use Rattle.run_status.specs.declared.run_ends.RunEnd.{RunEnd}
-use Rattle.run_status.specs.declared.run_ends.RunEnd.TheVariants.{Usage, Stopped, ReadFault, WriteFault, NoMemory, TurnsSpent}
+use Rattle.run_status.specs.declared.run_ends.RunEnd.TheVariants.{Usage, Stopped, ReadFault, WriteFault, NoMemory, TurnsSpent, Live}
 use Rattle.run_status.specs.Endings.{code_of, error_code, error_text}
 use Rattle.run_status.specs.Runs.{CommandSpec, Steady, whole, PortOutcome, Cause, text_so_far, output_of, Run, Took, ReportedError, ReportedCutoff, end_of, OrFails, Promises}
 
@@ -32,6 +32,7 @@ done_at s o lb la sb sa (Some ReadFault) e run = absurd (omega arith)
 done_at s o lb la sb sa (Some WriteFault) e run = absurd (omega arith)
 done_at s o lb la sb sa (Some NoMemory) e run = absurd (omega arith)
 done_at s o lb la sb sa (Some TurnsSpent) e run = absurd (omega arith)
+done_at s o lb la sb sa (Some (Live end)) e run = absurd run.cause
 
 -- no run of a command ends with 2
 usage_at : (s : CommandSpec) (o : PortOutcome) (lb la sb sa : Option (List ℕ)) (end : Option RunEnd) → code_of end ≡ 2 → Run s o lb la sb sa end → ⊥
@@ -44,6 +45,7 @@ usage_at s o lb la sb sa (Some ReadFault) e run = absurd (omega arith)
 usage_at s o lb la sb sa (Some WriteFault) e run = absurd (omega arith)
 usage_at s o lb la sb sa (Some NoMemory) e run = absurd (omega arith)
 usage_at s o lb la sb sa (Some TurnsSpent) e run = absurd (omega arith)
+usage_at s o lb la sb sa (Some (Live end)) e run = run.cause
 
 -- an input has an error
 bad_at : (s : CommandSpec) (o : PortOutcome) (lb la sb sa : Option (List ℕ)) (end : Option RunEnd) → code_of end ≡ 3 → Run s o lb la sb sa end → (place : Place) × (reason : Reason) × ReportedError s (Bad place reason) o.spent lb la sb sa
@@ -56,6 +58,7 @@ bad_at s o lb la sb sa (Some ReadFault) e run = absurd (omega arith)
 bad_at s o lb la sb sa (Some WriteFault) e run = absurd (omega arith)
 bad_at s o lb la sb sa (Some NoMemory) e run = absurd (omega arith)
 bad_at s o lb la sb sa (Some TurnsSpent) e run = absurd (omega arith)
+bad_at s o lb la sb sa (Some (Live end)) e run = absurd run.cause
 
 -- an input passes a limit
 limit_at : (s : CommandSpec) (o : PortOutcome) (lb la sb sa : Option (List ℕ)) (end : Option RunEnd) → code_of end ≡ 6 → Run s o lb la sb sa end → (limit : Bound) × ReportedError s (AtLimit limit) o.spent lb la sb sa
@@ -68,6 +71,7 @@ limit_at s o lb la sb sa (Some ReadFault) e run = absurd (omega arith)
 limit_at s o lb la sb sa (Some WriteFault) e run = absurd (omega arith)
 limit_at s o lb la sb sa (Some NoMemory) e run = absurd (omega arith)
 limit_at s o lb la sb sa (Some TurnsSpent) e run = absurd (omega arith)
+limit_at s o lb la sb sa (Some (Live end)) e run = absurd run.cause
 
 -- no timestamp is left
 stamps_spent_at : (s : CommandSpec) (o : PortOutcome) (lb la sb sa : Option (List ℕ)) (end : Option RunEnd) → code_of end ≡ 13 → Run s o lb la sb sa end → ReportedError s StampsSpent o.spent lb la sb sa
@@ -80,6 +84,7 @@ stamps_spent_at s o lb la sb sa (Some ReadFault) e run = absurd (omega arith)
 stamps_spent_at s o lb la sb sa (Some WriteFault) e run = absurd (omega arith)
 stamps_spent_at s o lb la sb sa (Some NoMemory) e run = absurd (omega arith)
 stamps_spent_at s o lb la sb sa (Some TurnsSpent) e run = absurd (omega arith)
+stamps_spent_at s o lb la sb sa (Some (Live end)) e run = absurd run.cause
 
 -- a run that nothing had stopped when the reading was cut off
 cut_at : (s : CommandSpec) (text taken : List ℕ) (lb la sb sa : Option (List ℕ)) (ended : Bool) → ended ≡ false → lb ≡ prepend_known taken la → s.stop ended taken ≡ None → sa ≡ append_known sb (s.report ended taken ++ text) → ReportedCutoff s text lb la sb sa
@@ -97,6 +102,7 @@ read_fault_at s o lb la sb sa (Some ReadFault) e run = (run.cause.0, cut_at s (c
 read_fault_at s o lb la sb sa (Some WriteFault) e run = absurd (omega arith)
 read_fault_at s o lb la sb sa (Some NoMemory) e run = absurd (omega arith)
 read_fault_at s o lb la sb sa (Some TurnsSpent) e run = absurd (omega arith)
+read_fault_at s o lb la sb sa (Some (Live end)) e run = absurd run.cause
 
 -- the input gave nothing
 turns_spent_at : (s : CommandSpec) (o : PortOutcome) (lb la sb sa : Option (List ℕ)) (end : Option RunEnd) → code_of end ≡ 11 → Run s o lb la sb sa end → o.idled × ReportedCutoff s (codes "turns spent 1000000\n") lb la sb sa
@@ -109,6 +115,7 @@ turns_spent_at s o lb la sb sa (Some ReadFault) e run = absurd (omega arith)
 turns_spent_at s o lb la sb sa (Some WriteFault) e run = absurd (omega arith)
 turns_spent_at s o lb la sb sa (Some NoMemory) e run = absurd (omega arith)
 turns_spent_at s o lb la sb sa (Some TurnsSpent) e run = (run.cause.0, cut_at s (codes "turns spent 1000000\n") run.taken lb la sb sa run.ended run.cause.1 run.took run.cause.2 run.wrote)
+turns_spent_at s o lb la sb sa (Some (Live end)) e run = absurd run.cause
 
 -- a write failed
 write_fault_at : (s : CommandSpec) (o : PortOutcome) (lb la sb sa : Option (List ℕ)) (end : Option RunEnd) → code_of end ≡ 5 → Run s o lb la sb sa end → o.refused × (ended : Bool) × (taken : List ℕ) × Took o.spent lb la ended taken × (SentPrefix sb sa (text_so_far s ended taken) ⊎ ((would : Option RunEnd) × Cause s would o ended taken × SentPrefix sb sa (output_of s would ended taken)))
@@ -121,6 +128,7 @@ write_fault_at s o lb la sb sa (Some ReadFault) e run = absurd (omega arith)
 write_fault_at s o lb la sb sa (Some WriteFault) e run = (run.cause, run.ended, run.taken, (run.took, run.at_end), run.wrote)
 write_fault_at s o lb la sb sa (Some NoMemory) e run = absurd (omega arith)
 write_fault_at s o lb la sb sa (Some TurnsSpent) e run = absurd (omega arith)
+write_fault_at s o lb la sb sa (Some (Live end)) e run = absurd run.cause
 
 -- there was no memory
 no_memory_at : (s : CommandSpec) (o : PortOutcome) (lb la sb sa : Option (List ℕ)) (end : Option RunEnd) → code_of end ≡ 7 → Run s o lb la sb sa end → (ended : Bool) × (taken : List ℕ) × Took o.spent lb la ended taken × SentPrefix sb sa (text_so_far s ended taken)
@@ -133,6 +141,7 @@ no_memory_at s o lb la sb sa (Some ReadFault) e run = absurd (omega arith)
 no_memory_at s o lb la sb sa (Some WriteFault) e run = absurd (omega arith)
 no_memory_at s o lb la sb sa (Some NoMemory) e run = (run.ended, run.taken, (run.took, run.at_end), run.wrote)
 no_memory_at s o lb la sb sa (Some TurnsSpent) e run = absurd (omega arith)
+no_memory_at s o lb la sb sa (Some (Live end)) e run = absurd run.cause
 
 -- what an input with observable contents has left fixes what was taken
 taken_is : (taken other rest : List ℕ) (la : Option (List ℕ)) → Some (taken ++ rest) ≡ prepend_known other la → la ≡ Some rest → taken ++ rest ≡ other ++ rest
@@ -164,6 +173,7 @@ stops_taken s steady o lb la sb sa (Some ReadFault) stop run stops = goes_not s 
 stops_taken s steady o lb la sb sa (Some WriteFault) stop run stops = inr (inl refl)
 stops_taken s steady o lb la sb sa (Some NoMemory) stop run stops = inr (inr refl)
 stops_taken s steady o lb la sb sa (Some TurnsSpent) stop run stops = goes_not s steady run.ended run.taken stop stops run.cause.2
+stops_taken s steady o lb la sb sa (Some (Live end)) stop run stops = absurd run.cause
 
 -- the same for an input with observable contents
 stops_at : (s : CommandSpec) → Steady s → (o : PortOutcome) (lb la sb sa : Option (List ℕ)) (end : Option RunEnd) (stop : InputError) (taken rest : List ℕ) → lb ≡ Some (taken ++ rest) → la ≡ Some rest → s.stop false taken ≡ Some stop → Run s o lb la sb sa end → OrFails (error_code stop) (s.report false taken ++ error_text stop) (code_of end) sb sa
@@ -215,6 +225,7 @@ whole_at s steady o lb la sb sa (Some ReadFault) bytes reported nothing sound bu
 whole_at s steady o lb la sb sa (Some WriteFault) bytes reported nothing sound busy run = inr (inl refl)
 whole_at s steady o lb la sb sa (Some NoMemory) bytes reported nothing sound busy run = inr (inr refl)
 whole_at s steady o lb la sb sa (Some TurnsSpent) bytes reported nothing sound busy run = absurd (busy run.cause.0)
+whole_at s steady o lb la sb sa (Some (Live end)) bytes reported nothing sound busy run = absurd run.cause
 
 -- nothing but memory keeps a run that nothing stops from its end
 complete_at : (s : CommandSpec) → Steady s → (o : PortOutcome) (lb la sb sa : Option (List ℕ)) (end : Option RunEnd) (bytes : List ℕ) → lb ≡ Some bytes → (o.spent → IsSpent la) → s.stop true bytes ≡ None → ¬ o.failed → ¬ o.idled → ¬ o.refused → Run s o lb la sb sa end → (code_of end ≡ 0) ⊎ (code_of end ≡ 7)

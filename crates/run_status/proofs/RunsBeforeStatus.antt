@@ -6,7 +6,7 @@ use Rattle.mav_ports.specs.Counts.{Rose}
 use Rattle.mav_ports.specs.Puts.{SentPrefix}
 use Rattle.mav_ports.proofs.Known.{append_known_twice, append_known_nil, sent_in, sent_start, prepend_known_nil, prepend_known_twice}
 use Rattle.run_status.specs.declared.run_ends.RunEnd.{RunEnd}
-use Rattle.run_status.specs.declared.run_ends.RunEnd.TheVariants.{Usage, Stopped, ReadFault, WriteFault, NoMemory, TurnsSpent}
+use Rattle.run_status.specs.declared.run_ends.RunEnd.TheVariants.{Usage, Stopped, ReadFault, WriteFault, NoMemory, TurnsSpent, Live}
 use Rattle.run_status.specs.Endings.{text_of}
 use Rattle.run_status.specs.Runs.{CommandSpec, PortOutcome, port_outcome, text_so_far, Cause, Wrote, Run, WroteReport, RunBeforeStatus}
 use Rattle.run_status.specs.StatusText.{StatusWritten, WritesStatus}
@@ -47,6 +47,7 @@ wrote_said s o ended taken sb sm sa ReadFault sent said = behind sb sm sa (s.rep
 wrote_said s o ended taken sb sm sa WriteFault front said = inl (front_same sb sm sa (text_so_far s ended taken) front said)
 wrote_said s o ended taken sb sm sa NoMemory front said = front_same sb sm sa (text_so_far s ended taken) front said
 wrote_said s o ended taken sb sm sa TurnsSpent sent said = behind sb sm sa (s.report ended taken) (text_of TurnsSpent) sent said
+wrote_said s o ended taken sb sm sa (Live end) never said = never
 
 unsaid_front : (s : CommandSpec) (run_end : RunEnd) (ended : Bool) (taken : List ℕ) (sb sa : Option (List ℕ)) → WroteReport s (Some run_end) ended taken sb sa → SentPrefix sb sa (text_so_far s ended taken)
 unsaid_front s Usage ended taken sb sa never = absurd never
@@ -55,6 +56,7 @@ unsaid_front s ReadFault ended taken sb sa sent = report_front s ended taken sb 
 unsaid_front s WriteFault ended taken sb sa front = front
 unsaid_front s NoMemory ended taken sb sa front = front
 unsaid_front s TurnsSpent ended taken sb sa sent = report_front s ended taken sb sa sent
+unsaid_front s (Live end) ended taken sb sa never = absurd never
 
 rose_twice : (rb rm ra : ℕ) → Rose rb rm → Rose rm ra → Rose rb ra
 rose_twice rb rm ra first second = grind (arith, first, second)
@@ -67,6 +69,7 @@ refused_now s spent fb fa ib ia rb rm ra ended taken ReadFault cause sound rose 
 refused_now s spent fb fa ib ia rb rm ra ended taken WriteFault cause sound rose = rose_twice rb rm ra cause rose
 refused_now s spent fb fa ib ia rb rm ra ended taken NoMemory cause sound rose = subst (λ n. Rose n ra) (sound (λ e. cc)) rose
 refused_now s spent fb fa ib ia rb rm ra ended taken TurnsSpent cause sound rose = subst (λ n. Rose n ra) (sound (λ e. cc)) rose
+refused_now s spent fb fa ib ia rb rm ra ended taken (Live end) cause sound rose = absurd cause
 
 -- the output refused the status's text
 refused_wrote : (s : CommandSpec) (spent : Type 0) (fb fa ib ia rb rm ra : ℕ) (ended : Bool) (taken : List ℕ) (sb sm sa : Option (List ℕ)) (run_end : RunEnd) → Cause s (Some run_end) (port_outcome spent fb fa ib ia rb rm) ended taken → WroteReport s (Some run_end) ended taken sb sm → SentPrefix sm sa (text_of run_end) → Wrote s (Some WriteFault) (port_outcome spent fb fa ib ia rb ra) ended taken sb sa
@@ -76,6 +79,7 @@ refused_wrote s spent fb fa ib ia rb rm ra ended taken sb sm sa ReadFault cause 
 refused_wrote s spent fb fa ib ia rb rm ra ended taken sb sm sa WriteFault cause sent front = inl (nothing_more sb sm sa (text_so_far s ended taken) sent front)
 refused_wrote s spent fb fa ib ia rb rm ra ended taken sb sm sa NoMemory cause sent front = inl (nothing_more sb sm sa (text_so_far s ended taken) sent front)
 refused_wrote s spent fb fa ib ia rb rm ra ended taken sb sm sa TurnsSpent cause sent front = inr (Some TurnsSpent, cause, behind_front sb sm sa (s.report ended taken) (text_of TurnsSpent) sent front)
+refused_wrote s spent fb fa ib ia rb rm ra ended taken sb sm sa (Live end) cause sent front = absurd cause
 
 run_halted : (s : CommandSpec) (spent : Type 0) (fb fa ib ia rb rm ra : ℕ) (lb la sb sm sa : Option (List ℕ)) (run_end : RunEnd) (reported : Result (Unit {0}) RunEnd) → RunBeforeStatus s (port_outcome spent fb fa ib ia rb rm) lb la sb sm (Some run_end) → (run_end ≢ WriteFault → rm ≡ rb) → StatusWritten run_end reported rm ra sm sa → Run s (port_outcome spent fb fa ib ia rb ra) lb la sb sa (result_err reported)
 run_halted s spent fb fa ib ia rb rm ra lb la sb sm sa run_end reported u sound (inl (is, same, said)) =

@@ -6,11 +6,13 @@ use Rattle.run_status.specs.declared.input_errors.Place.TheVariants.{Line, Key a
 use Rattle.run_status.specs.declared.input_errors.Reason.{Reason}
 use Rattle.run_status.specs.declared.input_errors.Reason.TheVariants.{Long, Word, Later, Count, Number, Node, Kind, Hex, Twice, Range, Draft, Clock, Key, Json, Shape, FieldType, Name, TwiceId, TwiceName, Layout, TooMany, Refused}
 use Rattle.run_status.specs.declared.input_errors.Bound.{Bound}
-use Rattle.run_status.specs.declared.input_errors.Bound.TheVariants.{Lines, Frames, Drones, Stations, Restarts, DefinitionBytes, InputBytes}
+use Rattle.run_status.specs.declared.input_errors.Bound.TheVariants.{Lines, Frames, Drones, Stations, Restarts, DefinitionBytes, InputBytes, Entries}
 use Rattle.run_status.specs.declared.input_errors.InputError.{InputError}
 use Rattle.run_status.specs.declared.input_errors.InputError.TheVariants.{Bad, AtLimit, StampsSpent}
+use Rattle.run_status.specs.declared.live_ends.LiveEnd.{LiveEnd}
+use Rattle.run_status.specs.declared.live_ends.LiveEnd.TheVariants.{RefusedWith, NoAnswer, StoreFault, PortTurns, PortFault}
 use Rattle.run_status.specs.declared.run_ends.RunEnd.{RunEnd}
-use Rattle.run_status.specs.declared.run_ends.RunEnd.TheVariants.{Usage, Stopped, ReadFault, WriteFault, NoMemory, TurnsSpent}
+use Rattle.run_status.specs.declared.run_ends.RunEnd.TheVariants.{Usage, Stopped, ReadFault, WriteFault, NoMemory, TurnsSpent, Live}
 
 abbrev pub reason_word : Reason → List ℕ
 reason_word Long = codes "long"
@@ -45,6 +47,7 @@ bound_words Stations = codes "stations 16"
 bound_words Restarts = codes "restarts 1000"
 bound_words DefinitionBytes = codes "bytes 16777216"
 bound_words InputBytes = codes "bytes 268435456"
+bound_words Entries = codes "entries 1000000"
 
 abbrev pub place_text : Place → List ℕ
 place_text (Line line) = codes "line " ++ decimal line
@@ -62,6 +65,21 @@ error_code (Bad place reason) = 3
 error_code (AtLimit limit) = 6
 error_code StampsSpent = 13
 
+-- the ends of runs over ports
+abbrev pub live_code : LiveEnd → ℕ
+live_code (RefusedWith code) = 8
+live_code (NoAnswer ticks) = 9
+live_code StoreFault = 10
+live_code (PortTurns turns) = 11
+live_code PortFault = 12
+
+abbrev pub live_text : LiveEnd → List ℕ
+live_text (RefusedWith code) = codes "refused " ++ (decimal code ++ codes "\n")
+live_text (NoAnswer ticks) = codes "no answer " ++ (decimal ticks ++ codes "\n")
+live_text StoreFault = codes "store fault\n"
+live_text (PortTurns turns) = codes "turns spent " ++ (decimal turns ++ codes "\n")
+live_text PortFault = codes "port fault\n"
+
 -- the status of a run that was done, or that halted
 abbrev pub code_of : Option RunEnd → ℕ
 code_of None = 0
@@ -71,6 +89,7 @@ code_of (Some ReadFault) = 4
 code_of (Some WriteFault) = 5
 code_of (Some NoMemory) = 7
 code_of (Some TurnsSpent) = 11
+code_of (Some (Live end)) = live_code end
 
 -- what is printed after the report
 abbrev pub text_of : RunEnd → List ℕ
@@ -80,3 +99,4 @@ text_of ReadFault = codes "read fault\n"
 text_of WriteFault = []
 text_of NoMemory = []
 text_of TurnsSpent = codes "turns spent 1000000\n"
+text_of (Live end) = live_text end

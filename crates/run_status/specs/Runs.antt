@@ -9,7 +9,7 @@ use Rattle.run_status.specs.declared.input_errors.Bound.{Bound}
 use Rattle.run_status.specs.declared.input_errors.InputError.{InputError}
 use Rattle.run_status.specs.declared.input_errors.InputError.TheVariants.{Bad, AtLimit, StampsSpent}
 use Rattle.run_status.specs.declared.run_ends.RunEnd.{RunEnd}
-use Rattle.run_status.specs.declared.run_ends.RunEnd.TheVariants.{Usage, Stopped, ReadFault, WriteFault, NoMemory, TurnsSpent}
+use Rattle.run_status.specs.declared.run_ends.RunEnd.TheVariants.{Usage, Stopped, ReadFault, WriteFault, NoMemory, TurnsSpent, Live}
 use Rattle.run_status.specs.Endings.{code_of, text_of, error_code, error_text}
 
 -- what a command does with the bytes of its input
@@ -55,7 +55,7 @@ abbrev pub text_so_far : CommandSpec → Bool → List ℕ → List ℕ
 text_so_far s true taken = whole s taken
 text_so_far s false taken = s.report false taken
 
--- why a run ends so, with these bytes taken from the input
+-- why a run ends so, with these bytes taken from the input; no run over one input ends as one over ports
 abbrev pub Cause : CommandSpec → Option RunEnd → PortOutcome → Bool → List ℕ → Type 0
 Cause s None o ended taken = (ended ≡ true) × (s.stop ended taken ≡ None)
 Cause s (Some Usage) o ended taken = ⊥
@@ -64,6 +64,7 @@ Cause s (Some ReadFault) o ended taken = o.failed × (ended ≡ false) × (s.sto
 Cause s (Some WriteFault) o ended taken = o.refused
 Cause s (Some NoMemory) o ended taken = ⊤
 Cause s (Some TurnsSpent) o ended taken = o.idled × (ended ≡ false) × (s.stop ended taken ≡ None)
+Cause s (Some (Live end)) o ended taken = ⊥
 
 -- all that a run writes that ends so
 abbrev pub output_of : CommandSpec → Option RunEnd → Bool → List ℕ → List ℕ
@@ -81,6 +82,7 @@ Wrote s (Some WriteFault) o ended taken before after =
     SentPrefix before after (text_so_far s ended taken) ⊎ ((would : Option RunEnd) × Cause s would o ended taken × SentPrefix before after (output_of s would ended taken))
 Wrote s (Some NoMemory) o ended taken before after = SentPrefix before after (text_so_far s ended taken)
 Wrote s (Some TurnsSpent) o ended taken before after = after ≡ append_known before (output_of s (Some TurnsSpent) ended taken)
+Wrote s (Some (Live end)) o ended taken before after = ⊥
 
 -- one run: the bytes taken from the input, why it ended, and what it wrote; nothing is taken if nothing was read
 pub record Run (s : CommandSpec) (o : PortOutcome) (left_before left_after sent_before sent_after : Option (List ℕ)) (end : Option RunEnd) : Type 0 where
@@ -100,6 +102,7 @@ WroteReport s (Some ReadFault) ended taken before after = after ≡ append_known
 WroteReport s (Some WriteFault) ended taken before after = SentPrefix before after (text_so_far s ended taken)
 WroteReport s (Some NoMemory) ended taken before after = SentPrefix before after (text_so_far s ended taken)
 WroteReport s (Some TurnsSpent) ended taken before after = after ≡ append_known before (s.report ended taken)
+WroteReport s (Some (Live end)) ended taken before after = ⊥
 
 pub record RunBeforeStatus (s : CommandSpec) (o : PortOutcome) (left_before left_after sent_before sent_after : Option (List ℕ)) (end : Option RunEnd) : Type 0 where
   pub taken : List ℕ

@@ -56,6 +56,8 @@ pub enum Bound {
     DefinitionBytes,
     /// Bytes of an input that is decoded.
     InputBytes,
+    /// Entries of a router's journal.
+    Entries,
 }
 
 /// An error of an input, at which a run stops.
@@ -110,6 +112,7 @@ impl Bound {
             Bound::Restarts => "restarts 1000",
             Bound::DefinitionBytes => "bytes 16777216",
             Bound::InputBytes => "bytes 268435456",
+            Bound::Entries => "entries 1000000",
         }
     }
 }

@@ -4,6 +4,7 @@ ghost use Rattle.run_status.specs.Endings.{code_of, text_of};
 
 use crate::NoMemory;
 use crate::input_errors::InputError;
+use crate::live_ends::LiveEnd;
 use mav_ports::WriteFault;
 use std::alloc::{AllocError, AllocFailed, Global};
 
@@ -19,6 +20,8 @@ pub enum RunEnd {
     NoMemory,
     /// An input returned Idle 1,000,000 times in a row.
     TurnsSpent,
+    /// A run over ports ends so.
+    Live(LiveEnd),
 }
 
 impl From<AllocError> for RunEnd {
@@ -63,6 +66,7 @@ impl RunEnd {
             RunEnd::WriteFault => 5,
             RunEnd::NoMemory => 7,
             RunEnd::TurnsSpent => 11,
+            RunEnd::Live(end) => end.code(),
         }
     }
 
@@ -77,6 +81,7 @@ impl RunEnd {
             RunEnd::ReadFault => String::from_str(alloc, "read fault\n"),
             RunEnd::TurnsSpent => String::from_str(alloc, "turns spent 1000000\n"),
             RunEnd::WriteFault | RunEnd::NoMemory => Ok(String::new(alloc)),
+            RunEnd::Live(end) => end.text(alloc),
         }
     }
 }

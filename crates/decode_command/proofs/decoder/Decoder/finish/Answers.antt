@@ -25,16 +25,16 @@ pub returns-clause-done : goal.returns-clause-done
 returns-clause-done g c =
     let ended = c.in_ok-drain.ensures.ended ∙ ap (λ (h : Held). h.ended) c.end.ensures.held in
     λ known taken before d.
-    on_ok_both c.write.result c.write.ensures.moved c.write.ensures.empty (λ moved empty.
+    on_ok_both c.write_held.result c.write_held.ensures.moved c.write_held.ensures.empty (λ moved empty.
     finished known taken c.drain.new.self before (g.K.Sink.sent c.drain.new.out) ended
     (c.in_ok-drain.ensures.drained known taken before (decoding_fed known taken taken c.args.self.now c.end.new.self before (g.K.Sink.sent c.args.out.now) d.decoding (λ given p. c.end.ensures.progress _ _ taken given p)))
-    (g.K.Sink.sent c.write.new.out) c.put_counts.new.text.items c.write.new.text.items c.in_ok-put_counts.ensures moved empty)
+    (g.K.Sink.sent c.write_held.new.out) c.put_counts.new.text.items c.write_held.new.lines.items c.in_ok-put_counts.ensures moved empty)
 
 pub returns-clause-halted : goal.returns-clause-halted
 returns-clause-halted g c =
     let ended = c.in_ok-drain.ensures.ended ∙ ap (λ (h : Held). h.ended) c.end.ensures.held in
     λ known taken before d.
-    if_err c.write.result
+    if_err c.write_held.result
     (unfinished known taken c.drain.new.self before (g.K.Sink.sent c.drain.new.out) ended
     (c.in_ok-drain.ensures.drained known taken before (decoding_fed known taken taken c.args.self.now c.end.new.self before (g.K.Sink.sent c.args.out.now) d.decoding (λ given p. c.end.ensures.progress _ _ taken given p)))
-    (g.K.Sink.sent c.write.new.out) c.put_counts.new.text.items c.in_ok-put_counts.ensures c.write.ensures.front)
+    (g.K.Sink.sent c.write_held.new.out) c.put_counts.new.text.items c.in_ok-put_counts.ensures c.write_held.ensures.front)

@@ -15,10 +15,10 @@ pub returns-clause-done : goal.returns-clause-done
 returns-clause-done g c =
     let old = c.args.self.now in
     on_ok c.write_enough.result c.write_enough.ensures.moved (λ moved.
-    passed (span_events old.reader c.args.span) (span_size c.args.span) old c.append.new.self c.consume.new.self (span_bytes old.reader c.args.span c.requires.size c.requires.frame) c.requires.size c.in_ok-append.ensures.lines (c.consume.ensures ∙ ap (λ (n : ℕ). record c.append.new.self.reader { bytes = drop n c.append.new.self.reader.bytes }) c.size.ensures) (g.K.Sink.sent c.args.out.now) (g.K.Sink.sent c.write_enough.new.out) c.write_enough.new.text c.requires.within moved)
+    passed (span_events old.reader c.args.span) (span_size c.args.span) old c.append.new.self c.consume.new.self (span_bytes old.reader c.args.span c.requires.size c.requires.frame) c.requires.size c.in_ok-append.ensures.lines (c.consume.ensures ∙ ap (λ (n : ℕ). record c.append.new.self.reader { bytes = drop n c.append.new.self.reader.bytes }) c.size.ensures) (g.K.Sink.sent c.args.out.now) (g.K.Sink.sent c.write_enough.new.out) c.write_enough.new.lines c.requires.within moved)
 
 pub returns-clause-halted : goal.returns-clause-halted
 returns-clause-halted g c = λ known taken before d gave.
     let old = c.args.self.now in
     if_err c.write_enough.result
-    (passed_halted (span_events old.reader c.args.span) (span_size c.args.span) old c.append.new.self c.consume.new.self (span_bytes old.reader c.args.span c.requires.size c.requires.frame) c.requires.size c.in_ok-append.ensures.lines (c.consume.ensures ∙ ap (λ (n : ℕ). record c.append.new.self.reader { bytes = drop n c.append.new.self.reader.bytes }) c.size.ensures) (g.K.Sink.sent c.args.out.now) (g.K.Sink.sent c.write_enough.new.out) c.write_enough.new.text c.write_enough.ensures.front known taken before d gave)
+    (passed_halted (span_events old.reader c.args.span) (span_size c.args.span) old c.append.new.self c.consume.new.self (span_bytes old.reader c.args.span c.requires.size c.requires.frame) c.requires.size c.in_ok-append.ensures.lines (c.consume.ensures ∙ ap (λ (n : ℕ). record c.append.new.self.reader { bytes = drop n c.append.new.self.reader.bytes }) c.size.ensures) (g.K.Sink.sent c.args.out.now) (g.K.Sink.sent c.write_enough.new.out) c.write_enough.new.lines c.write_enough.ensures.front known taken before d gave)

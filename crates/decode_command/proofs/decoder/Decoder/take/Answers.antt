@@ -45,16 +45,16 @@ returns-in_err-drain-clause-halted g c =
 pub returns-clause-drained : goal.returns-clause-drained
 returns-clause-drained g c = λ known taken before d.
     let l = c.loop-place in
-    on_ok c.write.result c.write.ensures.moved (λ moved.
-    drained_written known _ l.self (record l.self { text = c.write.new.text }) before (g.K.Sink.sent l.out) (g.K.Sink.sent c.write.new.out)
+    on_ok c.write_held.result c.write_held.ensures.moved (λ moved.
+    drained_written known _ l.self (record l.self { text = c.write_held.new.lines }) before (g.K.Sink.sent l.out) (g.K.Sink.sent c.write_held.new.out)
     (piece_whole known taken c.args.piece.now l.place l.self before (g.K.Sink.sent l.out) c.loop-place-test.false (l.invariant.drained known taken before d)) moved refl)
 
 pub returns-clause-halted : goal.returns-clause-halted
 returns-clause-halted g c = λ known taken before d.
     let l = c.loop-place in
-    if_err c.write.result
-    (drained_front known _ l.self before (g.K.Sink.sent l.out) (g.K.Sink.sent c.write.new.out) l.invariant.still
-    (piece_whole known taken c.args.piece.now l.place l.self before (g.K.Sink.sent l.out) c.loop-place-test.false (l.invariant.drained known taken before d)) c.write.ensures.front)
+    if_err c.write_held.result
+    (drained_front known _ l.self before (g.K.Sink.sent l.out) (g.K.Sink.sent c.write_held.new.out) l.invariant.still
+    (piece_whole known taken c.args.piece.now l.place l.self before (g.K.Sink.sent l.out) c.loop-place-test.false (l.invariant.drained known taken before d)) c.write_held.ensures.front)
 
 pub returns-in_err-drain-clause-error : goal.returns-in_err-drain-clause-error
 returns-in_err-drain-clause-error g c =
@@ -73,4 +73,4 @@ returns-in_err-drain-clause-sound g c =
 
 pub returns-clause-rose : goal.returns-clause-rose
 returns-clause-rose g c = λ refused.
-    subst (λ n. Rose n (g.K.Sink.faults c.write.new.out)) c.loop-place.invariant.refusals (c.write.ensures.rose refused)
+    subst (λ n. Rose n (g.K.Sink.faults c.write_held.new.out)) c.loop-place.invariant.refusals (c.write_held.ensures.rose refused)

@@ -1,0 +1,106 @@
+// The command `route`.
+ghost use Rattle.std.specs.Prelude.{◌≡◌, ◌≤◌, ◌++◌, ◌⊎◌, ℕ, List, [], length, IfErr, IsErrOf, OnOk, Some, None};
+ghost use Rattle.std.specs.Result.{result_err};
+ghost use Rattle.mav_ports.specs.Counts.{Rose};
+ghost use Rattle.mav_ports.specs.Puts.{SentPrefix};
+ghost use Rattle.route_command.specs.Texts.{route_text};
+ghost use Rattle.route_command.specs.Routes.{ports_of, rules_of, end_of_ports, end_of_fault, WroteAll, RoutesBeforeStatus};
+
+use crate::entry_lines::write_entries;
+use crate::port_lines::{has_turns, put_ends};
+use dialect::Dialect;
+use mav_links::Link;
+use mav_ports::Sink;
+use mav_router::{Entry, PortEnd, RouteEnd, RouteFault, RoutePlan, SwitchFault, route_links};
+use mav_sign::Key;
+use run_status::{Bound, ENOUGH_BYTES, InputError, LiveEnd, RunEnd, write_held};
+use std::alloc::Global;
+
+// More than a line has.
+const LINE_BYTES: usize = 128;
+
+// Writes the report of a run.
+fn write_report<K: Sink>(
+    alloc: Global,
+    journal: &[Entry],
+    ends: &[PortEnd],
+    out: &mut K,
+) -> Result<(), RunEnd>
+    requires { length ends.now ≤ 8 }
+    ensures wrote { WroteAll None (result_err result) (route_text journal.now ends.now)
+        (K.faults out.old) (K.faults out.new) (K.sent out.old) (K.sent out.new) }
+{
+    let mut lines = Vec::new(alloc);
+    lines.reserve(ENOUGH_BYTES + LINE_BYTES)?;
+    write_entries(journal, &mut lines, out)?;
+    put_ends(ends, &mut lines)?;
+    write_held(&mut lines, out)
+}
+
+// Writes the report, and ends the run by what became of its ports.
+fn report<K: Sink>(alloc: Global, end: &RouteEnd, turns: u64, out: &mut K) -> Result<(), RunEnd>
+    requires { length end.now.ports.items ≤ 8 }
+    ensures wrote { WroteAll (end_of_ports turns end.now.ports.items) (result_err result)
+        (route_text end.now.journal.items end.now.ports.items)
+        (K.faults out.old) (K.faults out.new) (K.sent out.old) (K.sent out.new) }
+{
+    write_report(alloc, &end.journal, &end.ports, out)?;
+    if has_turns(&end.ports) {
+        return Err(RunEnd::Live(LiveEnd::PortTurns(turns)));
+    }
+    Ok(())
+}
+
+fn end_of_fault(fault: &RouteFault) -> RunEnd
+    ensures { result ≡ end_of_fault fault.now.why }
+{
+    match fault.why {
+        SwitchFault::Full { .. } => RunEnd::Stopped(InputError::AtLimit(Bound::Entries)),
+        SwitchFault::NoMemory => RunEnd::NoMemory,
+    }
+}
+
+/// Routes between the links on one thread, and writes what came in and what became of each port. Nothing is written of a
+/// run that stops because its journal is full, or because memory is out. Why the run ended so isn't written.
+pub fn route_over<L: Link, K: Sink>(
+    alloc: Global,
+    key: &Key,
+    known: &Dialect,
+    links: &mut [L],
+    plan: RoutePlan,
+    out: &mut K,
+) -> Result<(), RunEnd>
+    requires from { 1 ≤ length links.old }
+    requires to { length links.old ≤ 8 }
+    requires turns { plan.turns ≤ 1_000_000_000 }
+    ensures routes { RoutesBeforeStatus (ports_of L.state
+        (rules_of key.now known.now plan.plain (length links.old)) plan.turns links.old links.new)
+        (result_err result) (K.faults out.old) (K.faults out.new) (K.sent out.old) (K.sent out.new) }
+    ensures sound { ¬ IsErrOf result RunEnd.WriteFault → K.faults out.new ≡ K.faults out.old }
+{
+    let turns = plan.turns;
+    match route_links(alloc, key, known, links, plan) {
+        Ok(end) => report(alloc, &end, turns, out),
+        Err(fault) => Err(end_of_fault(&fault)),
+    }
+}
+
+/// The same over links that their caller boxed.
+pub fn route<K: Sink>(
+    alloc: Global,
+    key: &Key,
+    known: &Dialect,
+    ports: &mut Vec<Box<dyn Link>>,
+    plan: RoutePlan,
+    out: &mut K,
+) -> Result<(), RunEnd>
+    requires from { 1 ≤ length ports.old.items }
+    requires to { length ports.old.items ≤ 8 }
+    requires turns { plan.turns ≤ 1_000_000_000 }
+    ensures routes { RoutesBeforeStatus (ports_of state
+        (rules_of key.now known.now plan.plain (length ports.old.items)) plan.turns ports.old.items ports.new.items)
+        (result_err result) (K.faults out.old) (K.faults out.new) (K.sent out.old) (K.sent out.new) }
+    ensures sound { ¬ IsErrOf result RunEnd.WriteFault → K.faults out.new ≡ K.faults out.old }
+{
+    route_over(alloc, key, known, ports.as_mut_slice(), plan, out)
+}
