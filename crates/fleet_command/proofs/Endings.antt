@@ -5,7 +5,7 @@ use Rattle.std.specs.Io.KnownBytes.{append_known, prepend_known}
 use Rattle.fleet_world.specs.WorldView.{WorldView}
 use Rattle.fleet_world.specs.Scenario.{Played, played, report_of, whole_report}
 use Rattle.run_status.specs.declared.run_ends.RunEnd.{RunEnd}
-use Rattle.run_status.specs.declared.run_ends.RunEnd.TheVariants.{Usage, Stopped, ReadFault, WriteFault, NoMemory, TurnsSpent}
+use Rattle.run_status.specs.declared.run_ends.RunEnd.TheVariants.{Usage, Stopped, ReadFault, WriteFault, NoMemory, TurnsSpent, Live}
 use Rattle.run_status.specs.Runs.{PortOutcome, text_so_far, RunBeforeStatus}
 use Rattle.fleet_command.specs.Plays.{Reading, HaltedAt, Finished}
 use Rattle.fleet_command.specs.Spec.{reported_error, fleet_spec}
@@ -20,6 +20,7 @@ module _ (key : List ℕ) (frames : Bool) where
   before_status_halt o lb la sb sa ended taken WriteFault took at_end refused h = record { taken = taken; ended = ended; took = took; at_end = at_end; cause = refused refl; wrote = h }
   before_status_halt o lb la sb sa ended taken NoMemory took at_end refused h = record { taken = taken; ended = ended; took = took; at_end = at_end; cause = tt; wrote = h }
   before_status_halt o lb la sb sa ended taken TurnsSpent took at_end refused never = absurd never
+  before_status_halt o lb la sb sa ended taken (Live end) took at_end refused never = absurd never
 
   -- the input ended
   pub before_status_end : (o : PortOutcome) (lb la sb sa : Option (List ℕ)) (taken : List ℕ) (r : Result (Unit {0}) RunEnd) → lb ≡ prepend_known taken la → o.spent → (IsErrOf r WriteFault → o.refused) → OnOk r (Finished frames (played key true taken) sb sa) → IfErr r (λ run_end. HaltedAt frames run_end (played key true taken) (whole_report frames (played key true taken)) sb sa) → RunBeforeStatus (fleet_spec key frames) o lb la sb sa (result_err r)

@@ -19,7 +19,7 @@ use Rattle.fleet_world.specs.Promises.{IsStep, IsStepError}
 use Rattle.fleet_world.specs.Steps.{Step, StepError, At_limit, Stamps_spent, after_line, closing_text}
 use Rattle.fleet_world.specs.Scenario.{Played, ScenarioError, Bad, Too_many_lines, Not_done, most_lines, stopped, goes_on, judged, without_cr, line_played, last_played, unless_stopped, at_start, played, report_of, whole_report}
 use Rattle.run_status.specs.declared.run_ends.RunEnd.{RunEnd}
-use Rattle.run_status.specs.declared.run_ends.RunEnd.TheVariants.{Usage, Stopped, ReadFault, WriteFault, NoMemory, TurnsSpent}
+use Rattle.run_status.specs.declared.run_ends.RunEnd.TheVariants.{Usage, Stopped, ReadFault, WriteFault, NoMemory, TurnsSpent, Live}
 use Rattle.run_status.specs.declared.input_errors.InputError.{InputError}
 use Rattle.fleet_command.specs.Spec.{reported_error}
 use Rattle.fleet_command.specs.Plays.{plays, long_line_end, Holds, Reading, StoppedBy, HaltedAt, Finished, Leads, FailsAs}
@@ -184,6 +184,7 @@ module _ (key : List ℕ) (frames : Bool) where
   halted_on WriteFault q next before now more front = front_grown frames q (unless_stopped q.stop q next) before now (grows_unless frames q q next q.stop ([], sym (append-nil (report_of frames q))) more) front
   halted_on NoMemory q next before now more front = front_grown frames q (unless_stopped q.stop q next) before now (grows_unless frames q q next q.stop ([], sym (append-nil (report_of frames q))) more) front
   halted_on TurnsSpent q next before now more never = absurd never
+  halted_on (Live end) q next before now more never = absurd never
 
   -- what a run that halts leaves of these bytes
   abbrev pub HaltedBy : RunEnd → Bool → List ℕ → Option (List ℕ) → Option (List ℕ) → Type 0
@@ -268,6 +269,7 @@ module _ (key : List ℕ) (frames : Bool) where
   halted_before WriteFault q before now front = front_closed q before now front
   halted_before NoMemory q before now front = front_closed q before now front
   halted_before TurnsSpent q before now never = absurd never
+  halted_before (Live end) q before now never = absurd never
 
   -- the end of the run at the last line is that of the whole
   pub finish_halted : (run_end : RunEnd) (taken : List ℕ) (world : WorldView) (number : ℕ) (part : List ℕ) (before old now : Option (List ℕ)) (r : Reading key frames taken world number part before old) → HaltedAt frames run_end (last_played r.soFar number part) (report_of frames (last_played r.soFar number part)) before now → HaltedAt frames run_end (played key true taken) (whole_report frames (played key true taken)) before now

@@ -3,7 +3,7 @@ use Rattle.std.proofs.Common.{◌≡◌, ◌∙◌, ℕ, Bool, true, List, ◌++
 use Rattle.std.specs.Io.KnownBytes.{prepend_known}
 use Rattle.mav_ports.specs.Gets.{IsSpent}
 use Rattle.run_status.specs.declared.run_ends.RunEnd.{RunEnd}
-use Rattle.run_status.specs.declared.run_ends.RunEnd.TheVariants.{Usage, Stopped, ReadFault, WriteFault, NoMemory, TurnsSpent}
+use Rattle.run_status.specs.declared.run_ends.RunEnd.TheVariants.{Usage, Stopped, ReadFault, WriteFault, NoMemory, TurnsSpent, Live}
 use Rattle.run_status.specs.declared.input_errors.InputError.TheVariants.{Bad, AtLimit, StampsSpent}
 use Rattle.run_status.specs.Endings.{code_of}
 use Rattle.run_status.specs.Runs.{PortOutcome, Run}
@@ -57,6 +57,7 @@ module _ (key : List ℕ) (frames : Bool) where
   done_carries o bytes left_before left_after sent_before sent_after (Some WriteFault) zero reported spent run theorem = absurd (omega arith)
   done_carries o bytes left_before left_after sent_before sent_after (Some NoMemory) zero reported spent run theorem = absurd (omega arith)
   done_carries o bytes left_before left_after sent_before sent_after (Some TurnsSpent) zero reported spent run theorem = absurd (omega arith)
+  done_carries o bytes left_before left_after sent_before sent_after (Some (Live end)) zero reported spent run theorem = absurd run.cause
 
   pub theorem_of : (o : PortOutcome) (bytes : List ℕ) (left_before left_after sent_before sent_after : Option (List ℕ)) (code : ℕ) → Carries key frames o left_before left_after sent_before sent_after code → code ≡ 0 → left_before ≡ Some bytes → (o.spent → IsSpent left_after) → (Authentic key true bytes → MainTheorem key true bytes)
   theorem_of o bytes left_before left_after sent_before sent_after code carries zero reported spent =

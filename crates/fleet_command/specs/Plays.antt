@@ -8,7 +8,7 @@ use Rattle.scenario_lines.specs.Grammar.{most_line_bytes}
 use Rattle.scenario_lines.specs.declared.faults.Reason.TheVariants.{Long}
 use Rattle.fleet_world.specs.Scenario.{most_lines, whole_report, Played, Bad, Too_many_lines, played, report_of, line_played, part_played, rest_played, unless_stopped}
 use Rattle.run_status.specs.declared.run_ends.RunEnd.{RunEnd}
-use Rattle.run_status.specs.declared.run_ends.RunEnd.TheVariants.{Usage, Stopped, ReadFault, WriteFault, NoMemory, TurnsSpent}
+use Rattle.run_status.specs.declared.run_ends.RunEnd.TheVariants.{Usage, Stopped, ReadFault, WriteFault, NoMemory, TurnsSpent, Live}
 use Rattle.run_status.specs.declared.input_errors.InputError.{InputError}
 use Rattle.mav_nodes.specs.declared.faults.NodeFault.TheVariants.{StampsSpent as NoTimestamp, Store as NodeStore, NoMemory as NoNodeMemory}
 use Rattle.fleet_world.specs.declared.faults.WorldFault.{WorldFault}
@@ -49,6 +49,7 @@ HaltedAt frames ReadFault q text before now = ⊥
 HaltedAt frames WriteFault q text before now = SentPrefix before now text
 HaltedAt frames NoMemory q text before now = SentPrefix before now text
 HaltedAt frames TurnsSpent q text before now = ⊥
+HaltedAt frames (Live end) q text before now = ⊥
 
 -- a step led to `q`, or halted on the way there
 abbrev pub Leads : {T : Type 0} → Bool → Result T RunEnd → Played → WorldView → Option (List ℕ) → Option (List ℕ) → Type 0

@@ -1,0 +1,4 @@
+pub mod Generator
+pub mod Sums
+pub mod Spec
+pub mod Theorem
