@@ -1,8 +1,18 @@
 //! The program: opens what the words name, and passes it to `run`.
 #![tactic(auto)]
 
+ghost use Rattle.std.specs.Prelude.{map, string_bytes, length};
+ghost use Rattle.command_line.specs.Built.{built};
+ghost use Rattle.command_line.specs.Grammar.{Asked, Asks};
+ghost use Rattle.station_cli.specs.Routing.{AreAsked};
+ghost use Rattle.station_cli.specs.Wants.{Wants};
+
+mod ports;
+
+use mav_links::Link;
 use mav_ports::{StdClock, StdSink, StdSource};
-use station_cli::{Inputs, Wanted, WantedFault, run, wanted};
+use ports::{file_link, tcp_link, udp_link};
+use station_cli::{Inputs, SocketKind, Target, Wanted, WantedFault, run, wanted};
 use std::alloc::AllocError;
 use std::fs::File;
 use std::io::{ErrorKind, Read, Stdin};
@@ -77,16 +87,66 @@ fn no_inputs() -> Inputs<StdSource<Reader>> {
     }
 }
 
-fn status(rt: &HostRuntime) -> Result<u8, AllocError> {
-    let words = words_of(rt)?;
-    let mut inputs = match wanted(rt.alloc(), &words) {
-        Ok(wanted) => inputs_of(rt, &wanted)?,
-        Err(WantedFault::Usage) => no_inputs(),
-        Err(WantedFault::NoMemory) => return Err(AllocError),
-    };
+// Opens the ports that the words name, and runs them.
+fn run_wanted(rt: &HostRuntime, words: &[String], wanted: &Wanted) -> Result<u8, AllocError>
+    requires { Wants (map string_bytes words.now) wanted.now }
+{
+    let mut inputs = inputs_of(rt, wanted)?;
+    run_ports(rt, words, wanted, &mut inputs)
+}
+
+fn run_ports(
+    rt: &HostRuntime,
+    words: &[String],
+    wanted: &Wanted,
+    inputs: &mut Inputs<StdSource<Reader>>,
+) -> Result<u8, AllocError>
+    requires { Wants (map string_bytes words.now) wanted.now }
+{
+    let mut ports: Vec<Box<dyn Link>> = Vec::new(rt.alloc());
+    for port in &wanted.ports {
+        match &port.target {
+            Target::Files(files) => {
+                ports.push(Box::new(rt.alloc(), file_link(rt, files)?)?)?;
+            }
+            Target::Socket(socket) => match socket.kind {
+                SocketKind::Tcp | SocketKind::Listen => {
+                    ports.push(Box::new(rt.alloc(), tcp_link(rt, socket)?)?)?;
+                }
+                SocketKind::Udp | SocketKind::UdpListen => {
+                    ports.push(Box::new(rt.alloc(), udp_link(rt, socket)?)?)?;
+                }
+            },
+        }
+    }
+    Ok(run_over(rt, words, inputs, &mut ports))
+}
+
+// Runs the words over standard output and the system's clock.
+fn run_over(
+    rt: &HostRuntime,
+    words: &[String],
+    inputs: &mut Inputs<StdSource<Reader>>,
+    ports: &mut Vec<Box<dyn Link>>,
+) -> u8
+    requires { (asked : Asked) → Asks built (map string_bytes words.now) asked
+        → AreAsked (length ports.old.items) asked }
+{
     let mut out = StdSink::new(io::writer(rt));
     let mut clock = StdClock::new(rt);
-    Ok(run(rt.alloc(), &words, &mut inputs, &mut out, &mut clock))
+    run(rt.alloc(), words, inputs, &mut out, &mut clock, ports)
+}
+
+fn status(rt: &HostRuntime) -> Result<u8, AllocError> {
+    let words = words_of(rt)?;
+    match wanted(rt.alloc(), &words) {
+        Ok(wanted) => run_wanted(rt, &words, &wanted),
+        // With nothing made: no words of a command are refused.
+        Err(WantedFault::Usage) => {
+            Ok(run_over(rt, &words, &mut no_inputs(), &mut Vec::new(rt.alloc())))
+        }
+        Err(WantedFault::NoMemory) => Err(AllocError),
+    }
 }
 
 fn main(rt: HostRuntime) -> ExitCode {

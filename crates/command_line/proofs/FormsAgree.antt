@@ -1,87 +1,61 @@
 -- The tests of a line agree with the forms of what is built.
-use Rattle.std.proofs.Common.{◌≡◌, ◌≢◌, ◌∙◌, ◌≤◌, ◌-◌, ◌&&◌, not, nat_le, ℕ, Bool, true, false, List, [], ◌∷◌, refl, sym, ap, arith, IsTrue, map, length, take, drop, get_or, Some, option_map, string_bytes, ◌⊎◌, inl, inr}
+use Rattle.std.proofs.Common.{◌≡◌, ◌∙◌, ◌≤◌, ◌<◌, ◌-◌, ◌&&◌, ◌||◌, not, nat_le, ℕ, Bool, true, false, List, [], ◌∷◌, refl, sym, ap, arith, IsTrue, map, length, take, drop, get_or, Some, option_map, string_bytes, ◌⊎◌, inl, inr}
 use Rattle.std.proofs.lemmas.Bool.{cases_Bool, cond-true, cond-false, and_parts, and_from, and_left, and_right, leb-true, le-leb}
 use Rattle.std.proofs.lemmas.Grind.{common_steps}
-use Rattle.std.specs.List.{find, list_all, list_any}
+use Rattle.std.proofs.lemmas.List.Sums.{AllPass-from_list_all, list_all-from_AllPass}
+use Rattle.std.specs.List.{find, list_all, list_any, All}
 use Rattle.command_line.specs.declared.lines.Setting.{Setting}
 use Rattle.command_line.specs.declared.commands.Command.{Command}
 use Rattle.command_line.specs.declared.commands.Command.TheVariants.{Fleet, Dialect, Decode, Route, Drone, Station, Make}
 use Rattle.command_line.specs.declared.commands.OptionName.{OptionName}
 use Rattle.command_line.specs.declared.commands.OptionName.TheVariants.{Frames, Key, Defs, One, Turns, Ticks, File}
 use Rattle.command_line.specs.Commands.{has_option, needs_key}
-use Rattle.command_line.specs.Built.{is_built, is_option_built, built}
-use Rattle.command_line.specs.Forms.{Given, is_named, IsValue, AreTaken, all_differ, has_given, stdin_files, IsFile, ArePlain, Fits}
+use Rattle.command_line.specs.Built.{is_built, is_option_built, needs_now, built}
+use Rattle.command_line.specs.Forms.{Given, most_turns, is_named, IsValue, AreTaken, all_differ, has_given, stdin_files, IsFile, ArePlain, Fits}
 use Rattle.command_line.specs.Names.{value_given}
-use Rattle.command_line.specs.Lines.{given_of, is_some_text, is_value_now, taken_now, is_one_file, is_no_word, plain_now, fits_now}
+use Rattle.command_line.specs.Operations.{OneNumber}
+use Rattle.command_line.specs.Pieces.{all_options}
+use Rattle.command_line.specs.Ports.{IsRouterPort}
+use Rattle.command_line.specs.PortTexts.{is_some_text, is_router_port}
+use Rattle.command_line.specs.Lines.{given_of, is_value_now, taken_now, is_key, is_needed, has_needed, is_one_file, is_no_word, are_ports, is_one_number, plain_now, fits_now}
+use Rattle.command_line.proofs.Numerals.{number_form, form_number}
+use Rattle.command_line.proofs.PortWords.{some_text, text_some, no_text, router_form, form_router}
 
 -- the value of a setting
 abbrev pub held_value : Setting → List ℕ
 held_value s = string_bytes s.value
 
-some_text : (v : List ℕ) → is_some_text v ≡ true → v ≢ []
-some_text [] never = absurd (cc never)
-some_text (b ∷ bs) e = λ same. cc same
+-- the value of an option
+value_of : (o : OptionName) (v : List ℕ) → is_value_now o v ≡ true → IsValue o v
+value_of Frames v e = no_text v e
+value_of Key v e = some_text v e
+value_of Defs v e = some_text v e
+value_of One v e = no_text v e
+value_of Turns v e = number_form 1 most_turns v e
+value_of Ticks v e = number_form 1 most_turns v e
+value_of File v e = some_text v e
 
-text_some : (v : List ℕ) → v ≢ [] → is_some_text v ≡ true
-text_some [] some = absurd (some refl)
-text_some (b ∷ bs) some = refl
-
-no_text : (v : List ℕ) → not (is_some_text v) ≡ true → v ≡ []
-no_text [] e = refl
-no_text (b ∷ bs) never = absurd (cc never)
-
--- no option is built whose value is a number
-no_turns : (c : Command) → is_option_built c Turns ≡ true → ⊥
-no_turns Fleet e = cc e
-no_turns Dialect e = cc e
-no_turns Decode e = cc e
-no_turns Route e = cc e
-no_turns Drone e = cc e
-no_turns Station e = cc e
-no_turns Make e = cc e
-
-no_ticks : (c : Command) → is_option_built c Ticks ≡ true → ⊥
-no_ticks Fleet e = cc e
-no_ticks Dialect e = cc e
-no_ticks Decode e = cc e
-no_ticks Route e = cc e
-no_ticks Drone e = cc e
-no_ticks Station e = cc e
-no_ticks Make e = cc e
-
--- each option built names a file, or has no value
-value_of : (c : Command) (o : OptionName) (v : List ℕ) → is_option_built c o ≡ true → is_value_now o v ≡ true → IsValue o v
-value_of c Frames v b e = no_text v e
-value_of c Key v b e = some_text v e
-value_of c Defs v b e = some_text v e
-value_of c One v b e = no_text v e
-value_of c Turns v b e = absurd (no_turns c b)
-value_of c Ticks v b e = absurd (no_ticks c b)
-value_of c File v b e = some_text v e
-
-is_value : (c : Command) (o : OptionName) (v : List ℕ) → is_option_built c o ≡ true → IsValue o v → is_value_now o v ≡ true
-is_value c Frames v b e = ap (λ w. not (is_some_text w)) e
-is_value c Key v b some = text_some v some
-is_value c Defs v b some = text_some v some
-is_value c One v b e = ap (λ w. not (is_some_text w)) e
-is_value c Turns v b e = absurd (no_turns c b)
-is_value c Ticks v b e = absurd (no_ticks c b)
-is_value c File v b some = text_some v some
+is_value : (o : OptionName) (v : List ℕ) → IsValue o v → is_value_now o v ≡ true
+is_value Frames v e = ap (λ w. not (is_some_text w)) e
+is_value Key v some = text_some v some
+is_value Defs v some = text_some v some
+is_value One v e = ap (λ w. not (is_some_text w)) e
+is_value Turns v is = form_number 1 most_turns v (omega arith) is
+is_value Ticks v is = form_number 1 most_turns v (omega arith) is
+is_value File v some = text_some v some
 
 taken : (c : Command) (gs : List Given) → list_all (taken_now c) gs ≡ true → AreTaken built c gs
 taken c [] e = tt
 taken c (g ∷ gs) e =
     let (one, rest) = and_parts (taken_now c g) (list_all (taken_now c) gs) e in
     let (offered, valued) = and_parts (has_option c g.name && is_option_built c g.name) (is_value_now g.name g.value) one in
-    let (has, is) = and_parts (has_option c g.name) (is_option_built c g.name) offered in
-    ((offered, value_of c g.name g.value is valued), taken c gs rest)
+    ((offered, value_of g.name g.value valued), taken c gs rest)
 
 takes : (c : Command) (gs : List Given) → AreTaken built c gs → list_all (taken_now c) gs ≡ true
 takes c [] are = refl
 takes c (g ∷ gs) are =
-    let (has, is) = and_parts (has_option c g.name) (is_option_built c g.name) are.0.0 in
     and_from (taken_now c g) (list_all (taken_now c) gs)
-    (and_from (has_option c g.name && is_option_built c g.name) (is_value_now g.name g.value) are.0.0 (is_value c g.name g.value is are.0.1))
+    (and_from (has_option c g.name && is_option_built c g.name) (is_value_now g.name g.value) are.0.0 (is_value g.name g.value are.0.1))
     (takes c gs are.1)
 
 one_file : (plain : List (List ℕ)) → is_one_file plain ≡ true → IsFile plain
@@ -96,45 +70,110 @@ no_word : (plain : List (List ℕ)) → is_no_word plain ≡ true → plain ≡ 
 no_word [] e = refl
 no_word (w ∷ ws) never = absurd (cc never)
 
+-- ports, and the number of `make`
+ports_form : (plain : List (List ℕ)) → are_ports plain ≡ true → (1 ≤ length plain) × (length plain ≤ 8) × All IsRouterPort plain
+ports_form plain e =
+    let (few, each) = and_parts (nat_le 1 (length plain) && nat_le (length plain) 8) (list_all is_router_port plain) e in
+    let (least, most) = and_parts (nat_le 1 (length plain)) (nat_le (length plain) 8) few in (
+      leb-true 1 (length plain) least,
+      leb-true (length plain) 8 most,
+      λ k d within. router_form (get_or plain k d) (AllPass-from_list_all is_router_port plain each k d within),
+    )
+
+form_ports : (plain : List (List ℕ)) → (1 ≤ length plain) × (length plain ≤ 8) × All IsRouterPort plain → are_ports plain ≡ true
+form_ports plain (least, most, each) =
+    and_from (nat_le 1 (length plain) && nat_le (length plain) 8) (list_all is_router_port plain)
+    (and_from (nat_le 1 (length plain)) (nat_le (length plain) 8) (le-leb 1 (length plain) least) (le-leb (length plain) 8 most))
+    (list_all-from_AllPass is_router_port plain (λ k d within. form_router (get_or plain k d) (each k d within)))
+
+one_number : (plain : List (List ℕ)) → is_one_number plain ≡ true → OneNumber 0 1000000 plain
+one_number [] never = absurd (cc never)
+one_number (word ∷ []) e = (word, refl, number_form 0 1000000 word e)
+one_number (word ∷ other ∷ more) never = absurd (cc never)
+
+number_one : (plain : List (List ℕ)) → OneNumber 0 1000000 plain → is_one_number plain ≡ true
+number_one plain (word, same, is) = ap is_one_number same ∙ form_number 0 1000000 word (omega arith) is
+
 plain_is : (c : Command) (gs : List Given) (plain : List (List ℕ)) → plain_now c plain ≡ true → ArePlain c gs plain
 plain_is Fleet gs plain e = one_file plain e
 plain_is Dialect gs plain e = no_word plain e
 plain_is Decode gs plain e = one_file plain e
-plain_is Route gs plain never = absurd (cc never)
+plain_is Route gs plain e = ports_form plain e
 plain_is Drone gs plain never = absurd (cc never)
 plain_is Station gs plain never = absurd (cc never)
-plain_is Make gs plain never = absurd (cc never)
+plain_is Make gs plain e = one_number plain e
 
 is_plain : (c : Command) (gs : List Given) (plain : List (List ℕ)) → is_built c ≡ true → ArePlain c gs plain → plain_now c plain ≡ true
 is_plain Fleet gs plain b are = file_one plain are
 is_plain Dialect gs plain b are = ap is_no_word are
 is_plain Decode gs plain b are = file_one plain are
-is_plain Route gs plain never are = absurd (cc never)
+is_plain Route gs plain b are = form_ports plain are
 is_plain Drone gs plain never are = absurd (cc never)
 is_plain Station gs plain never are = absurd (cc never)
-is_plain Make gs plain never are = absurd (cc never)
+is_plain Make gs plain b are = number_one plain are
 
--- what is built needs no key
-no_key : (c : Command) (gs : List Given) → is_built c ≡ true → IsTrue (needs_key c) → IsTrue (has_given Key gs)
-no_key Fleet gs b needs = absurd (cc needs)
-no_key Dialect gs b needs = absurd (cc needs)
-no_key Decode gs b needs = absurd (cc needs)
-no_key Route gs never needs = absurd (cc never)
-no_key Drone gs never needs = absurd (cc never)
-no_key Station gs never needs = absurd (cc never)
-no_key Make gs never needs = absurd (cc never)
+-- the options that are needed
+implied : (a b : Bool) → (not a || b) ≡ true → a ≡ true → b ≡ true
+implied true b e needed = e
+implied false b e never = absurd (cc never)
+
+implies : (a b : Bool) → (a ≡ true → b ≡ true) → (not a || b) ≡ true
+implies true b f = f refl
+implies false b f = refl
+
+or_second : (a b : Bool) → b ≡ true → (a || b) ≡ true
+or_second true b e = refl
+or_second false b e = e
+
+or_first : (a b : Bool) → a ≡ true → (a || b) ≡ true
+or_first true b e = refl
+or_first false b never = absurd (cc never)
+
+either : (a b : Bool) → (a || b) ≡ true → (a ≡ true) ⊎ (b ≡ true)
+either true b e = inl refl
+either false b e = inr e
+
+there_at : (c : Command) (gs : List Given) → has_needed c gs ≡ true → (k : ℕ) → k < 7 → (not (is_needed c (get_or all_options k Frames)) || has_given (get_or all_options k Frames) gs) ≡ true
+there_at c gs e k within = AllPass-from_list_all (λ name. not (is_needed c name) || has_given name gs) all_options e k Frames within
+
+there : (c : Command) (gs : List Given) → has_needed c gs ≡ true → (name : OptionName) → is_needed c name ≡ true → has_given name gs ≡ true
+there c gs e Frames needed = implied (is_needed c Frames) (has_given Frames gs) (there_at c gs e 0 (omega arith)) needed
+there c gs e Key needed = implied (is_needed c Key) (has_given Key gs) (there_at c gs e 1 (omega arith)) needed
+there c gs e Defs needed = implied (is_needed c Defs) (has_given Defs gs) (there_at c gs e 2 (omega arith)) needed
+there c gs e One needed = implied (is_needed c One) (has_given One gs) (there_at c gs e 3 (omega arith)) needed
+there c gs e Turns needed = implied (is_needed c Turns) (has_given Turns gs) (there_at c gs e 4 (omega arith)) needed
+there c gs e Ticks needed = implied (is_needed c Ticks) (has_given Ticks gs) (there_at c gs e 5 (omega arith)) needed
+there c gs e File needed = implied (is_needed c File) (has_given File gs) (there_at c gs e 6 (omega arith)) needed
+
+need_given : (c : Command) (gs : List Given) → (IsTrue (needs_key c) → IsTrue (has_given Key gs)) → ((name : OptionName) → IsTrue (needs_now c name) → IsTrue (has_given name gs)) → (name : OptionName) → is_needed c name ≡ true → has_given name gs ≡ true
+need_given c gs key now Frames e = now Frames e
+need_given c gs key now Key e = elim (either (needs_key c) (needs_now c Key) e) [ inl k ↦ key k | inr n ↦ now Key n ]
+need_given c gs key now Defs e = now Defs e
+need_given c gs key now One e = now One e
+need_given c gs key now Turns e = now Turns e
+need_given c gs key now Ticks e = now Ticks e
+need_given c gs key now File e = now File e
+
+every_passes : {X : Type 0} (f : X → Bool) → ((x : X) → f x ≡ true) → (xs : List X) → list_all f xs ≡ true
+every_passes f every [] = refl
+every_passes f every (x ∷ xs) = and_from (f x) (list_all f xs) (every x) (every_passes f every xs)
+
+all_there : (c : Command) (gs : List Given) → ((name : OptionName) → is_needed c name ≡ true → has_given name gs ≡ true) → has_needed c gs ≡ true
+all_there c gs each = every_passes _ (λ name. implies (is_needed c name) (has_given name gs) (each name)) all_options
 
 pub fits_when : (c : Command) (gs : List Given) (plain : List (List ℕ)) → fits_now c gs plain ≡ true → Fits built c gs plain
 fits_when c gs plain e =
     let (b, e1) = and_parts (is_built c) _ e in
     let (t, e2) = and_parts (list_all (taken_now c) gs) _ e1 in
     let (d, e3) = and_parts (all_differ gs) _ e2 in
-    let (p, s) = and_parts (plain_now c plain) _ e3 in
+    let (n, e4) = and_parts (has_needed c gs) _ e3 in
+    let (p, s) = and_parts (plain_now c plain) _ e4 in
     record {
       command_built = b;
       options_taken = taken c gs t;
       once = d;
-      key_given = no_key c gs b;
+      key_given = λ needs. there c gs n Key (or_first (needs_key c) (needs_now c Key) needs);
+      needed_given = λ name needs. there c gs n name (or_second (is_key name && needs_key c) (needs_now c name) needs);
       plain_words = plain_is c gs plain p;
       one_stdin = leb-true (stdin_files c gs plain) 1 s;
     }
@@ -142,8 +181,9 @@ fits_when c gs plain e =
 pub when_fits : (c : Command) (gs : List Given) (plain : List (List ℕ)) → Fits built c gs plain → fits_now c gs plain ≡ true
 when_fits c gs plain f =
     and_from (is_built c) _ f.command_built (and_from (list_all (taken_now c) gs) _ (takes c gs f.options_taken)
-    (and_from (all_differ gs) _ f.once (and_from (plain_now c plain) _ (is_plain c gs plain f.command_built f.plain_words)
-    (le-leb (stdin_files c gs plain) 1 f.one_stdin))))
+    (and_from (all_differ gs) _ f.once (and_from (has_needed c gs) _ (all_there c gs (need_given c gs f.key_given f.needed_given))
+    (and_from (plain_now c plain) _ (is_plain c gs plain f.command_built f.plain_words)
+    (le-leb (stdin_files c gs plain) 1 f.one_stdin)))))
 
 -- the tests over what the program holds
 pub list_any_map : (p : Given → Bool) (xs : List Setting) → list_any p (map given_of xs) ≡ list_any (λ s. p (given_of s)) xs
@@ -168,10 +208,28 @@ and_holds x y e = ap (λ b. b && y) e
 pub not_taken : (c : Command) (ss : List Setting) (plain : List (List ℕ)) → list_all (λ s. taken_now c (given_of s)) ss ≡ false → false ≡ fits_now c (map given_of ss) plain
 not_taken c ss plain e = sym (and_right (is_built c) _ (and_left (list_all (taken_now c) (map given_of ss)) _ (list_all_map (taken_now c) ss ∙ e)))
 
-pub all_hold : (c : Command) (ss : List Setting) (plain : List (List ℕ)) → is_built c ≡ true → list_all (λ s. taken_now c (given_of s)) ss ≡ true → all_differ (map given_of ss) ≡ true → plain_now c plain ≡ true → nat_le (stdin_files c (map given_of ss) plain) 1 ≡ fits_now c (map given_of ss) plain
-all_hold c ss plain b t d p =
+all_same : {X : Type 0} (f g : X → Bool) → ((x : X) → f x ≡ g x) → (xs : List X) → list_all f xs ≡ list_all g xs
+all_same f g same [] = refl
+all_same f g same (x ∷ xs) = rw (same x, all_same f g same xs) refl
+
+pub needed_map : (c : Command) (ss : List Setting) → list_all (λ name. not (is_needed c name) || list_any (λ s. is_named name (given_of s)) ss) all_options ≡ has_needed c (map given_of ss)
+needed_map c ss = all_same _ _ (λ name. ap (λ b. not (is_needed c name) || b) (sym (list_any_map (is_named name) ss))) all_options
+
+pub not_needed : (c : Command) (ss : List Setting) (plain : List (List ℕ)) → list_all (λ name. not (is_needed c name) || list_any (λ s. is_named name (given_of s)) ss) all_options ≡ false → false ≡ fits_now c (map given_of ss) plain
+not_needed c ss plain e =
+    sym (and_right (is_built c) _ (and_right (list_all (taken_now c) (map given_of ss)) _ (and_right (all_differ (map given_of ss)) _
+    (and_left (has_needed c (map given_of ss)) _ (sym (needed_map c ss) ∙ e)))))
+
+pub all_hold : (c : Command) (ss : List Setting) (plain : List (List ℕ)) → is_built c ≡ true → list_all (λ s. taken_now c (given_of s)) ss ≡ true → all_differ (map given_of ss) ≡ true → list_all (λ name. not (is_needed c name) || list_any (λ s. is_named name (given_of s)) ss) all_options ≡ true → plain_now c plain ≡ true → nat_le (stdin_files c (map given_of ss) plain) 1 ≡ fits_now c (map given_of ss) plain
+all_hold c ss plain b t d n p =
     sym (and_holds (is_built c) _ b ∙ and_holds (list_all (taken_now c) (map given_of ss)) _ (list_all_map (taken_now c) ss ∙ t)
-    ∙ and_holds (all_differ (map given_of ss)) _ d ∙ and_holds (plain_now c plain) _ p)
+    ∙ and_holds (all_differ (map given_of ss)) _ d ∙ and_holds (has_needed c (map given_of ss)) _ (sym (needed_map c ss) ∙ n)
+    ∙ and_holds (plain_now c plain) _ p)
+
+-- plain words that aren't of the command's form
+pub plain_unfit : (c : Command) (gs : List Given) (plain : List (List ℕ)) → plain_now c plain ≡ false → fits_now c gs plain ≡ false
+plain_unfit c gs plain e =
+    and_right (is_built c) _ (and_right (list_all (taken_now c) gs) _ (and_right (all_differ gs) _ (and_right (has_needed c gs) _ (and_left (plain_now c plain) _ e))))
 
 -- the option that is found
 found_map : (name : OptionName) (s : Setting) (ss : List Setting) → value_given name (map given_of ss) ≡ option_map held_value (find (λ t. is_named name (given_of t)) ss) → (is_named name (given_of s) ≡ true) ⊎ (is_named name (given_of s) ≡ false) → value_given name (map given_of (s ∷ ss)) ≡ option_map held_value (find (λ t. is_named name (given_of t)) (s ∷ ss))

@@ -1,6 +1,9 @@
 pub mod Sorts
+pub mod Numerals
+pub mod PortWords
 pub mod Agreement
 pub mod FormsAgree
 pub mod Readings
 mod Wholes
+mod OneNumber
 mod Taken

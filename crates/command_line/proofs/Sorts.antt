@@ -16,7 +16,7 @@ use Rattle.command_line.specs.Grammar.{is_dashed}
 use Rattle.command_line.specs.Pieces.{all_commands, all_options, command_named, option_named, is_equals, has_equals, alone_sort, joined_sort, option_sort, sort_of, joined_value}
 
 -- what a search finds passes its test
-found_passes : {X : Type 0} (test : X → Bool) (xs : List X) (x : X) → find test xs ≡ Some x → test x ≡ true
+pub found_passes : {X : Type 0} (test : X → Bool) (xs : List X) (x : X) → find test xs ≡ Some x → test x ≡ true
 found_passes test [] x never = absurd (cc never)
 found_passes test (y ∷ ys) x e =
     elim (cases_Bool (test y)) [

@@ -1,15 +1,17 @@
--- What is built of the commands and their options. Later work changes these two tables.
+-- What is built of the commands and their options. Later work changes these tables.
 use Rattle.std.specs.Prelude.{Bool, true, false}
 use Rattle.command_line.specs.declared.commands.Command.{Command}
-use Rattle.command_line.specs.declared.commands.Command.TheVariants.{Fleet, Dialect, Decode}
+use Rattle.command_line.specs.declared.commands.Command.TheVariants.{Fleet, Dialect, Decode, Route, Make}
 use Rattle.command_line.specs.declared.commands.OptionName.{OptionName}
-use Rattle.command_line.specs.declared.commands.OptionName.TheVariants.{Frames, Defs, Key}
+use Rattle.command_line.specs.declared.commands.OptionName.TheVariants.{Frames, Key, Defs, One, Turns}
 use Rattle.command_line.specs.Forms.{Built}
 
 abbrev pub is_built : Command → Bool
 is_built Fleet = true
 is_built Dialect = true
 is_built Decode = true
+is_built Route = true
+is_built Make = true
 is_built _ = false
 
 abbrev pub is_option_built : Command → OptionName → Bool
@@ -18,7 +20,16 @@ is_option_built Fleet Key = true
 is_option_built Dialect Defs = true
 is_option_built Decode Defs = true
 is_option_built Decode Key = true
+is_option_built Route Key = true
+is_option_built Route Defs = true
+is_option_built Route One = true
+is_option_built Route Turns = true
 is_option_built _ _ = false
 
+-- the options that a command needs as it is built, and won't need for ever: a router on one thread alone
+abbrev pub needs_now : Command → OptionName → Bool
+needs_now Route One = true
+needs_now _ _ = false
+
 abbrev pub built : Built
-built = record { commands = is_built; options = is_option_built }
+built = record { commands = is_built; options = is_option_built; needs = needs_now }

@@ -8,7 +8,7 @@ use Rattle.command_line.specs.declared.commands.OptionName.{OptionName}
 use Rattle.command_line.specs.declared.commands.OptionName.TheVariants.{Frames, Key, Defs, One, Turns, Ticks, File}
 use Rattle.command_line.specs.Commands.{option_word, has_option, needs_key}
 use Rattle.command_line.specs.Numbers.{IsNumber}
-use Rattle.command_line.specs.Ports.{IsPort}
+use Rattle.command_line.specs.Ports.{IsRouterPort}
 use Rattle.command_line.specs.Operations.{DroneWords, StationWords, OneNumber}
 
 -- an option of a line, and its value
@@ -16,10 +16,11 @@ pub record Given : Type 0 where
   pub name : OptionName
   pub value : List ℕ
 
--- which commands and options are built
+-- which commands and options are built, and which options a command needs as it is built
 pub record Built : Type 0 where
   pub commands : Command → Bool
   pub options : Command → OptionName → Bool
+  pub needs : Command → OptionName → Bool
 
 -- the most turns, ticks and steps that can be asked for
 abbrev pub most_turns : ℕ
@@ -91,7 +92,7 @@ abbrev pub ArePlain : Command → List Given → List (List ℕ) → Type 0
 ArePlain Fleet settings plain = IsFile plain  -- FILE
 ArePlain Dialect settings plain = plain ≡ []
 ArePlain Decode settings plain = IsFile plain  -- FILE
-ArePlain Route settings plain = (1 ≤ length plain) × (length plain ≤ 8) × All IsPort plain  -- PORT..
+ArePlain Route settings plain = (1 ≤ length plain) × (length plain ≤ 8) × All IsRouterPort plain  -- PORT..
 ArePlain Drone settings plain = DroneWords plain  -- SYS PORT
 ArePlain Station settings plain = StationWords (has_given File settings) plain  -- SYS COMP DRONE PORT OP..
 ArePlain Make settings plain = OneNumber 0 1000000 plain  -- N
@@ -106,6 +107,8 @@ pub record Fits (built : Built) (command : Command) (settings : List Given) (pla
   pub once : all_differ settings ≡ true
   -- the commands that need a key have one
   pub key_given : IsTrue (needs_key command) → IsTrue (has_given Key settings)
+  -- an option that it needs as it is built is given
+  pub needed_given : (name : OptionName) → IsTrue (built.needs command name) → IsTrue (has_given name settings)
   -- the plain words are of the command's form
   pub plain_words : ArePlain command settings plain
   -- standard input is one file at most

@@ -1,6 +1,7 @@
 pub mod Commands
 pub mod Numbers
 pub mod Ports
+pub mod PortTexts
 pub mod Operations
 pub mod Forms
 pub mod Built

@@ -1,17 +1,24 @@
 -- A command line as the program holds it.
-use Rattle.std.specs.Prelude.{◌&&◌, not, if◌then◌else◌, nat_le, ℕ, Bool, true, false, List, [], ◌∷◌, map, Option, String, string_bytes}
+use Rattle.std.specs.Prelude.{◌≡◌, ◌≤◌, ◌&&◌, ◌||◌, not, nat_le, ℕ, Bool, true, false, List, [], ◌∷◌, length, map, Option, Some, None, is_some, String, string_bytes}
+use Rattle.std.specs.Fmt.{decimal}
 use Rattle.std.specs.List.{list_all}
 use Rattle.std.specs.declared.alloc.Global.{Global}
 use Rattle.command_line.specs.declared.commands.Command.{Command}
-use Rattle.command_line.specs.declared.commands.Command.TheVariants.{Fleet, Dialect, Decode}
+use Rattle.command_line.specs.declared.commands.Command.TheVariants.{Fleet, Dialect, Decode, Route, Make}
 use Rattle.command_line.specs.declared.commands.OptionName.{OptionName}
+use Rattle.command_line.specs.declared.commands.OptionName.TheVariants.{Frames, Key, Defs, One, Turns, Ticks, File}
 use Rattle.command_line.specs.declared.pieces.Place.{Place}
 use Rattle.command_line.specs.declared.lines.Setting.{Setting}
 use Rattle.command_line.specs.declared.lines.Line.{Line}
-use Rattle.command_line.specs.Commands.{has_value, has_option}
-use Rattle.command_line.specs.Built.{is_built, is_option_built}
-use Rattle.command_line.specs.Forms.{Given, all_differ, stdin_files}
-use Rattle.command_line.specs.Pieces.{Parts, joined, parts_at}
+use Rattle.command_line.specs.declared.plain.Values.{Values}
+use Rattle.command_line.specs.declared.ports.Port.{Port}
+use Rattle.command_line.specs.Commands.{has_option, needs_key}
+use Rattle.command_line.specs.Numbers.{number_in}
+use Rattle.command_line.specs.PortTexts.{is_some_text, is_router_port, port_text}
+use Rattle.command_line.specs.Built.{is_built, is_option_built, needs_now}
+use Rattle.command_line.specs.Forms.{Given, most_turns, all_differ, has_given, stdin_files}
+use Rattle.command_line.specs.Names.{port_words}
+use Rattle.command_line.specs.Pieces.{Parts, joined, parts_at, all_options}
 use Rattle.command_line.specs.Grammar.{Asked}
 
 abbrev pub given_of : Setting → Given
@@ -28,16 +35,28 @@ abbrev pub with_rest : Place → List Setting → List (String Global) → List 
 with_rest place settings words rest = joined (map given_of settings) (map string_bytes words) (parts_at place rest)
 
 -- the tests of a line, for what is built
-abbrev pub is_some_text : List ℕ → Bool
-is_some_text [] = false
-is_some_text (b ∷ bs) = true
-
--- the value of each option built names a file, or there is none
 abbrev pub is_value_now : OptionName → List ℕ → Bool
-is_value_now name value = if has_value name then is_some_text value else not (is_some_text value)
+is_value_now Frames value = not (is_some_text value)
+is_value_now Key value = is_some_text value
+is_value_now Defs value = is_some_text value
+is_value_now One value = not (is_some_text value)
+is_value_now Turns value = is_some (number_in 1 most_turns value)
+is_value_now Ticks value = is_some (number_in 1 most_turns value)
+is_value_now File value = is_some_text value
 
 abbrev pub taken_now : Command → Given → Bool
 taken_now command g = (has_option command g.name && is_option_built command g.name) && is_value_now g.name g.value
+
+abbrev pub is_key : OptionName → Bool
+is_key Key = true
+is_key _ = false
+
+-- an option that a command needs, for ever or as it is built
+abbrev pub is_needed : Command → OptionName → Bool
+is_needed command name = (is_key name && needs_key command) || needs_now command name
+
+abbrev pub has_needed : Command → List Given → Bool
+has_needed command settings = list_all (λ name. not (is_needed command name) || has_given name settings) all_options
 
 abbrev pub is_one_file : List (List ℕ) → Bool
 is_one_file [] = false
@@ -48,12 +67,38 @@ abbrev pub is_no_word : List (List ℕ) → Bool
 is_no_word [] = true
 is_no_word (word ∷ words) = false
 
+abbrev pub are_ports : List (List ℕ) → Bool
+are_ports plain = (nat_le 1 (length plain) && nat_le (length plain) 8) && list_all is_router_port plain
+
+abbrev pub is_one_number : List (List ℕ) → Bool
+is_one_number [] = false
+is_one_number (word ∷ []) = is_some (number_in 0 1000000 word)
+is_one_number (word ∷ other ∷ more) = false
+
 abbrev pub plain_now : Command → List (List ℕ) → Bool
 plain_now Fleet plain = is_one_file plain
 plain_now Dialect plain = is_no_word plain
 plain_now Decode plain = is_one_file plain
+plain_now Route plain = are_ports plain
+plain_now Make plain = is_one_number plain
 plain_now _ plain = false
 
 abbrev pub fits_now : Command → List Given → List (List ℕ) → Bool
 fits_now command settings plain =
-    is_built command && (list_all (taken_now command) settings && (all_differ settings && (plain_now command plain && nat_le (stdin_files command settings plain) 1)))
+    is_built command && (list_all (taken_now command) settings && (all_differ settings
+    && (has_needed command settings && (plain_now command plain && nat_le (stdin_files command settings plain) 1))))
+
+-- what the plain words of a command say: its ports, and the number of `make`
+pub record Says (command : Command) (plain : List (List ℕ)) (ports : List Port) (number : ℕ) : Type 0 where
+  pub ports_are : map port_text ports ≡ port_words command plain
+  pub number_is : command ≡ Make → plain ≡ decimal number ∷ []
+  pub at_most : number ≤ 1000000
+
+-- what was read of plain words; nothing exactly if they aren't of the command's form
+abbrev pub PlainRead : Command → List (List ℕ) → Option Values → Type 0
+PlainRead command plain None = plain_now command plain ≡ false
+PlainRead command plain (Some values) = (plain_now command plain ≡ true) × Says command plain values.ports.items values.number
+
+-- what a line's plain words say
+abbrev pub LineSays : Line → Type 0
+LineSays line = Says line.command (map string_bytes line.words.items) line.ports.items line.number

@@ -1,11 +1,12 @@
--- The files and ports that a line names.
+-- The files, ports and numbers that a line names.
 use Rattle.std.specs.Prelude.{ℕ, List, [], ◌∷◌, Option, None, Some, if◌then◌else◌, option_map}
 use Rattle.std.specs.List.{find}
 use Rattle.command_line.specs.declared.commands.Command.{Command}
 use Rattle.command_line.specs.declared.commands.Command.TheVariants.{Route, Drone, Station}
 use Rattle.command_line.specs.declared.commands.OptionName.{OptionName}
-use Rattle.command_line.specs.declared.commands.OptionName.TheVariants.{File}
-use Rattle.command_line.specs.Forms.{Given, is_named, reads_file}
+use Rattle.command_line.specs.declared.commands.OptionName.TheVariants.{File, Turns}
+use Rattle.command_line.specs.Numbers.{number_in}
+use Rattle.command_line.specs.Forms.{Given, most_turns, is_named, reads_file}
 use Rattle.command_line.specs.Grammar.{Asked}
 
 -- the value of an option, if it is given
@@ -26,3 +27,19 @@ port_words Route plain = plain
 port_words Drone (sys ∷ port ∷ more) = port ∷ []
 port_words Station (sys ∷ comp ∷ drone ∷ port ∷ more) = port ∷ []
 port_words _ plain = []
+
+abbrev pub number_of : Option (List ℕ) → Option ℕ
+number_of None = None
+number_of (Some value) = number_in 1 most_turns value
+
+-- the number of an option, if it is given
+abbrev pub number_given : OptionName → List Given → Option ℕ
+number_given name settings = number_of (value_given name settings)
+
+abbrev pub number_or : ℕ → Option ℕ → ℕ
+number_or default None = default
+number_or default (Some n) = n
+
+-- how many turns a port is given
+abbrev pub turns_asked : List Given → ℕ
+turns_asked settings = number_or 1000000 (number_given Turns settings)

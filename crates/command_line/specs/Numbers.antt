@@ -1,11 +1,21 @@
 -- The numbers and bytes of words.
-use Rattle.std.specs.Prelude.{◌≡◌, ◌≤◌, ◌&&◌, ◌||◌, nat_le, ℕ, Bool, List, length, IsTrue}
+use Rattle.std.specs.Prelude.{◌≡◌, ◌≤◌, ◌&&◌, ◌||◌, nat_le, if◌then◌else◌, ℕ, Bool, List, length, IsTrue, Option, Some, None}
 use Rattle.std.specs.List.{list_all}
 use Rattle.std.specs.Fmt.{decimal}
+use Rattle.std.specs.Str.{bytes_eq}
+use Rattle.std.specs.Str.Parse.{digits_value}
 
 -- a whole number of this range, in decimal digits without leading zeros
 abbrev pub IsNumber : ℕ → ℕ → List ℕ → Type 0
 IsNumber low high word = (n : ℕ) × (word ≡ decimal n) × (low ≤ n) × (n ≤ high)
+
+-- that number, if the word is one
+abbrev pub number_within : ℕ → ℕ → ℕ → Option ℕ
+number_within low high n = if nat_le low n && nat_le n high then Some n else None
+
+abbrev pub number_in : ℕ → ℕ → List ℕ → Option ℕ
+number_in low high word =
+    if bytes_eq (decimal (digits_value 10 word)) word then number_within low high (digits_value 10 word) else None
 
 -- a hexadecimal digit, in either case
 abbrev pub is_digit : ℕ → Bool

@@ -1,39 +1,51 @@
 -- PORT: where the packets of a link come from and go.
-use Rattle.std.specs.Prelude.{◌≡◌, ◌≢◌, ◌==◌, ℕ, false, List, [], ◌∷◌, ◌++◌, codes}
+use Rattle.std.specs.Prelude.{◌≡◌, ◌≢◌, ◌==◌, ◌⊎◌, ℕ, Bool, true, false, List, [], ◌∷◌, ◌++◌, codes}
 use Rattle.std.specs.List.{list_any}
+use Rattle.command_line.specs.declared.ports.SocketKind.{SocketKind}
+use Rattle.command_line.specs.declared.ports.SocketKind.TheVariants.{Tcp, Listen, Udp, UdpListen}
 use Rattle.command_line.specs.Numbers.{IsNumber}
+
+abbrev pub is_colon : ℕ → Bool
+is_colon b = b == 58
 
 -- what is between two colons
 abbrev pub IsPart : List ℕ → Type 0
-IsPart part = (part ≢ []) × (list_any (λ b. b == 58) part ≡ false)
+IsPart part = (part ≢ []) × (list_any is_colon part ≡ false)
 
-pub data PortKind : Type 0 where
-  Tcp : PortKind  -- connects
-  Listen : PortKind  -- takes one connection
-  Udp : PortKind
-  Udp_listen : PortKind  -- replies to its latest sender
-  Files : PortKind  -- reads one file and writes another
+abbrev pub kind_word : SocketKind → List ℕ
+kind_word Tcp = codes "tcp"
+kind_word Listen = codes "listen"
+kind_word Udp = codes "udp"
+kind_word UdpListen = codes "udplisten"
 
-abbrev pub port_word : PortKind → List ℕ
-port_word Tcp = codes "tcp"
-port_word Listen = codes "listen"
-port_word Udp = codes "udp"
-port_word Udp_listen = codes "udplisten"
-port_word Files = codes "file"
+-- KIND:HOST:NUMBER
+pub record IsSocket (word : List ℕ) : Type 0 where
+  pub kind : SocketKind
+  pub host : List ℕ
+  pub number : List ℕ
+  pub is_host : IsPart host
+  pub is_number : IsNumber 1 65535 number
+  pub word_is : word ≡ kind_word kind ++ 58 ∷ (host ++ 58 ∷ number)
 
--- a socket has a port's number at its end, and files the name of the output
-abbrev pub IsPortEnd : PortKind → List ℕ → Type 0
-IsPortEnd Tcp end = IsNumber 1 65535 end
-IsPortEnd Listen end = IsNumber 1 65535 end
-IsPortEnd Udp end = IsNumber 1 65535 end
-IsPortEnd Udp_listen end = IsNumber 1 65535 end
-IsPortEnd Files end = IsPart end
+-- file:IN:OUT
+pub record IsFiles (word : List ℕ) : Type 0 where
+  pub input : List ℕ
+  pub output : List ℕ
+  pub is_input : IsPart input
+  pub is_output : IsPart output
+  pub word_is : word ≡ codes "file" ++ 58 ∷ (input ++ 58 ∷ output)
 
--- KIND:HOST:NUMBER, or file:IN:OUT
-pub record IsPort (word : List ℕ) : Type 0 where
-  pub kind : PortKind
-  pub begin : List ℕ
-  pub end : List ℕ
-  pub begins : IsPart begin
-  pub ends : IsPortEnd kind end
-  pub word_is : word ≡ port_word kind ++ 58 ∷ (begin ++ 58 ∷ end)
+abbrev pub IsPort : List ℕ → Type 0
+IsPort word = IsSocket word ⊎ IsFiles word
+
+-- with `open:` before it or not
+abbrev pub open_word : Bool → List ℕ → List ℕ
+open_word true port = codes "open" ++ 58 ∷ port
+open_word false port = port
+
+-- a port of a router, which may be open to unsigned packets and to packets of MAVLink 1
+pub record IsRouterPort (word : List ℕ) : Type 0 where
+  pub is_open : Bool
+  pub port : List ℕ
+  pub is_port : IsPort port
+  pub word_is : word ≡ open_word is_open port

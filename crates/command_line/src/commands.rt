@@ -2,6 +2,7 @@
 ghost use Rattle.std.specs.Prelude.{◌≡◌};
 ghost use Rattle.command_line.specs.Commands.{command_word, option_word, has_value, has_option};
 ghost use Rattle.command_line.specs.Built.{is_built, is_option_built};
+ghost use Rattle.command_line.specs.Lines.{is_needed};
 
 /// What the program does.
 #[derive(Clone, Copy)]
@@ -67,7 +68,7 @@ impl Command {
     pub(crate) fn is_built(self) -> bool
         ensures { result ≡ is_built self }
     {
-        matches!(self, Command::Fleet | Command::Dialect | Command::Decode)
+        !matches!(self, Command::Drone | Command::Station)
     }
 
     /// Whether this is one of its options.
@@ -99,6 +100,23 @@ impl Command {
             Command::Fleet => matches!(name, OptionName::Frames | OptionName::Key),
             Command::Dialect => matches!(name, OptionName::Defs),
             Command::Decode => matches!(name, OptionName::Defs | OptionName::Key),
+            Command::Route => matches!(
+                name,
+                OptionName::Key | OptionName::Defs | OptionName::One | OptionName::Turns
+            ),
+            _ => false,
+        }
+    }
+}
+
+impl Command {
+    /// Whether it needs this option. `route` needs `--one` as long as it runs on one thread alone.
+    pub(crate) fn needs(self, name: OptionName) -> bool
+        ensures { result ≡ is_needed self name }
+    {
+        match self {
+            Command::Route => matches!(name, OptionName::Key | OptionName::One),
+            Command::Drone | Command::Station => matches!(name, OptionName::Key),
             _ => false,
         }
     }

@@ -1,10 +1,10 @@
-// The files that a line names.
-ghost use Rattle.std.specs.Prelude.{◌≡◌, IfOk, IsSome, option_map, map, string_bytes};
+// The files and numbers that a line names.
+ghost use Rattle.std.specs.Prelude.{◌≡◌, ◌≤◌, IfOk, option_map, map, string_bytes};
 ghost use Rattle.std.specs.List.{find};
 ghost use Rattle.std.specs.Option.{option_copied};
 ghost use Rattle.command_line.specs.Forms.{has_given, is_named};
 ghost use Rattle.command_line.specs.Lines.{given_of, asked_by};
-ghost use Rattle.command_line.specs.Names.{value_given, first_word, main_file};
+ghost use Rattle.command_line.specs.Names.{value_given, first_word, main_file, number_given, turns_asked};
 
 use crate::commands::OptionName;
 use crate::forms::{is_any_named, is_named, reads_file};
@@ -43,6 +43,25 @@ impl Line {
             Some(setting) => Ok(Some(String::from_str(alloc, setting.value.as_str())?)),
             None => Ok(None),
         }
+    }
+
+    // The number of this option, if it is given.
+    fn number_of(&self, name: OptionName) -> Option<u64>
+        ensures { result ≡ number_given name (map given_of self.now.settings.items) }
+    {
+        match setting_of(&self.settings, name) {
+            Some(setting) => setting.number,
+            None => None,
+        }
+    }
+
+    /// How many times a port may be read: what `--turns` says, or 1,000,000.
+    pub fn turns(&self) -> u64
+        ensures asked { result ≡ turns_asked (map given_of self.now.settings.items) }
+        ensures least { 1 ≤ result }
+        ensures most { result ≤ 1_000_000_000 }
+    {
+        self.number_of(OptionName::Turns).unwrap_or(1_000_000)
     }
 
     /// The file that is read after the key and the definitions, if the line names one.

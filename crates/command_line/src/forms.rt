@@ -1,28 +1,29 @@
-// Whether options and plain words are of the forms that the command has.
-ghost use Rattle.std.specs.Prelude.{◌≡◌, map, string_bytes, count_by, nat_le};
+// Whether options are of the forms that the command has.
+ghost use Rattle.std.specs.Prelude.{◌≡◌, ◌||◌, not, true, map, string_bytes, count_by, nat_le};
 ghost use Rattle.std.specs.List.{list_all, list_any};
 ghost use Rattle.command_line.specs.Forms.{all_differ, is_named, is_stdin, is_stdin_given, names_file};
 ghost use Rattle.command_line.specs.Forms.{reads_file, stdin_files};
-ghost use Rattle.command_line.specs.Lines.{given_of, is_one_file, is_some_text, is_no_word};
-ghost use Rattle.command_line.specs.Lines.{is_value_now, taken_now, plain_now, fits_now};
+ghost use Rattle.command_line.specs.Lines.{given_of, is_value_now, taken_now, is_needed, plain_now, fits_now};
+ghost use Rattle.command_line.specs.Pieces.{all_options};
+ghost use Rattle.command_line.specs.PortTexts.{is_some_text};
 
-use crate::commands::{Command, OptionName};
+use crate::commands::{Command, OPTION_NAMES, OptionName};
 use crate::lines::{Line, Setting};
 
-fn is_some_text(text: &str) -> bool
+pub(crate) fn is_some_text(text: &str) -> bool
     ensures { result ≡ is_some_text text.now }
 {
     !text.is_empty()
 }
 
-// A value is the name of a file for each option that is built and has one; the others have none.
-fn is_value(name: OptionName, value: &str) -> bool
-    ensures { result ≡ is_value_now name value.now }
+// The value is a number, or the name of a file, or there is none.
+fn is_value(setting: &Setting) -> bool
+    ensures { result ≡ is_value_now setting.now.name (string_bytes setting.now.value) }
 {
-    if name.has_value() {
-        is_some_text(value)
-    } else {
-        !is_some_text(value)
+    match setting.name {
+        OptionName::Frames | OptionName::One => !is_some_text(setting.value.as_str()),
+        OptionName::Turns | OptionName::Ticks => setting.number.is_some(),
+        _ => is_some_text(setting.value.as_str()),
     }
 }
 
@@ -30,9 +31,7 @@ fn is_value(name: OptionName, value: &str) -> bool
 fn is_taken(command: Command, setting: &Setting) -> bool
     ensures { result ≡ taken_now command (given_of setting.now) }
 {
-    command.has_option(setting.name)
-        && command.is_option_built(setting.name)
-        && is_value(setting.name, setting.value.as_str())
+    command.has_option(setting.name) && command.is_option_built(setting.name) && is_value(setting)
 }
 
 fn are_taken(command: Command, settings: &[Setting]) -> bool
@@ -64,6 +63,14 @@ fn all_differ(mut settings: &[Setting]) -> bool
         settings = rest;
     }
     true
+}
+
+// Each option that the command needs is given.
+fn has_needed(command: Command, settings: &[Setting]) -> bool
+    ensures { result ≡ list_all (λ name. not (is_needed command name)
+        || list_any (λ s. is_named name (given_of s)) settings.now) all_options }
+{
+    OPTION_NAMES.iter().all(|name| !command.needs(*name) || is_any_named(settings, *name))
 }
 
 fn is_stdin(word: &str) -> bool
@@ -105,7 +112,9 @@ fn stdin_words(words: &[String]) -> usize
     words.iter().filter(|word| is_stdin(word.as_str())).count()
 }
 
+/// Whether the options fit the command, for plain words that are of its form.
 pub(crate) fn fits(line: &Line) -> bool
+    requires { plain_now line.now.command (map string_bytes line.now.words.items) ≡ true }
     ensures { result ≡ fits_now line.now.command (map given_of line.now.settings.items)
         (map string_bytes line.now.words.items) }
 {
@@ -118,30 +127,10 @@ pub(crate) fn fits(line: &Line) -> bool
     if !all_differ(&line.settings) {
         return false;
     }
-    if !are_plain(line.command, &line.words) {
+    if !has_needed(line.command, &line.settings) {
         return false;
     }
     is_stdin_once(line)
-}
-
-// One word, which isn't empty.
-fn is_one_file(words: &[String]) -> bool
-    ensures { result ≡ is_one_file (map string_bytes words.now) }
-{
-    match words {
-        [file] => is_some_text(file.as_str()),
-        _ => false,
-    }
-}
-
-fn are_plain(command: Command, words: &[String]) -> bool
-    ensures { result ≡ plain_now command (map string_bytes words.now) }
-{
-    match command {
-        Command::Fleet | Command::Decode => is_one_file(words),
-        Command::Dialect => words.is_empty(),
-        _ => false,
-    }
 }
 
 // Standard input is one file at most.

@@ -1,11 +1,19 @@
 // A command line.
+ghost use Rattle.std.specs.Prelude.{◌≡◌, string_bytes};
+ghost use Rattle.command_line.specs.Forms.{most_turns};
+ghost use Rattle.command_line.specs.Numbers.{number_in};
+
 use crate::commands::{Command, OptionName};
+use crate::ports::Port;
 
 /// An option and its value, which is empty for one without.
 #[derive(Drop)]
 pub struct Setting {
     pub name: OptionName,
     pub value: String,
+    /// The value as a number from 1 to 1,000,000,000, if it is one.
+    pub number: Option<u64>,
+    ghost is: { number ≡ number_in 1 most_turns (string_bytes value) },
 }
 
 /// What the words ask for.
@@ -16,4 +24,8 @@ pub struct Line {
     pub settings: Vec<Setting>,
     /// The plain words.
     pub words: Vec<String>,
+    /// The ports that these name.
+    pub ports: Vec<Port>,
+    /// The number of `make`; 0 for another command.
+    pub number: u32,
 }

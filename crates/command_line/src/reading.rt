@@ -2,15 +2,20 @@
 ghost use Rattle.std.specs.Prelude.{◌≡◌, [], ◌∷◌, ◌++◌, List, ℕ, Some, None, OnOk, IfOk, IsErrOf, map, is_some, string_bytes};
 ghost use Rattle.command_line.specs.Built.{built};
 ghost use Rattle.command_line.specs.Grammar.{Asks, AskNothing};
-ghost use Rattle.command_line.specs.Lines.{given_of, asked_by, parts_of, with_rest};
+ghost use Rattle.command_line.specs.Lines.{given_of, asked_by, parts_of, with_rest, LineSays};
 ghost use Rattle.command_line.specs.Pieces.{parts_at};
 
 use crate::commands::OptionName;
 use crate::faults::WantedFault;
 use crate::forms::fits;
 use crate::lines::{Line, Setting};
+use crate::numbers::number;
 use crate::pieces::{Place, Sort, command_named, is_dashed, joined_value, sort_of};
+use crate::plain::read_plain;
 use std::alloc::Global;
+
+// The most that the number of an option may be.
+const MOST_TURNS: u64 = 1_000_000_000;
 
 /// What was read of the words after the command.
 #[derive(Drop)]
@@ -41,8 +46,13 @@ impl Reader {
             × (self.new.words ≡ self.old.words) × (self.new.place ≡ Place.Anything)) }
         ensures not_usage { ¬ IsErrOf result WantedFault.Usage }
     {
+        let number = number(value, 1, MOST_TURNS);
         let value = String::from_str(self.alloc, value)?;
-        self.settings.push(Setting { name, value })?;
+        self.settings.push(Setting {
+            name,
+            value,
+            number,
+        })?;
         self.place = Place::Anything;
         Ok(())
     }
@@ -144,6 +154,8 @@ fn read_behind(alloc: Global, words: &[String]) -> Result<Reader, WantedFault>
 /// What the words after the program's name ask for.
 pub fn read(alloc: Global, words: &[String]) -> Result<Line, WantedFault>
     ensures asks { IfOk result (λ line. Asks built (map string_bytes words.now) (asked_by line)) }
+    // What its plain words say.
+    ensures says { IfOk result LineSays }
     ensures usage { IsErrOf result WantedFault.Usage → AskNothing built (map string_bytes words.now) }
 {
     let [first, behind @ ..] = words else {
@@ -153,10 +165,15 @@ pub fn read(alloc: Global, words: &[String]) -> Result<Line, WantedFault>
         return Err(WantedFault::Usage);
     };
     let reader = read_behind(alloc, behind)?;
+    let Some(values) = read_plain(alloc, command, &reader.words)? else {
+        return Err(WantedFault::Usage);
+    };
     let line = Line {
         command,
         settings: reader.settings,
         words: reader.words,
+        ports: values.ports,
+        number: values.number,
     };
     if fits(&line) {
         Ok(line)

@@ -7,8 +7,7 @@ use borrow.Rule.Slice.PartMut.{put_mid, post_of}
 use Rattle.mav_ports.proofs.Known.{append_known_nil}
 use Rattle.run_status.specs.declared.run_ends.RunEnd.TheVariants.{Stopped, ReadFault, TurnsSpent}
 use Rattle.run_status.specs.Runs.{PortOutcome, RunBeforeStatus}
-use Rattle.key_file.specs.KeyText.{key_or_default}
-use Rattle.key_file.specs.Spec.{most_key_bytes, bad_key, refusal_of, key_spec, TookAtMost}
+use Rattle.key_file.specs.Spec.{most_key_bytes, bad_key, refusal_of, spec_by, TookAtMost}
 use Rattle.key_file.proofs.Stays.{stops_long, goes_on}
 
 -- the bytes at the start of a buffer, with those of one more read after them
@@ -18,24 +17,24 @@ front_more buf piece count room more within fits =
     ∙ take-append-add (take count buf) (piece ++ post_of count room buf) more
     ∙ ap (λ (l : List ℕ). take count buf ++ l) (take-append-le more piece (post_of count room buf) fits)
 
-module _ (o : PortOutcome) (lb la sent : Option (List ℕ)) (taken : List ℕ) (took : lb ≡ prepend_known taken la) where
+module _ (read : List ℕ → Option (List ℕ)) (o : PortOutcome) (lb la sent : Option (List ℕ)) (taken : List ℕ) (took : lb ≡ prepend_known taken la) where
   not_ended : IsTrue false → o.spent
   not_ended never = absurd (cc never)
 
   -- a read failed, or the input gave nothing for too long
-  pub before_status_failed : length taken ≤ most_key_bytes → o.failed → RunBeforeStatus key_spec o lb la sent sent (Some ReadFault)
-  before_status_failed fits failed = record { taken = taken; ended = false; took = took; at_end = not_ended; cause = (failed, refl, goes_on false taken fits); wrote = append_known_nil sent }
+  pub before_status_failed : length taken ≤ most_key_bytes → o.failed → RunBeforeStatus (spec_by read) o lb la sent sent (Some ReadFault)
+  before_status_failed fits failed = record { taken = taken; ended = false; took = took; at_end = not_ended; cause = (failed, refl, goes_on read false taken fits); wrote = append_known_nil sent }
 
-  pub before_status_idled : length taken ≤ most_key_bytes → o.idled → RunBeforeStatus key_spec o lb la sent sent (Some TurnsSpent)
-  before_status_idled fits idled = record { taken = taken; ended = false; took = took; at_end = not_ended; cause = (idled, refl, goes_on false taken fits); wrote = append_known_nil sent }
+  pub before_status_idled : length taken ≤ most_key_bytes → o.idled → RunBeforeStatus (spec_by read) o lb la sent sent (Some TurnsSpent)
+  before_status_idled fits idled = record { taken = taken; ended = false; took = took; at_end = not_ended; cause = (idled, refl, goes_on read false taken fits); wrote = append_known_nil sent }
 
   -- more bytes were read than a key has
-  pub before_status_long : most_key_bytes < length taken → RunBeforeStatus key_spec o lb la sent sent (Some (Stopped bad_key))
-  before_status_long long = record { taken = taken; ended = false; took = took; at_end = not_ended; cause = stops_long false taken long; wrote = append_known_nil sent }
+  pub before_status_long : most_key_bytes < length taken → RunBeforeStatus (spec_by read) o lb la sent sent (Some (Stopped bad_key))
+  before_status_long long = record { taken = taken; ended = false; took = took; at_end = not_ended; cause = stops_long read false taken long; wrote = append_known_nil sent }
 
   -- the input ended, and its bytes are no key
-  pub before_status_bad : length taken ≤ most_key_bytes → o.spent → key_or_default taken ≡ None → RunBeforeStatus key_spec o lb la sent sent (Some (Stopped bad_key))
-  before_status_bad fits spent is = record { taken = taken; ended = true; took = took; at_end = λ ended. spent; cause = goes_on true taken fits ∙ ap refusal_of is; wrote = append_known_nil sent }
+  pub before_status_bad : length taken ≤ most_key_bytes → o.spent → read taken ≡ None → RunBeforeStatus (spec_by read) o lb la sent sent (Some (Stopped bad_key))
+  before_status_bad fits spent is = record { taken = taken; ended = true; took = took; at_end = λ ended. spent; cause = goes_on read true taken fits ∙ ap refusal_of is; wrote = append_known_nil sent }
 
 -- the bytes taken are not too many
 pub at_most : (lb la : Option (List ℕ)) (taken : List ℕ) → lb ≡ prepend_known taken la → (most : ℕ) → length taken ≤ most → TookAtMost most lb la

@@ -4,9 +4,9 @@ ghost use Rattle.std.specs.declared.option.Option.{Option};
 ghost use Rattle.std.specs.Io.KnownBytes.{prepend_known};
 ghost use Rattle.mav_ports.specs.Gets.{IsSpent};
 ghost use Rattle.run_status.specs.Runs.{RunBeforeStatus, port_outcome};
-ghost use Rattle.key_file.specs.Spec.{key_spec, most_key_bytes, HoldsKey, TookAtMost};
+ghost use Rattle.key_file.specs.Spec.{spec_by, key_spec, given_key_spec, most_key_bytes, HoldsKey, HoldsGivenKey, TookAtMost};
 
-use crate::texts::key_or_default;
+use crate::texts::{key_of, key_or_default};
 use mav_ports::{Got, Source};
 use mav_sign::Key;
 use run_status::{InputError, Place, Reason, RunEnd, read_on};
@@ -35,14 +35,33 @@ pub fn read_key<S: Source>(input: &mut S) -> Result<Key, RunEnd>
     }
 }
 
+/// The same of a key that must be there: an input without a byte is no key either.
+pub fn read_given_key<S: Source>(input: &mut S) -> Result<Key, RunEnd>
+    ensures holds { IfOk result (HoldsGivenKey (S.has_ended input.new × IsSpent (S.left input.new))
+        (S.left input.old) (S.left input.new)) }
+    ensures halts { IfErr result (λ run_end. (refusals : ℕ) (sent : Option (List ℕ))
+        → RunBeforeStatus given_key_spec (port_outcome (S.has_ended input.new × IsSpent (S.left input.new))
+        (S.faults input.old) (S.faults input.new) (S.idles input.old) (S.idles input.new)
+        refusals refusals) (S.left input.old) (S.left input.new) sent sent (Some run_end)) }
+    ensures within { TookAtMost 67 (S.left input.old) (S.left input.new) }
+    ensures memory { ¬ IsErrOf result RunEnd.NoMemory }
+{
+    let mut buf = [0; PIECE_BYTES];
+    let count = read_all(input, &mut buf)?;
+    match key_of(&buf[..count]) {
+        Some(given) => Ok(given),
+        None => Err(BAD_KEY),
+    }
+}
+
 // Puts all bytes of an input at the start of a buffer, unless they fill it.
 fn read_all<S: Source>(input: &mut S, buf: &mut [u8; PIECE_BYTES]) -> Result<usize, RunEnd>
     ensures count { IfOk result (λ count. count ≤ most_key_bytes) }
     ensures taken { IfOk result (λ count.
         S.left input.old ≡ prepend_known (take count buf.new) (S.left input.new)) }
     ensures at_end { IfOk result (λ _. S.has_ended input.new × IsSpent (S.left input.new)) }
-    ensures halts { IfErr result (λ run_end. (refusals : ℕ) (sent : Option (List ℕ))
-        → RunBeforeStatus key_spec (port_outcome (S.has_ended input.new × IsSpent (S.left input.new))
+    ensures halts { IfErr result (λ run_end. (read : List ℕ → Option (List ℕ)) (refusals : ℕ) (sent : Option (List ℕ))
+        → RunBeforeStatus (spec_by read) (port_outcome (S.has_ended input.new × IsSpent (S.left input.new))
         (S.faults input.old) (S.faults input.new) (S.idles input.old) (S.idles input.new)
         refusals refusals) (S.left input.old) (S.left input.new) sent sent (Some run_end)) }
     ensures within { TookAtMost 67 (S.left input.old) (S.left input.new) }

@@ -14,7 +14,8 @@ fn is_line_end(bytes: &[u8]) -> bool
     matches!(bytes, [] | [b'\n'] | [b'\r', b'\n'])
 }
 
-fn key_of(text: &[u8]) -> Option<Key>
+/// The key of a text, which an empty one has not.
+pub(crate) fn key_of(text: &[u8]) -> Option<Key>
     ensures { result ≡ key_of text.now }
 {
     let (digits, end) = text.split_at_checked(DIGITS)?;

@@ -1,5 +1,5 @@
 -- What the clauses of `run` say of a command without options, if the ports are in memory and don't fail.
-use Rattle.std.proofs.Common.{◌≡◌, ◌≢◌, ◌+◌, ◌-◌, ◌^◌, ◌<◌, ◌≤◌, ◌⊎◌, inl, inr, ◌∙◌, ℕ, true, false, List, [], ◌∷◌, codes, refl, ap, arith, lit≤, Option, Some, None, IsTrue}
+use Rattle.std.proofs.Common.{◌≡◌, ◌≢◌, ◌+◌, ◌-◌, ◌^◌, ◌<◌, ◌≤◌, ◌⊎◌, inl, inr, ◌∙◌, ℕ, true, false, List, [], ◌∷◌, codes, length, refl, sym, ap, arith, lit≤, Option, Some, None, IsTrue}
 use Rattle.std.specs.Io.KnownBytes.{append_known}
 use Rattle.std.specs.Prelude.{⊤}
 use Rattle.mav_ports.specs.Counts.{Rose}
@@ -7,7 +7,8 @@ use Rattle.mav_ports.specs.SureReads.{SureReads}
 use Rattle.mav_ports.specs.SureWrites.{SureWrites}
 use Rattle.command_line.specs.declared.commands.Command.{Command}
 use Rattle.command_line.specs.declared.commands.Command.TheVariants.{Fleet, Dialect, Decode}
-use Rattle.command_line.specs.Built.{built, is_built}
+use Rattle.command_line.specs.declared.commands.OptionName.{OptionName}
+use Rattle.command_line.specs.Built.{built, is_built, needs_now}
 use Rattle.command_line.specs.Commands.{command_word, needs_key}
 use Rattle.command_line.specs.Forms.{stdin_files, ArePlain, IsFile}
 use Rattle.command_line.specs.Grammar.{Asked, Asks, Bare}
@@ -18,6 +19,9 @@ use Rattle.fleet_command.specs.Examples.{one_item, the_key, IsInstalledOnce}
 use Rattle.fleet_command.proofs.Theorem.{theorem_of}
 use Rattle.fleet_command.proofs.Worked.{one_item_authentic, installed_once}
 use Rattle.fleet_command.proofs.Playable.{one_item_playable}
+use Rattle.command_line.specs.Names.{port_words}
+use Rattle.station_cli.specs.Routing.{AreAsked}
+use Rattle.station_cli.proofs.Same.{same_asked}
 use Rattle.station_cli.specs.Seen.{Input, Output, input_of, output_of, around, promised_over}
 use Rattle.station_cli.specs.Fleets.{CarriesOver, FleetsComplete}
 
@@ -37,24 +41,25 @@ asked command = record { command = command; settings = []; plain = the_file }
 is_file : IsFile the_file
 is_file = (codes "file", refl, some_byte 102 (codes "ile"))
 
-asks : (command : Command) (words : List (List ℕ)) → words ≡ command_word command ∷ the_file → is_built command ≡ true → (IsTrue (needs_key command) → ⊥) → ArePlain command [] the_file → stdin_files command [] the_file ≤ 1 → Asks built words (asked command)
-asks command words same is_built no_key plain one = record {
+asks : (command : Command) (words : List (List ℕ)) → words ≡ command_word command ∷ the_file → is_built command ≡ true → (IsTrue (needs_key command) → ⊥) → ((name : OptionName) → IsTrue (needs_now command name) → ⊥) → ArePlain command [] the_file → stdin_files command [] the_file ≤ 1 → Asks built words (asked command)
+asks command words same is_built no_key no_other plain one = record {
   written = record { pieces = Bare (codes "file") ∷ []; behind = None; are_pieces = (refl, tt); words_are = same; settings_are = refl; plain_are = refl };
   fits = record {
     command_built = is_built;
     options_taken = tt;
     once = refl;
     key_given = λ needed. absurd (no_key needed);
+    needed_given = λ name needed. absurd (no_other name needed);
     plain_words = plain;
     one_stdin = one;
   };
 }
 
 pub asks_fleet : (words : List (List ℕ)) → words ≡ codes "fleet" ∷ the_file → Asks built words (asked Fleet)
-asks_fleet words same = asks Fleet words same refl never is_file (lit≤ tt)
+asks_fleet words same = asks Fleet words same refl never (λ name. never) is_file (lit≤ tt)
 
 pub asks_decode : (words : List (List ℕ)) → words ≡ codes "decode" ∷ the_file → Asks built words (asked Decode)
-asks_decode words same = asks Decode words same refl never is_file (lit≤ tt)
+asks_decode words same = asks Decode words same refl never (λ name. never) is_file (lit≤ tt)
 
 abbrev pub asked_dialect : Asked
 asked_dialect = record { command = Dialect; settings = []; plain = [] }
@@ -62,8 +67,20 @@ asked_dialect = record { command = Dialect; settings = []; plain = [] }
 pub asks_dialect : (words : List (List ℕ)) → words ≡ codes "dialect" ∷ [] → Asks built words asked_dialect
 asks_dialect words same = record {
   written = record { pieces = []; behind = None; are_pieces = tt; words_are = same; settings_are = refl; plain_are = refl };
-  fits = record { command_built = refl; options_taken = tt; once = refl; key_given = λ needed. absurd (never needed); plain_words = refl; one_stdin = lit≤ tt };
+  fits = record { command_built = refl; options_taken = tt; once = refl; key_given = λ needed. absurd (never needed); needed_given = λ name needed. absurd (never needed); plain_words = refl; one_stdin = lit≤ tt };
 }
+
+-- none of these words names a port
+abbrev pub IsPlain : List (List ℕ) → Type 0
+IsPlain words = (words ≡ codes "fleet" ∷ the_file) ⊎ ((words ≡ codes "decode" ∷ the_file) ⊎ (words ≡ codes "dialect" ∷ []))
+
+no_port_in : (words : List (List ℕ)) (one other : Asked) → Asks built words one → Asks built words other → port_words one.command one.plain ≡ [] → port_words other.command other.plain ≡ []
+no_port_in words one other first second none = ap (λ (a : Asked). port_words a.command a.plain) (same_asked words other one second first) ∙ none
+
+pub no_ports : (words : List (List ℕ)) (links : ℕ) → IsPlain words → links ≡ 0 → (asked : Asked) → Asks built words asked → AreAsked links asked
+no_ports words links (inl fleet) none other asks = none ∙ ap length (sym (no_port_in words (asked Fleet) other (asks_fleet words fleet) asks refl))
+no_ports words links (inr (inl decode)) none other asks = none ∙ ap length (sym (no_port_in words (asked Decode) other (asks_decode words decode) asks refl))
+no_ports words links (inr (inr dialect)) none other asks = none ∙ ap length (sym (no_port_in words asked_dialect other (asks_dialect words dialect) asks refl))
 
 -- such an input and such an output, before and after
 abbrev pub sure_input : SureReads → SureReads → Input

@@ -1,6 +1,11 @@
 // Runs whose input fails, gives nothing or is too long, and runs whose output fails.
+ghost use Rattle.std.specs.Prelude.{map, string_bytes};
+ghost use Rattle.command_line.specs.Built.{built};
+ghost use Rattle.command_line.specs.Grammar.{Asked, Asks};
+ghost use Rattle.station_cli.specs.Routing.{AreAsked};
+
 use mav_ports::{Got, MemClock, Sink, Source, StdSink, StdSource, SureSink};
-use station_cli::{Inputs, run};
+use station_cli::{Inputs, WantedFault, run, wanted};
 use std::alloc::{AllocError, Global};
 use std::io::{self, Error, ErrorKind, Read, Write};
 use std::test::Fail;
@@ -183,7 +188,20 @@ fn words_of(alloc: Global, text: &str) -> Result<Vec<String>, AllocError> {
     Ok(words)
 }
 
-// The status of a run; that of want of memory, if there is none for the words.
+// The status of a run over words that name no port.
+fn run_unlinked<S: Source, K: Sink>(
+    alloc: Global,
+    words: &[String],
+    inputs: &mut Inputs<S>,
+    out: &mut K,
+) -> u8
+    requires { (asked : Asked) → Asks built (map string_bytes words.now) asked → AreAsked 0 asked }
+{
+    let mut clock = MemClock::new(0);
+    run(alloc, words, inputs, out, &mut clock, &mut Vec::new(alloc))
+}
+
+// The status of a run; that of want of memory, if there is none for the words, or if they name a port.
 fn status_of<S: Source, K: Sink>(
     alloc: Global,
     text: &str,
@@ -191,7 +209,11 @@ fn status_of<S: Source, K: Sink>(
     out: &mut K,
 ) -> u8 {
     match words_of(alloc, text) {
-        Ok(words) => run(alloc, &words, inputs, out, &mut MemClock::new(0)),
+        Ok(words) => match wanted(alloc, &words) {
+            Ok(wanted) if wanted.ports.is_empty() => run_unlinked(alloc, &words, inputs, out),
+            Err(WantedFault::Usage) => run_unlinked(alloc, &words, inputs, out),
+            _ => 7,
+        },
         Err(_) => 7,
     }
 }

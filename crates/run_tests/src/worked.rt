@@ -60,7 +60,14 @@ fn run_one(
     ensures reported { map string_bytes words.now ≡ codes "dialect" ∷ []
         → result ≡ 0 → ⟦<SureSink as Sink>⟧.sent out.new ≡ Some profile_layouts }
 {
-    run(alloc, words, inputs, out, &mut MemClock::new(0))
+    run(
+        alloc,
+        words,
+        inputs,
+        out,
+        &mut MemClock::new(0),
+        &mut Vec::new(alloc),
+    )
 }
 
 // A command, and the name of a file if it takes one.

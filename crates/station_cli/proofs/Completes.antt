@@ -49,7 +49,7 @@ key_short (b ∷ bs) k e =
 
 -- nothing stops the reading of such a text
 key_goes : (bytes k : List ℕ) → key_or_default bytes ≡ Some k → key_spec.stop true bytes ≡ None
-key_goes bytes k e = goes_on true bytes (key_short bytes k e) ∙ ap refusal_of e
+key_goes bytes k e = goes_on key_or_default true bytes (key_short bytes k e) ∙ ap refusal_of e
 
 -- ---- the run
 
@@ -67,6 +67,6 @@ fleets_complete true frames out code key main spent (inl (run, halted, within, u
     ]
 fleets_complete true frames out code key main spent (inr (used, holds, d)) k (text, there, read, good) =
     let same : text ≡ holds.taken = whole_taken text holds.taken key.left_before key.left_after there holds.took (spent holds.at_end) in
-    let is : used ≡ k = some_is used k (sym holds.read ∙ ap key_or_default (sym same) ∙ read) in
+    let is : used ≡ k = some_is used k (sym holds.read_is ∙ ap key_or_default (sym same) ∙ read) in
     let run : promised_over out code (fleet_spec k frames) main = subst (λ u. promised_over out code (fleet_spec u frames) main) is d in
     completed k frames (around main out) main.left_before main.left_after out.sent_before out.sent_after code run

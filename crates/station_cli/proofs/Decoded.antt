@@ -11,6 +11,7 @@ use Rattle.run_status.specs.Runs.{CommandSpec, Steady}
 use Rattle.run_status.specs.StatusText.{WritesStatus}
 use Rattle.run_status.proofs.RunsBeforeStatus.{before_status_nothing, run_reported}
 use Rattle.run_status.proofs.Ends.{promised}
+use Rattle.key_file.specs.KeyText.{key_or_default}
 use Rattle.key_file.specs.Spec.{key_spec, TookAtMost}
 use Rattle.key_file.proofs.Stays.{key_steady}
 use Rattle.dialect_command.specs.Spec.{definitions_spec}
@@ -53,7 +54,7 @@ module _ (first second : CommandSpec → Input → Type 0) (halted stopped : Typ
 
   pub decodes_reported : (named_key named_defs : Bool) (key defs main : Input) → (key.spent → IsSpent key.left_after) → (defs.spent → IsSpent defs.left_after) → (main.spent → IsSpent main.left_after) → Decodes named_key named_defs first halted key defs main → Decodes named_key named_defs second stopped key defs main
   decodes_reported false n key defs main ks ds ms d = with_reported None n defs main ds ms d
-  decodes_reported true n key defs main ks ds ms (inl (run, h, within, unread)) = inl (on key_spec key_steady key ks run, ends h, within, unread)
+  decodes_reported true n key defs main ks ds ms (inl (run, h, within, unread)) = inl (on key_spec (key_steady key_or_default) key ks run, ends h, within, unread)
   decodes_reported true n key defs main ks ds ms (inr (bytes, holds, d)) = inr (bytes, holds, with_reported (Some bytes) n defs main ds ms d)
 
 pub reported_over : (rb rm ra : ℕ) (sb sm sa : Option (List ℕ)) (ended reported : Result (Unit {0}) RunEnd) → ((IsErrOf ended WriteFault → ⊥) → rm ≡ rb) → WritesStatus ended reported rm ra sm sa → (s : CommandSpec) → Steady s → (i : Input) → (i.spent → IsSpent i.left_after)

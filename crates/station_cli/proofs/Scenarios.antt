@@ -4,7 +4,7 @@ use Rattle.mav_ports.specs.Gets.{IsSpent}
 use Rattle.run_status.specs.declared.run_ends.RunEnd.TheVariants.{NoMemory}
 use Rattle.run_status.specs.Runs.{CommandSpec, Steady}
 use Rattle.key_file.specs.Spec.{key_spec}
-use Rattle.key_file.specs.KeyText.{default_key}
+use Rattle.key_file.specs.KeyText.{default_key, key_or_default}
 use Rattle.key_file.proofs.Stays.{key_steady}
 use Rattle.fleet_command.specs.Spec.{fleet_spec}
 use Rattle.fleet_command.proofs.Stays.{fleet_steady}
@@ -29,7 +29,7 @@ fleets_as one other first second runs halted key main same too d =
 module _ (first second : CommandSpec → Input → Type 0) (halted stopped : Type 0) (on : (s : CommandSpec) → Steady s → (i : Input) → (i.spent → IsSpent i.left_after) → first s i → second s i) (ends : halted → stopped) where
   pub fleets_reported : (named_key frames : Bool) (key main : Input) → (key.spent → IsSpent key.left_after) → (main.spent → IsSpent main.left_after) → Fleets named_key frames first halted key main → Fleets named_key frames second stopped key main
   fleets_reported false frames key main ks ms d = on (fleet_spec default_key frames) (fleet_steady default_key frames) main ms d
-  fleets_reported true frames key main ks ms (inl (run, h, within, unread)) = inl (on key_spec key_steady key ks run, ends h, within, unread)
+  fleets_reported true frames key main ks ms (inl (run, h, within, unread)) = inl (on key_spec (key_steady key_or_default) key ks run, ends h, within, unread)
   fleets_reported true frames key main ks ms (inr (bytes, holds, d)) = inr (bytes, holds, on (fleet_spec bytes frames) (fleet_steady bytes frames) main ms d)
 
 -- and the main theorem holds of it

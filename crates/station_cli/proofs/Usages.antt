@@ -5,8 +5,9 @@ use Rattle.std.specs.Io.KnownBytes.{append_known}
 use Rattle.mav_ports.specs.Puts.{SentPrefix}
 use Rattle.mav_ports.proofs.Known.{append_known_nil}
 use Rattle.run_status.specs.declared.input_errors.InputError.TheVariants.{Bad, AtLimit, StampsSpent}
+use Rattle.run_status.specs.declared.live_ends.LiveEnd.TheVariants.{RefusedWith, NoAnswer, StoreFault, PortTurns, PortFault}
 use Rattle.run_status.specs.declared.run_ends.RunEnd.{RunEnd}
-use Rattle.run_status.specs.declared.run_ends.RunEnd.TheVariants.{Usage, Stopped, ReadFault, WriteFault, NoMemory, TurnsSpent}
+use Rattle.run_status.specs.declared.run_ends.RunEnd.TheVariants.{Usage, Stopped, ReadFault, WriteFault, NoMemory, TurnsSpent, Live}
 use Rattle.run_status.specs.Endings.{code_of}
 use Rattle.run_status.specs.StatusText.{StatusWritten, WritesStatus}
 use Rattle.station_cli.specs.Usage.{UsageReported}
@@ -21,6 +22,11 @@ usage_code ReadFault e = absurd (omega arith)
 usage_code WriteFault e = absurd (omega arith)
 usage_code NoMemory e = absurd (omega arith)
 usage_code TurnsSpent e = absurd (omega arith)
+usage_code (Live (RefusedWith code)) e = absurd (omega arith)
+usage_code (Live (NoAnswer ticks)) e = absurd (omega arith)
+usage_code (Live StoreFault) e = absurd (omega arith)
+usage_code (Live (PortTurns turns)) e = absurd (omega arith)
+usage_code (Live PortFault) e = absurd (omega arith)
 
 usage_halted : (rm ra : ℕ) (sm sa : Option (List ℕ)) (run_end : RunEnd) (reported : Result (Unit {0}) RunEnd) → StatusWritten run_end reported rm ra sm sa → code_of (result_err reported) ≡ 2 → run_end ≡ Usage
 usage_halted rm ra sm sa run_end reported (inl (is, same, said)) two = usage_code run_end (ap (λ t. code_of (result_err t)) (sym is) ∙ two)
@@ -70,6 +76,11 @@ code_some ReadFault e = omega (arith, e)
 code_some WriteFault e = omega (arith, e)
 code_some NoMemory e = omega (arith, e)
 code_some TurnsSpent e = omega (arith, e)
+code_some (Live (RefusedWith code)) e = omega (arith, e)
+code_some (Live (NoAnswer ticks)) e = omega (arith, e)
+code_some (Live StoreFault) e = omega (arith, e)
+code_some (Live (PortTurns turns)) e = omega (arith, e)
+code_some (Live PortFault) e = omega (arith, e)
 
 halted_reported : (rm ra : ℕ) (sm sa : Option (List ℕ)) (run_end : RunEnd) (reported : Result (Unit {0}) RunEnd) → StatusWritten run_end reported rm ra sm sa → code_of (result_err reported) ≢ 0
 halted_reported rm ra sm sa run_end reported (inl (is, same, said)) e = code_some run_end (ap (λ t. code_of (result_err t)) (sym is) ∙ e)

@@ -3,3 +3,5 @@ pub mod Usage
 pub mod Seen
 pub mod Decoding
 pub mod Fleets
+pub mod Routing
+pub mod Making

@@ -9,11 +9,12 @@
 mod decoding;
 mod fleets;
 mod keys;
+mod routing;
 mod runs;
 mod wants;
 mod words;
 
-pub use command_line::WantedFault;
+pub use command_line::{Files, Port, Socket, SocketKind, Target, WantedFault};
 pub use runs::run;
 pub use wants::{Inputs, Wanted};
 pub use words::wanted;

@@ -1,24 +1,33 @@
 // The top call.
-ghost use Rattle.std.specs.Prelude.{◌≡◌, ◌≢◌, ◌⊎◌, ⊤, true, false, [], Some, IsTrue, IsErr};
+ghost use Rattle.std.specs.Prelude.{◌≡◌, ◌≢◌, ◌⊎◌, ⊤, true, false, [], length, Some, IsErr};
 ghost use Rattle.std.specs.Prelude.{IsErrOf, map, string_bytes};
 ghost use Rattle.std.specs.Result.{result_err};
 ghost use Rattle.mav_ports.specs.Gets.{IsSpent};
 ghost use Rattle.run_status.specs.Runs.{RunBeforeStatus, Promises, port_outcome};
-ghost use Rattle.command_line.specs.Built.{is_built, built};
-ghost use Rattle.command_line.specs.Forms.{has_given};
+ghost use Rattle.command_line.specs.Built.{built};
+ghost use Rattle.command_line.specs.Forms.{Fits, has_given, reads_file};
 ghost use Rattle.command_line.specs.Grammar.{Asked, Asks, AskNothing};
-ghost use Rattle.command_line.specs.Lines.{given_of};
+ghost use Rattle.command_line.specs.Lines.{given_of, asked_by, LineSays};
 ghost use Rattle.dialect_command.specs.Spec.{dialect_spec, profile_spec};
 ghost use Rattle.station_cli.specs.Decoding.{Decodes};
 ghost use Rattle.station_cli.specs.Fleets.{Fleets, FleetsCarry, FleetsComplete};
+ghost use Rattle.make_command.specs.Spec.{make_spec};
+ghost use Rattle.make_command.specs.Theorem.{GeneratedTheorem};
+ghost use Rattle.station_cli.specs.Making.{Makes};
+ghost use Rattle.route_command.specs.Promises.{RoutePromises};
+ghost use Rattle.route_command.specs.Routes.{RoutesBeforeStatus};
+ghost use Rattle.station_cli.specs.Routing.{Routing, AllEnded, AreAsked, router_of};
 ghost use Rattle.station_cli.specs.Seen.{input_of, output_of, before_status_over, promised_over};
 ghost use Rattle.station_cli.specs.Usage.{UsageReported};
 
 use crate::decoding::run_decode;
 use crate::fleets::run_fleet;
+use crate::routing::run_route;
 use crate::wants::Inputs;
 use command_line::{Command, Line, OptionName, WantedFault, read};
 use dialect_command::{dialect, profile};
+use make_command::make;
+use mav_links::Link;
 use mav_ports::{Clock, Sink, Source};
 use run_status::{RunEnd, code_of, write_status};
 use std::alloc::Global;
@@ -53,9 +62,13 @@ fn run_line<S: Source, K: Sink>(
     alloc: Global,
     line: &Line,
     inputs: &mut Inputs<S>,
+    ports: &mut Vec<Box<dyn Link>>,
     out: &mut K,
 ) -> Result<(), RunEnd>
-    requires { IsTrue (is_built line.now.command) }
+    requires fits { Fits built line.now.command (map given_of line.now.settings.items)
+        (map string_bytes line.now.words.items) }
+    requires says { LineSays line.now }
+    requires links { AreAsked (length ports.old.items) (asked_by line.now) }
     ensures fleet { line.now.command ≡ Command.Fleet → Fleets
         (has_given OptionName.Key (map given_of line.now.settings.items))
         (has_given OptionName.Frames (map given_of line.now.settings.items))
@@ -81,7 +94,20 @@ fn run_line<S: Source, K: Sink>(
         (input_of S.has_ended S.faults S.idles S.left inputs.old.key inputs.new.key)
         (input_of S.has_ended S.faults S.idles S.left inputs.old.defs inputs.new.defs)
         (input_of S.has_ended S.faults S.idles S.left inputs.old.main inputs.new.main) }
-    ensures unread_main { line.now.command ≡ Command.Dialect → inputs.new.main ≡ inputs.old.main }
+    ensures route { line.now.command ≡ Command.Route → Routing
+        (has_given OptionName.Defs (map given_of line.now.settings.items))
+        (before_status_over (output_of K.faults K.sent out.old out.new) (result_err result)) (IsErr result)
+        (ports.new ≡ ports.old)
+        (λ key known. RoutesBeforeStatus (router_of state (asked_by line.now) ports.old.items ports.new.items key known)
+        (result_err result) (K.faults out.old) (K.faults out.new) (K.sent out.old) (K.sent out.new))
+        (input_of S.has_ended S.faults S.idles S.left inputs.old.key inputs.new.key)
+        (input_of S.has_ended S.faults S.idles S.left inputs.old.defs inputs.new.defs) }
+    ensures make { line.now.command ≡ Command.Make → Makes (map string_bytes line.now.words.items)
+        (λ number. RunBeforeStatus (make_spec number)
+        (port_outcome ⊤ 0 0 0 0 (K.faults out.old) (K.faults out.new))
+        (Some []) (Some []) (K.sent out.old) (K.sent out.new) (result_err result)) }
+    ensures unmoved { line.now.command ≢ Command.Route → ports.new ≡ ports.old }
+    ensures unread_main { reads_file line.now.command ≡ false → inputs.new.main ≡ inputs.old.main }
     ensures unread_defs { has_given OptionName.Defs (map given_of line.now.settings.items) ≡ false
         → inputs.new.defs ≡ inputs.old.defs }
     ensures unread_key { has_given OptionName.Key (map given_of line.now.settings.items) ≡ false
@@ -95,7 +121,9 @@ fn run_line<S: Source, K: Sink>(
             run_dialect(alloc, line.has(OptionName::Defs), &mut inputs.defs, out)
         }
         Command::Decode => run_decode(alloc, line, inputs, out),
-        _ => unreachable!("it isn't built"),
+        Command::Route => run_route(alloc, line, inputs, ports, out),
+        Command::Make => make(alloc, line.number, out),
+        Command::Drone | Command::Station => unreachable!("it isn't built"),
     }
 }
 
@@ -104,8 +132,11 @@ fn run_words<S: Source, K: Sink>(
     alloc: Global,
     words: &[String],
     inputs: &mut Inputs<S>,
+    ports: &mut Vec<Box<dyn Link>>,
     out: &mut K,
 ) -> Result<(), RunEnd>
+    requires { (asked : Asked) → Asks built (map string_bytes words.now) asked
+        → AreAsked (length ports.old.items) asked }
     ensures fleet { (asked : Asked) → Asks built (map string_bytes words.now) asked
         → asked.command ≡ Command.Fleet → Fleets
         (has_given OptionName.Key asked.settings) (has_given OptionName.Frames asked.settings)
@@ -131,15 +162,30 @@ fn run_words<S: Source, K: Sink>(
         (input_of S.has_ended S.faults S.idles S.left inputs.old.key inputs.new.key)
         (input_of S.has_ended S.faults S.idles S.left inputs.old.defs inputs.new.defs)
         (input_of S.has_ended S.faults S.idles S.left inputs.old.main inputs.new.main) }
+    ensures route { (asked : Asked) → Asks built (map string_bytes words.now) asked
+        → asked.command ≡ Command.Route → Routing (has_given OptionName.Defs asked.settings)
+        (before_status_over (output_of K.faults K.sent out.old out.new) (result_err result)) (IsErr result)
+        (ports.new ≡ ports.old)
+        (λ key known. RoutesBeforeStatus (router_of state asked ports.old.items ports.new.items key known)
+        (result_err result) (K.faults out.old) (K.faults out.new) (K.sent out.old) (K.sent out.new))
+        (input_of S.has_ended S.faults S.idles S.left inputs.old.key inputs.new.key)
+        (input_of S.has_ended S.faults S.idles S.left inputs.old.defs inputs.new.defs) }
+    ensures make { (asked : Asked) → Asks built (map string_bytes words.now) asked
+        → asked.command ≡ Command.Make → Makes asked.plain
+        (λ number. RunBeforeStatus (make_spec number)
+        (port_outcome ⊤ 0 0 0 0 (K.faults out.old) (K.faults out.new))
+        (Some []) (Some []) (K.sent out.old) (K.sent out.new) (result_err result)) }
     ensures usage { IsErrOf result RunEnd.Usage → AskNothing built (map string_bytes words.now) }
     ensures usage_only { AskNothing built (map string_bytes words.now)
         → IsErrOf result RunEnd.Usage ⊎ IsErrOf result RunEnd.NoMemory }
     ensures untouched { AskNothing built (map string_bytes words.now)
         → (inputs.new.main ≡ inputs.old.main) × (inputs.new.defs ≡ inputs.old.defs)
-        × (inputs.new.key ≡ inputs.old.key) × (K.sent out.new ≡ K.sent out.old) }
+        × (inputs.new.key ≡ inputs.old.key) × (ports.new ≡ ports.old) × (K.sent out.new ≡ K.sent out.old) }
+    ensures unmoved { (asked : Asked) → Asks built (map string_bytes words.now) asked
+        → asked.command ≢ Command.Route → ports.new ≡ ports.old }
     ensures sound { ¬ IsErrOf result RunEnd.WriteFault → K.faults out.new ≡ K.faults out.old }
     ensures unread_main { (asked : Asked) → Asks built (map string_bytes words.now) asked
-        → asked.command ≡ Command.Dialect → inputs.new.main ≡ inputs.old.main }
+        → reads_file asked.command ≡ false → inputs.new.main ≡ inputs.old.main }
     ensures unread_defs { (asked : Asked) → Asks built (map string_bytes words.now) asked
         → has_given OptionName.Defs asked.settings ≡ false → inputs.new.defs ≡ inputs.old.defs }
     ensures unread_key { (asked : Asked) → Asks built (map string_bytes words.now) asked
@@ -150,14 +196,14 @@ fn run_words<S: Source, K: Sink>(
         Err(WantedFault::Usage) => return Err(RunEnd::Usage),
         Err(WantedFault::NoMemory) => return Err(RunEnd::NoMemory),
     };
-    run_line(alloc, &line, inputs, out)
+    run_line(alloc, &line, inputs, ports, out)
 }
 
 /// Runs the command that the words name, and returns its exit status. The words are those after
 /// the program's name.
 ///
 /// 0 done, 2 `usage`, 3 `bad PLACE: REASON`, 4 `read fault`, 5 a write failed, 6 `limit WHAT N`,
-/// 7 out of memory, 11 `turns spent 1000000`, 13 `stamps spent`. The text of a status is the last
+/// 7 out of memory, 11 `turns spent N`, 13 `stamps spent`. The text of a status is the last
 /// line of the output.
 ///
 /// The clause of a command has all that it promises of the run: `Promises` has a field for each
@@ -169,7 +215,11 @@ pub fn run<S: Source, K: Sink, C: Clock>(
     inputs: &mut Inputs<S>,
     out: &mut K,
     clock: &mut C,
+    ports: &mut Vec<Box<dyn Link>>,
 ) -> u8
+    // There are as many links as the words name ports.
+    requires { (asked : Asked) → Asks built (map string_bytes words.now) asked
+        → AreAsked (length ports.old.items) asked }
     // `fleet [--frames] [--key F] FILE`: the run halts at the key, and the main input isn't read; or
     // the key is read, if the words name one, and the main input is played under it
     ensures fleet { (asked : Asked) → Asks built (map string_bytes words.now) asked
@@ -222,6 +272,24 @@ pub fn run<S: Source, K: Sink, C: Clock>(
         (input_of S.has_ended S.faults S.idles S.left inputs.old.key inputs.new.key)
         (input_of S.has_ended S.faults S.idles S.left inputs.old.defs inputs.new.defs)
         (input_of S.has_ended S.faults S.idles S.left inputs.old.main inputs.new.main) }
+    // `route --key F [--defs F] --one [--turns N] PORT..`: the run halts at the key, or at the definitions, and the ports
+    // are as they were; or both are read, or the profile is taken, and the router runs over the ports
+    ensures route { (asked : Asked) → Asks built (map string_bytes words.now) asked
+        → asked.command ≡ Command.Route → Routing (has_given OptionName.Defs asked.settings)
+        (promised_over (output_of K.faults K.sent out.old out.new) result) (result ≢ 0)
+        (ports.new ≡ ports.old)
+        (λ key known. RoutePromises (router_of state asked ports.old.items ports.new.items key known)
+        (K.faults out.old) (K.faults out.new) (K.sent out.old) (K.sent out.new) result)
+        (input_of S.has_ended S.faults S.idles S.left inputs.old.key inputs.new.key)
+        (input_of S.has_ended S.faults S.idles S.left inputs.old.defs inputs.new.defs) }
+    // `make N`, over no input
+    ensures make { (asked : Asked) → Asks built (map string_bytes words.now) asked
+        → asked.command ≡ Command.Make → Makes asked.plain
+        (λ number. Promises (make_spec number) (port_outcome ⊤ 0 0 0 0 (K.faults out.old) (K.faults out.new))
+        (Some []) (Some []) (K.sent out.old) (K.sent out.new) result) }
+    // The scenario that it generates is played to its end and authentic, so it has the main theorem.
+    ensures make_theorem { (asked : Asked) → Asks built (map string_bytes words.now) asked
+        → asked.command ≡ Command.Make → Makes asked.plain GeneratedTheorem }
     // The words are of no command exactly if the status is 2, unless the output refused that
     // text or there was no memory.
     ensures usage { result ≡ 2 → AskNothing built (map string_bytes words.now) }
@@ -232,16 +300,25 @@ pub fn run<S: Source, K: Sink, C: Clock>(
         → (inputs.new.main ≡ inputs.old.main) × (inputs.new.defs ≡ inputs.old.defs)
         × (inputs.new.key ≡ inputs.old.key) }
     ensures unread_main { (asked : Asked) → Asks built (map string_bytes words.now) asked
-        → asked.command ≡ Command.Dialect → inputs.new.main ≡ inputs.old.main }
+        → reads_file asked.command ≡ false → inputs.new.main ≡ inputs.old.main }
     ensures unread_defs { (asked : Asked) → Asks built (map string_bytes words.now) asked
         → has_given OptionName.Defs asked.settings ≡ false → inputs.new.defs ≡ inputs.old.defs }
     ensures unread_key { (asked : Asked) → Asks built (map string_bytes words.now) asked
         → has_given OptionName.Key asked.settings ≡ false → inputs.new.key ≡ inputs.old.key }
+    // A port is called only by `route`, and only once each input that the words name was read to its end.
+    ensures unmoved { AskNothing built (map string_bytes words.now) → ports.new ≡ ports.old }
+    ensures unmoved_by_others { (asked : Asked) → Asks built (map string_bytes words.now) asked
+        → asked.command ≢ Command.Route → ports.new ≡ ports.old }
+    ensures unmoved_before { (asked : Asked) → Asks built (map string_bytes words.now) asked
+        → asked.command ≡ Command.Route → ¬ AllEnded (has_given OptionName.Defs asked.settings)
+        (input_of S.has_ended S.faults S.idles S.left inputs.old.key inputs.new.key)
+        (input_of S.has_ended S.faults S.idles S.left inputs.old.defs inputs.new.defs)
+        → ports.new ≡ ports.old }
     // The output refused a write only at status 5.
     ensures sound { result ≢ 5 → K.faults out.new ≡ K.faults out.old }
     ensures unasked { clock.new ≡ clock.old }
 {
     let _ = clock;
-    let ended = run_words(alloc, words, inputs, out);
+    let ended = run_words(alloc, words, inputs, ports, out);
     code_of(write_status(alloc, ended, out))
 }

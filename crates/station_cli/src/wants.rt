@@ -1,4 +1,6 @@
 // What a run needs from its caller.
+use command_line::Port;
+
 /// What the words ask `main` to make, in this order. What they don't name is None or empty.
 #[derive(Debug, Drop)]
 pub struct Wanted {
@@ -8,8 +10,8 @@ pub struct Wanted {
     pub defs: Option<String>,
     /// The key, which `--key` names.
     pub key: Option<String>,
-    /// No command that is built has any.
-    pub ports: Vec<String>,
+    /// The words PORT, in their order.
+    pub ports: Vec<Port>,
     pub keepers: u8,
 }
 

@@ -21,7 +21,7 @@ pub fn wanted(alloc: Global, words: &[String]) -> Result<Wanted, WantedFault>
         main: line.main(alloc)?,
         defs: line.value(alloc, OptionName::Defs)?,
         key: line.value(alloc, OptionName::Key)?,
-        ports: Vec::new(alloc),
+        ports: line.ports,
         keepers: 0,
     })
 }

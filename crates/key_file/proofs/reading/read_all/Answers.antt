@@ -32,9 +32,9 @@ loop-count-preserved g c =
     }
 
 pub returns-in-Idle-clause-halts : goal.returns-in-Idle-clause-halts
-returns-in-Idle-clause-halts g c = λ refusals sent.
+returns-in-Idle-clause-halts g c = λ read_as refusals sent.
     let inv = c.loop-count.invariant in let read = c.in-Idle.ensures in let front = take c.loop-count.count c.loop-count.buf in
-    before_status_idled _ (g.S.Source.left c.args.input.now) (g.S.Source.left c.read_on.new.source) sent front
+    before_status_idled read_as _ (g.S.Source.left c.args.input.now) (g.S.Source.left c.read_on.new.source) sent front
     (took_none front (g.S.Source.left c.args.input.now) (g.S.Source.left c.loop-count.input) (g.S.Source.left c.read_on.new.source) inv.took read.bytes)
     (omega (arith, length-take c.loop-count.count c.loop-count.buf, c.loop-count-test.true)) (λ below. omega (arith, read.idled refl below, inv.idles))
 
@@ -60,9 +60,9 @@ returns-in-End-clause-within g c =
     (omega (arith, length-take c.loop-count.count c.loop-count.buf, c.loop-count-test.true))
 
 pub returns-in-Failed-clause-halts : goal.returns-in-Failed-clause-halts
-returns-in-Failed-clause-halts g c = λ refusals sent.
+returns-in-Failed-clause-halts g c = λ read_as refusals sent.
     let inv = c.loop-count.invariant in let read = c.in-Failed.ensures in let front = take c.loop-count.count c.loop-count.buf in
-    before_status_failed _ (g.S.Source.left c.args.input.now) (g.S.Source.left c.read_on.new.source) sent front
+    before_status_failed read_as _ (g.S.Source.left c.args.input.now) (g.S.Source.left c.read_on.new.source) sent front
     (took_none front (g.S.Source.left c.args.input.now) (g.S.Source.left c.loop-count.input) (g.S.Source.left c.read_on.new.source) inv.took read.bytes)
     (omega (arith, length-take c.loop-count.count c.loop-count.buf, c.loop-count-test.true))
     (subst (λ n. Rose n (g.S.Source.faults c.read_on.new.source)) inv.faults (read.failed refl))
@@ -75,9 +75,9 @@ returns-in-Failed-clause-within g c =
     (omega (arith, length-take c.loop-count.count c.loop-count.buf, c.loop-count-test.true))
 
 pub returns-clause-halts : goal.returns-clause-halts
-returns-clause-halts g c = λ refusals sent.
+returns-clause-halts g c = λ read_as refusals sent.
     let inv = c.loop-count.invariant in let front = take c.loop-count.count c.loop-count.buf in
-    before_status_long _ (g.S.Source.left c.args.input.now) (g.S.Source.left c.loop-count.input) sent front inv.took
+    before_status_long read_as _ (g.S.Source.left c.args.input.now) (g.S.Source.left c.loop-count.input) sent front inv.took
     (omega (arith, length-take c.loop-count.count c.loop-count.buf, inv.size, c.loop-count-test.false))
 
 pub returns-clause-within : goal.returns-clause-within

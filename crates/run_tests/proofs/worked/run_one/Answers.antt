@@ -1,4 +1,4 @@
-use Rattle.std.proofs.Common.{inl, inr, [], refl}
+use Rattle.std.proofs.Common.{inl, inr, [], refl, ap, length}
 use Rattle.std.specs.Prelude.{map, string_bytes}
 use Rattle.command_line.specs.declared.commands.Command.TheVariants.{Fleet, Decode}
 use Rattle.decode_command.specs.Examples.{one_heartbeat, one_heartbeat_text}
@@ -10,8 +10,17 @@ use Rattle.fleet_command.specs.Examples.{one_item, one_item_installed}
 use Rattle.fleet_command.proofs.Worked.{spec as playing, one_item_code, one_item_output}
 use Rattle.run_tests.specs.Restarts.{restart_between, restart_between_report}
 use Rattle.run_tests.proofs.Restarted.{restart_code, restart_output}
-use Rattle.run_tests.proofs.Plainly.{asked, asked_dialect, asks_fleet, asks_decode, asks_dialect, sure_input, no_input, sure, awake, status_reported, text_reported, installed_reported, completed_reported}
+use Rattle.run_tests.proofs.Plainly.{no_ports, asked, asked_dialect, asks_fleet, asks_decode, asks_dialect, sure_input, no_input, sure, awake, status_reported, text_reported, installed_reported, completed_reported}
 use Rattle.run_tests.proofs.worked.run_one.Goals as goal
+
+pub run-requires : goal.run-requires
+run-requires c = no_ports (map string_bytes c.args.words.now) _ (elim c.requires.one [
+  | inl fleet ↦ inl fleet.0
+  | inr others ↦ elim others [
+    | inl decode ↦ inr (inl decode.0)
+    | inr words ↦ inr (inr words)
+  ]
+]) (ap length c.new-2.ensures.items)
 
 pub returns-clause-status : goal.returns-clause-status
 returns-clause-status c = elim c.requires.one [

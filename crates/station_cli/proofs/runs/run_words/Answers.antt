@@ -1,11 +1,15 @@
-use Rattle.std.proofs.Common.{true, false, refl}
-use Rattle.command_line.specs.declared.commands.Command.TheVariants.{Fleet, Dialect, Decode}
+use Rattle.std.proofs.Common.{true, false, inl, refl}
+use Rattle.command_line.specs.declared.commands.Command.TheVariants.{Fleet, Dialect, Decode, Route, Make}
 use Rattle.command_line.specs.declared.commands.OptionName.TheVariants.{Frames, Defs, Key}
 use Rattle.run_status.proofs.RunsBeforeStatus.{before_status_nothing}
 use Rattle.dialect_command.specs.Spec.{dialect_spec, profile_spec}
-use Rattle.station_cli.proofs.Same.{same_command, same_given, same_options}
+use Rattle.station_cli.specs.Seen.{input_of}
+use Rattle.station_cli.proofs.Same.{same_asked, same_command, same_given, same_options, same_reads, same_other}
 use Rattle.station_cli.proofs.Decoded.{decodes_as, decodes_unread}
 use Rattle.station_cli.proofs.Scenarios.{fleets_as, fleets_unread}
+use Rattle.make_command.specs.Spec.{make_spec}
+use Rattle.station_cli.proofs.Routed.{routing_asked, key_unread}
+use Rattle.station_cli.proofs.Made.{makes_asked, unmade_number}
 use Rattle.station_cli.proofs.runs.run_words.Goals as goal
 
 pub returns-in-Err-NoMemory-clause-fleet : goal.returns-in-Err-NoMemory-clause-fleet
@@ -40,7 +44,7 @@ pub returns-clause-untouched : goal.returns-clause-untouched
 returns-clause-untouched g c = λ nothing. absurd (nothing _ c.in-Ok.ensures.asks)
 
 pub returns-clause-unread_main : goal.returns-clause-unread_main
-returns-clause-unread_main g c = λ asked asks is. c.run_line.ensures.unread_main (same_command _ _ asked Dialect c.in-Ok.ensures.asks asks is)
+returns-clause-unread_main g c = λ asked asks is. c.run_line.ensures.unread_main (same_reads _ _ asked false c.in-Ok.ensures.asks asks is)
 
 pub returns-clause-unread_defs : goal.returns-clause-unread_defs
 returns-clause-unread_defs g c = λ asked asks unnamed. c.run_line.ensures.unread_defs (same_given _ _ asked Defs false c.in-Ok.ensures.asks asks unnamed)
@@ -57,3 +61,37 @@ pub returns-in-Err-NoMemory-clause-decode : goal.returns-in-Err-NoMemory-clause-
 returns-in-Err-NoMemory-clause-decode g c = λ asked asks is.
     let inputs = c.args.inputs.now in
     decodes_unread g.S.Source.has_ended g.S.Source.faults g.S.Source.idles g.S.Source.left inputs.key inputs.defs inputs.main (g.K.Sink.faults c.args.out.now) (g.K.Sink.sent c.args.out.now) _ refl _ _
+
+pub returns-clause-route : goal.returns-clause-route
+returns-clause-route g c = λ asked asks is.
+    let old = c.args.inputs.now in let new = c.run_line.new.inputs in
+    routing_asked _ _ asked _ _ _ _ _ _ _ _ _ _
+    (input_of g.S.Source.has_ended g.S.Source.faults g.S.Source.idles g.S.Source.left old.key new.key)
+    (input_of g.S.Source.has_ended g.S.Source.faults g.S.Source.idles g.S.Source.left old.defs new.defs)
+    (same_asked _ _ asked c.in-Ok.ensures.asks asks)
+    (c.run_line.ensures.route (same_command _ _ asked Route c.in-Ok.ensures.asks asks is))
+
+pub returns-in-Err-NoMemory-clause-route : goal.returns-in-Err-NoMemory-clause-route
+returns-in-Err-NoMemory-clause-route g c = λ asked asks is.
+    inl (key_unread g.S.Source.has_ended g.S.Source.faults g.S.Source.idles g.S.Source.left c.args.inputs.now.key (g.K.Sink.faults c.args.out.now) (g.K.Sink.sent c.args.out.now) _ _ refl (refl, refl))
+
+pub returns-clause-make : goal.returns-clause-make
+returns-clause-make g c = λ asked asks is.
+    makes_asked _ asked _ (same_asked _ _ asked c.in-Ok.ensures.asks asks)
+    (c.run_line.ensures.make (same_command _ _ asked Make c.in-Ok.ensures.asks asks is))
+
+pub returns-in-Err-NoMemory-clause-make : goal.returns-in-Err-NoMemory-clause-make
+returns-in-Err-NoMemory-clause-make g c = λ asked asks is.
+    unmade_number asked _ asks is (λ number. before_status_nothing (make_spec number) _ _ _)
+
+pub returns-clause-unmoved : goal.returns-clause-unmoved
+returns-clause-unmoved g c = λ asked asks isnt. c.run_line.ensures.unmoved (same_other _ _ asked Route c.in-Ok.ensures.asks asks isnt)
+
+pub run_line-requires-clause-fits : goal.run_line-requires-clause-fits
+run_line-requires-clause-fits g c = c.in-Ok.ensures.asks.fits
+
+pub run_line-requires-clause-says : goal.run_line-requires-clause-says
+run_line-requires-clause-says g c = c.in-Ok.ensures.says
+
+pub run_line-requires-clause-links : goal.run_line-requires-clause-links
+run_line-requires-clause-links g c = c.requires _ c.in-Ok.ensures.asks

@@ -1,0 +1,84 @@
+// What the plain words of a line say.
+ghost use Rattle.std.specs.Prelude.{◌≡◌, ◌≤◌, ◌∷◌, [], map, string_bytes, IfOk, IfSome};
+ghost use Rattle.std.specs.Fmt.{decimal};
+ghost use Rattle.command_line.specs.PortTexts.{IsRead, port_text};
+ghost use Rattle.command_line.specs.Lines.{is_one_file, are_ports, is_one_number, PlainRead};
+
+use crate::commands::Command;
+use crate::forms::is_some_text;
+use crate::numbers::number;
+use crate::ports::{Port, read_ports};
+use std::alloc::{AllocError, Global};
+
+/// The ports of `route` and the number of `make`; no ports and 0 for another command.
+#[derive(Drop)]
+pub(crate) struct Values {
+    pub(crate) ports: Vec<Port>,
+    pub(crate) number: u32,
+}
+
+fn without_ports(alloc: Global, number: u32) -> Values
+    ensures ports { result.ports.items ≡ [] }
+    ensures number { result.number ≡ number }
+{
+    Values {
+        ports: Vec::new(alloc),
+        number,
+    }
+}
+
+// One word, which isn't empty.
+fn is_one_file(words: &[String]) -> bool
+    ensures { result ≡ is_one_file (map string_bytes words.now) }
+{
+    match words {
+        [file] => is_some_text(file.as_str()),
+        _ => false,
+    }
+}
+
+// 1 to 8 ports.
+fn router_ports(alloc: Global, words: &[String]) -> Result<Option<Vec<Port>>, AllocError>
+    ensures { IfOk result (IsRead (λ ports. map port_text ports.items)
+        (are_ports (map string_bytes words.now)) (map string_bytes words.now)) }
+{
+    if words.is_empty() || words.len() > 8 {
+        return Ok(None);
+    }
+    read_ports(alloc, words)
+}
+
+// The number of `make`.
+fn one_number(words: &[String]) -> Option<u64>
+    ensures read { IsRead (λ n. decimal n ∷ []) (is_one_number (map string_bytes words.now))
+        (map string_bytes words.now) result }
+    ensures most { IfSome result (λ n. n ≤ 1_000_000) }
+{
+    match words {
+        [word] => number(word.as_str(), 0, 1_000_000),
+        _ => None,
+    }
+}
+
+/// What the plain words of a command say, or None if they aren't of its form.
+pub(crate) fn read_plain(
+    alloc: Global,
+    command: Command,
+    words: &[String],
+) -> Result<Option<Values>, AllocError>
+    ensures { IfOk result (PlainRead command (map string_bytes words.now)) }
+{
+    match command {
+        Command::Fleet | Command::Decode if is_one_file(words) => Ok(Some(without_ports(alloc, 0))),
+        Command::Dialect if words.is_empty() => Ok(Some(without_ports(alloc, 0))),
+        Command::Route => match router_ports(alloc, words)? {
+            Some(ports) => Ok(Some(Values { ports, number: 0 })),
+            None => Ok(None),
+        },
+        Command::Make => match one_number(words) {
+            Some(number) => Ok(Some(without_ports(alloc, number as u32))),
+            None => Ok(None),
+        },
+        _ => Ok(None),
+    }
+}
