@@ -32,8 +32,8 @@ use Rattle.mav_nodes.specs.News.{NodeEvent, Sends, Installs, Empties, Drops, End
 use Rattle.mav_nodes.specs.Payloads.{plan_in, service_in}
 use Rattle.mav_nodes.specs.Services.{ServiceStep, DroneServices, drone_flies, sim_step, reached_events, captured_events, StationServices, command_events, params_events, station_serves, station_waits, asks_command, asks_params, command_of}
 use Rattle.mav_nodes.specs.Links.{Link, Outcome, done, behind, and_then, tries, sends, sends_all}
-use Rattle.mav_nodes.specs.Steps.{Side, Rules, CoreStep, answers, with_core, steps, serves, serves_if, takes, admits, hears, hears_all, receives}
-use Rattle.mav_nodes.specs.Nodes.{DroneSide, StationSide, change_events, told_events, drone_rules, drone_receives, drone_beats, drone_ticks, drone_sims, drone_heartbeat, drone_waits, station_rules, station_does, station_heartbeat, services_tick, station_obeys}
+use Rattle.mav_nodes.specs.Steps.{Side, Rules, CoreStep, answers, with_core, steps, serves, serves_if, takes, admits, hears, hears_all, hears_keeping, receives}
+use Rattle.mav_nodes.specs.Nodes.{DroneSide, StationSide, change_events, told_events, drone_rules, drone_rules_keeping, drone_receives, drone_beats, drone_ticks, drone_sims, drone_heartbeat, drone_waits, station_rules, station_does, station_heartbeat, services_tick, station_ticks, station_beats, station_obeys}
 use Rattle.mav_nodes.specs.Restarts.{restarted_drone}
 use Rattle.mav_nodes.specs.declared.orders.Order.{Order}
 use Rattle.mav_nodes.specs.declared.orders.Order.TheVariants.{Begin, Cancel, Clear, Get, Command, ParamRead, ParamSet, ParamList}
@@ -179,6 +179,15 @@ module _ {Core Services : Type 0} (R : Services → Services → List NodeEvent 
       receives-did : (datagram : List ℕ) (node : Side Core Services) → Did node.services (receives rules clock datagram node)
       receives-did datagram node = hears_all-did (frames_of (final_parse node.link.extras false datagram)) node
 
+    -- the same of a node whose store may not keep what is saved
+    module _ (rules : Bool → Rules Core Services) (clock : ℕ) (heard : (kept : Bool) (packet : Packet) (node : Side Core Services) → Did node.services (hears (rules kept) clock packet node)) where
+      hears_keeping-did : (keeps : List Bool) (packets : List Packet) (node : Side Core Services) → Did node.services (hears_keeping rules clock keeps packets node)
+      hears_keeping-did keeps [] node = quiet node.services [] tt
+      hears_keeping-did [] (packet ∷ packets) node =
+          and_then-did node.services (hears (rules true) clock packet node) (hears_keeping rules clock [] packets) (heard true packet node) (hears_keeping-did [] packets)
+      hears_keeping-did (kept ∷ keeps) (packet ∷ packets) node =
+          and_then-did node.services (hears (rules kept) clock packet node) (hears_keeping rules clock keeps packets) (heard kept packet node) (hears_keeping-did keeps packets)
+
 -- ---- a drone lists no parameters
 
 abbrev DroneListed : DroneServices → DroneServices → List NodeEvent → Type 0
@@ -192,6 +201,12 @@ changes_quiet by plans Same = tt
 changes_quiet by plans (Install kind) = (tt, tt)
 changes_quiet by plans (Empty None) = (tt, (tt, (tt, tt)))
 changes_quiet by plans (Empty (Some kind)) = (tt, tt)
+
+drone_hearing : (clock : ℕ) (keeps : List Bool) (packets : List Packet) (n : DroneSide) → Did DroneListed n.services (hears_keeping drone_rules_keeping clock keeps packets n)
+drone_hearing clock keeps packets n =
+    hears_keeping-did DroneListed (λ s es q. q) drone_both drone_rules_keeping clock
+    (λ kept packet node. hears-did DroneListed (λ s es q. q) drone_both (drone_rules_keeping kept) clock
+    (λ core s from m. changes_quiet from (drone_step kept core from m).drone.plans (change_by (drone_step kept core from m).event)) (λ core from m. tt) (λ core s from m. tt) packet node) keeps packets n
 
 drone_receiving : (clock : ℕ) (datagram : List ℕ) (n : DroneSide) → Did DroneListed n.services (drone_receives clock datagram n)
 drone_receiving clock datagram n =
@@ -346,7 +361,7 @@ known after events l = by_end l.ended
 
 -- ---- nodes
 
--- if it is done, each list that ended has the values that the node knows then
+-- if it is done, each list that ended has the values that the node knows then; a drone lists none
 abbrev pub ListsKnown : Outcome Node → Type 0
 ListsKnown None = Unit {0}
 ListsKnown (Some d) = HaveValues (params_of (Some d.node)) d.events
@@ -362,29 +377,53 @@ station_known s (Some d) h = known d.node.services.client d.events h
 steps_known : (clock : ℕ) (n : StationSide) (step : StationStep) → Did StationListed n.services (steps clock n.link n.services (station_does step))
 steps_known clock n step = steps-did StationListed station_quiet station_both clock n.link n.services (station_does step) tt (told_quiet step.station.outcome)
 
-pub receives_known : (clock : ℕ) (datagram : List ℕ) (node : Node) → ListsKnown (node_called (Noise datagram) datagram clock node)
-receives_known clock datagram (Drone n) = drone_known n.services _ (drone_receiving clock datagram n)
-receives_known clock datagram (Station n) =
-    station_known n.services _ (receives-did StationListed station_quiet station_both station_rules clock (λ core s from m. station_quiet s [] tt)
-    (λ core from m. told_quiet (station_step core from m).station.outcome) (λ core s from m. served s from m) datagram n)
+-- a drone's calls
+pub drone_ticks_known : (clock : ℕ) (n : DroneSide) → ListsKnown (as_drone (drone_ticks clock n))
+drone_ticks_known clock n = drone_known n.services _ (drone_ticking clock n)
 
-beats_known : (clock : ℕ) (node : Node) → ListsKnown (node_called Heartbeat [] clock node)
-beats_known clock (Drone n) = drone_known n.services _ (drone_beating clock n)
-beats_known clock (Station n) =
-    station_known n.services _ (with_core-did StationListed station_quiet station_both n.services n.core n.services [] _ (sends-quiet clock station_heartbeat n.link) (station_quiet n.services [] tt))
+pub drone_beats_known : (clock : ℕ) (n : DroneSide) → ListsKnown (as_drone (drone_beats clock n))
+drone_beats_known clock n = drone_known n.services _ (drone_beating clock n)
 
-ticks_known : (clock : ℕ) (node : Node) → ListsKnown (node_called Tick [] clock node)
-ticks_known clock (Drone n) = drone_known n.services _ (drone_ticking clock n)
-ticks_known clock (Station n) =
+pub drone_sims_known : (clock : ℕ) (n : DroneSide) → ListsKnown (as_drone (drone_sims clock n))
+drone_sims_known clock n = drone_known n.services _ (drone_simming clock n)
+
+pub drone_hears_known : (clock : ℕ) (keeps : List Bool) (packets : List Packet) (n : DroneSide) → ListsKnown (as_drone (hears_keeping drone_rules_keeping clock keeps packets n))
+drone_hears_known clock keeps packets n = drone_known n.services _ (drone_hearing clock keeps packets n)
+
+-- and a station's
+pub station_ticks_known : (clock : ℕ) (n : StationSide) → ListsKnown (as_station (station_ticks clock n))
+station_ticks_known clock n =
     station_known n.services _ (and_then-did StationListed station_quiet station_both n.services (steps clock n.link n.services (station_does (station_tick n.core))) (services_tick clock)
     (steps_known clock n (station_tick n.core)) (λ node. serves-did StationListed station_quiet station_both clock node.link node.core node.services (station_waits node.services) (waited node.services)))
+
+pub station_beats_known : (clock : ℕ) (n : StationSide) → ListsKnown (as_station (station_beats clock n))
+station_beats_known clock n =
+    station_known n.services _ (with_core-did StationListed station_quiet station_both n.services n.core n.services [] _ (sends-quiet clock station_heartbeat n.link) (station_quiet n.services [] tt))
+
+pub station_hears_known : (clock : ℕ) (packets : List Packet) (n : StationSide) → ListsKnown (as_station (hears_all station_rules clock packets n))
+station_hears_known clock packets n =
+    station_known n.services _ (hears_all-did StationListed station_quiet station_both station_rules clock (λ core s from m. station_quiet s [] tt)
+    (λ core from m. told_quiet (station_step core from m).station.outcome) (λ core s from m. served s from m) packets n)
+
+-- the calls of a world
+pub receives_known : (clock : ℕ) (datagram : List ℕ) (node : Node) → ListsKnown (node_called (Noise datagram) datagram clock node)
+receives_known clock datagram (Drone n) = drone_known n.services _ (drone_receiving clock datagram n)
+receives_known clock datagram (Station n) = station_hears_known clock (frames_of (final_parse n.link.extras false datagram)) n
+
+beats_known : (clock : ℕ) (node : Node) → ListsKnown (node_called Heartbeat [] clock node)
+beats_known clock (Drone n) = drone_beats_known clock n
+beats_known clock (Station n) = station_beats_known clock n
+
+ticks_known : (clock : ℕ) (node : Node) → ListsKnown (node_called Tick [] clock node)
+ticks_known clock (Drone n) = drone_ticks_known clock n
+ticks_known clock (Station n) = station_ticks_known clock n
 
 pub calls_known : (call : Call) (datagram : List ℕ) (clock : ℕ) (node : Node) → ListsKnown (node_called call datagram clock node)
 calls_known (Take number) datagram clock node = receives_known clock datagram node
 calls_known (Noise bytes) datagram clock node = receives_known clock datagram node
 calls_known Heartbeat datagram clock node = beats_known clock node
 calls_known Tick datagram clock node = ticks_known clock node
-calls_known Sim datagram clock (Drone n) = drone_known n.services _ (drone_simming clock n)
+calls_known Sim datagram clock (Drone n) = drone_sims_known clock n
 calls_known Sim datagram clock (Station n) = tt
 calls_known (Restart key) datagram clock (Drone n) = drone_known (restarted_drone key n).services _ (drone_beating clock (restarted_drone key n))
 calls_known (Restart key) datagram clock (Station n) = tt

@@ -1,5 +1,5 @@
 -- News, one piece after another, and what is reported of them.
-use Rattle.std.proofs.Common.{◌≡◌, ℕ, suc, ◌+◌, ◌<◌, List, [], ◌∷◌, ◌++◌, length, map, take, get_or, Bool, true, false, cond, Option, Some, None, Result, Ok, Err, refl, sym, ap, ◌∙◌, subst, append_assoc, arith, length-append}
+use Rattle.std.proofs.Common.{◌≡◌, ℕ, suc, ◌+◌, ◌<◌, List, [], ◌∷◌, ◌++◌, length, map, take, get_or, Bool, true, false, cond, Result, Ok, Err, refl, sym, ap, ◌∙◌, subst, append_assoc, arith, length-append}
 use Rattle.std.specs.Prelude.{OnOk}
 use Rattle.std.proofs.lemmas.List.{append-nil, take_more, map-append, length-map}
 use Rattle.mav_names.specs.declared.names.Name.{Name}
@@ -9,7 +9,7 @@ use Rattle.mav_messages.specs.declared.messages.Message.{Message}
 use Rattle.mav_nodes.specs.News.{NodeEvent, Sends, Installs, Empties, Drops, Ends, Ends_command, Gives_param, Ends_params, Reaches, Captures, Shown, Shows_sent, Shows_installed, Shows_emptied, Shows_dropped, Shows_ended, Shows_command, Shows_param, Shows_params, Shows_reached, Shows_captured, shown, said_by, events_of}
 use Rattle.mav_nodes.specs.declared.news.News.{News}
 use Rattle.mav_nodes.specs.declared.news.News.TheVariants.{Sent, Installed, Emptied, Dropped, Outcome, Command, Param as Told_param, Params, Reached, Captured}
-use Rattle.fleet_report.specs.Events.{Event, Sent as SentEvent, Command_ended, Params_ended, Param_given}
+use Rattle.fleet_report.specs.Events.{Event, Sent as SentEvent}
 use Rattle.fleet_report.specs.Reports.{ReportState, reported}
 use Rattle.fleet_world.specs.WorldView.{Kept, kept_as}
 use Rattle.fleet_world.specs.Counts.{is_frame, counted}
@@ -72,14 +72,14 @@ reported_both name xs ys kept now more start mid end first next =
 
 -- ---- a list with one piece more
 
-record Split (news : List News) (piece : News) (events : List NodeEvent) : Type 0 where
-  front : List NodeEvent
-  event : NodeEvent
-  whole : events ≡ front ++ event ∷ []
-  before : events_of news ≡ map shown front
-  last : said_by piece ≡ shown event
+pub record Split (news : List News) (piece : News) (events : List NodeEvent) : Type 0 where
+  pub front : List NodeEvent
+  pub event : NodeEvent
+  pub whole : events ≡ front ++ event ∷ []
+  pub before : events_of news ≡ map shown front
+  pub last : said_by piece ≡ shown event
 
-split : (news : List News) (piece : News) (events : List NodeEvent) → events_of (news ++ piece ∷ []) ≡ map shown events → Split news piece events
+pub split : (news : List News) (piece : News) (events : List NodeEvent) → events_of (news ++ piece ∷ []) ≡ map shown events → Split news piece events
 split [] piece [] e = cc
 split [] piece (x ∷ []) e = record { front = []; event = x; whole = refl; before = refl; last = cc }
 split [] piece (x ∷ y ∷ ys) e = cc
@@ -110,7 +110,7 @@ pub reported_start : (name : Name) (values : List Param) (kept : List Kept) (rep
 reported_start name values kept report [] e have = told_none name kept report
 reported_start name values kept report (x ∷ xs) e have = cc
 
-have_both : (values : List Param) (xs ys : List NodeEvent) → HaveValues values (xs ++ ys) → HaveValues values xs × HaveValues values ys
+pub have_both : (values : List Param) (xs ys : List NodeEvent) → HaveValues values (xs ++ ys) → HaveValues values xs × HaveValues values ys
 have_both values [] ys h = (tt, h)
 have_both values (x ∷ xs) ys h = let rest = have_both values xs ys h.1 in ((h.0, rest.0), rest.1)
 
@@ -127,28 +127,39 @@ told_more name values news i piece kept now more start mid end within is front o
 
 -- ---- a frame
 
--- a frame that was kept and reported
-pub frame_reported : {T E : Type 0} (r : Result T E) (piece : News) (name : Name) (values : List Param) (kept more : List Kept) (number : ℕ) (packet : Packet) (message : Message) (before after : ReportState) → piece ≡ Sent packet message → more ≡ kept ++ kept_as packet ∷ [] → number ≡ length more → OnOk r (after ≡ reported before (SentEvent number packet message)) → OnOk r ((event : NodeEvent) → said_by piece ≡ shown event → HaveValues values (event ∷ []) → Reported name (event ∷ []) kept more before after)
-frame_reported (Err e) piece name values kept more number packet message before after is pushed counted is_reported = tt
-frame_reported (Ok t) piece name values kept more number packet message before after is pushed counted is_reported = λ event e have. by_event event (sym (ap said_by is) ∙ e)
+-- a frame that the report says
+pub frame_said : {T E : Type 0} (r : Result T E) (piece : News) (name : Name) (values : List Param) (number : ℕ) (packet : Packet) (message : Message) (before after : ReportState) → piece ≡ Sent packet message → OnOk r (after ≡ reported before (SentEvent number packet message))
+    → OnOk r ((event : NodeEvent) (count : ℕ) → said_by piece ≡ shown event → HaveValues values (event ∷ []) → (is_frame piece ≡ true → number ≡ count + 1) → after ≡ reports before (reported_by name count (event ∷ [])))
+frame_said (Err e) piece name values number packet message before after is did = tt
+frame_said (Ok t) piece name values number packet message before after is did = λ event count e have numbered. by_event event count (sym (ap said_by is) ∙ e) (numbered (ap is_frame is))
   where
-    number_is : number ≡ length kept + 1
-    number_is = counted ∙ (ap length pushed ∙ length-append kept (kept_as packet ∷ []))
-
-    sent : Reported name (Sends packet message ∷ []) kept more before after
-    sent = record {
-      sent = pushed;
-      report = is_reported ∙ (reports-one before (SentEvent number packet message) ∙ ap (λ (n : ℕ). reports before (SentEvent n packet message ∷ [])) number_is);
-    }
-
-    same : (p : Packet) (m : Message) → ◌≡◌ {A = Shown} (Shows_sent packet message) (Shows_sent p m) → Reported name (Sends p m ∷ []) kept more before after
-    same p m e =
+    same : (count : ℕ) (p : Packet) (m : Message) → ◌≡◌ {A = Shown} (Shows_sent packet message) (Shows_sent p m) → number ≡ count + 1 → after ≡ reports before (SentEvent (count + 1) p m ∷ [])
+    same count p m e n =
         let packets : packet ≡ p = cc in
         let messages : message ≡ m = cc in
-        subst (λ (q : Packet). Reported name (Sends q m ∷ []) kept more before after) packets
-        (subst (λ (n : Message). Reported name (Sends packet n ∷ []) kept more before after) messages sent)
+        did ∙ (reports-one before (SentEvent number packet message) ∙ λ i. reports before (SentEvent (n i) (packets i) (messages i) ∷ []))
 
-    by_event : (event : NodeEvent) → Shows_sent packet message ≡ shown event → Reported name (event ∷ []) kept more before after
+    by_event : (event : NodeEvent) (count : ℕ) → Shows_sent packet message ≡ shown event → number ≡ count + 1 → after ≡ reports before (reported_by name count (event ∷ []))
+    by_event (Sends p m) count e n = same count p m e n
+    by_event (Installs kind items by) count e n = cc
+    by_event (Empties kind) count e n = cc
+    by_event (Drops answer) count e n = cc
+    by_event (Ends outcome) count e n = cc
+    by_event (Ends_command result) count e n = cc
+    by_event (Gives_param param) count e n = cc
+    by_event (Ends_params listed) count e n = cc
+    by_event (Reaches number) count e n = cc
+    by_event (Captures total) count e n = cc
+
+-- a frame that is kept
+pub frame_kept : {T E : Type 0} (r : Result T E) (piece : News) (packet : Packet) (message : Message) (kept more : List Kept) → piece ≡ Sent packet message → OnOk r (more ≡ kept ++ kept_as packet ∷ []) → OnOk r ((event : NodeEvent) → said_by piece ≡ shown event → more ≡ kept ++ map kept_as (packets_in (event ∷ [])))
+frame_kept (Err e) piece packet message kept more is pushed = tt
+frame_kept (Ok t) piece packet message kept more is pushed = λ event e. by_event event (sym (ap said_by is) ∙ e)
+  where
+    same : (p : Packet) (m : Message) → ◌≡◌ {A = Shown} (Shows_sent packet message) (Shows_sent p m) → more ≡ kept ++ kept_as p ∷ []
+    same p m e = let packets : packet ≡ p = cc in pushed ∙ ap (λ (q : Packet). kept ++ kept_as q ∷ []) packets
+
+    by_event : (event : NodeEvent) → Shows_sent packet message ≡ shown event → more ≡ kept ++ map kept_as (packets_in (event ∷ []))
     by_event (Sends p m) e = same p m e
     by_event (Installs kind items by) e = cc
     by_event (Empties kind) e = cc
@@ -156,97 +167,23 @@ frame_reported (Ok t) piece name values kept more number packet message before a
     by_event (Ends outcome) e = cc
     by_event (Ends_command result) e = cc
     by_event (Gives_param param) e = cc
-    by_event (Ends_params values) e = cc
+    by_event (Ends_params listed) e = cc
     by_event (Reaches number) e = cc
     by_event (Captures total) e = cc
 
--- ---- what ended
+pub frame_counted : {T E : Type 0} (r : Result T E) (piece : News) (packet : Packet) (kept more : List Kept) → OnOk r (more ≡ kept ++ kept_as packet ∷ []) → OnOk r (is_frame piece ≡ true → length more ≡ length kept + 1)
+frame_counted (Err e) piece packet kept more pushed = tt
+frame_counted (Ok t) piece packet kept more pushed = λ is. ap length pushed ∙ length-append kept (kept_as packet ∷ [])
 
--- one event without a frame
-event_reported : (event : Event) (kept more : List Kept) (before after : ReportState) → more ≡ kept → after ≡ reported before event → (more ≡ kept ++ []) × (after ≡ reports before (event ∷ []))
-event_reported event kept more before after same is_reported = (same ∙ sym (append-nil kept), is_reported ∙ reports-one before event)
-
-module _ {T E : Type 0} (r : Result T E) (piece : News) (name : Name) (values : List Param) (kept more : List Kept) (before after : ReportState) (same : more ≡ kept) where
-  abbrev Told : Type 0
-  Told = OnOk r ((event : NodeEvent) → said_by piece ≡ shown event → HaveValues values (event ∷ []) → Reported name (event ∷ []) kept more before after)
-
-  by_result : (P : Type 0) (s : Result T E) → OnOk s P → (P → (event : NodeEvent) → said_by piece ≡ shown event → HaveValues values (event ∷ []) → Reported name (event ∷ []) kept more before after)
-      → OnOk s ((event : NodeEvent) → said_by piece ≡ shown event → HaveValues values (event ∷ []) → Reported name (event ∷ []) kept more before after)
-  by_result P (Ok t) h tell = tell h
-  by_result P (Err e) h tell = tt
-
-  pub command_reported : (result : Option ℕ) → piece ≡ Command result → OnOk r (after ≡ reported before (Command_ended name result)) → Told
-  command_reported result is did = by_result (after ≡ reported before (Command_ended name result)) r did (λ h event e have. by_event h event (sym (ap said_by is) ∙ e))
-    where
-      by_event : after ≡ reported before (Command_ended name result) → (event : NodeEvent) → Shows_command result ≡ shown event → Reported name (event ∷ []) kept more before after
-      by_event h (Sends p m) e = cc
-      by_event h (Installs kind items by) e = cc
-      by_event h (Empties kind) e = cc
-      by_event h (Drops answer) e = cc
-      by_event h (Ends outcome) e = cc
-      by_event h (Ends_command other) e =
-          let e_is : result ≡ other = cc in
-          let one = event_reported (Command_ended name other) kept more before after same (h ∙ ap (λ (o : Option ℕ). reported before (Command_ended name o)) e_is) in
-          record { sent = one.0; report = one.1 }
-      by_event h (Gives_param param) e = cc
-      by_event h (Ends_params listed) e = cc
-      by_event h (Reaches number) e = cc
-      by_event h (Captures total) e = cc
-
-  pub param_reported : (param : Param) → piece ≡ Told_param param → OnOk r (after ≡ reported before (Param_given name param)) → Told
-  param_reported param is did = by_result (after ≡ reported before (Param_given name param)) r did (λ h event e have. by_event h event (sym (ap said_by is) ∙ e))
-    where
-      by_event : after ≡ reported before (Param_given name param) → (event : NodeEvent) → Shows_param param ≡ shown event → Reported name (event ∷ []) kept more before after
-      by_event h (Sends p m) e = cc
-      by_event h (Installs kind items by) e = cc
-      by_event h (Empties kind) e = cc
-      by_event h (Drops answer) e = cc
-      by_event h (Ends outcome) e = cc
-      by_event h (Ends_command other) e = cc
-      by_event h (Gives_param other) e =
-          let e_is : param ≡ other = cc in
-          let one = event_reported (Param_given name other) kept more before after same (h ∙ ap (λ (p : Param). reported before (Param_given name p)) e_is) in
-          record { sent = one.0; report = one.1 }
-      by_event h (Ends_params listed) e = cc
-      by_event h (Reaches number) e = cc
-      by_event h (Captures total) e = cc
-
-  -- the values of a list, which news don't have, are those that the node knows
-  pub list_reported : (count : ℕ) → piece ≡ Params (Some count) → OnOk r (after ≡ reported before (Params_ended name (Some values))) → Told
-  list_reported count is did = by_result (after ≡ reported before (Params_ended name (Some values))) r did (λ h event e have. by_event h event (sym (ap said_by is) ∙ e) have)
-    where
-      by_event : after ≡ reported before (Params_ended name (Some values)) → (event : NodeEvent) → Shows_params (Some count) ≡ shown event → HaveValues values (event ∷ []) → Reported name (event ∷ []) kept more before after
-      by_event h (Sends p m) e have = cc
-      by_event h (Installs kind items by) e have = cc
-      by_event h (Empties kind) e have = cc
-      by_event h (Drops answer) e have = cc
-      by_event h (Ends outcome) e have = cc
-      by_event h (Ends_command other) e have = cc
-      by_event h (Gives_param other) e have = cc
-      by_event h (Reaches number) e have = cc
-      by_event h (Captures total) e have = cc
-      by_event h (Ends_params None) e have = cc
-      by_event h (Ends_params (Some listed)) e have =
-          let one = event_reported (Params_ended name (Some listed)) kept more before after same (h ∙ ap (λ (l : List Param). reported before (Params_ended name (Some l))) (sym have.0)) in
-          record { sent = one.0; report = one.1 }
-
-  pub unanswered_reported : piece ≡ Params None → OnOk r (after ≡ reported before (Params_ended name None)) → Told
-  unanswered_reported is did = by_result (after ≡ reported before (Params_ended name None)) r did (λ h event e have. by_event h event (sym (ap said_by is) ∙ e))
-    where
-      by_event : after ≡ reported before (Params_ended name None) → (event : NodeEvent) → Shows_params None ≡ shown event → Reported name (event ∷ []) kept more before after
-      by_event h (Sends p m) e = cc
-      by_event h (Installs kind items by) e = cc
-      by_event h (Empties kind) e = cc
-      by_event h (Drops answer) e = cc
-      by_event h (Ends outcome) e = cc
-      by_event h (Ends_command other) e = cc
-      by_event h (Gives_param other) e = cc
-      by_event h (Ends_params None) e =
-          let one = event_reported (Params_ended name None) kept more before after same h in
-          record { sent = one.0; report = one.1 }
-      by_event h (Ends_params (Some listed)) e = cc
-      by_event h (Reaches number) e = cc
-      by_event h (Captures total) e = cc
+-- one piece that is kept, if it is a frame, and that the report says
+pub piece_reported : {T E : Type 0} (r : Result T E) (piece : News) (name : Name) (values : List Param) (kept more : List Kept) (number : ℕ) (before after : ReportState) → ((event : NodeEvent) → said_by piece ≡ shown event → more ≡ kept ++ map kept_as (packets_in (event ∷ []))) → (is_frame piece ≡ true → length more ≡ length kept + 1) → number ≡ length more
+    → OnOk r ((event : NodeEvent) (count : ℕ) → said_by piece ≡ shown event → HaveValues values (event ∷ []) → (is_frame piece ≡ true → number ≡ count + 1) → after ≡ reports before (reported_by name count (event ∷ [])))
+    → OnOk r ((event : NodeEvent) → said_by piece ≡ shown event → HaveValues values (event ∷ []) → Reported name (event ∷ []) kept more before after)
+piece_reported (Err e) piece name values kept more number before after frames counts is said = tt
+piece_reported (Ok t) piece name values kept more number before after frames counts is said = λ event e have. record {
+  sent = frames event e;
+  report = said event (length kept) e have (λ frame. is ∙ counts frame);
+}
 
 -- ---- how many frames are among news
 
@@ -291,6 +228,22 @@ event_sent (Gives_param param) xs = none_more _
 event_sent (Ends_params values) xs = none_more _
 event_sent (Reaches number) xs = none_more _
 event_sent (Captures total) xs = none_more _
+
+-- a piece that is no frame leaves what is kept
+pub nothing_kept : (piece : News) (kept : List Kept) → is_frame piece ≡ false → (event : NodeEvent) → said_by piece ≡ shown event → kept ≡ kept ++ map kept_as (packets_in (event ∷ []))
+nothing_kept piece kept none event e = by_event event (sym (ap is_sent e) ∙ (sym (piece_sent piece) ∙ none))
+  where
+    by_event : (event : NodeEvent) → is_sent (shown event) ≡ false → kept ≡ kept ++ map kept_as (packets_in (event ∷ []))
+    by_event (Sends packet message) bare = absurd (cc)
+    by_event (Installs kind items by) bare = sym (append-nil kept)
+    by_event (Empties kind) bare = sym (append-nil kept)
+    by_event (Drops answer) bare = sym (append-nil kept)
+    by_event (Ends told) bare = sym (append-nil kept)
+    by_event (Ends_command result) bare = sym (append-nil kept)
+    by_event (Gives_param param) bare = sym (append-nil kept)
+    by_event (Ends_params values) bare = sym (append-nil kept)
+    by_event (Reaches number) bare = sym (append-nil kept)
+    by_event (Captures total) bare = sym (append-nil kept)
 
 frames_counted : (ns : List News) (xs : List NodeEvent) (piece : News) (event : NodeEvent) → counted is_frame ns ≡ length (packets_in xs) → said_by piece ≡ shown event → counted is_frame (piece ∷ ns) ≡ length (packets_in (event ∷ xs))
 frames_counted ns xs piece event more e =

@@ -1,9 +1,11 @@
 // The events of a node's news: its frames are kept, and all of it is reported.
-ghost use Rattle.std.specs.Prelude.{◌≡◌, if◌then◌else◌, List, [], ◌∷◌, length, map, OnOk};
+ghost use Rattle.std.specs.Prelude.{◌≡◌, ◌+◌, ◌++◌, ℕ, true, if◌then◌else◌, List, [], ◌∷◌, length, map, OnOk};
 ghost use Rattle.mav_nodes.specs.News.{NodeEvent, shown, said_by, events_of};
 ghost use Rattle.plan_upload.specs.Addresses.{node_of};
 ghost use Rattle.fleet_world.specs.Counts.{is_frame, counted};
-ghost use Rattle.fleet_world.specs.Steps.{packets_in};
+ghost use Rattle.fleet_world.specs.Steps.{packets_in, reported_by};
+ghost use Rattle.fleet_world.specs.NodeSteps.{reports};
+ghost use Rattle.fleet_world.specs.WorldView.{kept_as};
 ghost use Rattle.fleet_world.specs.ParamLists.{HaveValues};
 ghost use Rattle.fleet_world.specs.Promises.{Reported};
 
@@ -51,22 +53,21 @@ pub(crate) fn frames_in(news: &[News]) -> usize
     count_frames(news)
 }
 
-// One piece of news of a node; a list that has ended has these values.
-fn report_one(
-    sent: &mut SentFrames,
+/// One piece of news of a node as the report says it. `number` is that of the frame, if one was sent; a list of parameters
+/// that has ended has these values.
+pub fn report_piece(
+    report: &mut Report,
     name: Name,
     values: &[Param],
+    number: usize,
     piece: &News,
-    report: &mut Report,
 ) -> Result<(), NoMemory>
-    ensures { OnOk result ((event : NodeEvent) → said_by piece.now ≡ shown event → HaveValues values.now (event ∷ [])
-        → Reported name (event ∷ []) sent.old sent.new report.old report.new) }
+    ensures { OnOk result ((event : NodeEvent) (before : ℕ) → said_by piece.now ≡ shown event → HaveValues values.now (event ∷ [])
+        → (is_frame piece.now ≡ true → number ≡ before + 1)
+        → report.new ≡ reports report.old (reported_by name before (event ∷ []))) }
 {
     match piece {
-        News::Sent(frame, message) => {
-            sent.push(frame)?;
-            report.sent(sent.len(), frame, message)
-        }
+        News::Sent(frame, message) => report.sent(number, frame, message),
         News::Installed { kind, count, by } => {
             report.installed(name, *kind, usize::from(*count), sender(*by))
         }
@@ -80,6 +81,32 @@ fn report_one(
         News::Reached(item) => report.reached(name, *item),
         News::Captured(total) => report.captured(name, *total),
     }
+}
+
+// The frame of a piece of news is kept, if it is one.
+fn keep_frame(sent: &mut SentFrames, piece: &News) -> Result<(), NoMemory>
+    ensures kept { OnOk result ((event : NodeEvent) → said_by piece.now ≡ shown event → sent.new ≡ sent.old ++ map kept_as (packets_in (event ∷ []))) }
+    ensures count { OnOk result (is_frame piece.now ≡ true → length sent.new ≡ length sent.old + 1) }
+{
+    match piece {
+        News::Sent(frame, _) => sent.push(frame),
+        _ => Ok(()),
+    }
+}
+
+// One piece of news of a node; a list that has ended has these values.
+fn report_one(
+    sent: &mut SentFrames,
+    name: Name,
+    values: &[Param],
+    piece: &News,
+    report: &mut Report,
+) -> Result<(), NoMemory>
+    ensures { OnOk result ((event : NodeEvent) → said_by piece.now ≡ shown event → HaveValues values.now (event ∷ [])
+        → Reported name (event ∷ []) sent.old sent.new report.old report.new) }
+{
+    keep_frame(sent, piece)?;
+    report_piece(report, name, values, sent.len(), piece)
 }
 
 /// The news of a node, one after another. Each list of parameters that has ended has these values.

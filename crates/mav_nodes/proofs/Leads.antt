@@ -21,7 +21,7 @@ use Rattle.mav_nodes.specs.Promises.{Did, SpentKeeping}
 use Rattle.mav_nodes.proofs.Cores.{Keeps, hears_keep}
 use Rattle.mav_nodes.proofs.Keeping.{none_yet, one_more, kept_so}
 
-behind_twice : {A : Type 0} (first next : List NodeEvent) (outcome : Outcome A) → behind first (behind next outcome) ≡ behind (first ++ next) outcome
+pub behind_twice : {A : Type 0} (first next : List NodeEvent) (outcome : Outcome A) → behind first (behind next outcome) ≡ behind (first ++ next) outcome
 behind_twice first next None = refl
 behind_twice first next (Some d) = ap (λ (l : List NodeEvent). Some (record { node = d.node; events = l })) (sym (append_assoc first next d.events))
 
@@ -29,7 +29,7 @@ nothing : (left : List ℕ) → length left ≡ 0 → left ≡ []
 nothing [] e = refl
 nothing (x ∷ xs) e = absurd (omega arith)
 
-behind_none : {A : Type 0} (outcome : Outcome A) → behind [] outcome ≡ outcome
+pub behind_none : {A : Type 0} (outcome : Outcome A) → behind [] outcome ≡ outcome
 behind_none None = refl
 behind_none (Some d) = refl
 

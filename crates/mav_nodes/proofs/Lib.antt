@@ -3,7 +3,7 @@ mod Tables
 mod Cores
 mod SendsAll
 mod ServiceSteps
-mod StoreCalls
+pub mod StoreCalls
 mod Changes
 mod Ends
 mod Starting
@@ -11,5 +11,7 @@ mod Keeping
 mod Missions
 mod Flown
 mod Leads
+mod Growing
+mod Parts
 pub mod Bounds
 pub mod Sendings

@@ -12,5 +12,6 @@ pub mod Images
 pub mod Starts
 pub mod Promises
 pub mod Cores
+pub mod Streams
 pub mod Returned
 pub mod Laws

@@ -1,11 +1,14 @@
 // A drone as a node.
-ghost use Rattle.std.specs.Prelude.{◌≡◌, ◌≢◌, ◌≤◌, ℕ, List, Bool, None, Some, [], IfOk, IfErr, OnOk, IfSome};
+ghost use Rattle.std.specs.Prelude.{◌≡◌, ◌≢◌, ◌≤◌, ◌++◌, ℕ, List, Bool, None, Some, [], length, IfOk, IfErr, OnOk, IfSome};
 ghost use Rattle.mav_nodes.specs.Stores.{Holds, Serves, HasFailed, AllKept};
 ghost use Rattle.mav_nodes.specs.Images.{StoreHolds};
 ghost use Rattle.mav_nodes.specs.Nodes.{DroneSide, IsDrone, new_drone, drone_receives, drone_receives_keeping, drone_ticks, drone_beats, drone_sims};
 ghost use Rattle.mav_nodes.specs.Promises.{DroneDid, DroneDidKeeping, Fails, FailsKeeping};
 ghost use Rattle.mav_nodes.specs.Restarts.{stored_drone};
 ghost use Rattle.mav_nodes.specs.Starts.{IsStarted, StartedFrom, StartFails};
+ghost use Rattle.mav_nodes.specs.Streams.{HasRead, DronePart, DronePartFails};
+ghost use Rattle.mav_frame.specs.declared.events.Event.{Event};
+ghost use Rattle.mav_sign.specs.Streams.{reader_of};
 
 use crate::drone_services::DroneServices;
 use crate::heartbeats::drone_heartbeat;
@@ -72,6 +75,7 @@ impl DroneNode {
     ) -> Result<DroneNode, StartFault>
         ensures started { IfOk result (IsStarted key sys (record { x = x; y = y })) }
         ensures from { IfSome (K.contents keeper.old) (λ bytes. IfOk result (StartedFrom key sys (record { x = x; y = y }) bytes)) }
+        ensures stream { IfOk result (λ node. HasRead [] [] node.link) }
         ensures stays { K.contents keeper.new ≡ K.contents keeper.old }
         ensures serves { Serves K.faults K.is_infallible keeper.old keeper.new }
         ensures fault { IfErr result (λ fault. StartFails fault sys (K.contents keeper.old) (HasFailed K.faults K.is_infallible keeper.old keeper.new)) }
@@ -86,7 +90,8 @@ impl DroneNode {
 
     // A drone that nothing was stored of.
     fn fresh(alloc: Global, key: Key, sys: u8, x: i32, y: i32) -> Result<DroneNode, NoMemory>
-        ensures { IfOk result (λ node. IsDrone (new_drone key sys (record { x = x; y = y })) node) }
+        ensures fresh { IfOk result (λ node. IsDrone (new_drone key sys (record { x = x; y = y })) node) }
+        ensures stream { IfOk result (λ node. HasRead [] [] node.link) }
     {
         let link = Link::new(alloc, key, stream_of(sys))?;
         let services = DroneServices::new(alloc, sys, x, y)?;
@@ -110,7 +115,8 @@ impl DroneNode {
         y: i32,
         kept: &Kept,
     ) -> Result<DroneNode, NoMemory>
-        ensures { IfOk result (λ node. IsDrone (stored_drone key sys (record { x = x; y = y }) kept.now.low kept.now.plans) node) }
+        ensures restored { IfOk result (λ node. IsDrone (stored_drone key sys (record { x = x; y = y }) kept.now.low kept.now.plans) node) }
+        ensures stream { IfOk result (λ node. HasRead [] [] node.link) }
     {
         let link = Link::start(alloc, key, stream_of(sys), kept.floor)?;
         let services = DroneServices::new(alloc, sys, x, y)?;
@@ -166,6 +172,7 @@ impl DroneNode {
         ensures infallible { IfOk result (λ news. (node : DroneSide) → IsDrone node self.old → K.is_infallible keeper.old
             → DroneDid (drone_receives clock datagram.now node) self.new [] news.items) }
         ensures stored { OnOk result (StoreHolds (K.contents keeper.old) self.old → StoreHolds (K.contents keeper.new) self.new) }
+        ensures reader { reader_of self.new.link.endpoint ≡ reader_of self.old.link.endpoint }
         ensures serves { Serves K.faults K.is_infallible keeper.old keeper.new }
         ensures fault { IfErr result (λ fault. FailsKeeping fault (λ (node : DroneSide). IsDrone node self.old)
             (λ (keeps : List Bool) (node : DroneSide). drone_receives_keeping clock keeps datagram.now node)
@@ -184,11 +191,39 @@ impl DroneNode {
         )
     }
 
+    /// Takes a piece of a stream, which may cut frames anywhere: each frame by which the parse of the stream grows with it,
+    /// in order, and each reply is sent before the next frame is tried. Returns how many bytes it took, which is all of
+    /// them.
+    pub fn part<K: Keeper>(
+        &mut self,
+        piece: &[u8],
+        clock: u64,
+        keeper: &mut K,
+    ) -> Result<(usize, Vec<News>), NodeFault>
+        ensures count { IfOk result (λ part. part.0 ≡ length piece.now) }
+        ensures done { IfOk result (λ part. (node : DroneSide) (taken : List ℕ) (given : List Event) → IsDrone node self.old → HasRead taken given self.old.link
+            → DronePart clock node (taken ++ piece.now) given (AllKept (HasFailed K.faults K.is_infallible keeper.old keeper.new)) self.new part.1.items) }
+        ensures stored { OnOk result (StoreHolds (K.contents keeper.old) self.old → StoreHolds (K.contents keeper.new) self.new) }
+        ensures serves { Serves K.faults K.is_infallible keeper.old keeper.new }
+        ensures fault { IfErr result (λ fault. DronePartFails fault clock self.old piece.now (AllKept (HasFailed K.faults K.is_infallible keeper.old keeper.new)) (HasFailed K.faults K.is_infallible keeper.old keeper.new)) }
+    {
+        node::part(
+            self.alloc,
+            &mut self.link,
+            &mut self.drone,
+            &mut self.services,
+            keeper,
+            piece,
+            clock,
+        )
+    }
+
     /// One tick: an open upload asks again or is closed, and an idle download is closed.
     pub fn tick<K: Keeper>(&mut self, clock: u64, keeper: &mut K) -> Result<Vec<News>, NodeFault>
         ensures done { IfOk result (λ news. (node : DroneSide) → IsDrone node self.old
             → DroneDid (drone_ticks clock node) self.new [] news.items) }
         ensures stored { OnOk result (StoreHolds (K.contents keeper.old) self.old → StoreHolds (K.contents keeper.new) self.new) }
+        ensures reader { reader_of self.new.link.endpoint ≡ reader_of self.old.link.endpoint }
         ensures serves { Serves K.faults K.is_infallible keeper.old keeper.new }
         ensures fault { IfErr result (λ fault. Fails fault (λ (node : DroneSide). IsDrone node self.old) (λ (node : DroneSide). drone_ticks clock node)
             (HasFailed K.faults K.is_infallible keeper.old keeper.new)) }
@@ -209,6 +244,7 @@ impl DroneNode {
         ensures done { IfOk result (λ news. (node : DroneSide) → IsDrone node self.old
             → DroneDid (drone_sims clock node) self.new [] news.items) }
         ensures stored { OnOk result (StoreHolds (K.contents keeper.old) self.old → StoreHolds (K.contents keeper.new) self.new) }
+        ensures reader { reader_of self.new.link.endpoint ≡ reader_of self.old.link.endpoint }
         ensures serves { Serves K.faults K.is_infallible keeper.old keeper.new }
         ensures fault { IfErr result (λ fault. Fails fault (λ (node : DroneSide). IsDrone node self.old) (λ (node : DroneSide). drone_sims clock node)
             (HasFailed K.faults K.is_infallible keeper.old keeper.new)) }
@@ -236,6 +272,7 @@ impl DroneNode {
         ensures done { IfOk result (λ news. (node : DroneSide) → IsDrone node self.old
             → DroneDid (drone_beats clock node) self.new [] news.items) }
         ensures stored { OnOk result (StoreHolds (K.contents keeper.old) self.old → StoreHolds (K.contents keeper.new) self.new) }
+        ensures reader { reader_of self.new.link.endpoint ≡ reader_of self.old.link.endpoint }
         ensures serves { Serves K.faults K.is_infallible keeper.old keeper.new }
         ensures fault { IfErr result (λ fault. Fails fault (λ (node : DroneSide). IsDrone node self.old) (λ (node : DroneSide). drone_beats clock node)
             (HasFailed K.faults K.is_infallible keeper.old keeper.new)) }

@@ -1,9 +1,10 @@
-//! Drones and stations as nodes over datagrams: each frame that comes in is tried, an admitted plan message goes to the
-//! node's plan core, one of commands or parameters to its services, and what they reply is sent at once in signed frames.
+//! Drones and stations as nodes over datagrams, or over streams that come in pieces: each frame that comes in is tried, an
+//! admitted plan message goes to the node's plan core, one of commands or parameters to its services, and what they reply
+//! is sent at once in signed frames.
 //!
 //! A node reports all that happened as a list of [`News`]; a caller sends the frames among them. What a node does is a
-//! total function of its state, the datagram, the clock and what its store keeps. It has no link of its own, no clock and
-//! no store.
+//! total function of its state, what comes in, the clock and what its store keeps. It has no link of its own, no clock and
+//! no store. Of a stream it holds the bytes that are in no frame yet, at most 280.
 //!
 //! A drone's store, which is handed to each call, has its plans and a low bound of timestamps: a drone that starts again
 //! has those plans, and admits and sends only timestamps above the bound. The drone saves before a timestamp above the

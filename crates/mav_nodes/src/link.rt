@@ -1,5 +1,5 @@
 // A node's end of its links.
-ghost use Rattle.std.specs.Prelude.{◌≡◌, ◌≤◌, ◌<◌, ◌^◌, ℕ, List, Option, map, Some, None, IfOk, IfErr, OnOk, IfSome};
+ghost use Rattle.std.specs.Prelude.{◌≡◌, ◌≤◌, ◌<◌, ◌^◌, ◌++◌, ℕ, List, [], Option, map, Some, None, length, take, IfOk, IfErr, OnOk, IfSome};
 ghost use Rattle.mav_profile.specs.Messages.{extras_of};
 ghost use Rattle.mav_profile.specs.Profile.{profile_definitions};
 ghost use Rattle.field_layout.specs.Payload.{Represents};
@@ -8,6 +8,8 @@ ghost use Rattle.mav_messages.specs.Messages.{definition_of, values_of, profile_
 ghost use Rattle.mav_nodes.specs.Payloads.{plan_in, service_in, service_of as service_carried, ItemFits, ServiceFits};
 ghost use Rattle.mav_sign.specs.Endpoints.{HasProfile, HeardIs};
 ghost use Rattle.mav_sign.specs.History.{answer_to};
+ghost use Rattle.mav_sign.specs.Streams.{reader_of, ReadTo};
+ghost use Rattle.mav_frame.specs.declared.events.Event.{Event};
 ghost use Rattle.mav_nodes.specs.LowBounds.{bound_for, raised, raised_for, raised_if};
 ghost use Rattle.mav_nodes.specs.Stores.{Holds, HoldsNearly, StoredBefore, Serves, HasFailed, HasFailedAt};
 ghost use Rattle.mav_nodes.specs.Links.{Link as LinkState, IsEnd, IsLink, new_link, started_link, tries, sends, sends_all};
@@ -15,6 +17,7 @@ ghost use Rattle.mav_nodes.specs.News.{NodeEvent, shown};
 ghost use Rattle.mav_nodes.specs.Steps.{answers};
 ghost use Rattle.mav_nodes.specs.Cores.{said_of_plans, said_of_outcome, says};
 ghost use Rattle.mav_nodes.specs.Promises.{Did, LinkDid, IsTried, Fails};
+ghost use Rattle.mav_nodes.specs.Streams.{HasRead};
 
 use crate::news::tell;
 use crate::steps::{Core, Step, tell_outcome, tell_plans};
@@ -159,7 +162,8 @@ fn bound_for(stamp: u64) -> u64
 impl Link {
     /// A link that has received and sent nothing, and knows the messages of the profile.
     pub(crate) fn new(alloc: Global, key: Key, me: Stream) -> Result<Link, NoMemory>
-        ensures { IfOk result (λ link. IsLink (new_link key me (extras_of profile_definitions)) link) }
+        ensures new { IfOk result (λ link. IsLink (new_link key me (extras_of profile_definitions)) link) }
+        ensures stream { IfOk result (λ link. HasRead [] [] link) }
     {
         let extras = profile_extras(alloc)?;
         let endpoint = Endpoint::new(alloc, key, me, extras.copy()?)?;
@@ -174,7 +178,8 @@ impl Link {
     /// A link that starts again with the low bound that was stored.
     pub(crate) fn start(alloc: Global, key: Key, me: Stream, low: u64) -> Result<Link, NoMemory>
         requires { low < 2 ^ 48 }
-        ensures { IfOk result (λ link. IsLink (started_link key me (extras_of profile_definitions) (Some low)) link) }
+        ensures started { IfOk result (λ link. IsLink (started_link key me (extras_of profile_definitions) (Some low)) link) }
+        ensures stream { IfOk result (λ link. HasRead [] [] link) }
     {
         let extras = profile_extras(alloc)?;
         let endpoint = Endpoint::start(alloc, key, me, extras.copy()?, low)?;
@@ -204,6 +209,19 @@ impl Link {
         self.low
     }
 
+    /// Takes bytes of a stream, and returns how many it took and the next frame of the stream, which isn't tried. Without a frame
+    /// it took the whole piece.
+    pub(crate) fn read(&mut self, piece: &[u8]) -> (usize, Option<Frame>)
+        ensures count { result.0 ≤ length piece.now }
+        ensures read { (taken : List ℕ) (given : List Event) → HasRead taken given self.old
+            → ReadTo self.old.endpoint.extras (taken ++ take result.0 piece.now) given result.1 (reader_of self.new.endpoint) }
+        ensures none { result.1 ≡ None → result.0 ≡ length piece.now }
+        ensures link { (link : LinkState) → IsLink link self.old → IsLink link self.new }
+        ensures low { self.new.low ≡ self.old.low }
+    {
+        self.endpoint.read(piece)
+    }
+
     // Before a timestamp is admitted or sent, the store has a bound that isn't below it.
     fn raise<K: Keeper, C: Core>(
         &mut self,
@@ -215,6 +233,7 @@ impl Link {
         ensures low { OnOk result (self.new ≡ record self.old { low = raised self.old.low stamp }) }
         ensures stored { OnOk result (Holds (K.contents keeper.old) (C.stored core.now) self.old.low → Holds (K.contents keeper.new) (C.stored core.now) self.new.low) }
         ensures settled { OnOk result (1 ≤ stamp → HoldsNearly (K.contents keeper.old) (C.stored core.now) self.old.low → Holds (K.contents keeper.new) (C.stored core.now) self.new.low) }
+        ensures reader { reader_of self.new.endpoint ≡ reader_of self.old.endpoint }
         ensures serves { Serves K.faults K.is_infallible keeper.old keeper.new }
         ensures fault { IfErr result (λ fault. HasFailedAt fault K.faults K.is_infallible keeper.old keeper.new) }
     {
@@ -237,6 +256,7 @@ impl Link {
         ensures low { OnOk result ((link : LinkState) → IsLink link self.old
             → self.new ≡ record self.old { low = raised_if self.old.low (answer_to link.key link.history frame.now) frame.now.block }) }
         ensures stored { OnOk result (Holds (K.contents keeper.old) (C.stored core.now) self.old.low → Holds (K.contents keeper.new) (C.stored core.now) self.new.low) }
+        ensures reader { reader_of self.new.endpoint ≡ reader_of self.old.endpoint }
         ensures serves { Serves K.faults K.is_infallible keeper.old keeper.new }
         ensures fault { IfErr result (λ fault. HasFailedAt fault K.faults K.is_infallible keeper.old keeper.new) }
     {
@@ -256,6 +276,7 @@ impl Link {
         ensures heard { IfOk result (λ heard. (link : LinkState) → IsLink link self.old → HeardIs link.key link.history frame.now heard) }
         ensures link { OnOk result ((link : LinkState) → IsLink link self.old → IsLink (tries frame.now link) self.new) }
         ensures stored { OnOk result (Holds (K.contents keeper.old) (C.stored core.now) self.old.low → Holds (K.contents keeper.new) (C.stored core.now) self.new.low) }
+        ensures reader { reader_of self.new.endpoint ≡ reader_of self.old.endpoint }
         ensures serves { Serves K.faults K.is_infallible keeper.old keeper.new }
         ensures fault { IfErr result (λ fault. HasFailedAt fault K.faults K.is_infallible keeper.old keeper.new) }
     {
@@ -274,6 +295,7 @@ impl Link {
         ensures tried { IfOk result (λ tried. (link : LinkState) → IsLink link self.old → IsTried link frame.now tried) }
         ensures link { OnOk result ((link : LinkState) → IsLink link self.old → IsLink (tries frame.now link) self.new) }
         ensures stored { OnOk result (Holds (K.contents keeper.old) (C.stored core.now) self.old.low → Holds (K.contents keeper.new) (C.stored core.now) self.new.low) }
+        ensures reader { reader_of self.new.endpoint ≡ reader_of self.old.endpoint }
         ensures serves { Serves K.faults K.is_infallible keeper.old keeper.new }
         ensures fault { IfErr result (λ fault. HasFailedAt fault K.faults K.is_infallible keeper.old keeper.new) }
     {
@@ -293,6 +315,7 @@ impl Link {
         ensures sent { OnOk result ((link : LinkState) → IsLink link self.old
             → LinkDid (sends clock message.now link) self.new news.old.items news.new.items) }
         ensures stored { OnOk result (HoldsNearly (K.contents keeper.old) (C.stored core.now) self.old.low → Holds (K.contents keeper.new) (C.stored core.now) self.new.low) }
+        ensures reader { reader_of self.new.endpoint ≡ reader_of self.old.endpoint }
         ensures serves { Serves K.faults K.is_infallible keeper.old keeper.new }
         ensures fault { IfErr result (λ fault. Fails fault (λ (link : LinkState). IsLink link self.old) (λ (link : LinkState). sends clock message.now link)
             (HasFailed K.faults K.is_infallible keeper.old keeper.new)) }
@@ -312,6 +335,7 @@ impl Link {
         ensures sent { OnOk result ((link : LinkState) → IsEnd link self.old.endpoint
             → Did (sends clock message.now link) (λ end. IsEnd end self.new.endpoint) news.old.items news.new.items) }
         ensures low { self.new.low ≡ self.old.low }
+        ensures reader { reader_of self.new.endpoint ≡ reader_of self.old.endpoint }
         ensures fault { IfErr result (λ fault. Fails fault (λ (link : LinkState). IsEnd link self.old.endpoint) (λ (link : LinkState). sends clock message.now link) ⊥) }
     {
         let frame = self.endpoint.send(message, clock)?;
@@ -330,6 +354,7 @@ impl Link {
         ensures sent { OnOk result ((link : LinkState) → IsLink link self.old
             → LinkDid (answers clock answer link) self.new news.old.items news.new.items) }
         ensures stored { OnOk result (StoredBefore answer (K.contents keeper.old) (C.stored core.now) self.old.low → Holds (K.contents keeper.new) (C.stored core.now) self.new.low) }
+        ensures reader { reader_of self.new.endpoint ≡ reader_of self.old.endpoint }
         ensures serves { Serves K.faults K.is_infallible keeper.old keeper.new }
         ensures fault { IfErr result (λ fault. Fails fault (λ (link : LinkState). IsLink link self.old) (λ (link : LinkState). answers clock answer link)
             (HasFailed K.faults K.is_infallible keeper.old keeper.new)) }
@@ -355,6 +380,7 @@ impl Link {
         ensures sent { OnOk result ((link : LinkState) → IsLink link self.old
             → LinkDid (sends_all clock messages.now link) self.new news.old.items news.new.items) }
         ensures stored { OnOk result (Holds (K.contents keeper.old) (C.stored core.now) self.old.low → Holds (K.contents keeper.new) (C.stored core.now) self.new.low) }
+        ensures reader { reader_of self.new.endpoint ≡ reader_of self.old.endpoint }
         ensures serves { Serves K.faults K.is_infallible keeper.old keeper.new }
         ensures fault { IfErr result (λ fault. Fails fault (λ (link : LinkState). IsLink link self.old) (λ (link : LinkState). sends_all clock messages.now link)
             (HasFailed K.faults K.is_infallible keeper.old keeper.new)) }
@@ -380,6 +406,7 @@ impl Link {
             → said_of_plans step.plans ≡ map shown first → said_of_outcome step.outcome ≡ map shown last
             → LinkDid (says clock first step.answer last link) self.new news.old.items news.new.items) }
         ensures stored { OnOk result (StoredBefore step.answer (K.contents keeper.old) (C.stored core.now) self.old.low → Holds (K.contents keeper.new) (C.stored core.now) self.new.low) }
+        ensures reader { reader_of self.new.endpoint ≡ reader_of self.old.endpoint }
         ensures serves { Serves K.faults K.is_infallible keeper.old keeper.new }
         ensures fault { IfErr result (λ fault. (first last : List NodeEvent)
             → Fails fault (λ (link : LinkState). IsLink link self.old) (λ (link : LinkState). says clock first step.answer last link)

@@ -1,5 +1,5 @@
 // A ground station as a node.
-ghost use Rattle.std.specs.Prelude.{◌≡◌, [], IfOk, IfErr, OnOk, OnErr, IsFalse, IsTrue};
+ghost use Rattle.std.specs.Prelude.{◌≡◌, ◌++◌, ℕ, List, [], length, IfOk, IfErr, OnOk, OnErr, IsFalse, IsTrue};
 ghost use Rattle.plan_upload.specs.Station.{StationState, StationStep};
 ghost use Rattle.mav_nodes.specs.Links.{Link as LinkState, IsLink};
 ghost use Rattle.mav_nodes.specs.Services.{ServiceStep, StationServices as StationServicesState};
@@ -8,6 +8,9 @@ ghost use Rattle.mav_nodes.specs.Cores.{IsStep, IsServed};
 ghost use Rattle.param_proto.specs.Client.{known_values};
 ghost use Rattle.mav_nodes.specs.Nodes.{StationSide, IsStation, IsAccepted, new_station, station_receives, station_ticks, station_beats, station_does, station_obeys, order_step, order_refusal, is_service};
 ghost use Rattle.plan_upload.specs.Station.{station_tick};
+ghost use Rattle.mav_nodes.specs.Streams.{HasRead, StationPart, StationPartFails};
+ghost use Rattle.mav_frame.specs.declared.events.Event.{Event};
+ghost use Rattle.mav_sign.specs.Streams.{reader_of};
 ghost use Rattle.mav_nodes.specs.Promises.{StationDid, Fails, IsPlanRefusal, OrderFails, OrderKeeps};
 
 use crate::heartbeats::station_heartbeat;
@@ -137,7 +140,8 @@ impl StationNode {
     /// A station with this stream and boot time in microseconds. It knows the messages of the profile. All its
     /// memory is allocated here, but for the news.
     pub fn new(alloc: Global, key: Key, me: Stream, boot: u64) -> Result<StationNode, NoMemory>
-        ensures { IfOk result (λ node. IsStation (new_station key me boot) node) }
+        ensures new { IfOk result (λ node. IsStation (new_station key me boot) node) }
+        ensures stream { IfOk result (λ node. HasRead [] [] node.link) }
     {
         let link = Link::new(alloc, key, me)?;
         let name = Name {
@@ -159,6 +163,7 @@ impl StationNode {
     pub fn receive(&mut self, datagram: &[u8], clock: u64) -> Result<Vec<News>, NodeFault>
         ensures done { IfOk result (λ news. (node : StationSide) → IsStation node self.old
             → StationDid (station_receives clock datagram.now node) self.new [] news.items) }
+        ensures reader { reader_of self.new.link.endpoint ≡ reader_of self.old.link.endpoint }
         ensures fault { IfErr result (λ fault. Fails fault (λ (node : StationSide). IsStation node self.old) (λ (node : StationSide). station_receives clock datagram.now node) ⊥) }
     {
         node::receive(
@@ -172,11 +177,32 @@ impl StationNode {
         )
     }
 
+    /// Takes a piece of a stream, which may cut frames anywhere: each frame by which the parse of the stream grows with it,
+    /// in order, and each reply is sent before the next frame is tried. Returns how many bytes it took, which is all of
+    /// them.
+    pub fn part(&mut self, piece: &[u8], clock: u64) -> Result<(usize, Vec<News>), NodeFault>
+        ensures count { IfOk result (λ part. part.0 ≡ length piece.now) }
+        ensures done { IfOk result (λ part. (node : StationSide) (taken : List ℕ) (given : List Event) → IsStation node self.old → HasRead taken given self.old.link
+            → StationPart clock node (taken ++ piece.now) given self.new part.1.items) }
+        ensures fault { IfErr result (λ fault. StationPartFails fault clock self.old piece.now) }
+    {
+        node::part(
+            self.alloc,
+            &mut self.link,
+            &mut self.station,
+            &mut self.services,
+            &mut NoStore::new(self.alloc),
+            piece,
+            clock,
+        )
+    }
+
     /// Follows an order, or refuses it. The message that it sends for it is among the news.
     pub fn order(&mut self, order: Order, clock: u64) -> Result<Vec<News>, OrderFault>
         ensures accepted { OnOk result (IsAccepted self.old order) }
         ensures done { IfOk result (λ news. (node : StationSide) → IsStation node self.old
             → StationDid (station_obeys clock order node) self.new [] news.items) }
+        ensures reader { reader_of self.new.link.endpoint ≡ reader_of self.old.link.endpoint }
         ensures fault { IfErr result (λ fault. OrderFails clock order self.old fault) }
         ensures unchanged { IfErr result (λ fault. OrderKeeps self.old self.new fault) }
     {
@@ -192,6 +218,7 @@ impl StationNode {
         ensures accepted { OnOk result (IsAccepted self.old order) }
         ensures done { IfOk result (λ news. (node : StationSide) → IsStation node self.old
             → StationDid (station_obeys clock order node) self.new [] news.items) }
+        ensures reader { reader_of self.new.link.endpoint ≡ reader_of self.old.link.endpoint }
         ensures fault { IfErr result (λ fault. OrderFails clock order self.old fault) }
         ensures unchanged { IfErr result (λ fault. OrderKeeps self.old self.new fault) }
     {
@@ -214,6 +241,7 @@ impl StationNode {
         ensures accepted { OnOk result (IsAccepted self.old order) }
         ensures done { IfOk result (λ news. (node : StationSide) → IsStation node self.old
             → StationDid (station_obeys clock order node) self.new [] news.items) }
+        ensures reader { reader_of self.new.link.endpoint ≡ reader_of self.old.link.endpoint }
         ensures fault { IfErr result (λ fault. OrderFails clock order self.old fault) }
         ensures unchanged { IfErr result (λ fault. OrderKeeps self.old self.new fault) }
     {
@@ -229,6 +257,7 @@ impl StationNode {
     fn say(&mut self, served: Served, clock: u64, news: &mut Vec<News>) -> Result<(), NodeFault>
         ensures done { OnOk result ((link : LinkState) (step : ServiceStep StationServicesState) → IsLink link self.old.link → IsServed step self.old.services served
             → StationDid (serves clock link self.old.station step) self.new news.old.items news.new.items) }
+        ensures reader { reader_of self.new.link.endpoint ≡ reader_of self.old.link.endpoint }
         ensures fault { IfErr result (λ fault. (step : ServiceStep StationServicesState) → IsServed step self.old.services served
             → Fails fault (λ (link : LinkState). IsLink link self.old.link) (λ (link : LinkState). serves clock link self.old.station step) ⊥) }
     {
@@ -248,6 +277,7 @@ impl StationNode {
     pub fn tick(&mut self, clock: u64) -> Result<Vec<News>, NodeFault>
         ensures done { IfOk result (λ news. (node : StationSide) → IsStation node self.old
             → StationDid (station_ticks clock node) self.new [] news.items) }
+        ensures reader { reader_of self.new.link.endpoint ≡ reader_of self.old.link.endpoint }
         ensures fault { IfErr result (λ fault. Fails fault (λ (node : StationSide). IsStation node self.old) (λ (node : StationSide). station_ticks clock node) ⊥) }
     {
         let mut news = self.tick_core(clock)?;
@@ -260,6 +290,7 @@ impl StationNode {
     fn tick_core(&mut self, clock: u64) -> Result<Vec<News>, NodeFault>
         ensures done { IfOk result (λ news. (node : StationSide) → IsStation node self.old
             → StationDid (steps clock node.link node.services (station_does (station_tick node.core))) self.new [] news.items) }
+        ensures reader { reader_of self.new.link.endpoint ≡ reader_of self.old.link.endpoint }
         ensures fault { IfErr result (λ fault. Fails fault (λ (node : StationSide). IsStation node self.old)
             (λ (node : StationSide). steps clock node.link node.services (station_does (station_tick node.core))) ⊥) }
     {
@@ -284,6 +315,7 @@ impl StationNode {
     pub fn heartbeat(&mut self, clock: u64) -> Result<Vec<News>, NodeFault>
         ensures done { IfOk result (λ news. (node : StationSide) → IsStation node self.old
             → StationDid (station_beats clock node) self.new [] news.items) }
+        ensures reader { reader_of self.new.link.endpoint ≡ reader_of self.old.link.endpoint }
         ensures fault { IfErr result (λ fault. Fails fault (λ (node : StationSide). IsStation node self.old) (λ (node : StationSide). station_beats clock node) ⊥) }
     {
         let message = station_heartbeat();

@@ -1,4 +1,4 @@
-use Rattle.std.proofs.Common.{ℕ, ◌+◌, ◌≤◌, length, drop, length-drop, sym, ◌∙◌, arith, Bool, List, subst}
+use Rattle.std.proofs.Common.{ℕ, ◌+◌, ◌≤◌, length, drop, length-drop, refl, sym, ◌∙◌, arith, Bool, List, subst}
 use Rattle.std.proofs.lemmas.Result.{err_from_is_err_and}
 use Rattle.mav_frame.specs.declared.events.Event.TheVariants.{Frame, Skipped}
 use Rattle.mav_nodes.specs.declared.faults.NodeFault.{NodeFault}
@@ -56,6 +56,7 @@ loop-place-preserved g c =
             within = within;
             serves = serves_both faults sure old then now c.loop-place.invariant.serves w.hear.ensures.serves;
             stored = λ held. w.in_ok-hear-in-Frame.ensures.stored (c.loop-place.invariant.stored held);
+            reader = w.hear.ensures.reader ∙ c.loop-place.invariant.reader;
             leads = λ node is.
                 let l = c.loop-place.invariant.leads node is in
                 let same = c.extras.ensures ∙ l.is.link.end.extras in
@@ -70,6 +71,7 @@ loop-place-preserved g c =
             within = within;
             serves = c.loop-place.invariant.serves;
             stored = c.loop-place.invariant.stored;
+            reader = c.loop-place.invariant.reader;
             leads = λ node is.
                 let l = c.loop-place.invariant.leads node is in
                 let same = c.extras.ensures ∙ l.is.link.end.extras in
@@ -83,6 +85,7 @@ loop-place-init g c = record {
   within = omega arith;
   serves = serves_same g.K.Keeper.faults g.K.Keeper.is_infallible c.args.keeper.now;
   stored = λ held. held;
+  reader = refl;
   leads = λ node is. leads_at_first (rules_of g.C.Core.taken g.V.Services.noted g.V.Services.served) c.args.clock node c.args.datagram.now (λ n. IsNode n c.args.link.now c.args.core.now c.args.services.now) (HasFailed g.K.Keeper.faults g.K.Keeper.is_infallible c.args.keeper.now c.args.keeper.now) c.new-news.result.items c.new-news.ensures.items is;
 }
 

@@ -8,4 +8,4 @@ use Rattle.fleet_world.proofs.fleet.Fleet.add_station.Goals as goal
 
 pub returns-clause-joins : goal.returns-clause-joins
 returns-clause-joins c =
-    fleet_joined _ _ _ (λ (f : Fleet). Station (new_station f.key (stream_of c.args.name) 0)) _ _ c.self.view_is (subst (λ (me : Stream). IsStation (new_station c.self.inside.key me 0) c.in_ok-station.station) c.stream.ensures c.in_ok-station.ensures) c.in_ok-push.ensures.items c.push-2.ensures.ok
+    fleet_joined _ _ _ (λ (f : Fleet). Station (new_station f.key (stream_of c.args.name) 0)) _ _ c.self.view_is (subst (λ (me : Stream). IsStation (new_station c.self.inside.key me 0) c.in_ok-station.station) c.stream.ensures c.in_ok-station.ensures.new) c.in_ok-push.ensures.items c.push-2.ensures.ok

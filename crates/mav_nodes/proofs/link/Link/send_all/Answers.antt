@@ -1,4 +1,4 @@
-use Rattle.std.proofs.Common.{◌+◌, drop, get_or, sym, subst, arith}
+use Rattle.std.proofs.Common.{◌+◌, drop, get_or, refl, sym, ◌∙◌, subst, arith}
 use Rattle.std.proofs.lemmas.List.{drop_more, drop_all}
 use Rattle.std.proofs.lemmas.Result.{err_from_is_err_and}
 use Rattle.mav_messages.specs.declared.messages.Message.{Message}
@@ -20,6 +20,7 @@ loop-index-init g c = record {
   within = omega arith;
   serves = serves_same g.K.Keeper.faults g.K.Keeper.is_infallible c.args.keeper.now;
   stored = λ held. held;
+  reader = refl;
   sent = λ link is. at_first c.args.clock c.args.messages.now link c.args.self.now c.args.news.now.items is;
 }
 
@@ -33,6 +34,7 @@ loop-index-preserved g c =
       within = omega (arith, c.loop-index-test.true);
       serves = serves_both faults sure c.args.keeper.now c.loop-index.keeper c.send.new.keeper c.loop-index.invariant.serves c.send.ensures.serves;
       stored = λ held. c.in_ok-send.ensures.stored (held_nearly (g.K.Keeper.contents c.loop-index.keeper) (g.C.Core.stored c.args.core.now) c.loop-index.self.low (c.loop-index.invariant.stored held));
+      reader = c.send.ensures.reader ∙ c.loop-index.invariant.reader;
       sent = λ link is. one_more c.args.clock (sends_all c.args.clock messages link) _ (drop (index + 1) messages) c.loop-index.self c.send.new.self c.args.news.now.items c.loop-index.news.items c.send.new.news.items
           (subst (λ left. SentSoFar c.args.clock (sends_all c.args.clock messages link) left c.loop-index.self c.args.news.now.items c.loop-index.news.items) (drop_more messages index no_message c.loop-index-test.true) (c.loop-index.invariant.sent link is)) c.in_ok-send.ensures.sent;
     }
@@ -50,6 +52,12 @@ returns-clause-stored g c = c.loop-index.invariant.stored
 
 pub returns-clause-serves : goal.returns-clause-serves
 returns-clause-serves g c = c.loop-index.invariant.serves
+
+pub returns-clause-reader : goal.returns-clause-reader
+returns-clause-reader g c = c.loop-index.invariant.reader
+
+pub returns-in_err-send-clause-reader : goal.returns-in_err-send-clause-reader
+returns-in_err-send-clause-reader g c = c.send.ensures.reader ∙ c.loop-index.invariant.reader
 
 pub returns-in_err-send-clause-fault : goal.returns-in_err-send-clause-fault
 returns-in_err-send-clause-fault g c =
