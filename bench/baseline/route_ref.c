@@ -5,7 +5,7 @@
  *
  * In rounds it reads 4,096 bytes of each port, finds the frames of MAVLink 2 whose checksum is right,
  * looks up the ports behind which their target is, and then writes each frame there: by a write of
- * its own, as a router does that sends each packet at once, or with -b 64 KiB at a time.  It knows
+ * its own, or with -b 64 KiB at a time.  It knows
  * the messages that gen_route makes, keeps no journal, prints nothing and verifies no signature.
  *
  *     gcc -std=c11 -O2 -o route_ref route_ref.c

@@ -1,3 +1,4 @@
+pub mod Datagrams
 pub mod Links
 pub mod MemLinks
 pub mod Tallies

@@ -2,12 +2,13 @@
 //!
 //! A [`Link`] promises what its two halves do, with one count of faults; [`write_prefix`] and [`write_link`] write
 //! all of some bytes, or stop at the first write that fails. [`MemLink`] is over memory and exact; [`FileLink`],
-//! [`TcpLink`] and [`UdpLink`] wrap files and sockets and promise nothing of what these hold. Nothing here allocates but
-//! the constructors.
+//! [`TcpLink`] and [`UdpLink`] wrap files and sockets and promise nothing of what these hold. A `UdpLink` sends each frame
+//! in a datagram of its own, though many are written together. Nothing here allocates but the constructors.
 #![tactic(auto)]
 
 mod boxed;
 mod closing_stream;
+mod datagrams;
 mod file_link;
 mod links;
 mod mem_link;

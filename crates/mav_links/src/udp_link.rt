@@ -5,6 +5,7 @@ ghost use Rattle.mav_ports.specs.Puts.{TakesWithin};
 ghost use Rattle.mav_links.specs.Links.{IsNoBytes};
 ghost use Rattle.mav_links.specs.Tallies.{nothing_counted};
 
+use crate::datagrams::datagram_size;
 use crate::tallies::{Tally, waited};
 use crate::{Link, NoMemory};
 use mav_ports::{Got, Put};
@@ -17,10 +18,10 @@ use std::net::{SocketAddr, UdpSocket};
 const MOST_BYTES: usize = 65_536;
 
 /// A link over a UDP socket: with a fixed peer, or with the latest sender as its peer, before whose first datagram
-/// what is written is dropped. Each write is a datagram. The part of a datagram that doesn't fit the buffer of a read is
-/// kept for the next. It says nothing of the bytes; it idles if no datagram came within the wait that the socket was
-/// given, at an empty one, and if the peer's port is closed. Each other error is counted as a fault. Over no socket each
-/// call fails.
+/// what is written is dropped. Each write sends one datagram, with the first of the frames given. The part of a datagram
+/// that doesn't fit the buffer of a read is kept for the next. It says nothing of the bytes; it idles if no datagram came
+/// within the wait that the socket was given, at an empty one, and if the peer's port is closed. Each other error is
+/// counted as a fault. Over no socket each call fails.
 #[derive(Drop)]
 pub struct UdpLink {
     socket: Option<UdpSocket>,
@@ -94,7 +95,7 @@ impl UdpLink {
     }
 }
 
-// What a send to the peer took.
+// What a send of the first frame to the peer took.
 fn send(socket: &UdpSocket, peer: Option<SocketAddr>, bytes: &[u8]) -> Put
     requires { 0 < length bytes.now }
     ensures { TakesWithin result bytes.now }
@@ -102,9 +103,10 @@ fn send(socket: &UdpSocket, peer: Option<SocketAddr>, bytes: &[u8]) -> Put
     let Some(peer) = peer else {
         return Put::Took(bytes.len());
     };
-    match socket.send_to(bytes, peer) {
-        Ok(_) => Put::Took(bytes.len()),
-        Err(error) if error.kind() == ErrorKind::ConnectionRefused => Put::Took(bytes.len()),
+    let size = datagram_size(bytes);
+    match socket.send_to(&bytes[..size], peer) {
+        Ok(_) => Put::Took(size),
+        Err(error) if error.kind() == ErrorKind::ConnectionRefused => Put::Took(size),
         Err(_) => Put::Failed,
     }
 }

@@ -1,6 +1,7 @@
 -- How a port goes on.
 use Rattle.std.proofs.Common.{◌≡◌, ◌∙◌, ◌<◌, ◌≤◌, ℕ, ◌+◌, ◌-◌, ◌^◌, arith, Bool, false, true, min, List, [], ◌∷◌, ◌++◌, length, take, drop, Option, Some, None, Ok, Err, OnOk, OnErr, refl, ap, sym, subst, append_assoc, length-append, length-take, take-append-drop}
 use Rattle.std.proofs.lemmas.List.{append-nil, drop_all, flat_map_more}
+use Rattle.std.proofs.lemmas.List.Concat.{flat_map-append}
 use Rattle.std.proofs.lemmas.List.Sums.{fold-append}
 use Rattle.std.specs.Io.KnownBytes.{append_known, prepend_known}
 use Rattle.mav_ports.specs.Counts.{Rose, next_count}
@@ -14,28 +15,52 @@ use Rattle.mav_frame.specs.Encoding.{encoding}
 use Rattle.mav_router.specs.declared.entries.Entry.{Entry}
 use Rattle.mav_router.specs.declared.lane.Lane.{Lane}
 use Rattle.mav_router.specs.Journal.{Rules, bytes_of}
+use Rattle.mav_router.specs.Batches.{Joins, Gathered}
 use Rattle.mav_router.specs.Faults.{StopsReading, StopsInput}
 use Rattle.mav_router.specs.Runs.{PortProgress, Reading, AllRead, Input, Output, FaultsBy, joined_turns, idles_after_turn, idles_over}
 
--- one more frame was written, or a front of it
-pub frame_written : (frames : List Packet) (packet : Packet) (first before after : LinkState) (lane new : Lane) (count : ℕ) (bytes : List ℕ) → bytes ≡ encoding packet → length bytes ≤ 280 → count ≤ length bytes → after.sent ≡ append_known before.sent (take count bytes) → lane.failed ≡ false → (new.failed ≡ false → length bytes ≤ count) → new.written ≡ min (lane.written + count) (2 ^ 64 - 1) → Output frames first before lane → Output (frames ++ packet ∷ []) first after new
-frame_written frames packet first before after lane new count bytes is short within sent fine whole more o =
+-- more frames were written, or a prefix of them
+pub frames_written : (frames more : List Packet) (first before after : LinkState) (lane new : Lane) (count : ℕ) (bytes : List ℕ) → Joins bytes more → count ≤ length bytes → after.sent ≡ append_known before.sent (take count bytes) → lane.failed ≡ false → (new.failed ≡ false → length bytes ≤ count) → new.written ≡ min (lane.written + count) (2 ^ 64 - 1) → Output frames first before lane → Output (frames ++ more) first after new
+frames_written frames more first before after lane new count bytes is within sent fine whole total o =
     let same : o.written ≡ bytes_of frames = sym (append-nil o.written) ∙ (ap (λ (r : List ℕ). o.written ++ r) (sym (o.all fine)) ∙ o.front) in
     let long : length (o.written ++ take count bytes) ≡ length o.written + length (take count bytes) = length-append o.written (take count bytes) in
     let part = length-take count bytes in
+    let short = is.short in
     let before_count = o.count in
     let so_far = o.most in
-    let one_more = length-append frames (packet ∷ []) in
+    let longer = length-append frames more in
     record {
       written = o.written ++ take count bytes;
       rest = drop count bytes;
       sent = sent ∙ (ap (λ (k : Option (List ℕ)). append_known k (take count bytes)) o.sent ∙ append_known_twice first.sent o.written (take count bytes));
       front = append_assoc o.written (take count bytes) (drop count bytes)
-          ∙ (ap (λ (r : List ℕ). o.written ++ r) (take-append-drop count bytes ∙ is)
-          ∙ (ap (λ (w : List ℕ). w ++ encoding packet) same ∙ flat_map_more encoding [] frames packet));
+          ∙ (ap (λ (r : List ℕ). o.written ++ r) (take-append-drop count bytes ∙ is.are)
+          ∙ (ap (λ (w : List ℕ). w ++ bytes_of more) same ∙ sym (flat_map-append encoding frames more)));
       all = λ e. drop_all count bytes (whole e);
-      most = omega (arith, long, part, within, short, so_far, one_more);
-      count = omega (arith, long, part, within, more, before_count);
+      most = omega (arith, long, part, within, short, so_far, longer);
+      count = omega (arith, long, part, within, total, before_count);
+    }
+
+-- nothing is gathered yet
+pub nothing_gathered : (before : List Packet) → Gathered before before []
+nothing_gathered before = record {
+  frames = [];
+  given = sym (append-nil before);
+  joined = record { are = refl; short = omega arith };
+}
+
+-- one more frame is gathered
+pub gathered_more : (before after new : List Packet) (packet : Packet) (text longer : List ℕ) → new ≡ after ++ packet ∷ [] → longer ≡ text ++ encoding packet → length longer ≤ length text + 280 → Gathered before after text → Gathered before new longer
+gathered_more before after new packet text longer given is short g =
+    let one_more = length-append g.frames (packet ∷ []) in
+    let so_far = g.joined.short in
+    record {
+      frames = g.frames ++ packet ∷ [];
+      given = given ∙ (ap (λ (f : List Packet). f ++ packet ∷ []) g.given ∙ append_assoc before g.frames (packet ∷ []));
+      joined = record {
+        are = is ∙ (ap (λ (b : List ℕ). b ++ encoding packet) g.joined.are ∙ flat_map_more encoding [] g.frames packet);
+        short = omega (arith, one_more, so_far, short);
+      };
     }
 
 prepend_none : (known : Option (List ℕ)) → prepend_known [] known ≡ known

@@ -1,4 +1,5 @@
 pub mod Journal
+pub mod Batches
 pub mod Runs
 pub mod Ends
 pub mod Faults

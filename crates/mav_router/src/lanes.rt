@@ -1,16 +1,17 @@
 // What a router keeps of a port.
-ghost use Rattle.std.specs.Prelude.{◌+◌, ◌^◌, ◌≡◌, ◌≤◌, ◌++◌, ◌∷◌, [], ◌<◌, ℕ, List, length, false, OnOk, OnErr, IfErr};
+ghost use Rattle.std.specs.Prelude.{◌+◌, ◌^◌, ◌≡◌, ◌≤◌, ◌++◌, ◌<◌, ℕ, List, length, false, true, OnOk, OnErr, IfErr};
 ghost use Rattle.mav_frame.specs.Packet.{Packet};
 ghost use Rattle.mav_links.specs.Links.{LinkState};
 ghost use Rattle.mav_router.specs.Journal.{Rules, Grows, given_to, frames_to};
+ghost use Rattle.mav_router.specs.Batches.{Joins, Moves};
 ghost use Rattle.mav_router.specs.Runs.{Input, Output, HadTurns};
 ghost use Rattle.mav_router.specs.declared.entries.Entry.{Entry};
 ghost use Rattle.mav_router.specs.Faults.{IsSwitchFault, StopsInput};
 
+use crate::batch::Batch;
 use crate::hearing::hear;
 use crate::lane::Lane;
 use crate::{Switch, SwitchFault};
-use mav_frame::{Frame, encode};
 use mav_links::{Link, write_prefix};
 use mav_ports::Got;
 
@@ -69,26 +70,60 @@ pub(crate) fn read_port<L: Link>(
     }
 }
 
-// Writes one frame, put together in `out`, to a port that hasn't failed.
-fn write_frame<L: Link>(lane: &mut Lane, link: &mut L, frame: &Frame, out: &mut [u8; 280])
+// Writes frames that were put together to a port that hasn't failed.
+fn write_batch<L: Link>(lane: &mut Lane, link: &mut L, bytes: &[u8])
     requires { lane.old.failed ≡ false }
     ensures input { (rules : Rules) (journal : List Entry) (port : ℕ) (first : LinkState)
         → Input rules journal port first (L.state link.old) lane.old
         → Input rules journal port first (L.state link.new) lane.new }
-    ensures output { (frames : List Packet) (first : LinkState) → Output frames first (L.state link.old) lane.old
-        → Output (frames ++ frame.now ∷ []) first (L.state link.new) lane.new }
+    ensures output { (frames more : List Packet) (first : LinkState) → Joins bytes.now more
+        → Output frames first (L.state link.old) lane.old
+        → Output (frames ++ more) first (L.state link.new) lane.new }
     ensures turned { (turns : ℕ) → HadTurns lane.old turns → HadTurns lane.new turns }
 {
-    let size = encode(frame, out);
-    let count = write_prefix(link, &out[..size]);
+    let size = bytes.len();
+    let count = write_prefix(link, bytes);
     lane.written = lane.written.saturating_add(count as u64);
     if count < size {
         lane.failed = true;
     }
 }
 
-/// Writes all that is waiting for a port, unless it failed or fails.
-pub(crate) fn write_port<L: Link>(switch: &mut Switch<'_>, lane: &mut Lane, link: &mut L, port: u8)
+// Writes what is waiting for a port that hasn't failed, as much as is written at once, and returns whether that was all.
+fn write_some<L: Link>(
+    switch: &mut Switch<'_>,
+    lane: &mut Lane,
+    link: &mut L,
+    port: u8,
+    batch: &mut Batch,
+) -> bool
+    requires from { 1 ≤ port }
+    requires to { port ≤ switch.old.rules.ports }
+    requires fine { lane.old.failed ≡ false }
+    ensures same { (switch.new.rules ≡ switch.old.rules) × (switch.new.journal ≡ switch.old.journal) }
+    ensures others { (other : ℕ) → 1 ≤ other → (other ≡ port → ⊥) → given_to switch.new other ≡ given_to switch.old other }
+    ensures input { (rules : Rules) (journal : List Entry) (first : LinkState)
+        → Input rules journal port first (L.state link.old) lane.old
+        → Input rules journal port first (L.state link.new) lane.new }
+    ensures output { (first : LinkState) → Output (given_to switch.old port) first (L.state link.old) lane.old
+        → Output (given_to switch.new port) first (L.state link.new) lane.new }
+    ensures turned { (turns : ℕ) → HadTurns lane.old turns → HadTurns lane.new turns }
+    ensures all { result ≡ true → given_to switch.new port ≡ frames_to port switch.new.journal }
+    ensures moves { result ≡ false → Moves port switch.old switch.new }
+{
+    let all = batch.gather(switch, port);
+    write_batch(lane, link, batch.bytes());
+    all
+}
+
+/// Writes all that is waiting for a port, unless it failed or fails; `batch` is overwritten.
+pub(crate) fn write_port<L: Link>(
+    switch: &mut Switch<'_>,
+    lane: &mut Lane,
+    link: &mut L,
+    port: u8,
+    batch: &mut Batch,
+)
     requires from { 1 ≤ port }
     requires to { port ≤ switch.old.rules.ports }
     ensures same { (switch.new.rules ≡ switch.old.rules) × (switch.new.journal ≡ switch.old.journal) }
@@ -101,11 +136,9 @@ pub(crate) fn write_port<L: Link>(switch: &mut Switch<'_>, lane: &mut Lane, link
     ensures drained { lane.new.failed ≡ false → given_to switch.new port ≡ frames_to port switch.new.journal }
     ensures turned { (turns : ℕ) → HadTurns lane.old turns → HadTurns lane.new turns }
 {
-    let mut out = [0; 280];
     while !lane.failed {
-        let Some(index) = switch.next(port) else {
+        if write_some(switch, lane, link, port, batch) {
             return;
-        };
-        write_frame(lane, link, switch.frame(index), &mut out);
+        }
     }
 }

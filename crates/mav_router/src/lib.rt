@@ -7,6 +7,7 @@
 //! without a signature block through open ports alone.
 #![tactic(auto)]
 
+mod batch;
 mod ends;
 mod entries;
 mod hearing;

@@ -5,6 +5,7 @@ ghost use Rattle.mav_router.specs.Journal.{Rules};
 ghost use Rattle.mav_router.specs.Faults.{IsSwitchFault, StopsRound};
 ghost use Rattle.mav_router.specs.Runs.{RunSoFar, IsDrained, AllTurned};
 
+use crate::batch::Batch;
 use crate::lane::Lane;
 use crate::lanes::{read_port, write_port};
 use crate::{Switch, SwitchFault};
@@ -42,7 +43,12 @@ pub(crate) fn read_each<L: Link>(
 }
 
 /// Writes all that is waiting, in the order of the ports.
-pub(crate) fn write_each<L: Link>(switch: &mut Switch<'_>, lanes: &mut [Lane], links: &mut [L])
+pub(crate) fn write_each<L: Link>(
+    switch: &mut Switch<'_>,
+    lanes: &mut [Lane],
+    links: &mut [L],
+    batch: &mut Batch,
+)
     requires lanes { length lanes.old ≡ length links.old }
     requires ports { length links.old ≤ switch.old.rules.ports }
     requires few { length links.old ≤ 8 }
@@ -54,6 +60,7 @@ pub(crate) fn write_each<L: Link>(switch: &mut Switch<'_>, lanes: &mut [Lane], l
     ensures drained { (k : ℕ) → k < length lanes.new → IsDrained switch.new lanes.new k }
 {
     for at in 0..links.len() {
-        write_port(switch, &mut lanes[at], &mut links[at], at as u8 + 1);
+        let port = at as u8 + 1;
+        write_port(switch, &mut lanes[at], &mut links[at], port, batch);
     }
 }

@@ -7,6 +7,7 @@ ghost use Rattle.mav_router.specs.Runs.{IsNew, RunSoFar, IsDrained, AllFresh, Al
 ghost use Rattle.mav_router.specs.Ends.{PortRun, end_by};
 ghost use Rattle.mav_router.specs.Faults.{IsSwitchFault, StopsRound, RouteStopped};
 
+use crate::batch::Batch;
 use crate::lane::Lane;
 use crate::rounds::{read_each, write_each};
 use crate::{How, NoMemory, PortEnd, RouteEnd, RouteFault, RoutePlan, Switch, SwitchFault};
@@ -44,6 +45,7 @@ fn run_rounds<L: Link>(
     switch: &mut Switch<'_>,
     lanes: &mut [Lane],
     links: &mut [L],
+    batch: &mut Batch,
     turns: u64,
 ) -> Result<(), SwitchFault>
     requires lanes { length lanes.old ≡ length links.old }
@@ -71,7 +73,7 @@ fn run_rounds<L: Link>(
         if let Err(fault) = read_each(switch, lanes, links, &mut buf) {
             return Err(fault);
         }
-        write_each(switch, lanes, links);
+        write_each(switch, lanes, links, batch);
     }
     Ok(())
 }
@@ -148,6 +150,7 @@ fn route_lanes<L: Link>(
     switch: &mut Switch<'_>,
     lanes: &mut [Lane],
     links: &mut [L],
+    batch: &mut Batch,
     turns: u64,
 ) -> Result<Vec<PortEnd>, SwitchFault>
     requires lanes { length lanes.old ≡ length links.old }
@@ -167,7 +170,7 @@ fn route_lanes<L: Link>(
     ensures stopped { IfErr result (λ fault. (rules : Rules) → AllFresh rules lanes.old
         → RouteStopped L.state rules fault switch.new.journal links.old links.new) }
 {
-    if let Err(fault) = run_rounds(switch, lanes, links, turns) {
+    if let Err(fault) = run_rounds(switch, lanes, links, batch, turns) {
         return Err(fault);
     }
     let Ok(ends) = ends_of(alloc, lanes, turns) else {
@@ -179,6 +182,43 @@ fn route_lanes<L: Link>(
 }
 
 // Runs over a new switch, and returns what became of each port.
+fn route_batched<L: Link>(
+    alloc: Global,
+    known: &Dialect,
+    switch: &mut Switch<'_>,
+    links: &mut [L],
+    batch: &mut Batch,
+    plan: RoutePlan,
+) -> Result<Vec<PortEnd>, SwitchFault>
+    requires ports { length links.old ≤ switch.old.rules.ports }
+    requires some { 1 ≤ length links.old }
+    requires few { length links.old ≤ 8 }
+    requires journal { switch.old.journal ≡ [] }
+    requires given { (port : ℕ) → given_to switch.old port ≡ [] }
+    requires turns { plan.turns ≤ 1_000_000_000 }
+    ensures rules { switch.new.rules ≡ switch.old.rules }
+    ensures length { IfOk result (λ ends. length ends.items ≡ length links.old) }
+    ensures each { IfOk result (λ ends. (key : List ℕ) (ports : ℕ)
+        → (k : ℕ) (b c : _) (e : PortEnd) → slice_get links.old k ≡ Some b
+        → slice_get links.new k ≡ Some c → slice_get ends.items k ≡ Some e
+        → PortRun (record { key = key; known = known.now; ports = ports; plain = plan.plain }) switch.new.journal plan.turns (k + 1) (L.state b) (L.state c) e) }
+    ensures stopped { IfErr result (λ fault. (key : List ℕ) (ports : ℕ)
+        → RouteStopped L.state (record { key = key; known = known.now; ports = ports; plain = plan.plain }) fault switch.new.journal links.old links.new) }
+{
+    let Ok(mut lanes) = new_lanes(alloc, known, plan.plain, links.len()) else {
+        return Err(SwitchFault::NoMemory);
+    };
+    route_lanes(
+        alloc,
+        switch,
+        lanes.as_mut_slice(),
+        links,
+        batch,
+        plan.turns,
+    )
+}
+
+// The same, with a buffer for what is written.
 fn route_switch<L: Link>(
     alloc: Global,
     known: &Dialect,
@@ -201,10 +241,10 @@ fn route_switch<L: Link>(
     ensures stopped { IfErr result (λ fault. (key : List ℕ) (ports : ℕ)
         → RouteStopped L.state (record { key = key; known = known.now; ports = ports; plain = plan.plain }) fault switch.new.journal links.old links.new) }
 {
-    let Ok(mut lanes) = new_lanes(alloc, known, plan.plain, links.len()) else {
+    let Ok(mut batch) = Batch::new(alloc) else {
         return Err(SwitchFault::NoMemory);
     };
-    route_lanes(alloc, switch, lanes.as_mut_slice(), links, plan.turns)
+    route_batched(alloc, known, switch, links, &mut batch, plan)
 }
 
 /// Routes between links on one thread, as [`route_one`] does.
