@@ -15,6 +15,8 @@ pub enum Place {
     /// The definitions, which `--defs` names.
     Definitions,
     Operation,
+    /// What a drone has stored, which `--store` names.
+    Store,
 }
 
 /// What is wrong there. Each is printed as one or two words.
@@ -42,6 +44,7 @@ pub enum Reason {
     Layout,
     TooMany,
     Refused,
+    Kept,
 }
 
 /// A limit of the program, which is printed with its number.
@@ -96,6 +99,7 @@ impl Reason {
             Reason::Layout => "layout",
             Reason::TooMany => "too many",
             Reason::Refused => "refused",
+            Reason::Kept => "kept",
         }
     }
 }
@@ -126,6 +130,7 @@ impl Place {
             Place::Key => String::from_str(alloc, "key"),
             Place::Definitions => String::from_str(alloc, "definitions"),
             Place::Operation => String::from_str(alloc, "operation"),
+            Place::Store => String::from_str(alloc, "store"),
         }
     }
 }
