@@ -1,0 +1,48 @@
+-- A file of items that is read byte by byte: what the bytes to come give, after a line that is held unfinished.
+use Rattle.std.specs.Prelude.{◌≡◌, ℕ, ◌+◌, ◌-◌, ◌*◌, ◌==◌, nat_lt, Bool, if◌then◌else◌, List, [], ◌∷◌, ◌++◌, length, Some, Ok, Err}
+use Rattle.std.specs.declared.result.Result.{Result}
+use Rattle.plan_items.specs.declared.items.Item.{Item}
+use Rattle.scenario_lines.specs.declared.faults.Reason.TheVariants.{Long}
+use Rattle.scenario_lines.specs.Grammar.{most_line_bytes}
+use Rattle.plan_file.specs.FileLines.{most_lines}
+use Rattle.run_status.specs.declared.input_errors.Bound.TheVariants.{Lines}
+use Rattle.run_status.specs.declared.input_errors.InputError.{InputError}
+use Rattle.run_status.specs.declared.input_errors.InputError.TheVariants.{AtLimit}
+use Rattle.run_status.specs.declared.run_ends.RunEnd.{RunEnd}
+use Rattle.run_status.specs.declared.run_ends.RunEnd.TheVariants.{Usage, Stopped, ReadFault, WriteFault, NoMemory, TurnsSpent, Live}
+use Rattle.plan_file.specs.Spec.{Read, going, bad_line, line_read, part_read, rest_read, unless_stopped, file_read}
+
+-- line `number` is held unfinished, and these bytes follow; `ended` says whether the input ended after them
+abbrev pub reads : Bool → Read → ℕ → List ℕ → List ℕ → Read
+reads ended r number part [] = rest_read ended r number part
+reads ended r number part (b ∷ bs) =
+    if b == 10 then unless_stopped (line_read r number part).stop (line_read r number part) (reads ended (line_read r number part) (number + 1) [] bs)
+    else if nat_lt most_line_bytes (length part + 1) then part_read r number (part ++ b ∷ [])
+    else reads ended r number (part ++ b ∷ []) bs
+
+-- these bytes were taken and gave these items, up to the line that is held
+abbrev pub Reading : List ℕ → List Item → ℕ → List ℕ → Type 0
+Reading taken items number part = (ended : Bool) (rest : List ℕ) → file_read ended (taken ++ rest) ≡ reads ended (going items) number part rest
+
+-- how a run halts at a file that gives `r`: it stopped there, or there was no memory
+abbrev pub HaltedAt : RunEnd → Read → Type 0
+HaltedAt Usage r = ⊥
+HaltedAt (Stopped stop) r = r.stop ≡ Some stop
+HaltedAt ReadFault r = ⊥
+HaltedAt WriteFault r = ⊥
+HaltedAt NoMemory r = Unit {0}
+HaltedAt TurnsSpent r = ⊥
+HaltedAt (Live end) r = ⊥
+
+-- a step led to `r`, which goes on with these items, or halted on the way there
+abbrev pub Leads : {T : Type 0} → Result T RunEnd → Read → List Item → Type 0
+Leads (Ok done) r items = r ≡ going items
+Leads (Err run_end) r items = HaltedAt run_end r
+
+-- the most bytes that may still be taken before the file stops
+abbrev pub budget : ℕ → List ℕ → ℕ
+budget number part = 4097 * (100002 - number) - length part
+
+-- why line `number` stops the file as soon as it is too long
+abbrev pub long_line : ℕ → InputError
+long_line number = if nat_lt most_lines number then AtLimit Lines else bad_line number Long

@@ -1,0 +1,103 @@
+// What one line of a file adds to a plan.
+ghost use Rattle.std.specs.Prelude.{◌≡◌, ◌≤◌, ◌++◌, ◌+ℤ◌, [], pos, false, length, OnOk, OnErr, IfErr, FitsSigned};
+ghost use Rattle.std.specs.Int.{w32};
+ghost use Rattle.plan_items.specs.Plans.{items_of};
+ghost use Rattle.scenario_lines.specs.LineContext.{context_of};
+ghost use Rattle.scenario_lines.specs.Permits.{IsPermitted};
+ghost use Rattle.scenario_lines.specs.Reasons.{leaves_range};
+ghost use Rattle.plan_file.specs.FileLines.{without_cr};
+ghost use Rattle.plan_file.specs.FileLines.{items_from};
+ghost use Rattle.plan_file.specs.Spec.{reported_reason, bad_line, items_in, going, text_read};
+ghost use Rattle.plan_file.specs.ByteByByte.{Leads};
+
+use plan_items::{Item, NoMemory, Plan};
+use run_status::{InputError, Place, Reason as StatusReason, RunEnd};
+use scenario_lines::{Line, LineFault, Reason, read_item_line};
+use std::alloc::Global;
+
+// Adds what line `number` says, or says what is wrong with it.
+pub(crate) fn read_line(
+    alloc: Global,
+    plan: &mut Plan,
+    number: usize,
+    text: &[u8],
+) -> Result<(), RunEnd>
+    ensures { Leads result (text_read (going (items_of plan.old)) number text.now) (items_of plan.new) }
+{
+    match read_item_line(alloc, plan.len(), text) {
+        Ok(line) => Ok(add(plan, line)?),
+        Err(LineFault::Bad(reason)) => Err(bad_line(number, reason)),
+        Err(LineFault::NoMemory) => Err(RunEnd::NoMemory),
+    }
+}
+
+// Adds the items of a line that may stand after those of the plan.
+fn add(plan: &mut Plan, line: Line) -> Result<(), NoMemory>
+    requires { IsPermitted (context_of [] (length (items_of plan.old)) 0) line }
+    ensures { OnOk result (items_of plan.new ≡ items_of plan.old ++ items_in line) }
+{
+    match line {
+        Line::Item { item } => plan.push(item),
+        Line::Items { n, first } => put_items(plan, n, first),
+        _ => Ok(()),
+    }
+}
+
+// Adds `count` items, the i-th from 0 with the x of the first plus i.
+fn put_items(plan: &mut Plan, count: u64, first: Item) -> Result<(), NoMemory>
+    requires few { count ≤ 2000 }
+    requires fits { leaves_range count first ≡ false }
+    ensures { OnOk result (items_of plan.new ≡ items_of plan.old ++ items_from count first 0) }
+{
+    for i in 0..count {
+        plan.push(moved(first, i))?;
+    }
+    Ok(())
+}
+
+// An item `by` units to the north.
+fn moved(item: Item, by: u64) -> Item
+    requires few { by ≤ 2000 }
+    requires fits { FitsSigned w32 (item.x +ℤ pos by) }
+    ensures { result ≡ record item { x = item.x +ℤ pos by } }
+{
+    let mut moved = item;
+    moved.x += by as i32;
+    moved
+}
+
+// What a whole line says: a CR before its LF is no part of that.
+pub(crate) fn without_cr(line: &[u8]) -> &[u8]
+    ensures { result.now ≡ without_cr line.now }
+{
+    match line {
+        [text @ .., b'\r'] => text,
+        _ => line,
+    }
+}
+
+fn reported_reason(reason: Reason) -> StatusReason
+    ensures { result ≡ reported_reason reason }
+{
+    match reason {
+        Reason::Long => StatusReason::Long,
+        Reason::Word => StatusReason::Word,
+        Reason::Later => StatusReason::Later,
+        Reason::Count => StatusReason::Count,
+        Reason::Number => StatusReason::Number,
+        Reason::Node => StatusReason::Node,
+        Reason::Kind => StatusReason::Kind,
+        Reason::Hex => StatusReason::Hex,
+        Reason::Twice => StatusReason::Twice,
+        Reason::Range => StatusReason::Range,
+        Reason::Draft => StatusReason::Draft,
+        Reason::Clock => StatusReason::Clock,
+    }
+}
+
+/// There is a reason against this line.
+pub(crate) fn bad_line(number: usize, reason: Reason) -> RunEnd
+    ensures { result ≡ RunEnd.Stopped (bad_line number reason) }
+{
+    RunEnd::Stopped(InputError::Bad(Place::Line(number), reported_reason(reason)))
+}

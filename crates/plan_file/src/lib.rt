@@ -1,0 +1,14 @@
+//! Plans as files of `item` and `items` lines give them.
+//!
+//! [`read_plan`] reads an input to its end and returns the plan of its items. The lines are those of
+//! scenarios, and so are their limits; an empty line and one that begins with `#` do nothing. Never
+//! more than one line is held, and nothing is read after a piece with a bad line.
+#![tactic(auto)]
+
+mod item_lines;
+mod reader;
+mod reading;
+#[cfg(test)]
+mod tests;
+
+pub use reading::read_plan;
