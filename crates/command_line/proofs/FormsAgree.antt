@@ -8,7 +8,7 @@ use Rattle.command_line.specs.declared.lines.Setting.{Setting}
 use Rattle.command_line.specs.declared.commands.Command.{Command}
 use Rattle.command_line.specs.declared.commands.Command.TheVariants.{Fleet, Dialect, Decode, Route, Drone, Station, Make}
 use Rattle.command_line.specs.declared.commands.OptionName.{OptionName}
-use Rattle.command_line.specs.declared.commands.OptionName.TheVariants.{Frames, Key, Defs, One, Turns, Ticks, File}
+use Rattle.command_line.specs.declared.commands.OptionName.TheVariants.{Frames, Key, Defs, One, Turns, Ticks, File, Store}
 use Rattle.command_line.specs.Commands.{has_option, needs_key}
 use Rattle.command_line.specs.Built.{is_built, is_option_built, needs_now, built}
 use Rattle.command_line.specs.Forms.{Given, most_turns, is_named, IsValue, AreTaken, all_differ, has_given, stdin_files, IsFile, ArePlain, Fits}
@@ -18,6 +18,7 @@ use Rattle.command_line.specs.Pieces.{all_options}
 use Rattle.command_line.specs.Ports.{IsRouterPort}
 use Rattle.command_line.specs.PortTexts.{is_some_text, is_router_port}
 use Rattle.command_line.specs.Lines.{given_of, is_value_now, taken_now, is_key, is_needed, has_needed, is_one_file, is_no_word, are_ports, is_one_number, plain_now, fits_now}
+use Rattle.command_line.proofs.NodeWords.{drone_form, form_drone, station_form, form_station}
 use Rattle.command_line.proofs.Numerals.{number_form, form_number}
 use Rattle.command_line.proofs.PortWords.{some_text, text_some, no_text, router_form, form_router}
 
@@ -34,6 +35,7 @@ value_of One v e = no_text v e
 value_of Turns v e = number_form 1 most_turns v e
 value_of Ticks v e = number_form 1 most_turns v e
 value_of File v e = some_text v e
+value_of Store v e = some_text v e
 
 is_value : (o : OptionName) (v : List ℕ) → IsValue o v → is_value_now o v ≡ true
 is_value Frames v e = ap (λ w. not (is_some_text w)) e
@@ -43,6 +45,7 @@ is_value One v e = ap (λ w. not (is_some_text w)) e
 is_value Turns v is = form_number 1 most_turns v (omega arith) is
 is_value Ticks v is = form_number 1 most_turns v (omega arith) is
 is_value File v some = text_some v some
+is_value Store v some = text_some v some
 
 taken : (c : Command) (gs : List Given) → list_all (taken_now c) gs ≡ true → AreTaken built c gs
 taken c [] e = tt
@@ -94,23 +97,23 @@ one_number (word ∷ other ∷ more) never = absurd (cc never)
 number_one : (plain : List (List ℕ)) → OneNumber 0 1000000 plain → is_one_number plain ≡ true
 number_one plain (word, same, is) = ap is_one_number same ∙ form_number 0 1000000 word (omega arith) is
 
-plain_is : (c : Command) (gs : List Given) (plain : List (List ℕ)) → plain_now c plain ≡ true → ArePlain c gs plain
+plain_is : (c : Command) (gs : List Given) (plain : List (List ℕ)) → plain_now c (has_given File gs) plain ≡ true → ArePlain built c gs plain
 plain_is Fleet gs plain e = one_file plain e
 plain_is Dialect gs plain e = no_word plain e
 plain_is Decode gs plain e = one_file plain e
 plain_is Route gs plain e = ports_form plain e
-plain_is Drone gs plain never = absurd (cc never)
-plain_is Station gs plain never = absurd (cc never)
+plain_is Drone gs plain e = drone_form plain e
+plain_is Station gs plain e = station_form (has_given File gs) plain e
 plain_is Make gs plain e = one_number plain e
 
-is_plain : (c : Command) (gs : List Given) (plain : List (List ℕ)) → is_built c ≡ true → ArePlain c gs plain → plain_now c plain ≡ true
-is_plain Fleet gs plain b are = file_one plain are
-is_plain Dialect gs plain b are = ap is_no_word are
-is_plain Decode gs plain b are = file_one plain are
-is_plain Route gs plain b are = form_ports plain are
-is_plain Drone gs plain never are = absurd (cc never)
-is_plain Station gs plain never are = absurd (cc never)
-is_plain Make gs plain b are = number_one plain are
+is_plain : (c : Command) (gs : List Given) (plain : List (List ℕ)) → ArePlain built c gs plain → plain_now c (has_given File gs) plain ≡ true
+is_plain Fleet gs plain are = file_one plain are
+is_plain Dialect gs plain are = ap is_no_word are
+is_plain Decode gs plain are = file_one plain are
+is_plain Route gs plain are = form_ports plain are
+is_plain Drone gs plain are = form_drone plain are
+is_plain Station gs plain are = form_station (has_given File gs) plain are
+is_plain Make gs plain are = number_one plain are
 
 -- the options that are needed
 implied : (a b : Bool) → (not a || b) ≡ true → a ≡ true → b ≡ true
@@ -133,7 +136,7 @@ either : (a b : Bool) → (a || b) ≡ true → (a ≡ true) ⊎ (b ≡ true)
 either true b e = inl refl
 either false b e = inr e
 
-there_at : (c : Command) (gs : List Given) → has_needed c gs ≡ true → (k : ℕ) → k < 7 → (not (is_needed c (get_or all_options k Frames)) || has_given (get_or all_options k Frames) gs) ≡ true
+there_at : (c : Command) (gs : List Given) → has_needed c gs ≡ true → (k : ℕ) → k < 8 → (not (is_needed c (get_or all_options k Frames)) || has_given (get_or all_options k Frames) gs) ≡ true
 there_at c gs e k within = AllPass-from_list_all (λ name. not (is_needed c name) || has_given name gs) all_options e k Frames within
 
 there : (c : Command) (gs : List Given) → has_needed c gs ≡ true → (name : OptionName) → is_needed c name ≡ true → has_given name gs ≡ true
@@ -144,6 +147,7 @@ there c gs e One needed = implied (is_needed c One) (has_given One gs) (there_at
 there c gs e Turns needed = implied (is_needed c Turns) (has_given Turns gs) (there_at c gs e 4 (omega arith)) needed
 there c gs e Ticks needed = implied (is_needed c Ticks) (has_given Ticks gs) (there_at c gs e 5 (omega arith)) needed
 there c gs e File needed = implied (is_needed c File) (has_given File gs) (there_at c gs e 6 (omega arith)) needed
+there c gs e Store needed = implied (is_needed c Store) (has_given Store gs) (there_at c gs e 7 (omega arith)) needed
 
 need_given : (c : Command) (gs : List Given) → (IsTrue (needs_key c) → IsTrue (has_given Key gs)) → ((name : OptionName) → IsTrue (needs_now c name) → IsTrue (has_given name gs)) → (name : OptionName) → is_needed c name ≡ true → has_given name gs ≡ true
 need_given c gs key now Frames e = now Frames e
@@ -153,6 +157,7 @@ need_given c gs key now One e = now One e
 need_given c gs key now Turns e = now Turns e
 need_given c gs key now Ticks e = now Ticks e
 need_given c gs key now File e = now File e
+need_given c gs key now Store e = now Store e
 
 every_passes : {X : Type 0} (f : X → Bool) → ((x : X) → f x ≡ true) → (xs : List X) → list_all f xs ≡ true
 every_passes f every [] = refl
@@ -167,7 +172,7 @@ fits_when c gs plain e =
     let (t, e2) = and_parts (list_all (taken_now c) gs) _ e1 in
     let (d, e3) = and_parts (all_differ gs) _ e2 in
     let (n, e4) = and_parts (has_needed c gs) _ e3 in
-    let (p, s) = and_parts (plain_now c plain) _ e4 in
+    let (p, s) = and_parts (plain_now c (has_given File gs) plain) _ e4 in
     record {
       command_built = b;
       options_taken = taken c gs t;
@@ -182,7 +187,7 @@ pub when_fits : (c : Command) (gs : List Given) (plain : List (List ℕ)) → Fi
 when_fits c gs plain f =
     and_from (is_built c) _ f.command_built (and_from (list_all (taken_now c) gs) _ (takes c gs f.options_taken)
     (and_from (all_differ gs) _ f.once (and_from (has_needed c gs) _ (all_there c gs (need_given c gs f.key_given f.needed_given))
-    (and_from (plain_now c plain) _ (is_plain c gs plain f.command_built f.plain_words)
+    (and_from (plain_now c (has_given File gs) plain) _ (is_plain c gs plain f.plain_words)
     (le-leb (stdin_files c gs plain) 1 f.one_stdin)))))
 
 -- the tests over what the program holds
@@ -220,16 +225,16 @@ not_needed c ss plain e =
     sym (and_right (is_built c) _ (and_right (list_all (taken_now c) (map given_of ss)) _ (and_right (all_differ (map given_of ss)) _
     (and_left (has_needed c (map given_of ss)) _ (sym (needed_map c ss) ∙ e)))))
 
-pub all_hold : (c : Command) (ss : List Setting) (plain : List (List ℕ)) → is_built c ≡ true → list_all (λ s. taken_now c (given_of s)) ss ≡ true → all_differ (map given_of ss) ≡ true → list_all (λ name. not (is_needed c name) || list_any (λ s. is_named name (given_of s)) ss) all_options ≡ true → plain_now c plain ≡ true → nat_le (stdin_files c (map given_of ss) plain) 1 ≡ fits_now c (map given_of ss) plain
+pub all_hold : (c : Command) (ss : List Setting) (plain : List (List ℕ)) → is_built c ≡ true → list_all (λ s. taken_now c (given_of s)) ss ≡ true → all_differ (map given_of ss) ≡ true → list_all (λ name. not (is_needed c name) || list_any (λ s. is_named name (given_of s)) ss) all_options ≡ true → plain_now c (has_given File (map given_of ss)) plain ≡ true → nat_le (stdin_files c (map given_of ss) plain) 1 ≡ fits_now c (map given_of ss) plain
 all_hold c ss plain b t d n p =
     sym (and_holds (is_built c) _ b ∙ and_holds (list_all (taken_now c) (map given_of ss)) _ (list_all_map (taken_now c) ss ∙ t)
     ∙ and_holds (all_differ (map given_of ss)) _ d ∙ and_holds (has_needed c (map given_of ss)) _ (sym (needed_map c ss) ∙ n)
-    ∙ and_holds (plain_now c plain) _ p)
+    ∙ and_holds (plain_now c (has_given File (map given_of ss)) plain) _ p)
 
 -- plain words that aren't of the command's form
-pub plain_unfit : (c : Command) (gs : List Given) (plain : List (List ℕ)) → plain_now c plain ≡ false → fits_now c gs plain ≡ false
+pub plain_unfit : (c : Command) (gs : List Given) (plain : List (List ℕ)) → plain_now c (has_given File gs) plain ≡ false → fits_now c gs plain ≡ false
 plain_unfit c gs plain e =
-    and_right (is_built c) _ (and_right (list_all (taken_now c) gs) _ (and_right (all_differ gs) _ (and_right (has_needed c gs) _ (and_left (plain_now c plain) _ e))))
+    and_right (is_built c) _ (and_right (list_all (taken_now c) gs) _ (and_right (all_differ gs) _ (and_right (has_needed c gs) _ (and_left (plain_now c (has_given File gs) plain) _ e))))
 
 -- the option that is found
 found_map : (name : OptionName) (s : Setting) (ss : List Setting) → value_given name (map given_of ss) ≡ option_map held_value (find (λ t. is_named name (given_of t)) ss) → (is_named name (given_of s) ≡ true) ⊎ (is_named name (given_of s) ≡ false) → value_given name (map given_of (s ∷ ss)) ≡ option_map held_value (find (λ t. is_named name (given_of t)) (s ∷ ss))

@@ -46,7 +46,7 @@ number_unwritten low high word few never =
     none_found (number_in low high word) (λ n e. let (is, least, most) = number_is low high n word e in never n (omega (arith, most, few)) is)
 
 -- the test and the form
-some_found : (found : Option ℕ) → is_some found ≡ true → (n : ℕ) × (found ≡ Some n)
+pub some_found : {X : Type 0} (found : Option X) → is_some found ≡ true → (x : X) × (found ≡ Some x)
 some_found None e = absurd (cc e)
 some_found (Some n) e = (n, refl)
 
@@ -56,6 +56,8 @@ number_form low high word e =
     let (is, least, most) = number_is low high n word found in
     (n, is, least, most)
 
+pub number_found : (low high : ℕ) (word : List ℕ) → high < 2 ^ 64 → IsNumber low high word → (n : ℕ) × (number_in low high word ≡ Some n)
+number_found low high word few (n, is, least, most) = (n, number_written low high n word (omega (arith, most, few)) is ∙ is_within low high n least most)
+
 pub form_number : (low high : ℕ) (word : List ℕ) → high < 2 ^ 64 → IsNumber low high word → is_some (number_in low high word) ≡ true
-form_number low high word few (n, is, least, most) =
-    ap is_some (number_written low high n word (omega (arith, most, few)) is ∙ is_within low high n least most)
+form_number low high word few is = let (n, found) = number_found low high word few is in ap is_some found

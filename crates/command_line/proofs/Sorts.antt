@@ -8,7 +8,7 @@ use Rattle.std.specs.Str.{bytes_eq}
 use Rattle.command_line.specs.declared.commands.Command.{Command}
 use Rattle.command_line.specs.declared.commands.Command.TheVariants.{Fleet, Dialect, Decode, Route, Drone, Station, Make}
 use Rattle.command_line.specs.declared.commands.OptionName.{OptionName}
-use Rattle.command_line.specs.declared.commands.OptionName.TheVariants.{Frames, Key, Defs, One, Turns, Ticks, File}
+use Rattle.command_line.specs.declared.commands.OptionName.TheVariants.{Frames, Key, Defs, One, Turns, Ticks, File, Store}
 use Rattle.command_line.specs.declared.pieces.Sort.{Sort}
 use Rattle.command_line.specs.declared.pieces.Sort.TheVariants.{Plain, Dashes, Alone, Joined, Apart, Unknown}
 use Rattle.command_line.specs.Commands.{command_word, option_word, has_value}
@@ -84,6 +84,7 @@ sort_alone One e = refl
 sort_alone Turns e = absurd (cc e)
 sort_alone Ticks e = absurd (cc e)
 sort_alone File e = absurd (cc e)
+sort_alone Store e = absurd (cc e)
 
 pub sort_apart : (o : OptionName) → has_value o ≡ true → sort_of (option_word o) ≡ Apart o
 sort_apart Frames e = absurd (cc e)
@@ -93,6 +94,7 @@ sort_apart One e = absurd (cc e)
 sort_apart Turns e = refl
 sort_apart Ticks e = refl
 sort_apart File e = refl
+sort_apart Store e = refl
 
 -- an option with `=`, and its value
 joined_at : (o : OptionName) (word : List ℕ) (sort : Sort) → has_equals word ≡ true → sort ≡ option_sort word → joined_sort (option_named (before_first is_equals word)) ≡ Joined o → sort ≡ Joined o
@@ -106,6 +108,7 @@ sort_joined One value e = absurd (cc e)
 sort_joined Turns value e = (joined_at Turns (option_word Turns ++ 61 ∷ value) _ (lt-ltb 7 (length (option_word Turns ++ 61 ∷ value)) (omega arith)) refl refl, refl)
 sort_joined Ticks value e = (joined_at Ticks (option_word Ticks ++ 61 ∷ value) _ (lt-ltb 7 (length (option_word Ticks ++ 61 ∷ value)) (omega arith)) refl refl, refl)
 sort_joined File value e = (joined_at File (option_word File ++ 61 ∷ value) _ (lt-ltb 6 (length (option_word File ++ 61 ∷ value)) (omega arith)) refl refl, refl)
+sort_joined Store value e = (joined_at Store (option_word Store ++ 61 ∷ value) _ (lt-ltb 7 (length (option_word Store ++ 61 ∷ value)) (omega arith)) refl refl, refl)
 
 pub sort_plain : (word : List ℕ) → is_dashed word ≡ false → sort_of word ≡ Plain
 sort_plain word plain = cond-false (is_dashed word) _ _ plain

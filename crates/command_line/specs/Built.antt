@@ -1,18 +1,15 @@
--- What is built of the commands and their options. Later work changes these tables.
+-- What is built of the commands, their options and the operations of a station. Later work changes these tables.
 use Rattle.std.specs.Prelude.{Bool, true, false}
 use Rattle.command_line.specs.declared.commands.Command.{Command}
-use Rattle.command_line.specs.declared.commands.Command.TheVariants.{Fleet, Dialect, Decode, Route, Make}
+use Rattle.command_line.specs.declared.commands.Command.TheVariants.{Fleet, Dialect, Decode, Route, Drone, Station}
 use Rattle.command_line.specs.declared.commands.OptionName.{OptionName}
-use Rattle.command_line.specs.declared.commands.OptionName.TheVariants.{Frames, Key, Defs, One, Turns}
+use Rattle.command_line.specs.declared.commands.OptionName.TheVariants.{Frames, Key, Defs, One, Turns, Ticks, File}
 use Rattle.command_line.specs.Forms.{Built}
+use Rattle.command_line.specs.Operations.{OperationWords, List_files, Get_file, Put_file, Remove_file}
 
 abbrev pub is_built : Command → Bool
-is_built Fleet = true
-is_built Dialect = true
-is_built Decode = true
-is_built Route = true
-is_built Make = true
-is_built _ = false
+is_built Station = false
+is_built _ = true
 
 abbrev pub is_option_built : Command → OptionName → Bool
 is_option_built Fleet Frames = true
@@ -24,6 +21,11 @@ is_option_built Route Key = true
 is_option_built Route Defs = true
 is_option_built Route One = true
 is_option_built Route Turns = true
+is_option_built Drone Key = true
+is_option_built Drone Turns = true
+is_option_built Station Key = true
+is_option_built Station Ticks = true
+is_option_built Station File = true
 is_option_built _ _ = false
 
 -- the options that a command needs as it is built, and won't need for ever: a router on one thread alone
@@ -31,5 +33,13 @@ abbrev pub needs_now : Command → OptionName → Bool
 needs_now Route One = true
 needs_now _ _ = false
 
+-- files can't be transferred yet
+abbrev pub is_operation_built : OperationWords → Bool
+is_operation_built List_files = false
+is_operation_built (Get_file name) = false
+is_operation_built (Put_file name) = false
+is_operation_built (Remove_file name) = false
+is_operation_built _ = true
+
 abbrev pub built : Built
-built = record { commands = is_built; options = is_option_built; needs = needs_now }
+built = record { commands = is_built; options = is_option_built; needs = needs_now; operations = is_operation_built }

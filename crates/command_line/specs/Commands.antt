@@ -3,7 +3,7 @@ use Rattle.std.specs.Prelude.{ℕ, Bool, true, false, List, codes}
 use Rattle.command_line.specs.declared.commands.Command.{Command}
 use Rattle.command_line.specs.declared.commands.Command.TheVariants.{Fleet, Dialect, Decode, Route, Drone, Station, Make}
 use Rattle.command_line.specs.declared.commands.OptionName.{OptionName}
-use Rattle.command_line.specs.declared.commands.OptionName.TheVariants.{Frames, Key, Defs, One, Turns, Ticks, File}
+use Rattle.command_line.specs.declared.commands.OptionName.TheVariants.{Frames, Key, Defs, One, Turns, Ticks, File, Store}
 
 -- the first word of a command's lines
 abbrev pub command_word : Command → List ℕ
@@ -24,6 +24,7 @@ option_word One = codes "--one"
 option_word Turns = codes "--turns"
 option_word Ticks = codes "--ticks"
 option_word File = codes "--file"
+option_word Store = codes "--store"
 
 -- `--frames` and `--one` have no value
 abbrev pub has_value : OptionName → Bool
@@ -34,6 +35,7 @@ has_value One = false
 has_value Turns = true
 has_value Ticks = true
 has_value File = true
+has_value Store = true
 
 -- the options of each command
 abbrev pub has_option : Command → OptionName → Bool
@@ -47,6 +49,7 @@ has_option Route Defs = true
 has_option Route One = true
 has_option Route Turns = true
 has_option Drone Key = true
+has_option Drone Store = true
 has_option Drone Turns = true
 has_option Station Key = true
 has_option Station Ticks = true

@@ -5,22 +5,23 @@ use Rattle.std.specs.Str.{bytes_eq}
 use Rattle.command_line.specs.declared.commands.Command.{Command}
 use Rattle.command_line.specs.declared.commands.Command.TheVariants.{Fleet, Dialect, Decode, Route, Drone, Station, Make}
 use Rattle.command_line.specs.declared.commands.OptionName.{OptionName}
-use Rattle.command_line.specs.declared.commands.OptionName.TheVariants.{Frames, Key, Defs, One, Turns, Ticks, File}
+use Rattle.command_line.specs.declared.commands.OptionName.TheVariants.{Frames, Key, Defs, One, Turns, Ticks, File, Store}
 use Rattle.command_line.specs.Commands.{option_word, has_option, needs_key}
 use Rattle.command_line.specs.Numbers.{IsNumber}
 use Rattle.command_line.specs.Ports.{IsRouterPort}
-use Rattle.command_line.specs.Operations.{DroneWords, StationWords, OneNumber}
+use Rattle.command_line.specs.Operations.{OperationWords, DroneWords, StationWords, OneNumber}
 
 -- an option of a line, and its value
 pub record Given : Type 0 where
   pub name : OptionName
   pub value : List ℕ
 
--- which commands and options are built, and which options a command needs as it is built
+-- which commands, options and operations are built, and which options a command needs as it is built
 pub record Built : Type 0 where
   pub commands : Command → Bool
   pub options : Command → OptionName → Bool
   pub needs : Command → OptionName → Bool
+  pub operations : OperationWords → Bool
 
 -- the most turns, ticks and steps that can be asked for
 abbrev pub most_turns : ℕ
@@ -35,6 +36,7 @@ IsValue One value = value ≡ []
 IsValue Turns value = IsNumber 1 most_turns value
 IsValue Ticks value = IsNumber 1 most_turns value
 IsValue File value = value ≢ []
+IsValue Store value = value ≢ []
 
 -- an option that the command takes, with its value
 abbrev pub IsTaken : Built → Command → Given → Type 0
@@ -64,6 +66,7 @@ abbrev pub names_file : OptionName → Bool
 names_file Key = true
 names_file Defs = true
 names_file File = true
+names_file Store = true
 names_file _ = false
 
 abbrev pub is_stdin_given : Given → Bool
@@ -88,14 +91,14 @@ abbrev pub IsFile : List (List ℕ) → Type 0
 IsFile plain = (file : List ℕ) × (plain ≡ file ∷ []) × (file ≢ [])
 
 -- the plain words of a command
-abbrev pub ArePlain : Command → List Given → List (List ℕ) → Type 0
-ArePlain Fleet settings plain = IsFile plain  -- FILE
-ArePlain Dialect settings plain = plain ≡ []
-ArePlain Decode settings plain = IsFile plain  -- FILE
-ArePlain Route settings plain = (1 ≤ length plain) × (length plain ≤ 8) × All IsRouterPort plain  -- PORT..
-ArePlain Drone settings plain = DroneWords plain  -- SYS PORT
-ArePlain Station settings plain = StationWords (has_given File settings) plain  -- SYS COMP DRONE PORT OP..
-ArePlain Make settings plain = OneNumber 0 1000000 plain  -- N
+abbrev pub ArePlain : Built → Command → List Given → List (List ℕ) → Type 0
+ArePlain built Fleet settings plain = IsFile plain  -- FILE
+ArePlain built Dialect settings plain = plain ≡ []
+ArePlain built Decode settings plain = IsFile plain  -- FILE
+ArePlain built Route settings plain = (1 ≤ length plain) × (length plain ≤ 8) × All IsRouterPort plain  -- PORT..
+ArePlain built Drone settings plain = DroneWords plain  -- SYS PORT
+ArePlain built Station settings plain = StationWords built.operations (has_given File settings) plain  -- SYS COMP DRONE PORT OP..
+ArePlain built Make settings plain = OneNumber 0 1000000 plain  -- N
 
 -- the options and the plain words are of the forms that the command has
 pub record Fits (built : Built) (command : Command) (settings : List Given) (plain : List (List ℕ)) : Type 0 where
@@ -110,6 +113,6 @@ pub record Fits (built : Built) (command : Command) (settings : List Given) (pla
   -- an option that it needs as it is built is given
   pub needed_given : (name : OptionName) → IsTrue (built.needs command name) → IsTrue (has_given name settings)
   -- the plain words are of the command's form
-  pub plain_words : ArePlain command settings plain
+  pub plain_words : ArePlain built command settings plain
   -- standard input is one file at most
   pub one_stdin : stdin_files command settings plain ≤ 1

@@ -3,9 +3,11 @@ pub mod Numbers
 pub mod Ports
 pub mod PortTexts
 pub mod Operations
+pub mod OperationTexts
 pub mod Forms
 pub mod Built
 pub mod Grammar
 pub mod Pieces
+pub mod Nodes
 pub mod Lines
 pub mod Names

@@ -4,9 +4,9 @@ use Rattle.std.specs.Fmt.{decimal}
 use Rattle.std.specs.List.{list_all}
 use Rattle.std.specs.declared.alloc.Global.{Global}
 use Rattle.command_line.specs.declared.commands.Command.{Command}
-use Rattle.command_line.specs.declared.commands.Command.TheVariants.{Fleet, Dialect, Decode, Route, Make}
+use Rattle.command_line.specs.declared.commands.Command.TheVariants.{Fleet, Dialect, Decode, Route, Drone, Station, Make}
 use Rattle.command_line.specs.declared.commands.OptionName.{OptionName}
-use Rattle.command_line.specs.declared.commands.OptionName.TheVariants.{Frames, Key, Defs, One, Turns, Ticks, File}
+use Rattle.command_line.specs.declared.commands.OptionName.TheVariants.{Frames, Key, Defs, One, Turns, Ticks, File, Store}
 use Rattle.command_line.specs.declared.pieces.Place.{Place}
 use Rattle.command_line.specs.declared.lines.Setting.{Setting}
 use Rattle.command_line.specs.declared.lines.Line.{Line}
@@ -18,6 +18,7 @@ use Rattle.command_line.specs.PortTexts.{is_some_text, is_router_port, port_text
 use Rattle.command_line.specs.Built.{is_built, is_option_built, needs_now}
 use Rattle.command_line.specs.Forms.{Given, most_turns, all_differ, has_given, stdin_files}
 use Rattle.command_line.specs.Names.{port_words}
+use Rattle.command_line.specs.Nodes.{is_drone, is_station, NodeSays}
 use Rattle.command_line.specs.Pieces.{Parts, joined, parts_at, all_options}
 use Rattle.command_line.specs.Grammar.{Asked}
 
@@ -43,6 +44,7 @@ is_value_now One value = not (is_some_text value)
 is_value_now Turns value = is_some (number_in 1 most_turns value)
 is_value_now Ticks value = is_some (number_in 1 most_turns value)
 is_value_now File value = is_some_text value
+is_value_now Store value = is_some_text value
 
 abbrev pub taken_now : Command → Given → Bool
 taken_now command g = (has_option command g.name && is_option_built command g.name) && is_value_now g.name g.value
@@ -75,18 +77,20 @@ is_one_number [] = false
 is_one_number (word ∷ []) = is_some (number_in 0 1000000 word)
 is_one_number (word ∷ other ∷ more) = false
 
-abbrev pub plain_now : Command → List (List ℕ) → Bool
-plain_now Fleet plain = is_one_file plain
-plain_now Dialect plain = is_no_word plain
-plain_now Decode plain = is_one_file plain
-plain_now Route plain = are_ports plain
-plain_now Make plain = is_one_number plain
-plain_now _ plain = false
+-- whether plain words are of the command's form, by whether the file of an operation is given
+abbrev pub plain_now : Command → Bool → List (List ℕ) → Bool
+plain_now Fleet file_given plain = is_one_file plain
+plain_now Dialect file_given plain = is_no_word plain
+plain_now Decode file_given plain = is_one_file plain
+plain_now Route file_given plain = are_ports plain
+plain_now Drone file_given plain = is_drone plain
+plain_now Station file_given plain = is_station file_given plain
+plain_now Make file_given plain = is_one_number plain
 
 abbrev pub fits_now : Command → List Given → List (List ℕ) → Bool
 fits_now command settings plain =
     is_built command && (list_all (taken_now command) settings && (all_differ settings
-    && (has_needed command settings && (plain_now command plain && nat_le (stdin_files command settings plain) 1))))
+    && (has_needed command settings && (plain_now command (has_given File settings) plain && nat_le (stdin_files command settings plain) 1))))
 
 -- what the plain words of a command say: its ports, and the number of `make`
 pub record Says (command : Command) (plain : List (List ℕ)) (ports : List Port) (number : ℕ) : Type 0 where
@@ -95,10 +99,16 @@ pub record Says (command : Command) (plain : List (List ℕ)) (ports : List Port
   pub at_most : number ≤ 1000000
 
 -- what was read of plain words; nothing exactly if they aren't of the command's form
-abbrev pub PlainRead : Command → List (List ℕ) → Option Values → Type 0
-PlainRead command plain None = plain_now command plain ≡ false
-PlainRead command plain (Some values) = (plain_now command plain ≡ true) × Says command plain values.ports.items values.number
+abbrev pub PlainRead : Command → Bool → List (List ℕ) → Option Values → Type 0
+PlainRead command file_given plain None = plain_now command file_given plain ≡ false
+PlainRead command file_given plain (Some values) =
+    (plain_now command file_given plain ≡ true) × Says command plain values.ports.items values.number
+    × NodeSays command plain values.ports.items values.system values.task
 
 -- what a line's plain words say
 abbrev pub LineSays : Line → Type 0
 LineSays line = Says line.command (map string_bytes line.words.items) line.ports.items line.number
+
+-- what those of `drone` and `station` say
+abbrev pub LineNodeSays : Line → Type 0
+LineNodeSays line = NodeSays line.command (map string_bytes line.words.items) line.ports.items line.system line.task

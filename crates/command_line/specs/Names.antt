@@ -4,7 +4,7 @@ use Rattle.std.specs.List.{find}
 use Rattle.command_line.specs.declared.commands.Command.{Command}
 use Rattle.command_line.specs.declared.commands.Command.TheVariants.{Route, Drone, Station}
 use Rattle.command_line.specs.declared.commands.OptionName.{OptionName}
-use Rattle.command_line.specs.declared.commands.OptionName.TheVariants.{File, Turns}
+use Rattle.command_line.specs.declared.commands.OptionName.TheVariants.{File, Turns, Ticks}
 use Rattle.command_line.specs.Numbers.{number_in}
 use Rattle.command_line.specs.Forms.{Given, most_turns, is_named, reads_file}
 use Rattle.command_line.specs.Grammar.{Asked}
@@ -43,3 +43,7 @@ number_or default (Some n) = n
 -- how many turns a port is given
 abbrev pub turns_asked : List Given → ℕ
 turns_asked settings = number_or 1000000 (number_given Turns settings)
+
+-- how many ticks a station waits for the end of its operation
+abbrev pub ticks_asked : List Given → ℕ
+ticks_asked settings = number_or 50 (number_given Ticks settings)

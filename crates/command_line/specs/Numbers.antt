@@ -26,5 +26,8 @@ abbrev pub IsWire : List ℕ → Type 0
 IsWire word = (length word ≡ 8) × IsTrue (list_all is_digit word)
 
 -- the name of a parameter
+abbrev pub is_visible : ℕ → Bool
+is_visible b = nat_le 0x21 b && nat_le b 0x7E
+
 abbrev pub IsParameter : List ℕ → Type 0
-IsParameter id = (1 ≤ length id) × (length id ≤ 16) × IsTrue (list_all (λ b. nat_le 0x21 b && nat_le b 0x7E) id)
+IsParameter id = (1 ≤ length id) × (length id ≤ 16) × IsTrue (list_all is_visible id)

@@ -7,21 +7,21 @@ use Rattle.command_line.specs.Ports.{IsPort}
 abbrev pub is_kind : List ℕ → Bool
 is_kind word = bytes_eq word (codes "mission") || (bytes_eq word (codes "fence") || bytes_eq word (codes "rally"))
 
--- OP: what a station does
-pub data Operation : Type 0 where
-  Upload : (kind : List ℕ) → Operation
-  Download : (kind : List ℕ) → Operation
-  Clear : (kind : List ℕ) → Operation
-  Order : (number word : List ℕ) → Operation
-  List_parameters : Operation
-  Read_parameter : (id : List ℕ) → Operation
-  Set_parameter : (id type word : List ℕ) → Operation
-  List_files : Operation
-  Get_file : (name : List ℕ) → Operation
-  Put_file : (name : List ℕ) → Operation
-  Remove_file : (name : List ℕ) → Operation
+-- OP: what a station does, in words
+pub data OperationWords : Type 0 where
+  Upload : (kind : List ℕ) → OperationWords
+  Download : (kind : List ℕ) → OperationWords
+  Clear : (kind : List ℕ) → OperationWords
+  Order : (number word : List ℕ) → OperationWords
+  List_parameters : OperationWords
+  Read_parameter : (id : List ℕ) → OperationWords
+  Set_parameter : (id type word : List ℕ) → OperationWords
+  List_files : OperationWords
+  Get_file : (name : List ℕ) → OperationWords
+  Put_file : (name : List ℕ) → OperationWords
+  Remove_file : (name : List ℕ) → OperationWords
 
-abbrev pub operation_words : Operation → List (List ℕ)
+abbrev pub operation_words : OperationWords → List (List ℕ)
 operation_words (Upload kind) = codes "upload" ∷ kind ∷ []
 operation_words (Download kind) = codes "get" ∷ kind ∷ []
 operation_words (Clear kind) = codes "clear" ∷ kind ∷ []
@@ -35,7 +35,7 @@ operation_words (Put_file name) = codes "file" ∷ codes "put" ∷ name ∷ []
 operation_words (Remove_file name) = codes "file" ∷ codes "remove" ∷ name ∷ []
 
 -- its words are of their forms; a file's name on the drone is any word
-abbrev pub IsOperation : Operation → Type 0
+abbrev pub IsOperation : OperationWords → Type 0
 IsOperation (Upload kind) = IsTrue (is_kind kind)
 IsOperation (Download kind) = IsTrue (is_kind kind)
 IsOperation (Clear kind) = IsTrue (is_kind kind || bytes_eq kind (codes "all"))
@@ -49,7 +49,7 @@ IsOperation (Put_file name) = Unit {0}
 IsOperation (Remove_file name) = Unit {0}
 
 -- the operations that take a file of this machine
-abbrev pub takes_file : Operation → Bool
+abbrev pub takes_file : OperationWords → Bool
 takes_file (Upload kind) = true
 takes_file (Put_file name) = true
 takes_file _ = false
@@ -62,18 +62,19 @@ pub record DroneWords (plain : List (List ℕ)) : Type 0 where
   pub is_port : IsPort port
   pub plain_is : plain ≡ sys ∷ port ∷ []
 
--- SYS COMP DRONE PORT OP..; the file is given exactly if the operation takes one
-pub record StationWords (file_given : Bool) (plain : List (List ℕ)) : Type 0 where
+-- SYS COMP DRONE PORT OP.., where OP is built; the file is given exactly if the operation takes one
+pub record StationWords (is_built : OperationWords → Bool) (file_given : Bool) (plain : List (List ℕ)) : Type 0 where
   pub sys : List ℕ
   pub comp : List ℕ
   pub drone : List ℕ
   pub port : List ℕ
-  pub operation : Operation
+  pub operation : OperationWords
   pub is_sys : IsNumber 1 255 sys
   pub is_comp : IsNumber 1 255 comp
   pub is_drone : IsNumber 1 255 drone
   pub is_port : IsPort port
   pub is_operation : IsOperation operation
+  pub operation_built : IsTrue (is_built operation)
   pub file : file_given ≡ takes_file operation
   pub plain_is : plain ≡ sys ∷ comp ∷ drone ∷ port ∷ operation_words operation
 

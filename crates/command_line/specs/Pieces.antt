@@ -5,7 +5,7 @@ use Rattle.std.specs.Str.{bytes_eq}
 use Rattle.command_line.specs.declared.commands.Command.{Command}
 use Rattle.command_line.specs.declared.commands.Command.TheVariants.{Fleet, Dialect, Decode, Route, Drone, Station, Make}
 use Rattle.command_line.specs.declared.commands.OptionName.{OptionName}
-use Rattle.command_line.specs.declared.commands.OptionName.TheVariants.{Frames, Key, Defs, One, Turns, Ticks, File}
+use Rattle.command_line.specs.declared.commands.OptionName.TheVariants.{Frames, Key, Defs, One, Turns, Ticks, File, Store}
 use Rattle.command_line.specs.declared.pieces.Sort.{Sort}
 use Rattle.command_line.specs.declared.pieces.Sort.TheVariants.{Plain, Dashes, Alone, Joined, Apart, Unknown}
 use Rattle.command_line.specs.declared.pieces.Place.{Place}
@@ -18,7 +18,7 @@ abbrev pub all_commands : List Command
 all_commands = Fleet ∷ Dialect ∷ Decode ∷ Route ∷ Drone ∷ Station ∷ Make ∷ []
 
 abbrev pub all_options : List OptionName
-all_options = Frames ∷ Key ∷ Defs ∷ One ∷ Turns ∷ Ticks ∷ File ∷ []
+all_options = Frames ∷ Key ∷ Defs ∷ One ∷ Turns ∷ Ticks ∷ File ∷ Store ∷ []
 
 abbrev pub command_named : List ℕ → Option Command
 command_named word = find (λ c. bytes_eq word (command_word c)) all_commands

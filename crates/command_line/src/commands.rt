@@ -26,6 +26,7 @@ pub enum OptionName {
     Turns,
     Ticks,
     File,
+    Store,
 }
 
 pub(crate) const COMMANDS: [Command; 7] = [
@@ -38,7 +39,7 @@ pub(crate) const COMMANDS: [Command; 7] = [
     Command::Make,
 ];
 
-pub(crate) const OPTION_NAMES: [OptionName; 7] = [
+pub(crate) const OPTION_NAMES: [OptionName; 8] = [
     OptionName::Frames,
     OptionName::Key,
     OptionName::Defs,
@@ -46,6 +47,7 @@ pub(crate) const OPTION_NAMES: [OptionName; 7] = [
     OptionName::Turns,
     OptionName::Ticks,
     OptionName::File,
+    OptionName::Store,
 ];
 
 impl Command {
@@ -68,7 +70,7 @@ impl Command {
     pub(crate) fn is_built(self) -> bool
         ensures { result ≡ is_built self }
     {
-        !matches!(self, Command::Drone | Command::Station)
+        !matches!(self, Command::Station)
     }
 
     /// Whether this is one of its options.
@@ -83,7 +85,10 @@ impl Command {
                 name,
                 OptionName::Key | OptionName::Defs | OptionName::One | OptionName::Turns
             ),
-            Command::Drone => matches!(name, OptionName::Key | OptionName::Turns),
+            Command::Drone => matches!(
+                name,
+                OptionName::Key | OptionName::Store | OptionName::Turns
+            ),
             Command::Station => matches!(
                 name,
                 OptionName::Key | OptionName::Ticks | OptionName::File
@@ -104,7 +109,12 @@ impl Command {
                 name,
                 OptionName::Key | OptionName::Defs | OptionName::One | OptionName::Turns
             ),
-            _ => false,
+            Command::Drone => matches!(name, OptionName::Key | OptionName::Turns),
+            Command::Station => matches!(
+                name,
+                OptionName::Key | OptionName::Ticks | OptionName::File
+            ),
+            Command::Make => false,
         }
     }
 }
@@ -135,6 +145,7 @@ impl OptionName {
             OptionName::Turns => "--turns",
             OptionName::Ticks => "--ticks",
             OptionName::File => "--file",
+            OptionName::Store => "--store",
         }
     }
 

@@ -4,10 +4,10 @@ ghost use Rattle.std.specs.List.{find};
 ghost use Rattle.std.specs.Option.{option_copied};
 ghost use Rattle.command_line.specs.Forms.{has_given, is_named};
 ghost use Rattle.command_line.specs.Lines.{given_of, asked_by};
-ghost use Rattle.command_line.specs.Names.{value_given, first_word, main_file, number_given, turns_asked};
+ghost use Rattle.command_line.specs.Names.{value_given, first_word, main_file, number_given, turns_asked, ticks_asked};
 
 use crate::commands::OptionName;
-use crate::forms::{is_any_named, is_named, reads_file};
+use crate::forms::{has_given, is_named, reads_file};
 use crate::lines::{Line, Setting};
 use std::alloc::{AllocError, Global};
 
@@ -31,7 +31,7 @@ impl Line {
     pub fn has(&self, name: OptionName) -> bool
         ensures { result ≡ has_given name (map given_of self.now.settings.items) }
     {
-        is_any_named(&self.settings, name)
+        has_given(&self.settings, name)
     }
 
     /// The value of this option, if it is given.
@@ -62,6 +62,15 @@ impl Line {
         ensures most { result ≤ 1_000_000_000 }
     {
         self.number_of(OptionName::Turns).unwrap_or(1_000_000)
+    }
+
+    /// How many ticks a station waits for the end of its operation: what `--ticks` says, or 50.
+    pub fn ticks(&self) -> u64
+        ensures asked { result ≡ ticks_asked (map given_of self.now.settings.items) }
+        ensures least { 1 ≤ result }
+        ensures most { result ≤ 1_000_000_000 }
+    {
+        self.number_of(OptionName::Ticks).unwrap_or(50)
     }
 
     /// The file that is read after the key and the definitions, if the line names one.

@@ -1,7 +1,7 @@
 // Whether options are of the forms that the command has.
 ghost use Rattle.std.specs.Prelude.{◌≡◌, ◌||◌, not, true, map, string_bytes, count_by, nat_le};
 ghost use Rattle.std.specs.List.{list_all, list_any};
-ghost use Rattle.command_line.specs.Forms.{all_differ, is_named, is_stdin, is_stdin_given, names_file};
+ghost use Rattle.command_line.specs.Forms.{all_differ, has_given, is_named, is_stdin, is_stdin_given, names_file};
 ghost use Rattle.command_line.specs.Forms.{reads_file, stdin_files};
 ghost use Rattle.command_line.specs.Lines.{given_of, is_value_now, taken_now, is_needed, plain_now, fits_now};
 ghost use Rattle.command_line.specs.Pieces.{all_options};
@@ -52,6 +52,13 @@ pub(crate) fn is_any_named(settings: &[Setting], name: OptionName) -> bool
     settings.iter().any(|setting| is_named(setting, name))
 }
 
+/// Whether an option is given.
+pub(crate) fn has_given(settings: &[Setting], name: OptionName) -> bool
+    ensures { result ≡ has_given name (map given_of settings.now) }
+{
+    is_any_named(settings, name)
+}
+
 // No option is given twice.
 fn all_differ(mut settings: &[Setting]) -> bool
     ensures { result ≡ all_differ (map given_of settings.now) }
@@ -82,7 +89,10 @@ fn is_stdin(word: &str) -> bool
 fn names_file(name: OptionName) -> bool
     ensures { result ≡ names_file name }
 {
-    matches!(name, OptionName::Key | OptionName::Defs | OptionName::File)
+    matches!(
+        name,
+        OptionName::Key | OptionName::Defs | OptionName::File | OptionName::Store
+    )
 }
 
 pub(crate) fn reads_file(command: Command) -> bool
@@ -114,7 +124,8 @@ fn stdin_words(words: &[String]) -> usize
 
 /// Whether the options fit the command, for plain words that are of its form.
 pub(crate) fn fits(line: &Line) -> bool
-    requires { plain_now line.now.command (map string_bytes line.now.words.items) ≡ true }
+    requires { plain_now line.now.command (has_given OptionName.File (map given_of line.now.settings.items))
+        (map string_bytes line.now.words.items) ≡ true }
     ensures { result ≡ fits_now line.now.command (map given_of line.now.settings.items)
         (map string_bytes line.now.words.items) }
 {

@@ -4,6 +4,7 @@ ghost use Rattle.command_line.specs.Forms.{most_turns};
 ghost use Rattle.command_line.specs.Numbers.{number_in};
 
 use crate::commands::{Command, OptionName};
+use crate::operations::Task;
 use crate::ports::Port;
 
 /// An option and its value, which is empty for one without.
@@ -28,4 +29,8 @@ pub struct Line {
     pub ports: Vec<Port>,
     /// The number of `make`; 0 for another command.
     pub number: u32,
+    /// The system of a drone or a station; 0 for another command.
+    pub system: u8,
+    /// What a station is told; None for another command.
+    pub task: Option<Task>,
 }

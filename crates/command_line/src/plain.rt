@@ -6,15 +6,20 @@ ghost use Rattle.command_line.specs.Lines.{is_one_file, are_ports, is_one_number
 
 use crate::commands::Command;
 use crate::forms::is_some_text;
+use crate::nodes::{read_drone, read_station};
 use crate::numbers::number;
+use crate::operations::Task;
 use crate::ports::{Port, read_ports};
 use std::alloc::{AllocError, Global};
 
-/// The ports of `route` and the number of `make`; no ports and 0 for another command.
+/// The ports, the number of `make`, the system of a drone or a station, and what a station is told; no ports, 0, 0 and None
+/// for a command that has no such words.
 #[derive(Drop)]
 pub(crate) struct Values {
     pub(crate) ports: Vec<Port>,
     pub(crate) number: u32,
+    pub(crate) system: u8,
+    pub(crate) task: Option<Task>,
 }
 
 fn without_ports(alloc: Global, number: u32) -> Values
@@ -24,6 +29,20 @@ fn without_ports(alloc: Global, number: u32) -> Values
     Values {
         ports: Vec::new(alloc),
         number,
+        system: 0,
+        task: None,
+    }
+}
+
+fn with_ports(ports: Vec<Port>) -> Values
+    ensures ports { result.ports ≡ ports }
+    ensures number { result.number ≡ 0 }
+{
+    Values {
+        ports,
+        number: 0,
+        system: 0,
+        task: None,
     }
 }
 
@@ -64,17 +83,20 @@ fn one_number(words: &[String]) -> Option<u64>
 pub(crate) fn read_plain(
     alloc: Global,
     command: Command,
+    file_given: bool,
     words: &[String],
 ) -> Result<Option<Values>, AllocError>
-    ensures { IfOk result (PlainRead command (map string_bytes words.now)) }
+    ensures { IfOk result (PlainRead command file_given (map string_bytes words.now)) }
 {
     match command {
         Command::Fleet | Command::Decode if is_one_file(words) => Ok(Some(without_ports(alloc, 0))),
         Command::Dialect if words.is_empty() => Ok(Some(without_ports(alloc, 0))),
         Command::Route => match router_ports(alloc, words)? {
-            Some(ports) => Ok(Some(Values { ports, number: 0 })),
+            Some(ports) => Ok(Some(with_ports(ports))),
             None => Ok(None),
         },
+        Command::Drone => read_drone(alloc, words),
+        Command::Station => read_station(alloc, file_given, words),
         Command::Make => match one_number(words) {
             Some(number) => Ok(Some(without_ports(alloc, number as u32))),
             None => Ok(None),

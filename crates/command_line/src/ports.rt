@@ -1,5 +1,5 @@
 // The ports of a line.
-ghost use Rattle.std.specs.Prelude.{◌≡◌, ◌∷◌, ◌++◌, ℕ, Bool, List, true, false, map, string_bytes, codes, is_some, IfOk};
+ghost use Rattle.std.specs.Prelude.{◌≡◌, ◌∷◌, ◌++◌, ℕ, Bool, List, true, false, map, string_bytes, codes, is_some, IfOk, IfSome};
 ghost use Rattle.std.specs.List.{list_all, list_any};
 ghost use Rattle.std.specs.Option.{MatchOption};
 ghost use Rattle.command_line.specs.Numbers.{number_in};
@@ -184,13 +184,22 @@ fn after_mark(word: &str) -> Option<&str>
 }
 
 fn port_at(is_open: bool, target: Option<Target>) -> Option<Port>
-    ensures { (passes : Bool) (word : List ℕ) → IsRead target_text passes word target
+    ensures mark { IfSome result (λ p. p.is_open ≡ is_open) }
+    ensures read { (passes : Bool) (word : List ℕ) → IsRead target_text passes word target
         → IsRead port_text passes (open_word is_open word) result }
 {
     match target {
         Some(target) => Some(Port { is_open, target }),
         None => None,
     }
+}
+
+/// The port that the word is, which isn't open.
+pub(crate) fn read_closed_port(alloc: Global, word: &str) -> Result<Option<Port>, AllocError>
+    ensures read { IfOk result (IsRead port_text (is_port word.now) word.now) }
+    ensures closed { IfOk result (λ port. IfSome port (λ p. p.is_open ≡ false)) }
+{
+    Ok(port_at(false, read_target(alloc, word)?))
 }
 
 /// The port of a router that the word is, with `open:` before it or not.

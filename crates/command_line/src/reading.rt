@@ -2,12 +2,12 @@
 ghost use Rattle.std.specs.Prelude.{◌≡◌, [], ◌∷◌, ◌++◌, List, ℕ, Some, None, OnOk, IfOk, IsErrOf, map, is_some, string_bytes};
 ghost use Rattle.command_line.specs.Built.{built};
 ghost use Rattle.command_line.specs.Grammar.{Asks, AskNothing};
-ghost use Rattle.command_line.specs.Lines.{given_of, asked_by, parts_of, with_rest, LineSays};
+ghost use Rattle.command_line.specs.Lines.{given_of, asked_by, parts_of, with_rest, LineSays, LineNodeSays};
 ghost use Rattle.command_line.specs.Pieces.{parts_at};
 
 use crate::commands::OptionName;
 use crate::faults::WantedFault;
-use crate::forms::fits;
+use crate::forms::{fits, has_given};
 use crate::lines::{Line, Setting};
 use crate::numbers::number;
 use crate::pieces::{Place, Sort, command_named, is_dashed, joined_value, sort_of};
@@ -156,6 +156,8 @@ pub fn read(alloc: Global, words: &[String]) -> Result<Line, WantedFault>
     ensures asks { IfOk result (λ line. Asks built (map string_bytes words.now) (asked_by line)) }
     // What its plain words say.
     ensures says { IfOk result LineSays }
+    // What those of `drone` and `station` say.
+    ensures node { IfOk result LineNodeSays }
     ensures usage { IsErrOf result WantedFault.Usage → AskNothing built (map string_bytes words.now) }
 {
     let [first, behind @ ..] = words else {
@@ -165,7 +167,8 @@ pub fn read(alloc: Global, words: &[String]) -> Result<Line, WantedFault>
         return Err(WantedFault::Usage);
     };
     let reader = read_behind(alloc, behind)?;
-    let Some(values) = read_plain(alloc, command, &reader.words)? else {
+    let file_given = has_given(&reader.settings, OptionName::File);
+    let Some(values) = read_plain(alloc, command, file_given, &reader.words)? else {
         return Err(WantedFault::Usage);
     };
     let line = Line {
@@ -174,6 +177,8 @@ pub fn read(alloc: Global, words: &[String]) -> Result<Line, WantedFault>
         words: reader.words,
         ports: values.ports,
         number: values.number,
+        system: values.system,
+        task: values.task,
     };
     if fits(&line) {
         Ok(line)

@@ -41,7 +41,7 @@ asked command = record { command = command; settings = []; plain = the_file }
 is_file : IsFile the_file
 is_file = (codes "file", refl, some_byte 102 (codes "ile"))
 
-asks : (command : Command) (words : List (List ℕ)) → words ≡ command_word command ∷ the_file → is_built command ≡ true → (IsTrue (needs_key command) → ⊥) → ((name : OptionName) → IsTrue (needs_now command name) → ⊥) → ArePlain command [] the_file → stdin_files command [] the_file ≤ 1 → Asks built words (asked command)
+asks : (command : Command) (words : List (List ℕ)) → words ≡ command_word command ∷ the_file → is_built command ≡ true → (IsTrue (needs_key command) → ⊥) → ((name : OptionName) → IsTrue (needs_now command name) → ⊥) → ArePlain built command [] the_file → stdin_files command [] the_file ≤ 1 → Asks built words (asked command)
 asks command words same is_built no_key no_other plain one = record {
   written = record { pieces = Bare (codes "file") ∷ []; behind = None; are_pieces = (refl, tt); words_are = same; settings_are = refl; plain_are = refl };
   fits = record {

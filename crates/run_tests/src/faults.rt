@@ -180,7 +180,7 @@ fn fed_by(bytes: &'static [u8], zeros: usize, reads: u64) -> Inputs<StdSource<Fe
     }
 }
 
-fn words_of(alloc: Global, text: &str) -> Result<Vec<String>, AllocError> {
+pub(crate) fn words_of(alloc: Global, text: &str) -> Result<Vec<String>, AllocError> {
     let mut words = Vec::new(alloc);
     for word in text.split(' ') {
         words.push(String::from_str(alloc, word)?)?;

@@ -1,6 +1,8 @@
 use Rattle.std.proofs.Common.{◌≡◌, ◌∙◌, false, sym, ap, subst, map, string_bytes, Err, None}
 use Rattle.std.proofs.lemmas.Result.{err_from_is_err_and}
 use Rattle.command_line.specs.declared.faults.WantedFault.TheVariants.{Usage}
+use Rattle.command_line.specs.declared.commands.OptionName.TheVariants.{File}
+use Rattle.command_line.specs.Forms.{has_given}
 use Rattle.command_line.specs.Lines.{given_of, parts_of, plain_now, PlainRead}
 use Rattle.command_line.specs.Pieces.{command_named}
 use Rattle.command_line.proofs.FormsAgree.{plain_unfit}
@@ -20,12 +22,14 @@ returns-in_default-2-clause-usage c = λ usage.
     let r = c.in_ok-reader.reader in
     let split = words_split ws c.first-item.result c.in-len1-up.len_at_least c.first-item.is in
     let plain = map string_bytes r.words.items in
-    let read : PlainRead c.in-Some.command plain c.in_ok-values.field-0 = rw c.deref.ensures.value at c.in_ok-values.ensures in
+    let gs = map given_of r.settings.items in
+    let read : PlainRead c.in-Some.command (has_given File gs) plain c.in_ok-values.field-0 =
+    rw (c.has_given-file_given.ensures, c.deref.ensures.value, c.deref-2.ensures.value) at c.in_ok-values.ensures in
     let none : c.in_ok-values.field-0 ≡ None = cc c.in_default-2.is in
-    let unfit : plain_now c.in-Some.command plain ≡ false = subst (PlainRead c.in-Some.command plain) none read in
+    let unfit : plain_now c.in-Some.command (has_given File gs) plain ≡ false = subst (PlainRead c.in-Some.command (has_given File gs) plain) none read in
     unfit_at (map string_bytes ws) (string_bytes c.first-item.result) _ c.in-Some.command (parts_of r.settings.items r.words.items) split
     (ap command_named (sym c.as_str.ensures.value) ∙ sym c.in-Some.ensures) c.in_ok-reader.ensures.parts
-    (plain_unfit c.in-Some.command (map given_of r.settings.items) plain unfit)
+    (plain_unfit c.in-Some.command gs plain unfit)
 
 pub returns-then-fits-clause-asks : goal.returns-then-fits-clause-asks
 returns-then-fits-clause-asks c =

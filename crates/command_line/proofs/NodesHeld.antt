@@ -1,0 +1,86 @@
+-- What the words of `drone` and `station` that the program holds say.
+use Rattle.std.proofs.Common.{◌≡◌, ◌∙◌, ◌≤◌, ◌<◌, ◌-◌, ℕ, Bool, true, false, List, [], ◌∷◌, refl, sym, ap, arith, lit≤, length, take, drop, get_or, map, Some, is_some, String, string_bytes}
+use Rattle.std.proofs.lemmas.Bool.{and_from}
+use Rattle.std.proofs.lemmas.Grind.{common_steps}
+use Rattle.std.specs.Fmt.{decimal}
+use Rattle.std.specs.declared.alloc.Global.{Global}
+use Rattle.command_line.specs.declared.commands.Command.TheVariants.{Drone, Station}
+use Rattle.command_line.specs.declared.operations.Task.{Task}
+use Rattle.command_line.specs.declared.ports.Port.{Port}
+use Rattle.command_line.specs.Lines.{Says}
+use Rattle.command_line.specs.Names.{port_words}
+use Rattle.command_line.specs.Nodes.{is_node, task_in, is_drone, is_station, OnePort, DroneSays, StationSays}
+use Rattle.command_line.specs.Numbers.{number_in}
+use Rattle.command_line.specs.PortTexts.{is_port, port_text}
+use Rattle.command_line.proofs.Numerals.{number_is}
+use Rattle.command_line.proofs.NodeWords.{task_found}
+use Rattle.command_line.proofs.OperationWords.{operation_says}
+
+-- words that are held, by how many there are
+pub two_held : (xs : List (String Global)) (a b : String Global) (v w : List ℕ) → 2 ≤ length xs → length xs < 3 → a ≡ get_or xs 0 a → b ≡ get_or xs 1 b → v ≡ string_bytes a → w ≡ string_bytes b
+    → map string_bytes xs ≡ v ∷ w ∷ []
+two_held [] a b v w some few first second e f = absurd (omega (arith, some))
+two_held (x ∷ []) a b v w some few first second e f = absurd (omega (arith, some))
+two_held (x ∷ y ∷ []) a b v w some few first second e f = rw (e, f, first, second) refl
+two_held (x ∷ y ∷ z ∷ zs) a b v w some few first second e f = absurd (omega (arith, few))
+
+pub not_two : (xs : List (String Global)) → (2 ≤ length xs → length xs < 3 → ⊥) → is_drone (map string_bytes xs) ≡ false
+not_two [] never = refl
+not_two (x ∷ []) never = refl
+not_two (x ∷ y ∷ []) never = absurd (never (lit≤ tt) (lit≤ tt))
+not_two (x ∷ y ∷ z ∷ zs) never = refl
+
+take_rest : (xs : List (String Global)) (a b c d : String Global) → take (length (a ∷ b ∷ c ∷ d ∷ xs) - 4) (drop 4 (a ∷ b ∷ c ∷ d ∷ xs)) ≡ xs
+take_rest xs a b c d = grind (arith, common_steps)
+
+pub four_held : (xs : List (String Global)) (a b c d : String Global) (s t u v : List ℕ) → 4 ≤ length xs → a ≡ get_or xs 0 a → b ≡ get_or xs 1 b → c ≡ get_or xs 2 c → d ≡ get_or xs 3 d
+    → s ≡ string_bytes a → t ≡ string_bytes b → u ≡ string_bytes c → v ≡ string_bytes d
+    → map string_bytes xs ≡ s ∷ t ∷ u ∷ v ∷ map string_bytes (take (length xs - 4) (drop 4 xs))
+four_held [] a b c d s t u v some is1 is2 is3 is4 e f g h = absurd (omega (arith, some))
+four_held (w ∷ []) a b c d s t u v some is1 is2 is3 is4 e f g h = absurd (omega (arith, some))
+four_held (w ∷ x ∷ []) a b c d s t u v some is1 is2 is3 is4 e f g h = absurd (omega (arith, some))
+four_held (w ∷ x ∷ y ∷ []) a b c d s t u v some is1 is2 is3 is4 e f g h = absurd (omega (arith, some))
+four_held (w ∷ x ∷ y ∷ z ∷ zs) a b c d s t u v some is1 is2 is3 is4 e f g h = rw (take_rest zs w x y z, e, f, g, h, is1, is2, is3, is4) refl
+
+pub not_four : (file_given : Bool) (xs : List (String Global)) → length xs < 4 → is_station file_given (map string_bytes xs) ≡ false
+not_four file_given [] few = refl
+not_four file_given (x ∷ []) few = refl
+not_four file_given (x ∷ y ∷ []) few = refl
+not_four file_given (x ∷ y ∷ z ∷ []) few = refl
+not_four file_given (x ∷ y ∷ z ∷ w ∷ ws) few = absurd (omega (arith, few))
+
+-- one port
+port_is : (port : List ℕ) (ports : List Port) → OnePort port ports → map port_text ports ≡ port ∷ []
+port_is port ports one = ap (map port_text) one.ports_are ∙ ap (λ (w : List ℕ). w ∷ []) one.word_is
+
+-- what was read is what the words say
+pub drone_read : (ws : List (List ℕ)) (sys port : List ℕ) (system : ℕ) (ports : List Port) → ws ≡ sys ∷ port ∷ [] → Some system ≡ number_in 1 255 sys → is_port port ≡ true → OnePort port ports
+    → (is_drone ws ≡ true) × Says Drone ws ports 0 × DroneSays ws ports system
+drone_read ws sys port system ports are node is one =
+    let (written, least, most) = number_is 1 255 system sys (sym node) in (
+      ap is_drone are ∙ and_from (is_node sys) (is_port port) (ap is_some (sym node)) is,
+      record { ports_are = port_is port ports one ∙ ap (port_words Drone) (sym are); number_is = λ never. absurd (cc never); at_most = lit≤ tt },
+      record { port = port; plain_is = are ∙ ap (λ w. w ∷ port ∷ []) written; least = least; one_port = one },
+    )
+
+pub station_read : (file_given : Bool) (ws : List (List ℕ)) (sys comp drone port : List ℕ) (op : List (List ℕ)) (system : ℕ) (task : Task) (ports : List Port) → ws ≡ sys ∷ comp ∷ drone ∷ port ∷ op
+    → Some system ≡ number_in 1 255 sys → Some task ≡ task_in file_given comp drone op → is_port port ≡ true → OnePort port ports
+    → (is_station file_given ws ≡ true) × Says Station ws ports 0 × StationSays ws ports system task
+station_read file_given ws sys comp drone port op system task ports are node found is one =
+    let (written, least, most) = number_is 1 255 system sys (sym node) in
+    let parts = task_found file_given comp drone op task (sym found) in
+    let (comp_written, comp_least, comp_most) = number_is 1 255 task.component comp parts.comp_is in
+    let (drone_written, drone_least, drone_most) = number_is 1 255 task.drone drone parts.drone_is in (
+      ap (is_station file_given) are ∙ and_from (is_node sys) _ (ap is_some (sym node)) (and_from (is_some (task_in file_given comp drone op)) (is_port port) (ap is_some (sym found)) is),
+      record { ports_are = port_is port ports one ∙ ap (port_words Station) (sym are); number_is = λ never. absurd (cc never); at_most = lit≤ tt },
+      record {
+        port = port;
+        words = op;
+        plain_is = are ∙ ap (λ w. w ∷ comp ∷ drone ∷ port ∷ op) written ∙ ap (λ w. decimal system ∷ w ∷ drone ∷ port ∷ op) comp_written ∙ ap (λ w. decimal system ∷ decimal task.component ∷ w ∷ port ∷ op) drone_written;
+        system_least = least;
+        component_least = comp_least;
+        drone_least = drone_least;
+        one_port = one;
+        operation_is = operation_says op task.operation parts.operation_is;
+      },
+    )
