@@ -1,0 +1,303 @@
+-- One more call.
+use Rattle.std.proofs.Common.{◌≡◌, inl, inr, ℕ, List, [], ◌∷◌, ◌++◌, Bool, true, Option, Some, None, refl, sym, ap, ◌∙◌, subst, append_assoc}
+use Rattle.std.specs.Prelude.{map}
+use Rattle.std.specs.List.{flat_map}
+use Rattle.std.proofs.lemmas.List.{append-nil}
+use Rattle.std.proofs.lemmas.List.Elements.{All-append, All-nil}
+use Rattle.std.proofs.lemmas.Grind.{flat_map-append}
+use Rattle.std.specs.Io.KnownBytes.{append_known}
+use Rattle.mav_names.specs.declared.names.Name.{Name}
+use Rattle.mav_links.specs.Links.{LinkState}
+use Rattle.param_proto.specs.declared.params.Param.{Param}
+use Rattle.mav_nodes.specs.declared.faults.NodeFault.{NodeFault}
+use Rattle.mav_nodes.specs.declared.faults.NodeFault.TheVariants.{StampsSpent as NoStamp, Store, NoMemory as NoNodeMemory}
+use Rattle.mav_nodes.specs.declared.news.News.{News}
+use Rattle.mav_nodes.specs.News.{NodeEvent, shown, events_of}
+use Rattle.mav_nodes.specs.Links.{Outcome, done, behind, and_then}
+use Rattle.mav_nodes.specs.Stores.{Serves, HasFailed, AllKept}
+use Rattle.mav_nodes.specs.Promises.{Did}
+use Rattle.mav_nodes.proofs.StoreCalls.{serves_both, failed_then, then_failed}
+use Rattle.fleet_world.specs.WorldState.{Node, node_name}
+use Rattle.fleet_world.specs.ParamLists.{params_of, HaveValues}
+use Rattle.fleet_world.proofs.ListedValues.{ListsKnown}
+use Rattle.run_status.specs.declared.input_errors.InputError.TheVariants.{StampsSpent}
+use Rattle.run_status.specs.declared.live_ends.LiveEnd.TheVariants.{StoreFault}
+use Rattle.run_status.specs.declared.run_ends.RunEnd.{RunEnd}
+use Rattle.run_status.specs.declared.run_ends.RunEnd.TheVariants.{Stopped, Live}
+use Rattle.live_node.specs.declared.nodes.LiveNode.{LiveNode}
+use Rattle.live_node.specs.declared.nodes.Due.{Due}
+use Rattle.live_node.specs.declared.nodes.Due.TheVariants.{Tick, Heartbeat, Sim}
+use Rattle.live_node.specs.declared.tellers.Ending.{Ending}
+use Rattle.live_node.specs.declared.tellers.Teller.{Teller}
+use Rattle.live_node.specs.Nodes.{IsLive, IsKeptBy}
+use Rattle.live_node.specs.Calls.{LiveCall, call_does, calls_do, keeps_in}
+use Rattle.live_node.specs.Texts.{frames_text, lines_of, count_over, ending_over}
+use Rattle.live_node.specs.Ports.{SentBy, PrintedBy, FaultsBy, IsRunEnd, end_by, IsTellingEnd}
+use Rattle.live_node.specs.Parts.{CallFails}
+use Rattle.live_node.specs.Runs.{Outside, outside, Stores, Kept, Written}
+use Rattle.live_node.specs.Progress.{Said, Output, CallsStopped, due_call}
+use Rattle.live_node.proofs.Endings.{sent_by, printed_by, sent_after, printed_after, whole_after}
+use Rattle.live_node.proofs.Texts.{frames-append, lines-append, count-append, ending-append}
+use Rattle.live_node.proofs.Known.{known}
+
+-- ---- outcomes
+
+behind_none : {A : Type 0} (outcome : Outcome A) → behind [] outcome ≡ outcome
+behind_none None = refl
+behind_none (Some d) = refl
+
+then_done : {A : Type 0} (outcome : Outcome A) → and_then outcome (λ node. done node []) ≡ outcome
+then_done None = refl
+then_done (Some d) = ap (λ (l : List NodeEvent). done d.node l) (append-nil d.events)
+
+behind_twice : {A : Type 0} (first next : List NodeEvent) (outcome : Outcome A) → behind first (behind next outcome) ≡ behind (first ++ next) outcome
+behind_twice first next None = refl
+behind_twice first next (Some d) = ap (λ (l : List NodeEvent). done d.node l) (sym (append_assoc first next d.events))
+
+behind_then : {A B : Type 0} (events : List NodeEvent) (outcome : Outcome A) (next : A → Outcome B) → behind events (and_then outcome next) ≡ and_then (behind events outcome) next
+behind_then events None next = refl
+behind_then events (Some d) next = behind_twice events d.events (next d.node)
+
+-- calls, and then one more
+later : (xs : List LiveCall) (call : LiveCall) → ((node : Node) → calls_do (xs ++ call ∷ []) node ≡ and_then (calls_do xs node) (call_does call)) → (o : Outcome Node) → and_then o (calls_do (xs ++ call ∷ [])) ≡ and_then (and_then o (calls_do xs)) (call_does call)
+later xs call h None = refl
+later xs call h (Some d) = ap (behind d.events) (h d.node) ∙ behind_then d.events (calls_do xs d.node) (call_does call)
+
+pub one_more : (made : List LiveCall) (call : LiveCall) (node : Node) → calls_do (made ++ call ∷ []) node ≡ and_then (calls_do made node) (call_does call)
+one_more [] call node = then_done (call_does call node) ∙ sym (behind_none (call_does call node))
+one_more (x ∷ xs) call node = later xs call (λ n. one_more xs call n) (call_does x node)
+
+-- what a call did
+pub record Does (outcome : Outcome Node) (live : LiveNode) (news : List News) : Type 0 where
+  pub node : Node
+  pub events : List NodeEvent
+  pub does : outcome ≡ done node events
+  pub is : IsLive node live
+  pub said : events_of news ≡ map shown events
+
+pub did_does : (outcome : Outcome Node) (live : LiveNode) (news : List News) → Did outcome (λ node. IsLive node live) [] news → Does outcome live news
+did_does None live news h = absurd h
+did_does (Some d) live news h = record { node = d.node; events = d.events; does = refl; is = h.0; said = h.1 }
+
+-- ---- stores
+
+pub kept_on : {S : Type 0} (stores : Stores S) (before old now : S) (made : List LiveCall) → Kept stores before old made → Serves stores.faults stores.is_infallible old now → Kept stores before now made
+kept_on stores before old now made k serves = record {
+  serves = serves_both stores.faults stores.is_infallible before old now k.serves serves;
+  kept = on k.kept;
+}
+  where
+    on : AllKept (HasFailed stores.faults stores.is_infallible before old) (flat_map keeps_in made) → AllKept (HasFailed stores.faults stores.is_infallible before now) (flat_map keeps_in made)
+    on (inl all) = inl all
+    on (inr failed) = inr (failed_then stores.faults stores.is_infallible before old now failed serves)
+
+pub kept_more : {S : Type 0} (stores : Stores S) (before old now : S) (made : List LiveCall) (call : LiveCall) → Kept stores before old made → Serves stores.faults stores.is_infallible old now → AllKept (HasFailed stores.faults stores.is_infallible old now) (keeps_in call) → Kept stores before now (made ++ call ∷ [])
+kept_more stores before old now made call k serves more = record {
+  serves = serves_both stores.faults stores.is_infallible before old now k.serves serves;
+  kept = subst (AllKept (HasFailed stores.faults stores.is_infallible before now)) (sym keeps) (on k.kept more);
+}
+  where
+    keeps : flat_map keeps_in (made ++ call ∷ []) ≡ flat_map keeps_in made ++ keeps_in call
+    keeps = flat_map-append keeps_in made (call ∷ []) ∙ ap (λ (l : List Bool). flat_map keeps_in made ++ l) (append-nil (keeps_in call))
+
+    on : AllKept (HasFailed stores.faults stores.is_infallible before old) (flat_map keeps_in made) → AllKept (HasFailed stores.faults stores.is_infallible old now) (keeps_in call) → AllKept (HasFailed stores.faults stores.is_infallible before now) (flat_map keeps_in made ++ keeps_in call)
+    on (inr failed) h = inr (failed_then stores.faults stores.is_infallible before old now failed serves)
+    on (inl all) (inr failed) = inr (then_failed stores.faults stores.is_infallible before old now k.serves failed)
+    on (inl all) (inl these) = inl (All-append (λ kept. kept ≡ true) (flat_map keeps_in made) (keeps_in call) all these)
+
+-- ---- one call
+
+-- what is known of a call that returned news: its teller wrote them, or stopped so
+pub record Called {S : Type 0} (stores : Stores S) (before old now : S) (start : Node) (made : List LiveCall) (call : LiveCall) (was live : LiveNode) (t u : Teller) (first : Outside) (l m : LinkState) (x y : Option (List ℕ)) (news : List News) (values : List Param) (end : Option RunEnd) : Type 0 where
+  pub output : Output stores before old start made was t first (outside l x)
+  pub did : Did (call_does call output.node) (λ node. IsLive node live) [] news
+  pub serves : Serves stores.faults stores.is_infallible old now
+  pub kept : AllKept (HasFailed stores.faults stores.is_infallible old now) (keeps_in call)
+  pub stored : IsKeptBy (stores.contents old) was → IsKeptBy (stores.contents now) live
+  pub values_are : (node : Node) → IsLive node live → values ≡ params_of (Some node)
+  pub said : (events : List NodeEvent) → events_of news ≡ map shown events → HaveValues values events → Said end events t u l m x y
+
+-- the events of the call, and what was told of them
+record Heard {S : Type 0} (stores : Stores S) (now : S) (start : Node) (made : List LiveCall) (call : LiveCall) (live : LiveNode) (earlier : List NodeEvent) (t u : Teller) (l m : LinkState) (x y : Option (List ℕ)) (end : Option RunEnd) : Type 0 where
+  node : Node
+  events : List NodeEvent
+  run : calls_do (made ++ call ∷ []) start ≡ done node (earlier ++ events)
+  is : IsLive node live
+  told : Said end events t u l m x y
+
+known_in : (outcome : Outcome Node) (node : Node) (events : List NodeEvent) → outcome ≡ done node events → ListsKnown outcome → HaveValues (params_of (Some node)) events
+known_in outcome node events e h = subst ListsKnown e h
+
+heard : {S : Type 0} {stores : Stores S} {before old now : S} {start : Node} {made : List LiveCall} {call : LiveCall} {was live : LiveNode} {t u : Teller} {first : Outside} {l m : LinkState} {x y : Option (List ℕ)} {news : List News} {values : List Param} {end : Option RunEnd} (c : Called stores before old now start made call was live t u first l m x y news values end) → Heard stores now start made call live c.output.events t u l m x y end
+heard {S} {stores} {before} {old} {now} {start} {made} {call} {was} {live} {t} {u} {first} {l} {m} {x} {y} {news} {values} {end} c =
+    let o = c.output in
+    let d = did_does (call_does call o.node) live news c.did in
+    let have = subst (λ (v : List Param). HaveValues v d.events) (sym (c.values_are d.node d.is)) (known_in (call_does call o.node) d.node d.events d.does (known call o.node)) in
+    record {
+      node = d.node;
+      events = d.events;
+      run = one_more made call start ∙ (ap (λ (out : Outcome Node). and_then out (call_does call)) o.run ∙ ap (behind o.events) d.does);
+      is = d.is;
+      told = c.said d.events d.said have;
+    }
+
+lines_told : (t : Teller) (name : Name) (events more : List NodeEvent) → t.name ≡ name → t.sent ≡ count_over 0 events → lines_of t.name t.sent more ≡ lines_of name (count_over 0 events) more
+lines_told t name events more e f = ap (λ (n : Name). lines_of n t.sent more) e ∙ ap (λ (k : ℕ). lines_of name k more) f
+
+-- a call was made, and all that it told was written
+pub call_told : {S : Type 0} {stores : Stores S} {before old now : S} {start : Node} {made : List LiveCall} {call : LiveCall} {was live : LiveNode} {t u : Teller} {first : Outside} {l m : LinkState} {x y : Option (List ℕ)} {news : List News} {values : List Param} {end : Option RunEnd} (c : Called stores before old now start made call was live t u first l m x y news values end) → end ≡ None → m.faults ≡ l.faults → Output stores before now start (made ++ call ∷ []) live u first (outside m y)
+call_told {S} {stores} {before} {old} {now} {start} {made} {call} {was} {live} {t} {u} {first} {l} {m} {x} {y} {news} {values} {end} c none faults =
+    let o = c.output in
+    let h = heard c in
+    let told = h.told.told none in
+    let sent = subst (λ (e : Option RunEnd). SentBy e l.sent m.sent (frames_text (map shown h.events))) none h.told.sent in
+    let printed = subst (λ (e : Option RunEnd). PrintedBy e x y (lines_of t.name t.sent h.events)) none h.told.printed in
+    let lines = lines_told t (node_name start) o.events h.events o.name o.count in
+    record {
+      node = h.node;
+      events = o.events ++ h.events;
+      run = h.run;
+      is = h.is;
+      name = ap (λ (v : Teller). v.name) told ∙ o.name;
+      count = ap (λ (v : Teller). v.sent) told ∙ (ap (λ (k : ℕ). count_over k h.events) o.count ∙ sym (count-append 0 o.events h.events));
+      ending = ap (λ (v : Teller). v.ending) told ∙ (ap (λ (e : Option Ending). ending_over e h.events) o.ending ∙ sym (ending-append None o.events h.events));
+      faults = faults ∙ o.faults;
+      sent = whole_after first.link.sent l.sent m.sent (frames_text (map shown o.events)) (frames_text (map shown h.events)) o.sent sent ∙ ap (append_known first.link.sent) (sym (frames-append o.events h.events));
+      printed = whole_after first.text x y (lines_of (node_name start) 0 o.events) (lines_of t.name t.sent h.events) o.printed printed
+          ∙ ap (append_known first.text) (ap (λ (more : List ℕ). lines_of (node_name start) 0 o.events ++ more) lines ∙ sym (lines-append (node_name start) 0 o.events h.events));
+      kept = kept_more stores before old now made call o.kept c.serves c.kept;
+      stored = c.stored o.stored;
+    }
+
+-- an end while news are written isn't want of a timestamp
+pub not_spent : (end : RunEnd) → IsTellingEnd end → end ≡ Stopped StampsSpent → ⊥
+not_spent end (inl e) h = cc
+not_spent end (inr (inl e)) h = cc
+not_spent end (inr (inr e)) h = cc
+
+-- nor a fault of the store
+pub not_store : (end : RunEnd) → IsTellingEnd end → ◌≡◌ {A = Option RunEnd} (Some end) (Some (Live StoreFault)) → ⊥
+not_store end (inl e) h = cc
+not_store end (inr (inl e)) h = cc
+not_store end (inr (inr e)) h = cc
+
+-- a call was made, and then the run stopped while its news were written
+pub written_then : {S : Type 0} {stores : Stores S} {before old now : S} {start : Node} {made : List LiveCall} {call : LiveCall} {was live : LiveNode} {t u : Teller} {first : Outside} {l m : LinkState} {x y : Option (List ℕ)} {news : List News} {values : List Param} {end : Option RunEnd} (c : Called stores before old now start made call was live t u first l m x y news values end) → (end ≡ Some (Live StoreFault) → ⊥) → Written stores before now end start (made ++ call ∷ []) first (outside m y)
+written_then {S} {stores} {before} {old} {now} {start} {made} {call} {was} {live} {t} {u} {first} {l} {m} {x} {y} {news} {values} {end} c other =
+    let o = c.output in
+    let h = heard c in
+    let lines = lines_told t (node_name start) o.events h.events o.name o.count in
+    record {
+      node = h.node;
+      events = o.events ++ h.events;
+      run = h.run;
+      sent = subst (SentBy end first.link.sent m.sent) (sym (frames-append o.events h.events)) (sent_after end first.link.sent l.sent m.sent (frames_text (map shown o.events)) (frames_text (map shown h.events)) o.sent h.told.sent);
+      printed = subst (PrintedBy end first.text y) (ap (λ (more : List ℕ). lines_of (node_name start) 0 o.events ++ more) lines ∙ sym (lines-append (node_name start) 0 o.events h.events))
+          (printed_after end first.text x y (lines_of (node_name start) 0 o.events) (lines_of t.name t.sent h.events) o.printed h.told.printed);
+      kept = kept_more stores before old now made call o.kept c.serves c.kept;
+      store = λ e. absurd (other e);
+    }
+
+-- all was written, and then the run ended so
+pub written : {S : Type 0} (stores : Stores S) (before old now : S) (end : Option RunEnd) (start : Node) (made : List LiveCall) (live : LiveNode) (t : Teller) (first last : Outside) → Output stores before old start made live t first last → Serves stores.faults stores.is_infallible old now → (end ≡ Some (Live StoreFault) → ⊥) → Written stores before now end start made first last
+written {S} stores before old now end start made live t first last o serves other = record {
+  node = o.node;
+  events = o.events;
+  run = o.run;
+  sent = sent_by end first.link.sent last.link.sent (frames_text (map shown o.events)) o.sent;
+  printed = printed_by end first.text last.text (lines_of (node_name start) 0 o.events) o.printed;
+  kept = kept_on stores before old now made o.kept serves;
+  store = λ e. absurd (other e);
+}
+
+pub call_stopped : {S : Type 0} {stores : Stores S} {before old now : S} {start : Node} {made : List LiveCall} {call : LiveCall} {was live : LiveNode} {t u : Teller} {first : Outside} {l m : LinkState} {x y : Option (List ℕ)} {news : List News} {values : List Param} {end : Option RunEnd} (c : Called stores before old now start made call was live t u first l m x y news values end) → (why : RunEnd) → end ≡ Some why → IsTellingEnd why → CallsStopped stores before now why start made (call ∷ []) first (outside m y)
+call_stopped {S} {stores} {before} {old} {now} {start} {made} {call} {was} {live} {t} {u} {first} {l} {m} {x} {y} {news} {values} {end} c why e telling = record {
+  more = call ∷ [];
+  rest = [];
+  are = refl;
+  written = subst (λ (w : Option RunEnd). Written stores before now w start (made ++ call ∷ []) first (outside m y)) e (written_then c (λ failed. not_store why telling (sym e ∙ failed)));
+  spent = λ spent. absurd (not_spent why telling spent);
+}
+
+-- only want of a timestamp ends a run so
+pub spent_by : (fault : NodeFault) (outcome : Outcome Node) (failed : Type 0) → CallFails fault outcome failed → end_by fault ≡ Stopped StampsSpent → outcome ≡ None
+spent_by NoStamp outcome failed h e = h
+spent_by Store outcome failed h e = absurd (differs e)
+  where
+    differs : end_by Store ≡ Stopped StampsSpent → ⊥
+    differs e = cc
+spent_by NoNodeMemory outcome failed h e = absurd (differs e)
+  where
+    differs : end_by NoNodeMemory ≡ Stopped StampsSpent → ⊥
+    differs e = cc
+
+-- only a fault of the store ends it so
+pub failed_by : (fault : NodeFault) (outcome : Outcome Node) (failed : Type 0) → CallFails fault outcome failed → ◌≡◌ {A = Option RunEnd} (Some (end_by fault)) (Some (Live StoreFault)) → failed
+failed_by NoStamp outcome failed h e = absurd (differs e)
+  where
+    differs : ◌≡◌ {A = Option RunEnd} (Some (end_by NoStamp)) (Some (Live StoreFault)) → ⊥
+    differs e = cc
+failed_by Store outcome failed h e = h
+failed_by NoNodeMemory outcome failed h e = absurd (differs e)
+  where
+    differs : ◌≡◌ {A = Option RunEnd} (Some (end_by NoNodeMemory)) (Some (Live StoreFault)) → ⊥
+    differs e = cc
+
+-- the same calls, grouped in another way
+abbrev pub regroup : {S : Type 0} (stores : Stores S) (before now : S) (end : Option RunEnd) (start : Node) (xs ys : List LiveCall) (first last : Outside) → xs ≡ ys → Written stores before now end start xs first last → Written stores before now end start ys first last
+regroup stores before now end start xs ys first last e w = record {
+  node = w.node;
+  events = w.events;
+  run = ap (λ (calls : List LiveCall). calls_do calls start) (sym e) ∙ w.run;
+  sent = w.sent;
+  printed = w.printed;
+  kept = subst (Kept stores before now) e w.kept;
+  store = w.store;
+}
+
+-- a call wasn't made, since the node failed
+pub not_called : {S : Type 0} (stores : Stores S) (before old now : S) (start : Node) (made : List LiveCall) (call : LiveCall) (live : LiveNode) (t : Teller) (first last : Outside) (fault : NodeFault) → (o : Output stores before old start made live t first last) → Serves stores.faults stores.is_infallible old now → CallFails fault (call_does call o.node) (HasFailed stores.faults stores.is_infallible old now) → CallsStopped stores before now (end_by fault) start made (call ∷ []) first last
+not_called stores before old now start made call live t first last fault o serves fails = record {
+  more = [];
+  rest = call ∷ [];
+  are = refl;
+  written = record {
+    node = o.node;
+    events = o.events;
+    run = ap (λ (calls : List LiveCall). calls_do calls start) (append-nil made) ∙ o.run;
+    sent = sent_by (Some (end_by fault)) first.link.sent last.link.sent (frames_text (map shown o.events)) o.sent;
+    printed = printed_by (Some (end_by fault)) first.text last.text (lines_of (node_name start) 0 o.events) o.printed;
+    kept = subst (Kept stores before now) (sym (append-nil made)) (kept_on stores before old now made o.kept serves);
+    store = λ e. then_failed stores.faults stores.is_infallible before old now o.kept.serves (failed_by fault (call_does call o.node) _ fails e);
+  };
+  spent = λ e. spent_by fault (call_does call o.node) _ fails e;
+}
+
+-- a call that is due changes no plan
+pub due_kept : (failed : Type 0) (due : Due) (at : ℕ) → AllKept failed (keeps_in (due_call due at))
+due_kept failed Tick at = inl (All-nil (λ kept. kept ≡ true))
+due_kept failed Heartbeat at = inl (All-nil (λ kept. kept ≡ true))
+due_kept failed Sim at = inl (All-nil (λ kept. kept ≡ true))
+
+pub port_same : (end : Option RunEnd) (port_before port_after out_before out_after : ℕ) → end ≡ None → FaultsBy end port_before port_after out_before out_after → port_after ≡ port_before
+port_same end port_before port_after out_before out_after e h = (subst (λ (w : Option RunEnd). FaultsBy w port_before port_after out_before out_after) e h).0
+
+-- how a run ends at a fault of its node, or while news are written
+pub telling_ends : (end : RunEnd) → IsTellingEnd end → IsRunEnd end
+telling_ends end (inl e) = subst IsRunEnd (sym e) tt
+telling_ends end (inr (inl e)) = subst IsRunEnd (sym e) tt
+telling_ends end (inr (inr e)) = subst IsRunEnd (sym e) tt
+
+pub fault_ends : (fault : NodeFault) → IsRunEnd (end_by fault)
+fault_ends NoStamp = tt
+fault_ends Store = tt
+fault_ends NoNodeMemory = tt
+
+pub fault_counts : (fault : NodeFault) (port out : ℕ) → FaultsBy (Some (end_by fault)) port port out out
+fault_counts NoStamp port out = (refl, refl)
+fault_counts Store port out = (refl, refl)
+fault_counts NoNodeMemory port out = refl
+
+-- a call after one that was done
+pub faults_then : (end : Option RunEnd) (p q r x y z : ℕ) → FaultsBy None p q x y → FaultsBy end q r y z → FaultsBy end p r x z
+faults_then end p q r x y z first next = subst (λ (n : ℕ). FaultsBy end n r x z) first.0 (subst (λ (n : ℕ). FaultsBy end q r n z) first.1 next)

@@ -1,0 +1,14 @@
+pub mod Results
+pub mod Ports
+pub mod Endings
+pub mod Texts
+pub mod Tellings
+pub mod Known
+pub mod Calls
+pub mod Waits
+pub mod Pieces
+pub mod Turning
+pub mod Openings
+pub mod Starting
+pub mod Hearing
+pub mod TurnEnds

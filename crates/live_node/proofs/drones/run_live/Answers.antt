@@ -1,0 +1,42 @@
+use Rattle.std.proofs.Common.{[], ◌∷◌}
+use Rattle.fleet_world.specs.WorldState.{Drone}
+use Rattle.live_node.specs.Calls.{Beats}
+use Rattle.live_node.proofs.TurnEnds.{started}
+use Rattle.live_node.proofs.Openings.{stopped_at_once, stopped_later, turns_taken, port_ended, drone_end}
+use Rattle.live_node.proofs.drones.run_live.Goals as goal
+
+pub returns-in-Err-clause-ran : goal.returns-in-Err-clause-ran
+returns-in-Err-clause-ran g c =
+    λ before start o.
+    let s = c.in-Err.ensures.stopped before (Drone start) [] _ o.output in
+    stopped_at_once _ before _ c.in-Err.end start s.0 _ _ c.in-Err.ensures.end c.call.ensures.unread s.1
+
+pub returns-in-Ok-true-clause-ran : goal.returns-in-Ok-true-clause-ran
+returns-in-Ok-true-clause-ran g c =
+    let ran = rw c.in-Ok-true.field-0-test at c.in-Ok-true.ensures.done in
+    λ before start o.
+    let h = c.in-Ok.ensures.done before (Drone start) [] _ o.output in
+    let b = started c.call.ensures.reader o c.call.ensures.unread h.1 in
+    turns_taken _ before _ start h.0 _ _ _ _ _ (ran before (Drone start) (Beats h.0 ∷ []) _ b)
+
+pub returns-in-Ok-false-clause-ran : goal.returns-in-Ok-false-clause-ran
+returns-in-Ok-false-clause-ran g c =
+    let ran = rw c.in-Ok-false.field-0-test at c.in-Ok-false.ensures.done in
+    λ before start o.
+    let h = c.in-Ok.ensures.done before (Drone start) [] _ o.output in
+    let b = started c.call.ensures.reader o c.call.ensures.unread h.1 in
+    let t = ran before (Drone start) (Beats h.0 ∷ []) _ b in
+    port_ended _ before _ start h.0 t.0 _ _ _ _ t.1
+
+pub returns-in-Err-run_turns-clause-ran : goal.returns-in-Err-run_turns-clause-ran
+returns-in-Err-run_turns-clause-ran g c =
+    λ before start o.
+    let h = c.in-Ok.ensures.done before (Drone start) [] _ o.output in
+    let b = started c.call.ensures.reader o c.call.ensures.unread h.1 in
+    stopped_later _ before _ c.in-Err-run_turns.end start h.0 _ _ c.in-Err-run_turns.ensures.end (c.in-Err-run_turns.ensures.stopped before (Drone start) (Beats h.0 ∷ []) _ b)
+
+pub returns-in-Err-clause-end : goal.returns-in-Err-clause-end
+returns-in-Err-clause-end g c = drone_end c.args.turns c.in-Err.end c.in-Err.ensures.end
+
+pub returns-in-Err-run_turns-clause-end : goal.returns-in-Err-run_turns-clause-end
+returns-in-Err-run_turns-clause-end g c = drone_end c.args.turns c.in-Err-run_turns.end c.in-Err-run_turns.ensures.end

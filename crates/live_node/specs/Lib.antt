@@ -1,0 +1,9 @@
+pub mod Nodes
+pub mod Calls
+pub mod Parts
+pub mod Turns
+pub mod Texts
+pub mod Ports
+pub mod Runs
+pub mod Progress
+pub mod Drones

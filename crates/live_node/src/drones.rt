@@ -1,0 +1,146 @@
+// A drone on a link.
+ghost use Rattle.std.specs.Prelude.{◌≡◌, List, IfOk, IfErr};
+ghost use Rattle.std.specs.Result.{result_err};
+ghost use Rattle.mav_nodes.specs.Nodes.{DroneSide};
+ghost use Rattle.fleet_world.specs.WorldState.{Node, Drone as StateDrone};
+ghost use Rattle.live_node.specs.Calls.{LiveCall};
+ghost use Rattle.live_node.specs.Ports.{FaultsBy, IsRunEnd};
+ghost use Rattle.live_node.specs.Runs.{Outside, outside, stores_of};
+ghost use Rattle.live_node.specs.Progress.{Between, BetweenStopped, TurnsRan, Opened};
+ghost use Rattle.live_node.specs.Drones.{DroneLived, DroneRuns, NewDroneRuns, IsDroneEnd, start_end};
+
+use crate::nodes::{Due, LiveNode};
+use crate::tellers::Teller;
+use crate::turns::{call, turn};
+use mav_links::Link;
+use mav_names::Name;
+use mav_nodes::{DroneNode, StartFault};
+use mav_ports::{Clock, Sink};
+use mav_sign::Key;
+use plan_store::{Keeper, MemKeeper};
+use run_status::{InputError, LiveEnd, Place, Reason, RunEnd};
+use std::alloc::Global;
+
+// A read asks for so many bytes.
+const PIECE_BYTES: usize = 4096;
+
+// A drone is component 1 of its system (MAVLink common messages, MAV_COMP_ID_AUTOPILOT1).
+const AUTOPILOT: u8 = 1;
+
+/// A drone's system, and how many reads may be made of a port that hasn't ended.
+#[derive(Clone, Copy)]
+pub struct DronePlan {
+    pub sys: u8,
+    pub turns: u64,
+}
+
+// How a run ends whose drone doesn't start.
+fn start_end(fault: StartFault) -> RunEnd
+    ensures { result ≡ start_end fault }
+{
+    match fault {
+        StartFault::Store => RunEnd::Live(LiveEnd::StoreFault),
+        StartFault::BadKept => RunEnd::Stopped(InputError::Bad(Place::Store, Reason::Kept)),
+        StartFault::NoMemory => RunEnd::NoMemory,
+    }
+}
+
+// At most so many turns. Returns whether the link hasn't ended after them.
+fn run_turns<L: Link, K: Sink, C: Clock, S: Keeper>(
+    live: &mut LiveNode,
+    teller: &mut Teller,
+    turns: u64,
+    link: &mut L,
+    out: &mut K,
+    clock: &mut C,
+    keeper: &mut S,
+) -> Result<bool, RunEnd>
+    ensures done { IfOk result (λ goes_on. (before : S) (start : Node) (opening : List LiveCall) (first : Outside) → Between (stores_of S.faults S.is_infallible S.contents) before keeper.old start opening 0 live.old teller.old first (outside (L.state link.old) (K.sent out.old))
+        → TurnsRan goes_on (stores_of S.faults S.is_infallible S.contents) before keeper.new start opening turns live.new teller.new first (outside (L.state link.new) (K.sent out.new))) }
+    ensures stopped { IfErr result (λ end. (before : S) (start : Node) (opening : List LiveCall) (first : Outside) → Between (stores_of S.faults S.is_infallible S.contents) before keeper.old start opening 0 live.old teller.old first (outside (L.state link.old) (K.sent out.old))
+        → BetweenStopped (stores_of S.faults S.is_infallible S.contents) before keeper.new end start opening first (outside (L.state link.new) (K.sent out.new))) }
+    ensures end { IfErr result IsRunEnd }
+    ensures faults { FaultsBy (result_err result) (L.state link.old).faults (L.state link.new).faults (K.faults out.old) (K.faults out.new) }
+{
+    let mut buf = [0u8; PIECE_BYTES];
+    'turns: for _at in 0..turns {
+        match turn(live, teller, &mut buf, link, out, clock, keeper) {
+            Ok(true) => {}
+            Ok(false) => return Ok(false),
+            Err(end) => return Err(end),
+        }
+    }
+    Ok(true)
+}
+
+// The first heartbeat, and the turns.
+fn run_live<L: Link, K: Sink, C: Clock, S: Keeper>(
+    live: &mut LiveNode,
+    teller: &mut Teller,
+    turns: u64,
+    link: &mut L,
+    out: &mut K,
+    clock: &mut C,
+    keeper: &mut S,
+) -> Result<(), RunEnd>
+    ensures ran { (before : S) (start : DroneSide) → Opened (stores_of S.faults S.is_infallible S.contents) before keeper.old (StateDrone start) live.old teller.old (outside (L.state link.old) (K.sent out.old))
+        → DroneLived (stores_of S.faults S.is_infallible S.contents) before keeper.new start (result_err result) (outside (L.state link.old) (K.sent out.old)) (outside (L.state link.new) (K.sent out.new)) }
+    ensures end { IfErr result (IsDroneEnd turns) }
+    ensures faults { FaultsBy (result_err result) (L.state link.old).faults (L.state link.new).faults (K.faults out.old) (K.faults out.new) }
+{
+    match call(live, teller, Due::Heartbeat, link, out, clock, keeper) {
+        Ok(()) => {}
+        Err(end) => return Err(end),
+    }
+    match run_turns(live, teller, turns, link, out, clock, keeper) {
+        Ok(true) => Err(RunEnd::Live(LiveEnd::PortTurns(turns))),
+        Ok(false) => Ok(()),
+        Err(end) => Err(end),
+    }
+}
+
+/// Runs the drone of a system on a link, for at most so many reads, with the plans that its store has: at the link's end
+/// it is done. It starts disarmed at 0 0, and sends a heartbeat at its start and whenever the link is idle.
+pub fn run_drone<L: Link, K: Sink, C: Clock, S: Keeper>(
+    alloc: Global,
+    key: Key,
+    plan: DronePlan,
+    link: &mut L,
+    out: &mut K,
+    clock: &mut C,
+    keeper: &mut S,
+) -> Result<(), RunEnd>
+    ensures runs { DroneRuns (stores_of S.faults S.is_infallible S.contents) key plan keeper.old keeper.new (result_err result) (outside (L.state link.old) (K.sent out.old)) (outside (L.state link.new) (K.sent out.new)) }
+    ensures end { IfErr result (IsDroneEnd plan.turns) }
+    ensures faults { FaultsBy (result_err result) (L.state link.old).faults (L.state link.new).faults (K.faults out.old) (K.faults out.new) }
+{
+    match DroneNode::start(alloc, key, plan.sys, 0, 0, keeper) {
+        Ok(drone) => {
+            let name = Name {
+                sys: plan.sys,
+                comp: AUTOPILOT,
+            };
+            let mut teller = Teller::new(alloc, name);
+            let mut live = LiveNode::Drone(drone);
+            run_live(&mut live, &mut teller, plan.turns, link, out, clock, keeper)
+        }
+        Err(fault) => Err(start_end(fault)),
+    }
+}
+
+/// Runs a drone that starts without plans and keeps them in memory.
+pub fn run_new_drone<L: Link, K: Sink, C: Clock>(
+    alloc: Global,
+    key: Key,
+    plan: DronePlan,
+    link: &mut L,
+    out: &mut K,
+    clock: &mut C,
+) -> Result<(), RunEnd>
+    ensures runs { NewDroneRuns key plan (result_err result) (outside (L.state link.old) (K.sent out.old)) (outside (L.state link.new) (K.sent out.new)) }
+    ensures end { IfErr result (IsDroneEnd plan.turns) }
+    ensures faults { FaultsBy (result_err result) (L.state link.old).faults (L.state link.new).faults (K.faults out.old) (K.faults out.new) }
+{
+    let mut keeper = MemKeeper::new(alloc, Vec::new(alloc), Vec::new(alloc));
+    run_drone(alloc, key, plan, link, out, clock, &mut keeper)
+}
