@@ -4,5 +4,6 @@ pub mod Decoded
 pub mod Scenarios
 pub mod Completes
 pub mod Routed
+pub mod Flown
 pub mod Made
 pub mod Links

@@ -23,5 +23,5 @@ makes_on plain first second on (number, is, most, run) = (number, is, most, on n
 -- before its number was read
 pub unmade_number : {words : List (List ℕ)} (asked : Asked) (runs : ℕ → Type 0) → Asks built words asked → asked.command ≡ Make → ((number : ℕ) → runs number) → Makes asked.plain runs
 unmade_number asked runs asks is run =
-    let (word, plain, (number, written, least, most)) = subst (λ c. ArePlain c asked.settings asked.plain) is asks.fits.plain_words in
+    let (word, plain, (number, written, least, most)) = subst (λ c. ArePlain built c asked.settings asked.plain) is asks.fits.plain_words in
     (number, plain ∙ ap (λ w. w ∷ []) written, most, run number)

@@ -130,7 +130,7 @@ route_words c plain ports number is says = says.ports_are ∙ ap (λ d. port_wor
 
 pub route_count : (c : Command) (gs : List Given) (plain : List (List ℕ)) → c ≡ Route → Fits built c gs plain → (1 ≤ length plain) × (length plain ≤ 8)
 route_count c gs plain is fits =
-    let (least, most, each) = subst (λ d. ArePlain d gs plain) is fits.plain_words in
+    let (least, most, each) = subst (λ d. ArePlain built d gs plain) is fits.plain_words in
     (least, most)
 
 pub route_links : (c : Command) (plain : List (List ℕ)) (links : ℕ) → c ≡ Route → links ≡ length (port_words c plain) → links ≡ length plain

@@ -5,3 +5,4 @@ pub mod Decoding
 pub mod Fleets
 pub mod Routing
 pub mod Making
+pub mod Flying

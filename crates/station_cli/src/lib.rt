@@ -8,6 +8,7 @@
 
 mod decoding;
 mod fleets;
+mod flying;
 mod keys;
 mod routing;
 mod runs;

@@ -7,7 +7,7 @@ ghost use Rattle.run_status.specs.Runs.{RunBeforeStatus, Promises, port_outcome}
 ghost use Rattle.command_line.specs.Built.{built};
 ghost use Rattle.command_line.specs.Forms.{Fits, has_given, reads_file};
 ghost use Rattle.command_line.specs.Grammar.{Asked, Asks, AskNothing};
-ghost use Rattle.command_line.specs.Lines.{given_of, asked_by, LineSays};
+ghost use Rattle.command_line.specs.Lines.{given_of, asked_by, LineSays, LineNodeSays};
 ghost use Rattle.dialect_command.specs.Spec.{dialect_spec, profile_spec};
 ghost use Rattle.station_cli.specs.Decoding.{Decodes};
 ghost use Rattle.station_cli.specs.Fleets.{Fleets, FleetsCarry, FleetsComplete};
@@ -16,12 +16,14 @@ ghost use Rattle.make_command.specs.Theorem.{GeneratedTheorem};
 ghost use Rattle.station_cli.specs.Making.{Makes};
 ghost use Rattle.route_command.specs.Promises.{RoutePromises};
 ghost use Rattle.route_command.specs.Routes.{RoutesBeforeStatus};
-ghost use Rattle.station_cli.specs.Routing.{Routing, AllEnded, AreAsked, router_of};
+ghost use Rattle.station_cli.specs.Flying.{Flown, FlownReported};
+ghost use Rattle.station_cli.specs.Routing.{Routing, WithGivenKey, AllEnded, AreAsked, router_of};
 ghost use Rattle.station_cli.specs.Seen.{input_of, output_of, before_status_over, promised_over};
 ghost use Rattle.station_cli.specs.Usage.{UsageReported};
 
 use crate::decoding::run_decode;
 use crate::fleets::run_fleet;
+use crate::flying::run_drone;
 use crate::routing::run_route;
 use crate::wants::Inputs;
 use command_line::{Command, Line, OptionName, WantedFault, read};
@@ -58,16 +60,18 @@ fn run_dialect<S: Source, K: Sink>(
 }
 
 // Runs the command of a line. Why it halted, if it did, isn't written.
-fn run_line<S: Source, K: Sink>(
+fn run_line<S: Source, K: Sink, C: Clock>(
     alloc: Global,
     line: &Line,
     inputs: &mut Inputs<S>,
     ports: &mut Vec<Box<dyn Link>>,
     out: &mut K,
+    clock: &mut C,
 ) -> Result<(), RunEnd>
     requires fits { Fits built line.now.command (map given_of line.now.settings.items)
         (map string_bytes line.now.words.items) }
     requires says { LineSays line.now }
+    requires node { LineNodeSays line.now }
     requires links { AreAsked (length ports.old.items) (asked_by line.now) }
     ensures fleet { line.now.command ≡ Command.Fleet → Fleets
         (has_given OptionName.Key (map given_of line.now.settings.items))
@@ -102,11 +106,18 @@ fn run_line<S: Source, K: Sink>(
         (result_err result) (K.faults out.old) (K.faults out.new) (K.sent out.old) (K.sent out.new))
         (input_of S.has_ended S.faults S.idles S.left inputs.old.key inputs.new.key)
         (input_of S.has_ended S.faults S.idles S.left inputs.old.defs inputs.new.defs) }
+    ensures drone { line.now.command ≡ Command.Drone → WithGivenKey
+        (before_status_over (output_of K.faults K.sent out.old out.new) (result_err result)) (IsErr result)
+        (ports.new ≡ ports.old)
+        (input_of S.has_ended S.faults S.idles S.left inputs.old.key inputs.new.key)
+        (λ bytes. Flown state (asked_by line.now) ports.old.items ports.new.items
+        (output_of K.faults K.sent out.old out.new) (result_err result) bytes) }
     ensures make { line.now.command ≡ Command.Make → Makes (map string_bytes line.now.words.items)
         (λ number. RunBeforeStatus (make_spec number)
         (port_outcome ⊤ 0 0 0 0 (K.faults out.old) (K.faults out.new))
         (Some []) (Some []) (K.sent out.old) (K.sent out.new) (result_err result)) }
-    ensures unmoved { line.now.command ≢ Command.Route → ports.new ≡ ports.old }
+    ensures unmoved { line.now.command ≢ Command.Route → line.now.command ≢ Command.Drone → ports.new ≡ ports.old }
+    ensures unasked { line.now.command ≢ Command.Drone → clock.new ≡ clock.old }
     ensures unread_main { reads_file line.now.command ≡ false → inputs.new.main ≡ inputs.old.main }
     ensures unread_defs { has_given OptionName.Defs (map given_of line.now.settings.items) ≡ false
         → inputs.new.defs ≡ inputs.old.defs }
@@ -123,17 +134,19 @@ fn run_line<S: Source, K: Sink>(
         Command::Decode => run_decode(alloc, line, inputs, out),
         Command::Route => run_route(alloc, line, inputs, ports, out),
         Command::Make => make(alloc, line.number, out),
-        Command::Drone | Command::Station => unreachable!("it isn't built"),
+        Command::Drone => run_drone(alloc, line, &mut inputs.key, ports, out, clock),
+        Command::Station => unreachable!("it isn't built"),
     }
 }
 
 // Runs the command that the words name. Why it halted, if it did, isn't written.
-fn run_words<S: Source, K: Sink>(
+fn run_words<S: Source, K: Sink, C: Clock>(
     alloc: Global,
     words: &[String],
     inputs: &mut Inputs<S>,
     ports: &mut Vec<Box<dyn Link>>,
     out: &mut K,
+    clock: &mut C,
 ) -> Result<(), RunEnd>
     requires { (asked : Asked) → Asks built (map string_bytes words.now) asked
         → AreAsked (length ports.old.items) asked }
@@ -170,6 +183,13 @@ fn run_words<S: Source, K: Sink>(
         (result_err result) (K.faults out.old) (K.faults out.new) (K.sent out.old) (K.sent out.new))
         (input_of S.has_ended S.faults S.idles S.left inputs.old.key inputs.new.key)
         (input_of S.has_ended S.faults S.idles S.left inputs.old.defs inputs.new.defs) }
+    ensures drone { (asked : Asked) → Asks built (map string_bytes words.now) asked
+        → asked.command ≡ Command.Drone → WithGivenKey
+        (before_status_over (output_of K.faults K.sent out.old out.new) (result_err result)) (IsErr result)
+        (ports.new ≡ ports.old)
+        (input_of S.has_ended S.faults S.idles S.left inputs.old.key inputs.new.key)
+        (λ bytes. Flown state asked ports.old.items ports.new.items
+        (output_of K.faults K.sent out.old out.new) (result_err result) bytes) }
     ensures make { (asked : Asked) → Asks built (map string_bytes words.now) asked
         → asked.command ≡ Command.Make → Makes asked.plain
         (λ number. RunBeforeStatus (make_spec number)
@@ -180,9 +200,12 @@ fn run_words<S: Source, K: Sink>(
         → IsErrOf result RunEnd.Usage ⊎ IsErrOf result RunEnd.NoMemory }
     ensures untouched { AskNothing built (map string_bytes words.now)
         → (inputs.new.main ≡ inputs.old.main) × (inputs.new.defs ≡ inputs.old.defs)
-        × (inputs.new.key ≡ inputs.old.key) × (ports.new ≡ ports.old) × (K.sent out.new ≡ K.sent out.old) }
+        × (inputs.new.key ≡ inputs.old.key) × (ports.new ≡ ports.old) × (K.sent out.new ≡ K.sent out.old)
+        × (clock.new ≡ clock.old) }
     ensures unmoved { (asked : Asked) → Asks built (map string_bytes words.now) asked
-        → asked.command ≢ Command.Route → ports.new ≡ ports.old }
+        → asked.command ≢ Command.Route → asked.command ≢ Command.Drone → ports.new ≡ ports.old }
+    ensures unasked { (asked : Asked) → Asks built (map string_bytes words.now) asked
+        → asked.command ≢ Command.Drone → clock.new ≡ clock.old }
     ensures sound { ¬ IsErrOf result RunEnd.WriteFault → K.faults out.new ≡ K.faults out.old }
     ensures unread_main { (asked : Asked) → Asks built (map string_bytes words.now) asked
         → reads_file asked.command ≡ false → inputs.new.main ≡ inputs.old.main }
@@ -196,14 +219,14 @@ fn run_words<S: Source, K: Sink>(
         Err(WantedFault::Usage) => return Err(RunEnd::Usage),
         Err(WantedFault::NoMemory) => return Err(RunEnd::NoMemory),
     };
-    run_line(alloc, &line, inputs, ports, out)
+    run_line(alloc, &line, inputs, ports, out, clock)
 }
 
 /// Runs the command that the words name, and returns its exit status. The words are those after
 /// the program's name.
 ///
 /// 0 done, 2 `usage`, 3 `bad PLACE: REASON`, 4 `read fault`, 5 a write failed, 6 `limit WHAT N`,
-/// 7 out of memory, 11 `turns spent N`, 13 `stamps spent`. The text of a status is the last
+/// 7 out of memory, 11 `turns spent N`, 12 `port fault`, 13 `stamps spent`. The text of a status is the last
 /// line of the output.
 ///
 /// The clause of a command has all that it promises of the run: `Promises` has a field for each
@@ -282,6 +305,15 @@ pub fn run<S: Source, K: Sink, C: Clock>(
         (K.faults out.old) (K.faults out.new) (K.sent out.old) (K.sent out.new) result)
         (input_of S.has_ended S.faults S.idles S.left inputs.old.key inputs.new.key)
         (input_of S.has_ended S.faults S.idles S.left inputs.old.defs inputs.new.defs) }
+    // `drone --key F [--turns N] SYS PORT`: the run halts at the key, and the port is as it was; or the key is read, and the
+    // drone runs at the port, without plans at its start
+    ensures drone { (asked : Asked) → Asks built (map string_bytes words.now) asked
+        → asked.command ≡ Command.Drone → WithGivenKey
+        (promised_over (output_of K.faults K.sent out.old out.new) result) (result ≢ 0)
+        (ports.new ≡ ports.old)
+        (input_of S.has_ended S.faults S.idles S.left inputs.old.key inputs.new.key)
+        (λ bytes. FlownReported state asked ports.old.items ports.new.items
+        (output_of K.faults K.sent out.old out.new) result bytes) }
     // `make N`, over no input
     ensures make { (asked : Asked) → Asks built (map string_bytes words.now) asked
         → asked.command ≡ Command.Make → Makes asked.plain
@@ -305,10 +337,10 @@ pub fn run<S: Source, K: Sink, C: Clock>(
         → has_given OptionName.Defs asked.settings ≡ false → inputs.new.defs ≡ inputs.old.defs }
     ensures unread_key { (asked : Asked) → Asks built (map string_bytes words.now) asked
         → has_given OptionName.Key asked.settings ≡ false → inputs.new.key ≡ inputs.old.key }
-    // A port is called only by `route`, and only once each input that the words name was read to its end.
+    // A port is called only by `route` and `drone`, and only once each input that the words name was read to its end.
     ensures unmoved { AskNothing built (map string_bytes words.now) → ports.new ≡ ports.old }
     ensures unmoved_by_others { (asked : Asked) → Asks built (map string_bytes words.now) asked
-        → asked.command ≢ Command.Route → ports.new ≡ ports.old }
+        → asked.command ≢ Command.Route → asked.command ≢ Command.Drone → ports.new ≡ ports.old }
     ensures unmoved_before { (asked : Asked) → Asks built (map string_bytes words.now) asked
         → asked.command ≡ Command.Route → ¬ AllEnded (has_given OptionName.Defs asked.settings)
         (input_of S.has_ended S.faults S.idles S.left inputs.old.key inputs.new.key)
@@ -316,9 +348,11 @@ pub fn run<S: Source, K: Sink, C: Clock>(
         → ports.new ≡ ports.old }
     // The output refused a write only at status 5.
     ensures sound { result ≢ 5 → K.faults out.new ≡ K.faults out.old }
-    ensures unasked { clock.new ≡ clock.old }
+    // The time is asked only by `drone`.
+    ensures unasked { AskNothing built (map string_bytes words.now) → clock.new ≡ clock.old }
+    ensures unasked_by_others { (asked : Asked) → Asks built (map string_bytes words.now) asked
+        → asked.command ≢ Command.Drone → clock.new ≡ clock.old }
 {
-    let _ = clock;
-    let ended = run_words(alloc, words, inputs, ports, out);
+    let ended = run_words(alloc, words, inputs, ports, out, clock);
     code_of(write_status(alloc, ended, out))
 }

@@ -14,6 +14,7 @@ use Rattle.station_cli.proofs.Completes.{fleets_complete}
 use Rattle.make_command.specs.Spec.{make_spec}
 use Rattle.make_command.proofs.Generated.{generated_theorem}
 use Rattle.station_cli.proofs.Routed.{routing_reported, ports_wait}
+use Rattle.station_cli.proofs.Flown.{drone_reported, flown_reported}
 use Rattle.station_cli.proofs.Made.{make_steady, makes_on, unmade_number}
 use Rattle.station_cli.proofs.runs.run.Goals as goal
 
@@ -105,3 +106,13 @@ returns-clause-unmoved_before g c = λ asked asks is never.
 
 pub returns-clause-make_theorem : goal.returns-clause-make_theorem
 returns-clause-make_theorem g c = λ asked asks is. unmade_number asked _ asks is generated_theorem
+
+pub returns-clause-drone : goal.returns-clause-drone
+returns-clause-drone g c = λ asked asks is.
+    let ended = c.run_words-ended in
+    let old = c.args.inputs.now in let new = ended.new.inputs in
+    rw c.code_of.ensures (drone_reported _ _ _ _ _ (reported_over _ _ _ _ _ _ ended.result c.write_status.result ended.ensures.sound c.write_status.ensures.writes)
+    (λ halted. halted_code _ _ _ _ ended.result c.write_status.result halted c.write_status.ensures.writes)
+    _ _ (λ key run. flown_reported _ _ _ _ _ _ _ _ _ _ ended.result c.write_status.result key run c.write_status.ensures.writes)
+    (input_of g.S.Source.has_ended g.S.Source.faults g.S.Source.idles g.S.Source.left old.key new.key)
+    (λ spent. spent.1) (ended.ensures.drone asked asks is))
