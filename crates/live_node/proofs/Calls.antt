@@ -30,12 +30,12 @@ use Rattle.live_node.specs.declared.nodes.Due.TheVariants.{Tick, Heartbeat, Sim}
 use Rattle.live_node.specs.declared.tellers.Ending.{Ending}
 use Rattle.live_node.specs.declared.tellers.Teller.{Teller}
 use Rattle.live_node.specs.Nodes.{IsLive, IsKeptBy}
-use Rattle.live_node.specs.Calls.{LiveCall, call_does, calls_do, keeps_in}
+use Rattle.live_node.specs.Calls.{LiveCall, Hears, Obeys, call_does, calls_do, keeps_in, IsTime, ticks_with, ticks_over}
 use Rattle.live_node.specs.Texts.{frames_text, lines_of, count_over, ending_over}
 use Rattle.live_node.specs.Ports.{SentBy, PrintedBy, FaultsBy, IsRunEnd, end_by, IsTellingEnd}
 use Rattle.live_node.specs.Parts.{CallFails}
-use Rattle.live_node.specs.Runs.{Outside, outside, Stores, Kept, Written}
-use Rattle.live_node.specs.Progress.{Said, Output, CallsStopped, due_call}
+use Rattle.live_node.specs.Runs.{Outside, outside, Stores, Kept, Written, IsSpentCall}
+use Rattle.live_node.specs.Progress.{Said, Output, CallsStopped, due_call, counted}
 use Rattle.live_node.proofs.Endings.{sent_by, printed_by, sent_after, printed_after, whole_after}
 use Rattle.live_node.proofs.Texts.{frames-append, lines-append, count-append, ending-append}
 use Rattle.live_node.proofs.Known.{known}
@@ -66,6 +66,14 @@ later xs call h (Some d) = ap (behind d.events) (h d.node) ∙ behind_then d.eve
 pub one_more : (made : List LiveCall) (call : LiveCall) (node : Node) → calls_do (made ++ call ∷ []) node ≡ and_then (calls_do made node) (call_does call)
 one_more [] call node = then_done (call_does call node) ∙ sym (behind_none (call_does call node))
 one_more (x ∷ xs) call node = later xs call (λ n. one_more xs call n) (call_does x node)
+
+-- and its ticks
+pub ticks-append : (xs ys : List LiveCall) (before : ℕ) → ticks_over before (xs ++ ys) ≡ ticks_over (ticks_over before xs) ys
+ticks-append [] ys before = refl
+ticks-append (x ∷ xs) ys before = ticks-append xs ys (ticks_with before x)
+
+ticks_more : (made : List LiveCall) (call : LiveCall) (before : ℕ) → ticks_over before (made ++ call ∷ []) ≡ ticks_with (ticks_over before made) call
+ticks_more made call before = ticks-append made (call ∷ []) before
 
 -- what a call did
 pub record Does (outcome : Outcome Node) (live : LiveNode) (news : List News) : Type 0 where
@@ -108,14 +116,15 @@ kept_more stores before old now made call k serves more = record {
 -- ---- one call
 
 -- what is known of a call that returned news: its teller wrote them, or stopped so
-pub record Called {S : Type 0} (stores : Stores S) (before old now : S) (start : Node) (made : List LiveCall) (call : LiveCall) (was live : LiveNode) (t u : Teller) (first : Outside) (l m : LinkState) (x y : Option (List ℕ)) (news : List News) (values : List Param) (end : Option RunEnd) : Type 0 where
-  pub output : Output stores before old start made was t first (outside l x)
+pub record Called {S : Type 0} (stores : Stores S) (before old now : S) (start : Node) (made : List LiveCall) (call : LiveCall) (was live : LiveNode) (t u : Teller) (first : Outside) (l m : LinkState) (x y : Option (List ℕ)) (z w : Option ℕ) (news : List News) (values : List Param) (end : Option RunEnd) : Type 0 where
+  pub output : Output stores before old start made was t first (outside l x z)
+  pub stays : w ≡ z
   pub did : Did (call_does call output.node) (λ node. IsLive node live) [] news
   pub serves : Serves stores.faults stores.is_infallible old now
   pub kept : AllKept (HasFailed stores.faults stores.is_infallible old now) (keeps_in call)
   pub stored : IsKeptBy (stores.contents old) was → IsKeptBy (stores.contents now) live
   pub values_are : (node : Node) → IsLive node live → values ≡ params_of (Some node)
-  pub said : (events : List NodeEvent) → events_of news ≡ map shown events → HaveValues values events → Said end events t u l m x y
+  pub said : (events : List NodeEvent) → events_of news ≡ map shown events → HaveValues values events → Said end events (counted call t) u l m x y
 
 -- the events of the call, and what was told of them
 record Heard {S : Type 0} (stores : Stores S) (now : S) (start : Node) (made : List LiveCall) (call : LiveCall) (live : LiveNode) (earlier : List NodeEvent) (t u : Teller) (l m : LinkState) (x y : Option (List ℕ)) (end : Option RunEnd) : Type 0 where
@@ -123,13 +132,13 @@ record Heard {S : Type 0} (stores : Stores S) (now : S) (start : Node) (made : L
   events : List NodeEvent
   run : calls_do (made ++ call ∷ []) start ≡ done node (earlier ++ events)
   is : IsLive node live
-  told : Said end events t u l m x y
+  told : Said end events (counted call t) u l m x y
 
 known_in : (outcome : Outcome Node) (node : Node) (events : List NodeEvent) → outcome ≡ done node events → ListsKnown outcome → HaveValues (params_of (Some node)) events
 known_in outcome node events e h = subst ListsKnown e h
 
-heard : {S : Type 0} {stores : Stores S} {before old now : S} {start : Node} {made : List LiveCall} {call : LiveCall} {was live : LiveNode} {t u : Teller} {first : Outside} {l m : LinkState} {x y : Option (List ℕ)} {news : List News} {values : List Param} {end : Option RunEnd} (c : Called stores before old now start made call was live t u first l m x y news values end) → Heard stores now start made call live c.output.events t u l m x y end
-heard {S} {stores} {before} {old} {now} {start} {made} {call} {was} {live} {t} {u} {first} {l} {m} {x} {y} {news} {values} {end} c =
+heard : {S : Type 0} {stores : Stores S} {before old now : S} {start : Node} {made : List LiveCall} {call : LiveCall} {was live : LiveNode} {t u : Teller} {first : Outside} {l m : LinkState} {x y : Option (List ℕ)} {z w : Option ℕ} {news : List News} {values : List Param} {end : Option RunEnd} (c : Called stores before old now start made call was live t u first l m x y z w news values end) → Heard stores now start made call live c.output.events t u l m x y end
+heard {S} {stores} {before} {old} {now} {start} {made} {call} {was} {live} {t} {u} {first} {l} {m} {x} {y} {z} {w} {news} {values} {end} c =
     let o = c.output in
     let d = did_does (call_does call o.node) live news c.did in
     let have = subst (λ (v : List Param). HaveValues v d.events) (sym (c.values_are d.node d.is)) (known_in (call_does call o.node) d.node d.events d.does (known call o.node)) in
@@ -145,8 +154,8 @@ lines_told : (t : Teller) (name : Name) (events more : List NodeEvent) → t.nam
 lines_told t name events more e f = ap (λ (n : Name). lines_of n t.sent more) e ∙ ap (λ (k : ℕ). lines_of name k more) f
 
 -- a call was made, and all that it told was written
-pub call_told : {S : Type 0} {stores : Stores S} {before old now : S} {start : Node} {made : List LiveCall} {call : LiveCall} {was live : LiveNode} {t u : Teller} {first : Outside} {l m : LinkState} {x y : Option (List ℕ)} {news : List News} {values : List Param} {end : Option RunEnd} (c : Called stores before old now start made call was live t u first l m x y news values end) → end ≡ None → m.faults ≡ l.faults → Output stores before now start (made ++ call ∷ []) live u first (outside m y)
-call_told {S} {stores} {before} {old} {now} {start} {made} {call} {was} {live} {t} {u} {first} {l} {m} {x} {y} {news} {values} {end} c none faults =
+pub call_told : {S : Type 0} {stores : Stores S} {before old now : S} {start : Node} {made : List LiveCall} {call : LiveCall} {was live : LiveNode} {t u : Teller} {first : Outside} {l m : LinkState} {x y : Option (List ℕ)} {z w : Option ℕ} {news : List News} {values : List Param} {end : Option RunEnd} (c : Called stores before old now start made call was live t u first l m x y z w news values end) → end ≡ None → m.faults ≡ l.faults → Output stores before now start (made ++ call ∷ []) live u first (outside m y w)
+call_told {S} {stores} {before} {old} {now} {start} {made} {call} {was} {live} {t} {u} {first} {l} {m} {x} {y} {z} {w} {news} {values} {end} c none faults =
     let o = c.output in
     let h = heard c in
     let told = h.told.told none in
@@ -161,7 +170,9 @@ call_told {S} {stores} {before} {old} {now} {start} {made} {call} {was} {live} {
       name = ap (λ (v : Teller). v.name) told ∙ o.name;
       count = ap (λ (v : Teller). v.sent) told ∙ (ap (λ (k : ℕ). count_over k h.events) o.count ∙ sym (count-append 0 o.events h.events));
       ending = ap (λ (v : Teller). v.ending) told ∙ (ap (λ (e : Option Ending). ending_over e h.events) o.ending ∙ sym (ending-append None o.events h.events));
+      ticks = ap (λ (v : Teller). v.ticks) told ∙ (ap (λ (k : ℕ). ticks_with k call) o.ticks ∙ sym (ticks_more made call 0));
       faults = faults ∙ o.faults;
+      time = c.stays ∙ o.time;
       sent = whole_after first.link.sent l.sent m.sent (frames_text (map shown o.events)) (frames_text (map shown h.events)) o.sent sent ∙ ap (append_known first.link.sent) (sym (frames-append o.events h.events));
       printed = whole_after first.text x y (lines_of (node_name start) 0 o.events) (lines_of t.name t.sent h.events) o.printed printed
           ∙ ap (append_known first.text) (ap (λ (more : List ℕ). lines_of (node_name start) 0 o.events ++ more) lines ∙ sym (lines-append (node_name start) 0 o.events h.events));
@@ -182,8 +193,8 @@ not_store end (inr (inl e)) h = cc
 not_store end (inr (inr e)) h = cc
 
 -- a call was made, and then the run stopped while its news were written
-pub written_then : {S : Type 0} {stores : Stores S} {before old now : S} {start : Node} {made : List LiveCall} {call : LiveCall} {was live : LiveNode} {t u : Teller} {first : Outside} {l m : LinkState} {x y : Option (List ℕ)} {news : List News} {values : List Param} {end : Option RunEnd} (c : Called stores before old now start made call was live t u first l m x y news values end) → (end ≡ Some (Live StoreFault) → ⊥) → Written stores before now end start (made ++ call ∷ []) first (outside m y)
-written_then {S} {stores} {before} {old} {now} {start} {made} {call} {was} {live} {t} {u} {first} {l} {m} {x} {y} {news} {values} {end} c other =
+pub written_then : {S : Type 0} {stores : Stores S} {before old now : S} {start : Node} {made : List LiveCall} {call : LiveCall} {was live : LiveNode} {t u : Teller} {first : Outside} {l m : LinkState} {x y : Option (List ℕ)} {z w : Option ℕ} {news : List News} {values : List Param} {end : Option RunEnd} (c : Called stores before old now start made call was live t u first l m x y z w news values end) → (end ≡ Some (Live StoreFault) → ⊥) → Written stores before now end start (made ++ call ∷ []) first (outside m y w)
+written_then {S} {stores} {before} {old} {now} {start} {made} {call} {was} {live} {t} {u} {first} {l} {m} {x} {y} {z} {w} {news} {values} {end} c other =
     let o = c.output in
     let h = heard c in
     let lines = lines_told t (node_name start) o.events h.events o.name o.count in
@@ -194,28 +205,30 @@ written_then {S} {stores} {before} {old} {now} {start} {made} {call} {was} {live
       sent = subst (SentBy end first.link.sent m.sent) (sym (frames-append o.events h.events)) (sent_after end first.link.sent l.sent m.sent (frames_text (map shown o.events)) (frames_text (map shown h.events)) o.sent h.told.sent);
       printed = subst (PrintedBy end first.text y) (ap (λ (more : List ℕ). lines_of (node_name start) 0 o.events ++ more) lines ∙ sym (lines-append (node_name start) 0 o.events h.events))
           (printed_after end first.text x y (lines_of (node_name start) 0 o.events) (lines_of t.name t.sent h.events) o.printed h.told.printed);
+      time = c.stays ∙ o.time;
       kept = kept_more stores before old now made call o.kept c.serves c.kept;
       store = λ e. absurd (other e);
     }
 
 -- all was written, and then the run ended so
-pub written : {S : Type 0} (stores : Stores S) (before old now : S) (end : Option RunEnd) (start : Node) (made : List LiveCall) (live : LiveNode) (t : Teller) (first last : Outside) → Output stores before old start made live t first last → Serves stores.faults stores.is_infallible old now → (end ≡ Some (Live StoreFault) → ⊥) → Written stores before now end start made first last
+abbrev pub written : {S : Type 0} (stores : Stores S) (before old now : S) (end : Option RunEnd) (start : Node) (made : List LiveCall) (live : LiveNode) (t : Teller) (first last : Outside) → Output stores before old start made live t first last → Serves stores.faults stores.is_infallible old now → (end ≡ Some (Live StoreFault) → ⊥) → Written stores before now end start made first last
 written {S} stores before old now end start made live t first last o serves other = record {
   node = o.node;
   events = o.events;
   run = o.run;
   sent = sent_by end first.link.sent last.link.sent (frames_text (map shown o.events)) o.sent;
   printed = printed_by end first.text last.text (lines_of (node_name start) 0 o.events) o.printed;
+  time = o.time;
   kept = kept_on stores before old now made o.kept serves;
   store = λ e. absurd (other e);
 }
 
-pub call_stopped : {S : Type 0} {stores : Stores S} {before old now : S} {start : Node} {made : List LiveCall} {call : LiveCall} {was live : LiveNode} {t u : Teller} {first : Outside} {l m : LinkState} {x y : Option (List ℕ)} {news : List News} {values : List Param} {end : Option RunEnd} (c : Called stores before old now start made call was live t u first l m x y news values end) → (why : RunEnd) → end ≡ Some why → IsTellingEnd why → CallsStopped stores before now why start made (call ∷ []) first (outside m y)
-call_stopped {S} {stores} {before} {old} {now} {start} {made} {call} {was} {live} {t} {u} {first} {l} {m} {x} {y} {news} {values} {end} c why e telling = record {
+pub call_stopped : {S : Type 0} {stores : Stores S} {before old now : S} {start : Node} {made : List LiveCall} {call : LiveCall} {was live : LiveNode} {t u : Teller} {first : Outside} {l m : LinkState} {x y : Option (List ℕ)} {z w : Option ℕ} {news : List News} {values : List Param} {end : Option RunEnd} (c : Called stores before old now start made call was live t u first l m x y z w news values end) → (why : RunEnd) → end ≡ Some why → IsTellingEnd why → CallsStopped stores before now why start made (call ∷ []) first (outside m y w)
+call_stopped {S} {stores} {before} {old} {now} {start} {made} {call} {was} {live} {t} {u} {first} {l} {m} {x} {y} {z} {w} {news} {values} {end} c why e telling = record {
   more = call ∷ [];
   rest = [];
   are = refl;
-  written = subst (λ (w : Option RunEnd). Written stores before now w start (made ++ call ∷ []) first (outside m y)) e (written_then c (λ failed. not_store why telling (sym e ∙ failed)));
+  written = subst (λ (how : Option RunEnd). Written stores before now how start (made ++ call ∷ []) first (outside m y w)) e (written_then c (λ failed. not_store why telling (sym e ∙ failed)));
   spent = λ spent. absurd (not_spent why telling spent);
 }
 
@@ -251,6 +264,7 @@ regroup stores before now end start xs ys first last e w = record {
   run = ap (λ (calls : List LiveCall). calls_do calls start) (sym e) ∙ w.run;
   sent = w.sent;
   printed = w.printed;
+  time = w.time;
   kept = subst (Kept stores before now) e w.kept;
   store = w.store;
 }
@@ -267,6 +281,7 @@ not_called stores before old now start made call live t first last fault o serve
     run = ap (λ (calls : List LiveCall). calls_do calls start) (append-nil made) ∙ o.run;
     sent = sent_by (Some (end_by fault)) first.link.sent last.link.sent (frames_text (map shown o.events)) o.sent;
     printed = printed_by (Some (end_by fault)) first.text last.text (lines_of (node_name start) 0 o.events) o.printed;
+    time = o.time;
     kept = subst (Kept stores before now) (sym (append-nil made)) (kept_on stores before old now made o.kept serves);
     store = λ e. then_failed stores.faults stores.is_infallible before old now o.kept.serves (failed_by fault (call_does call o.node) _ fails e);
   };
@@ -301,3 +316,26 @@ fault_counts NoNodeMemory port out = refl
 -- a call after one that was done
 pub faults_then : (end : Option RunEnd) (p q r x y z : ℕ) → FaultsBy None p q x y → FaultsBy end q r y z → FaultsBy end p r x z
 faults_then end p q r x y z first next = subst (λ (n : ℕ). FaultsBy end n r x z) first.0 (subst (λ (n : ℕ). FaultsBy end q r n z) first.1 next)
+
+-- a clock was asked
+abbrev pub output_later : {S : Type 0} {stores : Stores S} {before now : S} {start : Node} {made : List LiveCall} {live : LiveNode} {t : Teller} {first : Outside} {l : LinkState} {x : Option (List ℕ)} (z w : Option ℕ) → w ≡ z → Output stores before now start made live t first (outside l x z) → Output stores before now start made live t first (outside l x w)
+output_later z w e o = record {
+  node = o.node;
+  events = o.events;
+  run = o.run;
+  is = o.is;
+  name = o.name;
+  count = o.count;
+  ending = o.ending;
+  ticks = o.ticks;
+  faults = o.faults;
+  sent = o.sent;
+  printed = o.printed;
+  time = e ∙ o.time;
+  kept = o.kept;
+  stored = o.stored;
+}
+
+-- its answer is the time that it always returns
+pub on_time : (known first : Option ℕ) (at : ℕ) → known ≡ first → IsTime known at → IsTime first at
+on_time known first at e h = subst (λ (time : Option ℕ). IsTime time at) e h

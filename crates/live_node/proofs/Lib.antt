@@ -6,9 +6,17 @@ pub mod Tellings
 pub mod Known
 pub mod Calls
 pub mod Waits
+pub mod Lasts
+pub mod Readers
 pub mod Pieces
 pub mod Turning
+pub mod Runs
+pub mod Resting
+pub mod Taken
 pub mod Openings
 pub mod Starting
 pub mod Hearing
 pub mod TurnEnds
+pub mod Ordering
+pub mod Watching
+pub mod StationRuns

@@ -1,10 +1,5 @@
 -- The whole run: an opening, turns, and an end.
-use Rattle.std.proofs.Common.{◌≡◌, ℕ, List, [], ◌∷◌, ◌++◌, false, Option, Some, None, refl, sym, ◌∙◌, subst}
-use Rattle.std.specs.List.{flat_map}
-use Rattle.std.specs.Option.{option_map}
-use Rattle.std.proofs.lemmas.List.{append-nil}
-use Rattle.mav_ports.proofs.Known.{prepend_known_nil}
-use Rattle.mav_links.specs.Links.{Pauses}
+use Rattle.std.proofs.Common.{◌≡◌, ℕ, List, [], ◌∷◌, Option, Some, None, refl}
 use Rattle.mav_nodes.specs.declared.faults.StartFault.{StartFault}
 use Rattle.mav_nodes.specs.declared.faults.StartFault.TheVariants.{Store, BadKept, NoMemory as NoStartMemory}
 use Rattle.mav_nodes.specs.Nodes.{DroneSide}
@@ -15,33 +10,14 @@ use Rattle.run_status.specs.declared.run_ends.RunEnd.{RunEnd}
 use Rattle.run_status.specs.declared.run_ends.RunEnd.TheVariants.{Usage, Stopped, ReadFault, WriteFault, NoMemory, TurnsSpent, Live}
 use Rattle.live_node.specs.declared.nodes.LiveNode.{LiveNode}
 use Rattle.live_node.specs.declared.tellers.Teller.{Teller}
-use Rattle.live_node.specs.Nodes.{HasHeard, end_of}
-use Rattle.live_node.specs.Calls.{extras_at, LiveCall, Beats}
-use Rattle.live_node.specs.Turns.{Turn, turn_calls, pauses_over}
+use Rattle.live_node.specs.Nodes.{IsLive, IsKeptBy}
+use Rattle.live_node.specs.Calls.{LiveCall, Beats, IsTime}
+use Rattle.live_node.specs.Turns.{Turn}
 use Rattle.live_node.specs.Ports.{SameRead, IsRunEnd}
-use Rattle.live_node.specs.Runs.{Outside, Stores, IsWhole, RunsOutIn}
-use Rattle.live_node.specs.Progress.{Output, Between, BetweenStopped, CallsStopped, IsSpentCall, Turned}
+use Rattle.live_node.specs.Runs.{Outside, Stores, IsWhole, RunAt}
+use Rattle.live_node.specs.Progress.{Between, CallsStopped, PortEnded, TurnsTaken}
 use Rattle.live_node.specs.Drones.{IsDroneEnd, DroneEnds, DroneKeeps, DroneLived, start_end}
-
-no_pauses : (p : Option Pauses) → p ≡ option_map (pauses_over []) p
-no_pauses None = refl
-no_pauses (Some p) = refl
-
--- after the opening, before the first turn
-pub between_start : {S : Type 0} (stores : Stores S) (before now : S) (start : Node) (opening : List LiveCall) (live : LiveNode) (t : Teller) (first last : Outside) → HasHeard [] [] live → (end_of live).endpoint.extras ≡ extras_at start → SameRead first.link last.link → Output stores before now start opening live t first last → Between stores before now start opening 0 live t first last
-between_start stores before now start opening live t first last heard same read output = record {
-  turns = [];
-  number = refl;
-  input = record {
-    read = tt;
-    heard = heard;
-    same = same;
-    left = sym read.left ∙ sym (prepend_known_nil last.link.left);
-    idles = read.idles;
-    pauses = read.pauses ∙ no_pauses first.link.pauses;
-  };
-  output = subst (λ (calls : List LiveCall). Output stores before now start calls live t first last) (sym (append-nil opening)) output;
-}
+use Rattle.live_node.proofs.Runs.{stopped_in_opening, run_over, still_self}
 
 -- an end that isn't for want of calls
 pub cut_off : (end : RunEnd) (rest : List LiveCall) → IsRunEnd end → IsWhole (Some end) rest
@@ -51,8 +27,8 @@ cut_off ReadFault rest h = absurd h
 cut_off WriteFault rest h = tt
 cut_off NoMemory rest h = tt
 cut_off TurnsSpent rest h = absurd h
-cut_off (Live (RefusedWith code)) rest h = tt
-cut_off (Live (NoAnswer ticks)) rest h = tt
+cut_off (Live (RefusedWith code)) rest h = absurd h
+cut_off (Live (NoAnswer ticks)) rest h = absurd h
 cut_off (Live StoreFault) rest h = tt
 cut_off (Live (PortTurns turns)) rest h = absurd h
 cut_off (Live PortFault) rest h = tt
@@ -104,132 +80,71 @@ drone_left (Live (PortTurns most)) contents node h = absurd h
 drone_left (Live PortFault) contents node h = tt
 
 -- a run that stopped in its first heartbeat
-pub stopped_at_once : {S : Type 0} (stores : Stores S) (before now : S) (end : RunEnd) (start : DroneSide) (at : ℕ) (first last : Outside) → IsRunEnd end → SameRead first.link last.link → CallsStopped stores before now end (Drone start) [] (Beats at ∷ []) first last → DroneLived stores before now start (Some end) first last
-stopped_at_once stores before now end start at first last is read s = record {
+pub stopped_at_once : {S : Type 0} (stores : Stores S) (before now : S) (end : RunEnd) (start : DroneSide) (beat : ℕ) (first last : Outside) → IsRunEnd end → SameRead first.link last.link → IsTime first.time beat → CallsStopped stores before now end (Drone start) [] (Beats beat ∷ []) first last → DroneLived stores before now start (Some end) first last
+stopped_at_once stores before now end start beat first last is read timed s = record {
   run = record {
-    opening = Beats at ∷ [];
-    is_opening = (at, refl);
+    opening = Beats beat ∷ [];
+    is_opening = (beat, refl);
     turns = [];
-    made = s.more;
-    rest = s.rest;
-    calls = s.are;
-    read = tt;
-    left = sym read.left ∙ sym (prepend_known_nil last.link.left);
-    idles = read.idles;
-    pauses = read.pauses ∙ no_pauses first.link.pauses;
-    written = s.written;
+    rests = [];
+    rested = tt;
+    at = stopped_in_opening stores before now end (Drone start) (Beats beat ∷ []) first last read (timed, tt) s;
     whole = cut_off end s.rest is;
-    spent = λ e. spent_here s.written.node s.rest (s.spent (because end e));
   };
   ends = drone_cut_off end [] last is;
   stored = drone_left end (stores.contents now) s.written.node is;
 }
-  where
-    because : (why : RunEnd) → ◌≡◌ {A = Option RunEnd} (Some why) (Some (Stopped StampsSpent)) → why ≡ Stopped StampsSpent
-    because why e = cc
-
-    spent_here : (node : Node) (rest : List LiveCall) → IsSpentCall node rest → RunsOutIn (extras_at (Drone start)) [] node rest
-    spent_here node [] h = h
-    spent_here node (call ∷ rest) h = h
 
 -- one that stopped in a turn or at a read
-pub stopped_later : {S : Type 0} (stores : Stores S) (before now : S) (end : RunEnd) (start : DroneSide) (at : ℕ) (first last : Outside) → IsRunEnd end → BetweenStopped stores before now end (Drone start) (Beats at ∷ []) first last → DroneLived stores before now start (Some end) first last
-stopped_later stores before now end start at first last is s = record {
+pub stopped_later : {S : Type 0} (stores : Stores S) (before now : S) (end : RunEnd) (start : DroneSide) (beat : ℕ) (turns : List Turn) (first last : Outside) → IsRunEnd end → RunAt stores before now (Drone start) (Some end) (Beats beat ∷ []) turns [] first last → DroneLived stores before now start (Some end) first last
+stopped_later stores before now end start beat turns first last is run = record {
   run = record {
-    opening = Beats at ∷ [];
-    is_opening = (at, refl);
-    turns = s.turns;
-    made = s.made;
-    rest = s.rest;
-    calls = s.calls;
-    read = s.read;
-    left = s.left;
-    idles = s.idles;
-    pauses = s.pauses;
-    written = s.written;
-    whole = cut_off end s.rest is;
-    spent = λ e. s.spent (because end e);
+    opening = Beats beat ∷ [];
+    is_opening = (beat, refl);
+    turns = turns;
+    rests = [];
+    rested = tt;
+    at = run;
+    whole = cut_off end run.rest is;
   };
-  ends = drone_cut_off end s.turns last is;
-  stored = drone_left end (stores.contents now) s.written.node is;
+  ends = drone_cut_off end turns last is;
+  stored = drone_left end (stores.contents now) run.written.node is;
 }
+
+-- one of which no call is left
+pub drone_over : {S : Type 0} (stores : Stores S) (before now : S) (start : DroneSide) (end : Option RunEnd) (beat : ℕ) (turns : List Turn) (live : LiveNode) (t : Teller) (first last : Outside) → (end ≡ Some (Stopped StampsSpent) → ⊥) → (end ≡ Some (Live StoreFault) → ⊥) → IsWhole end [] → DroneEnds end turns last → ((node : Node) → IsLive node live → IsKeptBy (stores.contents now) live → DroneKeeps end (stores.contents now) node) → Between stores before now (Drone start) (Beats beat ∷ []) turns [] live t first last → DroneLived stores before now start end first last
+drone_over stores before now start end beat turns live t first last stamps store whole ends keeps b = record {
+  run = record {
+    opening = Beats beat ∷ [];
+    is_opening = (beat, refl);
+    turns = turns;
+    rests = [];
+    rested = tt;
+    at = run_over stores before now (Drone start) end (Beats beat ∷ []) turns [] live t first last last stamps store (still_self last) b;
+    whole = whole;
+  };
+  ends = ends;
+  stored = keeps b.output.node b.output.is b.output.stored;
+}
+
+-- it took all its turns
+pub turns_taken : {S : Type 0} (stores : Stores S) (before now : S) (start : DroneSide) (beat most : ℕ) (live : LiveNode) (t : Teller) (first last : Outside) → TurnsTaken stores before now (Drone start) (Beats beat ∷ []) most live t first last → DroneLived stores before now start (Some (Live (PortTurns most))) first last
+turns_taken stores before now start beat most live t first last taken =
+    drone_over stores before now start (Some (Live (PortTurns most))) beat taken.turns live t first last stamps store refl taken.number (λ node is kept. (live, is, kept)) taken.between
   where
-    because : (why : RunEnd) → ◌≡◌ {A = Option RunEnd} (Some why) (Some (Stopped StampsSpent)) → why ≡ Stopped StampsSpent
-    because why e = cc
+    stamps : ◌≡◌ {A = Option RunEnd} (Some (Live (PortTurns most))) (Some (Stopped StampsSpent)) → ⊥
+    stamps e = cc
 
--- one that took all its turns
-pub turns_taken : {S : Type 0} (stores : Stores S) (before now : S) (start : DroneSide) (at most : ℕ) (live : LiveNode) (t : Teller) (first last : Outside) → Between stores before now (Drone start) (Beats at ∷ []) most live t first last → DroneLived stores before now start (Some (Live (PortTurns most))) first last
-turns_taken stores before now start at most live t first last b =
-    let made = (Beats at ∷ []) ++ flat_map turn_calls b.turns in
-    record {
-      run = record {
-        opening = Beats at ∷ [];
-        is_opening = (at, refl);
-        turns = b.turns;
-        made = made;
-        rest = [];
-        calls = append-nil made;
-        read = b.input.read;
-        left = b.input.left;
-        idles = b.input.idles;
-        pauses = b.input.pauses;
-        written = record {
-          node = b.output.node;
-          events = b.output.events;
-          run = b.output.run;
-          sent = b.output.sent;
-          printed = b.output.printed;
-          kept = b.output.kept;
-          store = λ e. absurd (unfailed e);
-        };
-        whole = refl;
-        spent = λ e. absurd (other e);
-      };
-      ends = b.number;
-      stored = (live, b.output.is, b.output.stored);
-    }
+    store : ◌≡◌ {A = Option RunEnd} (Some (Live (PortTurns most))) (Some (Live StoreFault)) → ⊥
+    store e = cc
+
+-- its port has ended
+pub port_ended : {S : Type 0} (stores : Stores S) (before now : S) (start : DroneSide) (beat : ℕ) (turns : List Turn) (live : LiveNode) (t : Teller) (first last : Outside) → PortEnded stores before now (Drone start) (Beats beat ∷ []) turns [] live t first last → DroneLived stores before now start None first last
+port_ended stores before now start beat turns live t first last ended =
+    drone_over stores before now start None beat turns live t first last stamps store refl (ended.ended, ended.spent) (λ node is kept. (live, is, kept)) ended.between
   where
-    other : ◌≡◌ {A = Option RunEnd} (Some (Live (PortTurns most))) (Some (Stopped StampsSpent)) → ⊥
-    other e = cc
+    stamps : ◌≡◌ {A = Option RunEnd} None (Some (Stopped StampsSpent)) → ⊥
+    stamps e = cc
 
-    unfailed : ◌≡◌ {A = Option RunEnd} (Some (Live (PortTurns most))) (Some (Live StoreFault)) → ⊥
-    unfailed e = cc
-
--- one whose port has ended
-pub port_ended : {S : Type 0} (stores : Stores S) (before now : S) (start : DroneSide) (at count : ℕ) (live : LiveNode) (t : Teller) (first last : Outside) → Turned false stores before now (Drone start) (Beats at ∷ []) count live t first last → DroneLived stores before now start None first last
-port_ended stores before now start at count live t first last turned =
-    let b = turned.0 in
-    let made = (Beats at ∷ []) ++ flat_map turn_calls b.turns in
-    record {
-      run = record {
-        opening = Beats at ∷ [];
-        is_opening = (at, refl);
-        turns = b.turns;
-        made = made;
-        rest = [];
-        calls = append-nil made;
-        read = b.input.read;
-        left = b.input.left;
-        idles = b.input.idles;
-        pauses = b.input.pauses;
-        written = record {
-          node = b.output.node;
-          events = b.output.events;
-          run = b.output.run;
-          sent = b.output.sent;
-          printed = b.output.printed;
-          kept = b.output.kept;
-          store = λ e. absurd (unfailed e);
-        };
-        whole = refl;
-        spent = λ e. absurd (other e);
-      };
-      ends = (turned.1, turned.2);
-      stored = (live, b.output.is, b.output.stored);
-    }
-  where
-    other : ◌≡◌ {A = Option RunEnd} None (Some (Stopped StampsSpent)) → ⊥
-    other e = cc
-
-    unfailed : ◌≡◌ {A = Option RunEnd} None (Some (Live StoreFault)) → ⊥
-    unfailed e = cc
+    store : ◌≡◌ {A = Option RunEnd} None (Some (Live StoreFault)) → ⊥
+    store e = cc

@@ -19,21 +19,24 @@ use Rattle.live_node.specs.declared.nodes.LiveNode.{LiveNode}
 use Rattle.live_node.specs.declared.nodes.LiveNode.TheVariants.{Drone as LiveDrone, Station as LiveStation}
 use Rattle.live_node.specs.declared.tellers.Teller.{Teller}
 use Rattle.live_node.specs.Nodes.{IsLive, HasHeard, end_of}
-use Rattle.live_node.specs.Calls.{LiveCall, Hears, extras_at, calls_do}
+use Rattle.live_node.specs.Calls.{LiveCall, Hears, extras_at, calls_do, IsTime}
 use Rattle.live_node.specs.Turns.{Reads, Breaks}
 use Rattle.live_node.specs.Texts.{frames_text, lines_of}
 use Rattle.live_node.specs.Ports.{end_by}
 use Rattle.live_node.specs.Parts.{PieceFails}
-use Rattle.live_node.specs.Runs.{Outside, Stores, Kept, IsSpentAt}
-use Rattle.live_node.specs.Progress.{Output, CallsStopped, IsSpentCall, PieceStopped}
+use Rattle.live_node.specs.Runs.{Outside, Stores, Kept, IsSpentAt, IsSpentCall}
+use Rattle.live_node.specs.Progress.{Output, CallsStopped, PieceStopped}
 use Rattle.live_node.proofs.Endings.{sent_by, printed_by}
 use Rattle.live_node.proofs.Calls.{kept_on}
+use Rattle.live_node.proofs.Lasts.{gives_up}
 
 -- the frames were heard, and then the run stopped
-pub piece_stopped : {S : Type 0} {stores : Stores S} {before now : S} {end : RunEnd} {extras : List (ℕ × ℕ)} {taken : List ℕ} {given : List Event} {piece : List ℕ} {start : Node} {made : List LiveCall} {first last : Outside} (at : ℕ) (events : List Event) (keeps : List Bool) → GrowsBy extras (taken ++ piece) given events → CallsStopped stores before now end start made (Hears (frames_of events) keeps at ∷ []) first last → PieceStopped stores before now end extras taken given piece start made first last
-piece_stopped {S} {stores} {before} {now} {end} {extras} {taken} {given} {piece} {start} {made} {first} {last} at events keeps grows s = record {
+pub piece_stopped : {S : Type 0} {stores : Stores S} {before now : S} {end : RunEnd} {extras : List (ℕ × ℕ)} {taken : List ℕ} {given : List Event} {piece : List ℕ} {start : Node} {made : List LiveCall} {first last : Outside} (at : ℕ) (events : List Event) (keeps : List Bool) → IsTime first.time at → GrowsBy extras (taken ++ piece) given events → CallsStopped stores before now end start made (Hears (frames_of events) keeps at ∷ []) first last → PieceStopped stores before now end extras taken given piece start made first last
+piece_stopped {S} {stores} {before} {now} {end} {extras} {taken} {given} {piece} {start} {made} {first} {last} at events keeps timed grows s = record {
   turn = Reads piece events keeps at;
+  timed = timed;
   reads = grows;
+  heard = λ long. long;
   piece_is = record { bytes = refl; idles = λ count. refl; pauses = λ p. refl };
   stopped = record {
     more = s.more;
@@ -56,10 +59,12 @@ node_extras (Station n) (LiveDrone v) is = absurd is
 node_extras (Station n) (LiveStation v) is = sym is.link.end.extras
 
 -- the node was given up at them
-pub piece_broken : {S : Type 0} {stores : Stores S} {before old now : S} {taken : List ℕ} {given : List Event} {piece : List ℕ} {start : Node} {made : List LiveCall} {live : LiveNode} {t : Teller} {first last : Outside} {extras : List (ℕ × ℕ)} (at : ℕ) (fault : NodeFault) → (o : Output stores before old start made live t first last) → (end_of live).endpoint.extras ≡ extras → HasHeard taken given live → Serves stores.faults stores.is_infallible old now → PieceFails fault at piece live (HasFailed stores.faults stores.is_infallible old now) → PieceStopped stores before now (end_by fault) extras taken given piece start made first last
-piece_broken {S} {stores} {before} {old} {now} {taken} {given} {piece} {start} {made} {live} {t} {first} {last} {extras} at fault o same heard serves fails = record {
+pub piece_broken : {S : Type 0} {stores : Stores S} {before old now : S} {taken : List ℕ} {given : List Event} {piece : List ℕ} {start : Node} {made : List LiveCall} {live : LiveNode} {t : Teller} {first last : Outside} {extras : List (ℕ × ℕ)} (at : ℕ) (fault : NodeFault) → IsTime first.time at → (o : Output stores before old start made live t first last) → (end_of live).endpoint.extras ≡ extras → HasHeard taken given live → Serves stores.faults stores.is_infallible old now → PieceFails fault at piece live (HasFailed stores.faults stores.is_infallible old now) → PieceStopped stores before now (end_by fault) extras taken given piece start made first last
+piece_broken {S} {stores} {before} {old} {now} {taken} {given} {piece} {start} {made} {live} {t} {first} {last} {extras} at fault timed o same heard serves fails = record {
   turn = Breaks piece at;
+  timed = timed;
   reads = tt;
+  heard = λ long. (long, gives_up fault);
   piece_is = record { bytes = refl; idles = λ count. refl; pauses = λ p. refl };
   stopped = record {
     more = [];
@@ -71,6 +76,7 @@ piece_broken {S} {stores} {before} {old} {now} {taken} {given} {piece} {start} {
       run = ap (λ (calls : List LiveCall). calls_do calls start) (append-nil made) ∙ o.run;
       sent = sent_by (Some (end_by fault)) first.link.sent last.link.sent (frames_text (map shown o.events)) o.sent;
       printed = printed_by (Some (end_by fault)) first.text last.text (lines_of (node_name start) 0 o.events) o.printed;
+      time = o.time;
       kept = subst (Kept stores before now) (sym (append-nil made)) (kept_on stores before old now made o.kept serves);
       store = λ e. then_failed stores.faults stores.is_infallible before old now o.kept.serves (by_store fault fails e);
     };

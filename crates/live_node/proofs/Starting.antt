@@ -84,8 +84,8 @@ begun key sys (Some (byte ∷ bytes)) view started from = by_image from.either
         }
 
 -- and before its first call
-pub opened : {S : Type 0} (stores : Stores S) (before now : S) (key : List ℕ) (sys : ℕ) (view : DroneView) (t : Teller) (link : LinkState) (text : Option (List ℕ)) → (b : Begun key sys (stores.contents before) view) → Serves stores.faults stores.is_infallible before now → stores.contents now ≡ stores.contents before → HasRead [] [] view.link → t.name ≡ (record { sys = sys; comp = 1 }) → t.sent ≡ 0 → t.ending ≡ None → Opened stores before now (Drone b.node) (LiveDrone view) t (outside link text)
-opened stores before now key sys view t link text b serves stays stream name sent ending = record {
+pub opened : {S : Type 0} (stores : Stores S) (before now : S) (key : List ℕ) (sys : ℕ) (view : DroneView) (t : Teller) (link : LinkState) (text : Option (List ℕ)) (time : Option ℕ) → (b : Begun key sys (stores.contents before) view) → Serves stores.faults stores.is_infallible before now → stores.contents now ≡ stores.contents before → HasRead [] [] view.link → t.name ≡ (record { sys = sys; comp = 1 }) → t.sent ≡ 0 → t.ending ≡ None → t.ticks ≡ 0 → Opened stores before now (Drone b.node) (LiveDrone view) t (outside link text time)
+opened stores before now key sys view t link text time b serves stays stream name sent ending ticks = record {
   output = record {
     node = Drone b.node;
     events = [];
@@ -94,9 +94,11 @@ opened stores before now key sys view t link text b serves stays stream name sen
     name = name ∙ sym b.name;
     count = sent;
     ending = ending;
+    ticks = ticks;
     faults = refl;
     sent = append_known_nil link.sent;
     printed = append_known_nil text;
+    time = refl;
     kept = record { serves = serves; kept = inl (All-nil (λ kept. kept ≡ true)) };
     stored = subst (λ (contents : Option (List ℕ)). StoreHolds contents view) (sym stays) b.stored;
   };

@@ -5,16 +5,16 @@ use Rattle.run_status.specs.declared.run_ends.RunEnd.{RunEnd}
 use Rattle.live_node.specs.declared.nodes.LiveNode.{LiveNode}
 use Rattle.live_node.specs.declared.tellers.Teller.{Teller}
 use Rattle.live_node.specs.Calls.{LiveCall}
-use Rattle.live_node.specs.Runs.{Outside, Stores}
-use Rattle.live_node.specs.Progress.{Output, CallsStopped, IsSpentCall}
+use Rattle.live_node.specs.Runs.{Outside, Stores, IsSpentCall}
+use Rattle.live_node.specs.Progress.{Output, CallsStopped}
 use Rattle.live_node.proofs.Calls.{regroup}
 
-spent_more : (node : Node) (rest more : List LiveCall) → IsSpentCall node rest → IsSpentCall node (rest ++ more)
+pub spent_more : (node : Node) (rest more : List LiveCall) → IsSpentCall node rest → IsSpentCall node (rest ++ more)
 spent_more node [] more h = absurd h
 spent_more node (call ∷ rest) more h = h
 
 -- more calls were still to come
-pub more_to_come : {S : Type 0} (stores : Stores S) (before now : S) (end : RunEnd) (start : Node) (made calls more : List LiveCall) (first last : Outside) → CallsStopped stores before now end start made calls first last → CallsStopped stores before now end start made (calls ++ more) first last
+abbrev pub more_to_come : {S : Type 0} (stores : Stores S) (before now : S) (end : RunEnd) (start : Node) (made calls more : List LiveCall) (first last : Outside) → CallsStopped stores before now end start made calls first last → CallsStopped stores before now end start made (calls ++ more) first last
 more_to_come stores before now end start made calls more first last s = record {
   more = s.more;
   rest = s.rest ++ more;
@@ -24,7 +24,7 @@ more_to_come stores before now end start made calls more first last s = record {
 }
 
 -- calls were made before these
-pub made_before : {S : Type 0} (stores : Stores S) (before now : S) (end : RunEnd) (start : Node) (made earlier calls : List LiveCall) (first last : Outside) → CallsStopped stores before now end start (made ++ earlier) calls first last → CallsStopped stores before now end start made (earlier ++ calls) first last
+abbrev pub made_before : {S : Type 0} (stores : Stores S) (before now : S) (end : RunEnd) (start : Node) (made earlier calls : List LiveCall) (first last : Outside) → CallsStopped stores before now end start (made ++ earlier) calls first last → CallsStopped stores before now end start made (earlier ++ calls) first last
 made_before stores before now end start made earlier calls first last s = record {
   more = earlier ++ s.more;
   rest = s.rest;

@@ -1,5 +1,6 @@
 -- What a live node does at its calls. Each is one of a node of a scenario, with the clock's answer at that moment.
-use Rattle.std.specs.Prelude.{ℕ, Bool, List, [], ◌∷◌}
+use Rattle.std.specs.Prelude.{ℕ, ◌≡◌, Bool, List, [], ◌∷◌, Option, IfSome}
+use Rattle.mav_ports.specs.Counts.{next_count}
 use Rattle.mav_frame.specs.Packet.{Packet}
 use Rattle.mav_nodes.specs.declared.orders.Order.{Order}
 use Rattle.mav_nodes.specs.Links.{Outcome, done, and_then}
@@ -51,3 +52,32 @@ keeps_in (Ticks clock) = []
 keeps_in (Beats clock) = []
 keeps_in (Flies clock) = []
 keeps_in (Obeys order clock) = []
+
+-- what the clock returned at a call
+abbrev pub call_time : LiveCall → ℕ
+call_time (Hears packets keeps clock) = clock
+call_time (Ticks clock) = clock
+call_time (Beats clock) = clock
+call_time (Flies clock) = clock
+call_time (Obeys order clock) = clock
+
+-- a clock that always returns one time, if it is known to, returned it here
+abbrev pub IsTime : Option ℕ → ℕ → Type 0
+IsTime time at = IfSome time (λ known. at ≡ known)
+
+-- and at each of these calls
+abbrev pub AreTimed : Option ℕ → List LiveCall → Type 0
+AreTimed time [] = Unit {0}
+AreTimed time (call ∷ calls) = IsTime time (call_time call) × AreTimed time calls
+
+-- how many ticks there were after a call, and after calls; the count stands still at 2^64 - 1
+abbrev pub ticks_with : ℕ → LiveCall → ℕ
+ticks_with before (Ticks clock) = next_count before
+ticks_with before (Hears packets keeps clock) = before
+ticks_with before (Beats clock) = before
+ticks_with before (Flies clock) = before
+ticks_with before (Obeys order clock) = before
+
+abbrev pub ticks_over : ℕ → List LiveCall → ℕ
+ticks_over before [] = before
+ticks_over before (call ∷ calls) = ticks_over (ticks_with before call) calls

@@ -82,9 +82,9 @@ DroneKeeps other contents node = Unit {0}
 
 -- the run of a drone that has started
 pub record DroneLived {S : Type 0} (stores : Stores S) (before after : S) (start : DroneSide) (end : Option RunEnd) (first last : Outside) : Type 0 where
-  pub run : LiveRun stores before after IsHeartbeat (Drone start) end first last
+  pub run : LiveRun stores before after IsHeartbeat (λ link. ⊥) (Drone start) end first last
   pub ends : DroneEnds end run.turns last
-  pub stored : DroneKeeps end (stores.contents after) run.written.node
+  pub stored : DroneKeeps end (stores.contents after) run.at.written.node
 
 -- a drone started, and ran
 pub record DroneRan {S : Type 0} (stores : Stores S) (key : List ℕ) (plan : DronePlan) (before after : S) (end : Option RunEnd) (first last : Outside) : Type 0 where

@@ -7,3 +7,6 @@ pub mod Ports
 pub mod Runs
 pub mod Progress
 pub mod Drones
+pub mod Orders
+pub mod Stations
+pub mod Waiting

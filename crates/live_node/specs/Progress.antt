@@ -1,5 +1,5 @@
 -- How far a run is: what came in over its turns, and what went out over its calls.
-use Rattle.std.specs.Prelude.{ℕ, ◌≡◌, ◌+◌, Bool, true, false, List, [], ◌∷◌, ◌++◌, length, map, Option, Some, None}
+use Rattle.std.specs.Prelude.{ℕ, ◌≡◌, ◌≤◌, ◌+◌, ◌⊎◌, Bool, true, false, List, [], ◌∷◌, ◌++◌, length, map, Option, Some, None}
 use Rattle.std.specs.List.{flat_map}
 use Rattle.std.specs.Option.{option_map}
 use Rattle.std.specs.Io.KnownBytes.{append_known, prepend_known}
@@ -20,11 +20,11 @@ use Rattle.live_node.specs.declared.nodes.Due.{Due}
 use Rattle.live_node.specs.declared.nodes.Due.TheVariants.{Tick, Heartbeat, Sim}
 use Rattle.live_node.specs.declared.tellers.Teller.{Teller}
 use Rattle.live_node.specs.Nodes.{IsLive, HasHeard, IsKeptBy, end_of}
-use Rattle.live_node.specs.Calls.{extras_at, LiveCall, Hears, Ticks, Beats, Flies, call_does, calls_do}
-use Rattle.live_node.specs.Turns.{Turn, turn_calls, turn_bytes, turn_events, idles_with, pauses_with, idles_over, pauses_over, ReadsOn, ReadFrom}
+use Rattle.live_node.specs.Calls.{extras_at, LiveCall, Hears, Ticks, Beats, Flies, calls_do, IsTime, AreTimed, ticks_with, ticks_over}
+use Rattle.live_node.specs.Turns.{Turn, turn_calls, turn_bytes, turn_events, idles_with, pauses_with, idles_over, pauses_over, ReadsOn, ReadFrom, AllHeard, Rest, calls_of, IsTurnTimed}
 use Rattle.live_node.specs.Texts.{frames_text, lines_of, count_over, ending_over, tells}
 use Rattle.live_node.specs.Ports.{SentBy, PrintedBy}
-use Rattle.live_node.specs.Runs.{Outside, Stores, Kept, Written, IsSpentAt, RunsOutIn}
+use Rattle.live_node.specs.Runs.{Outside, Stores, Kept, Written, Timed, IsSpentAt, IsSpentCall, LastHeard, RunAt}
 
 -- the lines of a call's news were written; or it stopped so
 pub record Prints (end : Option RunEnd) (events : List NodeEvent) (old new : Teller) (text_old text_new : Option (List ℕ)) : Type 0 where
@@ -53,9 +53,14 @@ due_call Tick at = Ticks at
 due_call Heartbeat at = Beats at
 due_call Sim at = Flies at
 
+-- the teller after it counted a call, if that was a tick
+abbrev pub counted : LiveCall → Teller → Teller
+counted call t = record t { ticks = ticks_with t.ticks call }
+
 -- what came in: the turns are so read, and the node is after their bytes
 pub record Input (extras : List (ℕ × ℕ)) (turns : List Turn) (live : LiveNode) (first now : LinkState) : Type 0 where
   pub read : ReadFrom extras [] [] turns
+  pub all : AllHeard turns
   pub heard : HasHeard (flat_map turn_bytes turns) (flat_map turn_events turns) live
   pub same : (end_of live).endpoint.extras ≡ extras
   pub left : first.left ≡ prepend_known (flat_map turn_bytes turns) now.left
@@ -71,18 +76,27 @@ pub record Output {S : Type 0} (stores : Stores S) (before now : S) (start : Nod
   pub name : teller.name ≡ node_name start
   pub count : teller.sent ≡ count_over 0 events
   pub ending : teller.ending ≡ ending_over None events
+  pub ticks : teller.ticks ≡ ticks_over 0 made
   pub faults : last.link.faults ≡ first.link.faults
   pub sent : last.link.sent ≡ append_known first.link.sent (frames_text (map shown events))
   pub printed : last.text ≡ append_known first.text (lines_of (node_name start) 0 events)
+  pub time : last.time ≡ first.time
   pub kept : Kept stores before now made
   pub stored : IsKeptBy (stores.contents now) live
 
--- between two turns
-pub record Between {S : Type 0} (stores : Stores S) (before now : S) (start : Node) (opening : List LiveCall) (count : ℕ) (live : LiveNode) (teller : Teller) (first last : Outside) : Type 0 where
-  pub turns : List Turn
-  pub number : length turns ≡ count
+-- between two turns, or between two times that pass after the port's end
+pub record Between {S : Type 0} (stores : Stores S) (before now : S) (start : Node) (opening : List LiveCall) (turns : List Turn) (rests : List Rest) (live : LiveNode) (teller : Teller) (first last : Outside) : Type 0 where
+  pub timed : Timed first.time opening turns rests
   pub input : Input (extras_at start) turns live first.link last.link
-  pub output : Output stores before now start (opening ++ flat_map turn_calls turns) live teller first last
+  pub output : Output stores before now start (calls_of opening turns rests) live teller first last
+
+-- calls were made in part
+pub record CallsStopped {S : Type 0} (stores : Stores S) (before now : S) (end : RunEnd) (start : Node) (made calls : List LiveCall) (first last : Outside) : Type 0 where
+  pub more : List LiveCall
+  pub rest : List LiveCall
+  pub are : more ++ rest ≡ calls
+  pub written : Written stores before now (Some end) start (made ++ more) first last
+  pub spent : end ≡ Stopped StampsSpent → IsSpentCall written.node rest
 
 -- the calls of a turn were made in part
 pub record TurnStopped {S : Type 0} (stores : Stores S) (before now : S) (end : RunEnd) (extras : List (ℕ × ℕ)) (taken : List ℕ) (given : List Event) (start : Node) (made : List LiveCall) (turn : Turn) (first last : Outside) : Type 0 where
@@ -91,11 +105,6 @@ pub record TurnStopped {S : Type 0} (stores : Stores S) (before now : S) (end : 
   pub calls : more ++ rest ≡ turn_calls turn
   pub written : Written stores before now (Some end) start (made ++ more) first last
   pub spent : end ≡ Stopped StampsSpent → IsSpentAt extras taken given turn written.node rest
-
--- the next call needs a timestamp that isn't left
-abbrev pub IsSpentCall : Node → List LiveCall → Type 0
-IsSpentCall node [] = ⊥
-IsSpentCall node (call ∷ rest) = call_does call node ≡ None
 
 -- a turn that read this piece
 pub record IsPiece (piece : List ℕ) (turn : Turn) : Type 0 where
@@ -106,6 +115,7 @@ pub record IsPiece (piece : List ℕ) (turn : Turn) : Type 0 where
 -- a piece was heard, and all written
 pub record HeardPiece {S : Type 0} (stores : Stores S) (before now : S) (extras : List (ℕ × ℕ)) (start : Node) (made : List LiveCall) (taken : List ℕ) (given : List Event) (live : LiveNode) (teller : Teller) (first last : Outside) : Type 0 where
   pub clock : ℕ
+  pub timed : IsTime first.time clock
   pub events : List Event
   pub keeps : List Bool
   pub grows : GrowsBy extras taken given events
@@ -116,64 +126,86 @@ pub record HeardPiece {S : Type 0} (stores : Stores S) (before now : S) (extras 
 -- a piece was heard in part, or the node was given up there; and then the run stopped
 pub record PieceStopped {S : Type 0} (stores : Stores S) (before now : S) (end : RunEnd) (extras : List (ℕ × ℕ)) (taken : List ℕ) (given : List Event) (piece : List ℕ) (start : Node) (made : List LiveCall) (first last : Outside) : Type 0 where
   pub turn : Turn
+  pub timed : IsTurnTimed first.time turn
   pub reads : ReadsOn extras taken given turn
   pub piece_is : IsPiece piece turn
+  pub heard : 1 ≤ length piece → LastHeard (Some end) turn
   pub stopped : TurnStopped stores before now end extras taken given start made turn first last
 
--- all calls of a wait were made, and the last two of them
+-- a call that is due was made, or the run stopped in it
+pub record CallDone {S : Type 0} (stores : Stores S) (before now : S) (start : Node) (made : List LiveCall) (call : ℕ → LiveCall) (live : LiveNode) (teller : Teller) (first last : Outside) : Type 0 where
+  pub at : ℕ
+  pub timed : IsTime first.time at
+  pub output : Output stores before now start (made ++ call at ∷ []) live teller first last
+
+pub record CallStopped {S : Type 0} (stores : Stores S) (before now : S) (end : RunEnd) (start : Node) (made : List LiveCall) (call : ℕ → LiveCall) (first last : Outside) : Type 0 where
+  pub at : ℕ
+  pub timed : IsTime first.time at
+  pub stopped : CallsStopped stores before now end start made (call at ∷ []) first last
+
+-- all calls of a wait were made, and the last two of them; or they were made in part
 pub record WaitDone {S : Type 0} (stores : Stores S) (before now : S) (start : Node) (made : List LiveCall) (live : LiveNode) (teller : Teller) (first last : Outside) : Type 0 where
   pub tick : ℕ
   pub beat : ℕ
   pub sim : ℕ
+  pub timed : AreTimed first.time (Ticks tick ∷ Beats beat ∷ Flies sim ∷ [])
   pub output : Output stores before now start (made ++ Ticks tick ∷ Beats beat ∷ Flies sim ∷ []) live teller first last
 
 pub record BeatDone {S : Type 0} (stores : Stores S) (before now : S) (start : Node) (made : List LiveCall) (live : LiveNode) (teller : Teller) (first last : Outside) : Type 0 where
   pub beat : ℕ
   pub sim : ℕ
+  pub timed : AreTimed first.time (Beats beat ∷ Flies sim ∷ [])
   pub output : Output stores before now start (made ++ Beats beat ∷ Flies sim ∷ []) live teller first last
-
--- calls were made in part
-pub record CallsStopped {S : Type 0} (stores : Stores S) (before now : S) (end : RunEnd) (start : Node) (made calls : List LiveCall) (first last : Outside) : Type 0 where
-  pub more : List LiveCall
-  pub rest : List LiveCall
-  pub are : more ++ rest ≡ calls
-  pub written : Written stores before now (Some end) start (made ++ more) first last
-  pub spent : end ≡ Stopped StampsSpent → IsSpentCall written.node rest
 
 pub record WaitStopped {S : Type 0} (stores : Stores S) (before now : S) (end : RunEnd) (start : Node) (made : List LiveCall) (first last : Outside) : Type 0 where
   pub tick : ℕ
   pub beat : ℕ
   pub sim : ℕ
+  pub timed : AreTimed first.time (Ticks tick ∷ Beats beat ∷ Flies sim ∷ [])
   pub stopped : CallsStopped stores before now end start made (Ticks tick ∷ Beats beat ∷ Flies sim ∷ []) first last
 
 pub record BeatStopped {S : Type 0} (stores : Stores S) (before now : S) (end : RunEnd) (start : Node) (made : List LiveCall) (first last : Outside) : Type 0 where
   pub beat : ℕ
   pub sim : ℕ
+  pub timed : AreTimed first.time (Beats beat ∷ Flies sim ∷ [])
   pub stopped : CallsStopped stores before now end start made (Beats beat ∷ Flies sim ∷ []) first last
 
 -- a turn was taken, or the port has ended
-abbrev pub Turned : Bool → {S : Type 0} → Stores S → (before now : S) → Node → List LiveCall → ℕ → LiveNode → Teller → Outside → Outside → Type 0
-Turned true stores before now start opening count live teller first last = Between stores before now start opening (count + 1) live teller first last
-Turned false stores before now start opening count live teller first last =
-    Between stores before now start opening count live teller first last × (last.link.ended ≡ true) × IsSpent last.link.left
+pub record TurnTaken {S : Type 0} (stores : Stores S) (before now : S) (start : Node) (opening : List LiveCall) (turns : List Turn) (live : LiveNode) (teller : Teller) (first last : Outside) : Type 0 where
+  pub turn : Turn
+  pub between : Between stores before now start opening (turns ++ turn ∷ []) [] live teller first last
 
--- a run stopped so, in a turn or at a read
-pub record BetweenStopped {S : Type 0} (stores : Stores S) (before now : S) (end : RunEnd) (start : Node) (opening : List LiveCall) (first last : Outside) : Type 0 where
-  pub turns : List Turn
-  pub made : List LiveCall
-  pub rest : List LiveCall
-  pub calls : made ++ rest ≡ opening ++ flat_map turn_calls turns
-  pub read : ReadFrom (extras_at start) [] [] turns
-  pub left : first.link.left ≡ prepend_known (flat_map turn_bytes turns) last.link.left
-  pub idles : last.link.idles ≡ idles_over turns first.link.idles
-  pub pauses : last.link.pauses ≡ option_map (pauses_over turns) first.link.pauses
-  pub written : Written stores before now (Some end) start made first last
-  pub spent : end ≡ Stopped StampsSpent → RunsOutIn (extras_at start) turns written.node rest
+pub record PortEnded {S : Type 0} (stores : Stores S) (before now : S) (start : Node) (opening : List LiveCall) (turns : List Turn) (rests : List Rest) (live : LiveNode) (teller : Teller) (first last : Outside) : Type 0 where
+  pub between : Between stores before now start opening turns rests live teller first last
+  pub ended : last.link.ended ≡ true
+  pub spent : IsSpent last.link.left
+
+abbrev pub Turned : Bool → {S : Type 0} → Stores S → (before now : S) → Node → List LiveCall → List Turn → LiveNode → Teller → Outside → Outside → Type 0
+Turned true stores before now start opening turns live teller first last = TurnTaken stores before now start opening turns live teller first last
+Turned false stores before now start opening turns live teller first last = PortEnded stores before now start opening turns [] live teller first last
+
+-- a run stopped in a turn more than these, or at a read after them
+pub record TurnCut {S : Type 0} (stores : Stores S) (before now : S) (end : RunEnd) (start : Node) (opening : List LiveCall) (turns : List Turn) (first last : Outside) : Type 0 where
+  pub turn : Turn
+  pub stopped : RunAt stores before now start (Some end) opening (turns ++ turn ∷ []) [] first last
+
+abbrev pub TurnStops : {S : Type 0} → Stores S → (before now : S) → RunEnd → Node → List LiveCall → List Turn → (first last : Outside) → Type 0
+TurnStops stores before now end start opening turns first last =
+    TurnCut stores before now end start opening turns first last ⊎ RunAt stores before now start (Some end) opening turns [] first last
 
 -- so many turns were taken, or the port has ended within them
+pub record TurnsTaken {S : Type 0} (stores : Stores S) (before now : S) (start : Node) (opening : List LiveCall) (count : ℕ) (live : LiveNode) (teller : Teller) (first last : Outside) : Type 0 where
+  pub turns : List Turn
+  pub number : length turns ≡ count
+  pub between : Between stores before now start opening turns [] live teller first last
+
 abbrev pub TurnsRan : Bool → {S : Type 0} → Stores S → (before now : S) → Node → List LiveCall → ℕ → LiveNode → Teller → Outside → Outside → Type 0
-TurnsRan true stores before now start opening count live teller first last = Between stores before now start opening count live teller first last
-TurnsRan false stores before now start opening count live teller first last = (taken : ℕ) × Turned false stores before now start opening taken live teller first last
+TurnsRan true stores before now start opening count live teller first last = TurnsTaken stores before now start opening count live teller first last
+TurnsRan false stores before now start opening count live teller first last = (turns : List Turn) × PortEnded stores before now start opening turns [] live teller first last
+
+-- or the run stopped within them
+abbrev pub TurnsStopped : {S : Type 0} → Stores S → (before now : S) → RunEnd → Node → List LiveCall → (first last : Outside) → Type 0
+TurnsStopped stores before now end start opening first last = (turns : List Turn) × RunAt stores before now start (Some end) opening turns [] first last
 
 -- before the first call
 pub record Opened {S : Type 0} (stores : Stores S) (before now : S) (start : Node) (live : LiveNode) (teller : Teller) (first : Outside) : Type 0 where

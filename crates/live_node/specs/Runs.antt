@@ -1,5 +1,5 @@
 -- The run of a live node: its calls, and what was read and written.
-use Rattle.std.specs.Prelude.{ℕ, ◌≡◌, Bool, List, [], ◌∷◌, ◌++◌, map, Option, Some, None}
+use Rattle.std.specs.Prelude.{ℕ, ◌≡◌, ◌≤◌, Bool, List, [], ◌∷◌, ◌++◌, length, map, Option, Some, None}
 use Rattle.std.specs.List.{flat_map}
 use Rattle.std.specs.Option.{option_map}
 use Rattle.std.specs.Io.KnownBytes.{prepend_known}
@@ -11,22 +11,23 @@ use Rattle.mav_nodes.specs.Links.{done}
 use Rattle.mav_nodes.specs.Stores.{Serves, HasFailed, AllKept}
 use Rattle.mav_nodes.specs.Streams.{GrowsBy}
 use Rattle.fleet_world.specs.WorldState.{Node, node_name}
-use Rattle.run_status.specs.declared.live_ends.LiveEnd.TheVariants.{StoreFault, PortTurns}
+use Rattle.run_status.specs.declared.live_ends.LiveEnd.TheVariants.{RefusedWith, NoAnswer, StoreFault, PortTurns}
 use Rattle.run_status.specs.declared.input_errors.InputError.TheVariants.{StampsSpent}
 use Rattle.run_status.specs.declared.run_ends.RunEnd.{RunEnd}
-use Rattle.run_status.specs.declared.run_ends.RunEnd.TheVariants.{Stopped, Live}
-use Rattle.live_node.specs.Calls.{LiveCall, extras_at, call_does, calls_do, node_hears, keeps_in}
-use Rattle.live_node.specs.Turns.{Turn, Breaks, turn_calls, turn_bytes, turn_events, idles_over, pauses_over, ReadFrom}
+use Rattle.run_status.specs.declared.run_ends.RunEnd.TheVariants.{Stopped, NoMemory, Live}
+use Rattle.live_node.specs.Calls.{LiveCall, extras_at, call_does, calls_do, node_hears, keeps_in, AreTimed}
+use Rattle.live_node.specs.Turns.{Turn, Reads, Waits, Breaks, turn_bytes, turn_events, idles_over, pauses_over, ReadFrom, IsHeard, AllHeard, Rest, calls_of, last_calls, AreTurnsTimed, AreRestsTimed}
 use Rattle.live_node.specs.Texts.{frames_text, lines_of}
 use Rattle.live_node.specs.Ports.{SentBy, PrintedBy}
 
--- the port, and the text that the output was sent
+-- the port, the text that the output was sent, and the one time that the clock returns, if that is known
 pub record Outside : Type 0 where
   pub link : LinkState
   pub text : Option (List ℕ)
+  pub time : Option ℕ
 
-abbrev pub outside : LinkState → Option (List ℕ) → Outside
-outside link text = record { link = link; text = text }
+abbrev pub outside : LinkState → Option (List ℕ) → Option ℕ → Outside
+outside link text time = record { link = link; text = text; time = time }
 
 -- what is known of stores of a type
 pub record Stores (S : Type 0) : Type 1 where
@@ -49,6 +50,7 @@ pub record Written {S : Type 0} (stores : Stores S) (before now : S) (end : Opti
   pub run : calls_do made start ≡ done node events
   pub sent : SentBy end first.link.sent last.link.sent (frames_text (map shown events))
   pub printed : PrintedBy end first.text last.text (lines_of (node_name start) 0 events)
+  pub time : last.time ≡ first.time
   pub kept : Kept stores before now made
   -- 10: a call of the store has failed
   pub store : end ≡ Some (Live StoreFault) → HasFailed stores.faults stores.is_infallible before now
@@ -75,33 +77,85 @@ pub record SpentIn (extras : List (ℕ × ℕ)) (turns : List Turn) (node : Node
   pub last : LastTurn turns turn taken given
   pub spent : IsSpentAt extras taken given turn node rest
 
-abbrev pub RunsOutIn : List (ℕ × ℕ) → List Turn → Node → List LiveCall → Type 0
-RunsOutIn extras [] node (call ∷ rest) = call_does call node ≡ None
-RunsOutIn extras [] node [] = ⊥
-RunsOutIn extras (turn ∷ turns) node rest = SpentIn extras (turn ∷ turns) node rest
+-- the next call needs a timestamp that isn't left
+abbrev pub IsSpentCall : Node → List LiveCall → Type 0
+IsSpentCall node [] = ⊥
+IsSpentCall node (call ∷ rest) = call_does call node ≡ None
+
+abbrev pub RunsOutIn : List (ℕ × ℕ) → List Turn → List Rest → Node → List LiveCall → Type 0
+RunsOutIn extras turns (r ∷ rests) node rest = IsSpentCall node rest
+RunsOutIn extras [] [] node rest = IsSpentCall node rest
+RunsOutIn extras (turn ∷ turns) [] node rest = SpentIn extras (turn ∷ turns) node rest
+
+-- a node is given up for want of a timestamp or of memory, or by its store
+abbrev pub GivesUp : Option RunEnd → Type 0
+GivesUp (Some (Stopped StampsSpent)) = Unit {0}
+GivesUp (Some NoMemory) = Unit {0}
+GivesUp (Some (Live StoreFault)) = Unit {0}
+GivesUp other = ⊥
+
+-- what the last turn read was heard, or the node was given up at it
+abbrev pub LastHeard : Option RunEnd → Turn → Type 0
+LastHeard end (Breaks piece clock) = (1 ≤ length piece) × GivesUp end
+LastHeard end turn = IsHeard turn
+
+-- all that was read was heard, but for such a last turn
+abbrev pub HeardBy : Option RunEnd → List Turn → Type 0
+HeardBy end [] = Unit {0}
+HeardBy end (turn ∷ []) = LastHeard end turn
+HeardBy end (turn ∷ next ∷ turns) = IsHeard turn × HeardBy end (next ∷ turns)
+
+abbrev pub HeardIn : Option RunEnd → List Turn → List Rest → Type 0
+HeardIn end turns [] = HeardBy end turns
+HeardIn end turns (r ∷ rests) = AllHeard turns
+
+-- only calls of the last part of a run are left out
+abbrev pub IsLate : List LiveCall → List Turn → List Rest → List LiveCall → Type 0
+IsLate opening turns rests rest = (more : List LiveCall) × (more ++ rest ≡ last_calls opening turns rests)
+
+-- time passes after the port's end only there
+abbrev pub MayRest : Type 0 → List Rest → Type 0
+MayRest allowed [] = Unit {0}
+MayRest allowed (r ∷ rests) = allowed
+
+-- the times of all calls, by a clock that tells its time
+pub record Timed (time : Option ℕ) (opening : List LiveCall) (turns : List Turn) (rests : List Rest) : Type 0 where
+  pub opened : AreTimed time opening
+  pub turned : AreTurnsTimed time turns
+  pub rested : AreRestsTimed time rests
 
 -- no call is left to be made
 abbrev pub IsWhole : Option RunEnd → List LiveCall → Type 0
 IsWhole None rest = rest ≡ []
+IsWhole (Some (Live (RefusedWith code))) rest = rest ≡ []
+IsWhole (Some (Live (NoAnswer ticks))) rest = rest ≡ []
 IsWhole (Some (Live (PortTurns turns))) rest = rest ≡ []
 IsWhole other rest = Unit {0}
 
--- one run: its turns are what the port gave, in order; of the calls of its opening and its turns some were made, and the
--- others no longer
-pub record LiveRun {S : Type 0} (stores : Stores S) (before after : S) (IsOpening : List LiveCall → Type 0) (start : Node) (end : Option RunEnd) (first last : Outside) : Type 0 where
-  pub opening : List LiveCall
-  pub is_opening : IsOpening opening
-  pub turns : List Turn
+-- a run after these turns and times: some of their calls were made, and the others no longer
+pub record RunAt {S : Type 0} (stores : Stores S) (before after : S) (start : Node) (end : Option RunEnd) (opening : List LiveCall) (turns : List Turn) (rests : List Rest) (first last : Outside) : Type 0 where
   pub made : List LiveCall
   pub rest : List LiveCall
-  pub calls : made ++ rest ≡ opening ++ flat_map turn_calls turns
+  pub calls : made ++ rest ≡ calls_of opening turns rests
+  pub late : IsLate opening turns rests rest
+  pub timed : Timed first.time opening turns rests
   -- the pieces joined are the bytes read, and each tick stands at its place among them
   pub read : ReadFrom (extras_at start) [] [] turns
+  pub heard : HeardIn end turns rests
   pub left : first.link.left ≡ prepend_known (flat_map turn_bytes turns) last.link.left
   pub idles : last.link.idles ≡ idles_over turns first.link.idles
   pub pauses : last.link.pauses ≡ option_map (pauses_over turns) first.link.pauses
   pub written : Written stores before after end start made first last
-  -- all calls were made, unless the run was cut off
-  pub whole : IsWhole end rest
   -- 13: the next call is one for which no timestamp is left
-  pub spent : end ≡ Some (Stopped StampsSpent) → RunsOutIn (extras_at start) turns written.node rest
+  pub spent : end ≡ Some (Stopped StampsSpent) → RunsOutIn (extras_at start) turns rests written.node rest
+
+-- one run: an opening, turns, which are what the port gave, in order, and the times that passed after the port's end
+pub record LiveRun {S : Type 0} (stores : Stores S) (before after : S) (IsOpening : List LiveCall → Type 0) (may_rest : LinkState → Type 0) (start : Node) (end : Option RunEnd) (first last : Outside) : Type 0 where
+  pub opening : List LiveCall
+  pub is_opening : IsOpening opening
+  pub turns : List Turn
+  pub rests : List Rest
+  pub rested : MayRest (may_rest last.link) rests
+  pub at : RunAt stores before after start end opening turns rests first last
+  -- all calls were made, unless the run was cut off
+  pub whole : IsWhole end at.rest

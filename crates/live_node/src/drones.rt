@@ -1,17 +1,17 @@
 // A drone on a link.
-ghost use Rattle.std.specs.Prelude.{◌≡◌, List, IfOk, IfErr};
+ghost use Rattle.std.specs.Prelude.{◌≡◌, List, [], IfOk, IfErr};
 ghost use Rattle.std.specs.Result.{result_err};
 ghost use Rattle.mav_nodes.specs.Nodes.{DroneSide};
 ghost use Rattle.fleet_world.specs.WorldState.{Node, Drone as StateDrone};
 ghost use Rattle.live_node.specs.Calls.{LiveCall};
 ghost use Rattle.live_node.specs.Ports.{FaultsBy, IsRunEnd};
 ghost use Rattle.live_node.specs.Runs.{Outside, outside, stores_of};
-ghost use Rattle.live_node.specs.Progress.{Between, BetweenStopped, TurnsRan, Opened};
+ghost use Rattle.live_node.specs.Progress.{Between, TurnsStopped, TurnsRan, Opened};
 ghost use Rattle.live_node.specs.Drones.{DroneLived, DroneRuns, NewDroneRuns, IsDroneEnd, start_end};
 
 use crate::nodes::{Due, LiveNode};
 use crate::tellers::Teller;
-use crate::turns::{call, turn};
+use crate::turns::{PIECE_BYTES, call, turn};
 use mav_links::Link;
 use mav_names::Name;
 use mav_nodes::{DroneNode, StartFault};
@@ -20,9 +20,6 @@ use mav_sign::Key;
 use plan_store::{Keeper, MemKeeper};
 use run_status::{InputError, LiveEnd, Place, Reason, RunEnd};
 use std::alloc::Global;
-
-// A read asks for so many bytes.
-const PIECE_BYTES: usize = 4096;
 
 // A drone is component 1 of its system (MAVLink common messages, MAV_COMP_ID_AUTOPILOT1).
 const AUTOPILOT: u8 = 1;
@@ -55,10 +52,11 @@ fn run_turns<L: Link, K: Sink, C: Clock, S: Keeper>(
     clock: &mut C,
     keeper: &mut S,
 ) -> Result<bool, RunEnd>
-    ensures done { IfOk result (λ goes_on. (before : S) (start : Node) (opening : List LiveCall) (first : Outside) → Between (stores_of S.faults S.is_infallible S.contents) before keeper.old start opening 0 live.old teller.old first (outside (L.state link.old) (K.sent out.old))
-        → TurnsRan goes_on (stores_of S.faults S.is_infallible S.contents) before keeper.new start opening turns live.new teller.new first (outside (L.state link.new) (K.sent out.new))) }
-    ensures stopped { IfErr result (λ end. (before : S) (start : Node) (opening : List LiveCall) (first : Outside) → Between (stores_of S.faults S.is_infallible S.contents) before keeper.old start opening 0 live.old teller.old first (outside (L.state link.old) (K.sent out.old))
-        → BetweenStopped (stores_of S.faults S.is_infallible S.contents) before keeper.new end start opening first (outside (L.state link.new) (K.sent out.new))) }
+    ensures done { IfOk result (λ goes_on. (before : S) (start : Node) (opening : List LiveCall) (first : Outside) → Between (stores_of S.faults S.is_infallible S.contents) before keeper.old start opening [] [] live.old teller.old first (outside (L.state link.old) (K.sent out.old) (C.always clock.old))
+        → TurnsRan goes_on (stores_of S.faults S.is_infallible S.contents) before keeper.new start opening turns live.new teller.new first (outside (L.state link.new) (K.sent out.new) (C.always clock.new))) }
+    ensures stopped { IfErr result (λ end. (before : S) (start : Node) (opening : List LiveCall) (first : Outside) → Between (stores_of S.faults S.is_infallible S.contents) before keeper.old start opening [] [] live.old teller.old first (outside (L.state link.old) (K.sent out.old) (C.always clock.old))
+        → TurnsStopped (stores_of S.faults S.is_infallible S.contents) before keeper.new end start opening first (outside (L.state link.new) (K.sent out.new) (C.always clock.new))) }
+    ensures stays { C.always clock.new ≡ C.always clock.old }
     ensures end { IfErr result IsRunEnd }
     ensures faults { FaultsBy (result_err result) (L.state link.old).faults (L.state link.new).faults (K.faults out.old) (K.faults out.new) }
 {
@@ -83,8 +81,8 @@ fn run_live<L: Link, K: Sink, C: Clock, S: Keeper>(
     clock: &mut C,
     keeper: &mut S,
 ) -> Result<(), RunEnd>
-    ensures ran { (before : S) (start : DroneSide) → Opened (stores_of S.faults S.is_infallible S.contents) before keeper.old (StateDrone start) live.old teller.old (outside (L.state link.old) (K.sent out.old))
-        → DroneLived (stores_of S.faults S.is_infallible S.contents) before keeper.new start (result_err result) (outside (L.state link.old) (K.sent out.old)) (outside (L.state link.new) (K.sent out.new)) }
+    ensures ran { (before : S) (start : DroneSide) → Opened (stores_of S.faults S.is_infallible S.contents) before keeper.old (StateDrone start) live.old teller.old (outside (L.state link.old) (K.sent out.old) (C.always clock.old))
+        → DroneLived (stores_of S.faults S.is_infallible S.contents) before keeper.new start (result_err result) (outside (L.state link.old) (K.sent out.old) (C.always clock.old)) (outside (L.state link.new) (K.sent out.new) (C.always clock.new)) }
     ensures end { IfErr result (IsDroneEnd turns) }
     ensures faults { FaultsBy (result_err result) (L.state link.old).faults (L.state link.new).faults (K.faults out.old) (K.faults out.new) }
 {
@@ -110,7 +108,7 @@ pub fn run_drone<L: Link, K: Sink, C: Clock, S: Keeper>(
     clock: &mut C,
     keeper: &mut S,
 ) -> Result<(), RunEnd>
-    ensures runs { DroneRuns (stores_of S.faults S.is_infallible S.contents) key plan keeper.old keeper.new (result_err result) (outside (L.state link.old) (K.sent out.old)) (outside (L.state link.new) (K.sent out.new)) }
+    ensures runs { DroneRuns (stores_of S.faults S.is_infallible S.contents) key plan keeper.old keeper.new (result_err result) (outside (L.state link.old) (K.sent out.old) (C.always clock.old)) (outside (L.state link.new) (K.sent out.new) (C.always clock.new)) }
     ensures end { IfErr result (IsDroneEnd plan.turns) }
     ensures faults { FaultsBy (result_err result) (L.state link.old).faults (L.state link.new).faults (K.faults out.old) (K.faults out.new) }
 {
@@ -137,7 +135,7 @@ pub fn run_new_drone<L: Link, K: Sink, C: Clock>(
     out: &mut K,
     clock: &mut C,
 ) -> Result<(), RunEnd>
-    ensures runs { NewDroneRuns key plan (result_err result) (outside (L.state link.old) (K.sent out.old)) (outside (L.state link.new) (K.sent out.new)) }
+    ensures runs { NewDroneRuns key plan (result_err result) (outside (L.state link.old) (K.sent out.old) (C.always clock.old)) (outside (L.state link.new) (K.sent out.new) (C.always clock.new)) }
     ensures end { IfErr result (IsDroneEnd plan.turns) }
     ensures faults { FaultsBy (result_err result) (L.state link.old).faults (L.state link.new).faults (K.faults out.old) (K.faults out.new) }
 {

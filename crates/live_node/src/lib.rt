@@ -1,7 +1,7 @@
 //! One live node over a link: a drone or a station, in turns.
 //!
 //! [`run_drone`] sends a heartbeat, and then reads the link turn by turn: the frames that a piece completes are heard, and an
-//! idle link lets time pass. What a call of the node sends is written to the link, and then its lines to the output,
+//! idle link lets time pass. [`run_station`] gives one order after its heartbeat, and takes turns until that has an end. What a call of the node sends is written to the link, and then its lines to the output,
 //! before the next read. The contract says of a run which calls of the node it is made of, in the same definitions as a
 //! scenario's, that its turns are the link's answers in order, and what was written of it, however it ends.
 #![tactic(auto)]
@@ -10,12 +10,14 @@ mod drones;
 mod ends;
 mod nodes;
 mod sending;
+mod stations;
 mod tellers;
 mod telling;
 mod turns;
 
 pub use drones::{DronePlan, run_drone, run_new_drone};
 pub use nodes::LiveNode;
+pub use stations::{StationPlan, run_station};
 use std::alloc::AllocError;
 pub use tellers::{Ending, Teller};
 

@@ -1,5 +1,6 @@
 // A drone or a station, over a stream.
-ghost use Rattle.std.specs.Prelude.{◌≡◌, ◌++◌, ℕ, List, [], Some, IfOk, IfErr, OnOk};
+ghost use Rattle.std.specs.Prelude.{◌≡◌, ◌++◌, ℕ, List, [], Some, false, IfOk, IfErr, OnOk};
+ghost use Rattle.std.specs.declared.option.Option.{Option};
 ghost use Rattle.mav_frame.specs.declared.events.Event.{Event};
 ghost use Rattle.mav_sign.specs.Streams.{reader_of};
 ghost use Rattle.mav_nodes.specs.Stores.{Serves, HasFailed, AllKept};
@@ -10,11 +11,14 @@ ghost use Rattle.mav_nodes.specs.Streams.{HasRead, DronePart, StationPart, Drone
 ghost use Rattle.fleet_world.specs.WorldState.{Node};
 ghost use Rattle.fleet_world.specs.ParamLists.{params_of};
 ghost use Rattle.live_node.specs.Nodes.{IsLive, HasHeard, IsKeptBy, end_of};
-ghost use Rattle.live_node.specs.Calls.{call_does};
+ghost use Rattle.live_node.specs.Calls.{call_does, node_obeys};
+ghost use Rattle.live_node.specs.Orders.{node_refuses, order_end, OrderFailsAt};
+ghost use Rattle.run_status.specs.declared.live_ends.LiveEnd.TheVariants.{StoreFault};
+ghost use Rattle.run_status.specs.declared.run_ends.RunEnd.TheVariants.{Live};
 ghost use Rattle.live_node.specs.Progress.{due_call};
 ghost use Rattle.live_node.specs.Parts.{PieceHeard, PieceFails, CallFails};
 
-use mav_nodes::{DroneNode, News, NodeFault, StationNode};
+use mav_nodes::{DroneNode, News, NodeFault, Order, OrderFault, StationNode};
 use param_proto::Param;
 use plan_store::Keeper;
 use std::alloc::Global;
@@ -108,6 +112,27 @@ impl LiveNode {
             (LiveNode::Station(station), Due::Tick) => station.tick(clock),
             (LiveNode::Station(station), Due::Heartbeat) => station.heartbeat(clock),
             (LiveNode::Station(_), Due::Sim) => Ok(Vec::new(alloc)),
+        }
+    }
+
+    /// Follows an order, or refuses it; a drone follows none.
+    pub(crate) fn order(
+        &mut self,
+        alloc: Global,
+        order: Order,
+        clock: u64,
+    ) -> Result<Vec<News>, OrderFault>
+        ensures accepted { OnOk result ((node : Node) → IsLive node self.old → node_refuses node order ≡ false) }
+        ensures done { IfOk result (λ news. (node : Node) → IsLive node self.old
+            → Did (node_obeys clock order node) (λ after. IsLive after self.new) [] news.items) }
+        ensures reader { reader_of (end_of self.new).endpoint ≡ reader_of (end_of self.old).endpoint }
+        ensures stored { OnOk result ((contents : Option (List ℕ)) → IsKeptBy contents self.old → IsKeptBy contents self.new) }
+        ensures fault { IfErr result (λ fault. (node : Node) → IsLive node self.old → OrderFailsAt clock order node fault) }
+        ensures unstored { IfErr result (λ fault. order_end fault ≡ Live StoreFault → ⊥) }
+    {
+        match self {
+            LiveNode::Drone(_) => Ok(Vec::new(alloc)),
+            LiveNode::Station(station) => station.order(order, clock),
         }
     }
 

@@ -9,31 +9,32 @@ pub returns-in-Err-clause-ran : goal.returns-in-Err-clause-ran
 returns-in-Err-clause-ran g c =
     λ before start o.
     let s = c.in-Err.ensures.stopped before (Drone start) [] _ o.output in
-    stopped_at_once _ before _ c.in-Err.end start s.0 _ _ c.in-Err.ensures.end c.call.ensures.unread s.1
+    stopped_at_once _ before _ c.in-Err.end start s.at _ _ c.in-Err.ensures.end c.call.ensures.unread s.timed s.stopped
 
 pub returns-in-Ok-true-clause-ran : goal.returns-in-Ok-true-clause-ran
 returns-in-Ok-true-clause-ran g c =
     let ran = rw c.in-Ok-true.field-0-test at c.in-Ok-true.ensures.done in
     λ before start o.
     let h = c.in-Ok.ensures.done before (Drone start) [] _ o.output in
-    let b = started c.call.ensures.reader o c.call.ensures.unread h.1 in
-    turns_taken _ before _ start h.0 _ _ _ _ _ (ran before (Drone start) (Beats h.0 ∷ []) _ b)
+    let b = started c.call.ensures.reader o c.call.ensures.unread (h.timed, tt) h.output in
+    turns_taken _ before _ start h.at _ _ _ _ _ (ran before (Drone start) (Beats h.at ∷ []) _ b)
 
 pub returns-in-Ok-false-clause-ran : goal.returns-in-Ok-false-clause-ran
 returns-in-Ok-false-clause-ran g c =
     let ran = rw c.in-Ok-false.field-0-test at c.in-Ok-false.ensures.done in
     λ before start o.
     let h = c.in-Ok.ensures.done before (Drone start) [] _ o.output in
-    let b = started c.call.ensures.reader o c.call.ensures.unread h.1 in
-    let t = ran before (Drone start) (Beats h.0 ∷ []) _ b in
-    port_ended _ before _ start h.0 t.0 _ _ _ _ t.1
+    let b = started c.call.ensures.reader o c.call.ensures.unread (h.timed, tt) h.output in
+    let t = ran before (Drone start) (Beats h.at ∷ []) _ b in
+    port_ended _ before _ start h.at t.0 _ _ _ _ t.1
 
 pub returns-in-Err-run_turns-clause-ran : goal.returns-in-Err-run_turns-clause-ran
 returns-in-Err-run_turns-clause-ran g c =
     λ before start o.
     let h = c.in-Ok.ensures.done before (Drone start) [] _ o.output in
-    let b = started c.call.ensures.reader o c.call.ensures.unread h.1 in
-    stopped_later _ before _ c.in-Err-run_turns.end start h.0 _ _ c.in-Err-run_turns.ensures.end (c.in-Err-run_turns.ensures.stopped before (Drone start) (Beats h.0 ∷ []) _ b)
+    let b = started c.call.ensures.reader o c.call.ensures.unread (h.timed, tt) h.output in
+    let t = c.in-Err-run_turns.ensures.stopped before (Drone start) (Beats h.at ∷ []) _ b in
+    stopped_later _ before _ c.in-Err-run_turns.end start h.at t.0 _ _ c.in-Err-run_turns.ensures.end t.1
 
 pub returns-in-Err-clause-end : goal.returns-in-Err-clause-end
 returns-in-Err-clause-end g c = drone_end c.args.turns c.in-Err.end c.in-Err.ensures.end

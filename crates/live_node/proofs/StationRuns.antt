@@ -1,0 +1,375 @@
+-- The whole run of a station.
+use Rattle.std.proofs.Common.{◌≡◌, ◌⊎◌, inl, inr, ℕ, ◌+◌, ◌≤◌, List, [], ◌∷◌, ◌++◌, Bool, true, false, Option, Some, None, Result, Ok, Err, refl, sym, ap, ◌∙◌, subst, arith}
+use Rattle.std.specs.Prelude.{length, nat_lt, IfOk, IfErr}
+use Rattle.std.specs.Result.{result_err}
+use Rattle.std.proofs.lemmas.List.{append-nil, length-append}
+use Rattle.std.proofs.lemmas.List.Elements.{All-nil}
+use Rattle.mav_ports.proofs.Known.{append_known_nil}
+use Rattle.mav_links.specs.Links.{LinkState}
+use Rattle.mav_names.specs.declared.names.Stream.{Stream}
+use Rattle.plan_store.specs.MemStores.{MemStore, store_from_start}
+use Rattle.mav_nodes.specs.declared.orders.Order.{Order}
+use Rattle.mav_nodes.specs.News.{NodeEvent}
+use Rattle.mav_nodes.specs.Links.{Link, Outcome, done, and_then}
+use Rattle.mav_nodes.specs.Steps.{with_core}
+use Rattle.mav_nodes.specs.Nodes.{StationSide, StationView, IsStation, new_station}
+use Rattle.mav_nodes.specs.Stores.{Serves}
+use Rattle.mav_nodes.specs.Streams.{HasRead}
+use Rattle.fleet_world.specs.WorldState.{Node, Drone, Station}
+use Rattle.fleet_world.specs.Steps.{as_drone, as_station, node_beats}
+use Rattle.run_status.specs.declared.input_errors.InputError.TheVariants.{Bad, AtLimit, StampsSpent}
+use Rattle.run_status.specs.declared.live_ends.LiveEnd.TheVariants.{RefusedWith, NoAnswer, StoreFault, PortTurns, PortFault}
+use Rattle.run_status.specs.declared.run_ends.RunEnd.{RunEnd}
+use Rattle.run_status.specs.declared.run_ends.RunEnd.TheVariants.{Usage, Stopped, ReadFault, WriteFault, NoMemory, TurnsSpent, Live}
+use Rattle.live_node.specs.declared.nodes.LiveNode.{LiveNode}
+use Rattle.live_node.specs.declared.nodes.LiveNode.TheVariants.{Station as LiveStation}
+use Rattle.live_node.specs.declared.stations.StationPlan.{StationPlan}
+use Rattle.live_node.specs.declared.tellers.Ending.{Ending}
+use Rattle.live_node.specs.declared.tellers.Ending.TheVariants.{Done, Refused, Unanswered}
+use Rattle.live_node.specs.declared.tellers.Teller.{Teller}
+use Rattle.live_node.specs.Calls.{LiveCall, Beats, Obeys, calls_do, ticks_over, IsTime}
+use Rattle.live_node.specs.Turns.{Turn, Rest, calls_of}
+use Rattle.live_node.specs.Texts.{ending_over}
+use Rattle.live_node.specs.Ports.{SameRead, IsRunEnd}
+use Rattle.live_node.specs.Runs.{Outside, outside, Stores, MayRest, RunAt, IsWhole}
+use Rattle.live_node.specs.Drones.{mem_stores}
+use Rattle.live_node.specs.Orders.{node_refuses, refused_end}
+use Rattle.live_node.specs.Progress.{Output, Between, CallStopped, Opened}
+use Rattle.live_node.specs.Stations.{verdict, judged, Awaited, HasEnded, StationEnds, IsOrderEnd, IsWaitedEnd, IsStationEnd, IsOrdered, StationLived, StationRan, StationRuns, stream_asked}
+use Rattle.live_node.specs.Waiting.{OrderStopped, WatchDone, WatchStopped, Outlasted, OutlastStopped, WaitedFor}
+use Rattle.live_node.proofs.Openings.{cut_off}
+use Rattle.live_node.proofs.Runs.{run_over, still_self, stopped_in_opening}
+use Rattle.live_node.proofs.Waits.{more_to_come, made_before}
+
+-- ---- the end of a wait
+
+may_rest : (allowed : Type 0) (rests : List Rest) → allowed → MayRest allowed rests
+may_rest allowed [] h = tt
+may_rest allowed (r ∷ rests) h = h
+
+-- a wait of which no call is left
+wait_over : {S : Type 0} (stores : Stores S) (before now : S) (plan : StationPlan) (start : Node) (opening : List LiveCall) (end : Option RunEnd) (turns : List Turn) (rests : List Rest) (live : LiveNode) (t : Teller) (first last : Outside) → (end ≡ Some (Stopped StampsSpent) → ⊥) → (end ≡ Some (Live StoreFault) → ⊥) → IsWhole end [] → StationEnds plan end turns (verdict plan.ticks t.ticks t.ending) → MayRest (HasEnded last.link) rests → Awaited plan.ticks start opening turns rests → Between stores before now start opening turns rests live t first last → WaitedFor stores before now plan start opening end first last
+wait_over stores before now plan start opening end turns rests live t first last stamps store whole ends rested awaited b =
+    let o = b.output in
+    record {
+      turns = turns;
+      rests = rests;
+      rested = rested;
+      at = run_over stores before now start end opening turns rests live t first last last stamps store (still_self last) b;
+      whole = whole;
+      ends =
+          subst (λ (n : ℕ). StationEnds plan end turns (verdict plan.ticks n (ending_over None o.events))) o.ticks
+          (subst (λ (e : Option Ending). StationEnds plan end turns (verdict plan.ticks t.ticks e)) o.ending ends);
+      awaited = awaited;
+    }
+
+-- by the verdict
+waited : {S : Type 0} (stores : Stores S) (before now : S) (plan : StationPlan) (start : Node) (opening : List LiveCall) (turns : List Turn) (rests : List Rest) (live : LiveNode) (t : Teller) (first last : Outside) → (verdict plan.ticks t.ticks t.ending ≡ None → length turns ≡ plan.turns) → MayRest (HasEnded last.link) rests → Awaited plan.ticks start opening turns rests → Between stores before now start opening turns rests live t first last → WaitedFor stores before now plan start opening (result_err (judged plan (verdict plan.ticks t.ticks t.ending))) first last
+waited stores before now plan start opening turns rests live t first last number rested awaited b = by_ending t.ending refl
+  where
+    over : (end : Option RunEnd) → (end ≡ Some (Stopped StampsSpent) → ⊥) → (end ≡ Some (Live StoreFault) → ⊥) → IsWhole end [] → StationEnds plan end turns (verdict plan.ticks t.ticks t.ending) → WaitedFor stores before now plan start opening end first last
+    over end stamps store whole ends = wait_over stores before now plan start opening end turns rests live t first last stamps store whole ends rested awaited b
+
+    Goal : Option (Result (Unit {0}) RunEnd) → Type 0
+    Goal said = WaitedFor stores before now plan start opening (result_err (judged plan said)) first last
+
+    turned : verdict plan.ticks t.ticks t.ending ≡ None → Goal None
+    turned e = over (Some (Live (PortTurns plan.turns))) (λ f. cc) (λ f. cc) refl (e, refl, number e)
+
+    none : verdict plan.ticks t.ticks t.ending ≡ Some (Ok tt) → Goal (Some (Ok tt))
+    none e = over None (λ f. cc) (λ f. cc) refl e
+
+    refused : (code : ℕ) → verdict plan.ticks t.ticks t.ending ≡ Some (Err (Live (RefusedWith code))) → Goal (Some (Err (Live (RefusedWith code))))
+    refused code e = over (Some (Live (RefusedWith code))) (λ f. cc) (λ f. cc) refl e
+
+    unanswered : (n : ℕ) → verdict plan.ticks t.ticks t.ending ≡ Some (Err (Live (NoAnswer n))) → Goal (Some (Err (Live (NoAnswer n))))
+    unanswered n e = over (Some (Live (NoAnswer n))) (λ f. cc) (λ f. cc) refl e
+
+    said : (ending : Option Ending) → t.ending ≡ ending → verdict plan.ticks t.ticks t.ending ≡ verdict plan.ticks t.ticks ending
+    said ending e = ap (λ (x : Option Ending). verdict plan.ticks t.ticks x) e
+
+    to : (one : Option (Result (Unit {0}) RunEnd)) → verdict plan.ticks t.ticks t.ending ≡ one → Goal one → Goal (verdict plan.ticks t.ticks t.ending)
+    to one e h = subst Goal (sym e) h
+
+    by_test : t.ending ≡ None → (few : Bool) → nat_lt t.ticks plan.ticks ≡ few → Goal (verdict plan.ticks t.ticks t.ending)
+    by_test e true f = let v : verdict plan.ticks t.ticks t.ending ≡ None = said None e ∙ rw f refl in to None v (turned v)
+    by_test e false f = let v : verdict plan.ticks t.ticks t.ending ≡ Some (Err (Live (NoAnswer plan.ticks))) = said None e ∙ rw f refl in to (Some (Err (Live (NoAnswer plan.ticks)))) v (unanswered plan.ticks v)
+
+    by_ending : (ending : Option Ending) → t.ending ≡ ending → Goal (verdict plan.ticks t.ticks t.ending)
+    by_ending (Some Done) e = to (Some (Ok tt)) (said (Some Done) e) (none (said (Some Done) e))
+    by_ending (Some (Refused code)) e = to (Some (Err (Live (RefusedWith code)))) (said (Some (Refused code)) e) (refused code (said (Some (Refused code)) e))
+    by_ending (Some Unanswered) e = to (Some (Err (Live (NoAnswer 5)))) (said (Some Unanswered) e) (unanswered 5 (said (Some Unanswered) e))
+    by_ending None e = by_test e (nat_lt t.ticks plan.ticks) refl
+
+-- the port hadn't ended
+pub waited_turns : {S : Type 0} {stores : Stores S} {before now : S} {plan : StationPlan} {start : Node} {opening : List LiveCall} {live : LiveNode} {t : Teller} {first last : Outside} → WatchDone stores before now plan start opening live t first last → WaitedFor stores before now plan start opening (result_err (judged plan (verdict plan.ticks t.ticks t.ending))) first last
+waited_turns {S} {stores} {before} {now} {plan} {start} {opening} {live} {t} {first} {last} w = waited stores before now plan start opening w.turns [] live t first last w.number tt w.awaited w.between
+
+-- it had
+pub waited_rests : {S : Type 0} {stores : Stores S} {before now : S} {plan : StationPlan} {start : Node} {opening : List LiveCall} {turns : List Turn} {live : LiveNode} {t : Teller} {first last : Outside} → Outlasted stores before now plan.ticks start opening turns live t first last → WaitedFor stores before now plan start opening (result_err (judged plan (verdict plan.ticks t.ticks t.ending))) first last
+waited_rests {S} {stores} {before} {now} {plan} {start} {opening} {turns} {live} {t} {first} {last} w =
+    waited stores before now plan start opening turns w.rests live t first last (λ e. absurd (w.over e)) (may_rest (HasEnded last.link) w.rests (w.ended.ended, w.ended.spent)) w.awaited w.ended.between
+
+station_cut_off : (plan : StationPlan) (end : RunEnd) (turns : List Turn) (said : Option (Result (Unit {0}) RunEnd)) → IsRunEnd end → StationEnds plan (Some end) turns said
+station_cut_off plan Usage turns said h = absurd h
+station_cut_off plan (Stopped error) turns said h = tt
+station_cut_off plan ReadFault turns said h = absurd h
+station_cut_off plan WriteFault turns said h = tt
+station_cut_off plan NoMemory turns said h = tt
+station_cut_off plan TurnsSpent turns said h = absurd h
+station_cut_off plan (Live (RefusedWith code)) turns said h = absurd h
+station_cut_off plan (Live (NoAnswer ticks)) turns said h = absurd h
+station_cut_off plan (Live StoreFault) turns said h = tt
+station_cut_off plan (Live (PortTurns most)) turns said h = absurd h
+station_cut_off plan (Live PortFault) turns said h = tt
+
+-- the run stopped in the wait
+pub watch_cut : {S : Type 0} {stores : Stores S} {before now : S} {end : RunEnd} {plan : StationPlan} {start : Node} {opening : List LiveCall} {first last : Outside} → IsRunEnd end → WatchStopped stores before now end plan start opening first last → WaitedFor stores before now plan start opening (Some end) first last
+watch_cut {S} {stores} {before} {now} {end} {plan} {start} {opening} {first} {last} is w = record {
+  turns = w.turns;
+  rests = [];
+  rested = tt;
+  at = w.stopped;
+  whole = cut_off end w.stopped.rest is;
+  ends = station_cut_off plan end w.turns _ is;
+  awaited = w.awaited;
+}
+
+pub outlast_cut : {S : Type 0} {stores : Stores S} {before now : S} {end : RunEnd} {plan : StationPlan} {start : Node} {opening : List LiveCall} {turns : List Turn} {first last : Outside} → IsRunEnd end → OutlastStopped stores before now end plan.ticks start opening turns first last → WaitedFor stores before now plan start opening (Some end) first last
+outlast_cut {S} {stores} {before} {now} {end} {plan} {start} {opening} {turns} {first} {last} is w = record {
+  turns = turns;
+  rests = w.rests;
+  rested = may_rest (HasEnded last.link) w.rests w.ended;
+  at = w.stopped;
+  whole = cut_off end w.stopped.rest is;
+  ends = station_cut_off plan end turns _ is;
+  awaited = w.awaited;
+}
+
+-- ---- ends
+
+pub run_waited_end : (end : RunEnd) → IsRunEnd end → IsWaitedEnd end
+run_waited_end Usage h = absurd h
+run_waited_end (Stopped (Bad place reason)) h = absurd h
+run_waited_end (Stopped (AtLimit limit)) h = absurd h
+run_waited_end (Stopped StampsSpent) h = tt
+run_waited_end ReadFault h = absurd h
+run_waited_end WriteFault h = tt
+run_waited_end NoMemory h = tt
+run_waited_end TurnsSpent h = absurd h
+run_waited_end (Live (RefusedWith code)) h = absurd h
+run_waited_end (Live (NoAnswer ticks)) h = absurd h
+run_waited_end (Live StoreFault) h = tt
+run_waited_end (Live (PortTurns turns)) h = absurd h
+run_waited_end (Live PortFault) h = tt
+
+judged_end : (plan : StationPlan) (most passed : ℕ) (ending : Option Ending) → IfErr (judged plan (verdict most passed ending)) IsWaitedEnd
+judged_end plan most passed (Some Done) = tt
+judged_end plan most passed (Some (Refused code)) = tt
+judged_end plan most passed (Some Unanswered) = tt
+judged_end plan most passed None = by_test (nat_lt passed most) refl
+  where
+    by_test : (few : Bool) → nat_lt passed most ≡ few → IfErr (judged plan (verdict most passed None)) IsWaitedEnd
+    by_test true e = rw e tt
+    by_test false e = rw e tt
+
+pub judge_end : (plan : StationPlan) (t : Teller) (said : Result (Unit {0}) RunEnd) → said ≡ judged plan (verdict plan.ticks t.ticks t.ending) → IfErr said IsWaitedEnd
+judge_end plan t said e = subst (λ (r : Result (Unit {0}) RunEnd). IfErr r IsWaitedEnd) (sym e) (judged_end plan plan.ticks t.ticks t.ending)
+
+-- only a fault of the store can't end a station's run
+pub live_end : (end : RunEnd) → IsWaitedEnd end → (end ≡ Live StoreFault) ⊎ IsStationEnd end
+live_end Usage h = absurd h
+live_end (Stopped (Bad place reason)) h = absurd h
+live_end (Stopped (AtLimit limit)) h = absurd h
+live_end (Stopped StampsSpent) h = inr tt
+live_end ReadFault h = absurd h
+live_end WriteFault h = inr tt
+live_end NoMemory h = inr tt
+live_end TurnsSpent h = absurd h
+live_end (Live (RefusedWith code)) h = inr tt
+live_end (Live (NoAnswer ticks)) h = inr tt
+live_end (Live StoreFault) h = inl refl
+live_end (Live (PortTurns turns)) h = inr tt
+live_end (Live PortFault) h = inr tt
+
+waited_not_refused : (end : Option RunEnd) → (end ≡ None) ⊎ ((why : RunEnd) × (end ≡ Some why) × IsWaitedEnd why) → end ≡ Some refused_end → ⊥
+waited_not_refused end (inl e) f = cc
+waited_not_refused end (inr (why, e, h)) f = subst IsWaitedEnd (some_is (sym e ∙ f)) h
+  where
+    some_is : {a b : RunEnd} → ◌≡◌ {A = Option RunEnd} (Some a) (Some b) → a ≡ b
+    some_is e = cc
+
+either_end : (r : Result (Unit {0}) RunEnd) → IfErr r IsWaitedEnd → (result_err r ≡ None) ⊎ ((why : RunEnd) × (result_err r ≡ Some why) × IsWaitedEnd why)
+either_end (Ok done) h = inl refl
+either_end (Err end) h = inr (end, refl, h)
+
+-- ---- a heartbeat changes no refusal
+
+abbrev refuses_in : Order → Outcome Node → Bool
+refuses_in order None = false
+refuses_in order (Some d) = node_refuses d.node order
+
+drone_beat : (order : Order) (o : Outcome _) (after : Node) (events : List NodeEvent) → and_then (as_drone o) (λ node. done node []) ≡ done after events → node_refuses after order ≡ false
+drone_beat order None after events e = cc
+drone_beat order (Some d) after events e = sym (ap (refuses_in order) e)
+
+station_beat : (order : Order) (n : StationSide) (o : Outcome Link) (after : Node) (events : List NodeEvent) → and_then (as_station (with_core n.core n.services [] o)) (λ node. done node []) ≡ done after events → node_refuses after order ≡ node_refuses (Station n) order
+station_beat order n None after events e = cc
+station_beat order n (Some d) after events e = sym (ap (refuses_in order) e)
+
+beat_keeps : (order : Order) (beat : ℕ) (start after : Node) (events : List NodeEvent) → calls_do (Beats beat ∷ []) start ≡ done after events → node_refuses after order ≡ node_refuses start order
+beat_keeps order beat (Drone n) after events e = drone_beat order _ after events e
+beat_keeps order beat (Station n) after events e = station_beat order n _ after events e
+
+-- ---- the whole run
+
+run_not_refused : (end : RunEnd) → IsRunEnd end → ◌≡◌ {A = Option RunEnd} (Some end) (Some refused_end) → ⊥
+run_not_refused end is e = subst IsRunEnd (some_is e) is
+  where
+    some_is : ◌≡◌ {A = Option RunEnd} (Some end) (Some refused_end) → end ≡ refused_end
+    some_is e = cc
+
+one_call : (more rest : List LiveCall) (call : LiveCall) → more ++ rest ≡ call ∷ [] → 2 ≤ length more → ⊥
+one_call [] rest call e h = omega (arith, h)
+one_call (x ∷ []) rest call e h = omega (arith, h)
+one_call (x ∷ y ∷ more) rest call e h = cc
+
+-- it stopped in its heartbeat
+pub stopped_in_beat : {S : Type 0} (stores : Stores S) (before now : S) (end : RunEnd) (plan : StationPlan) (order : Order) (start : Node) (first last : Outside) → IsRunEnd end → SameRead first.link last.link → CallStopped stores before now end start [] Beats first last → StationLived stores before now plan order start (Some end) first last
+stopped_in_beat stores before now end plan order start first last is read c =
+    let s = more_to_come stores before now end start [] (Beats c.at ∷ []) (Obeys order c.at ∷ []) first last c.stopped in
+    record {
+      run = record {
+        opening = Beats c.at ∷ Obeys order c.at ∷ [];
+        is_opening = record { beat = c.at; at = c.at; are = refl };
+        turns = [];
+        rests = [];
+        rested = tt;
+        at = stopped_in_opening stores before now end start (Beats c.at ∷ Obeys order c.at ∷ []) first last read (c.timed, (c.timed, tt)) s;
+        whole = cut_off end s.rest is;
+      };
+      ends = station_cut_off plan end [] _ is;
+      awaited = tt;
+      judged = record {
+        refused = λ e. absurd (run_not_refused end is e);
+        accepted = λ h. absurd (one_call c.stopped.more c.stopped.rest (Beats c.at) c.stopped.are h);
+      };
+    }
+
+-- at its order
+order_cut_off : (end : RunEnd) (rest : List LiveCall) → IsOrderEnd end → IsWhole (Some end) rest
+order_cut_off Usage rest h = absurd h
+order_cut_off (Stopped error) rest h = tt
+order_cut_off ReadFault rest h = absurd h
+order_cut_off WriteFault rest h = tt
+order_cut_off NoMemory rest h = tt
+order_cut_off TurnsSpent rest h = absurd h
+order_cut_off (Live (RefusedWith code)) rest h = absurd h
+order_cut_off (Live (NoAnswer ticks)) rest h = absurd h
+order_cut_off (Live StoreFault) rest h = tt
+order_cut_off (Live (PortTurns turns)) rest h = absurd h
+order_cut_off (Live PortFault) rest h = tt
+
+order_ends_so : (plan : StationPlan) (end : RunEnd) (turns : List Turn) (said : Option (Result (Unit {0}) RunEnd)) → IsOrderEnd end → StationEnds plan (Some end) turns said
+order_ends_so plan Usage turns said h = absurd h
+order_ends_so plan (Stopped error) turns said h = tt
+order_ends_so plan ReadFault turns said h = absurd h
+order_ends_so plan WriteFault turns said h = tt
+order_ends_so plan NoMemory turns said h = tt
+order_ends_so plan TurnsSpent turns said h = absurd h
+order_ends_so plan (Live (RefusedWith code)) turns said h = absurd h
+order_ends_so plan (Live (NoAnswer ticks)) turns said h = absurd h
+order_ends_so plan (Live StoreFault) turns said h = tt
+order_ends_so plan (Live (PortTurns most)) turns said h = absurd h
+order_ends_so plan (Live PortFault) turns said h = tt
+
+pub stopped_in_order : {S : Type 0} (stores : Stores S) (before middle now : S) (end : RunEnd) (plan : StationPlan) (order : Order) (start : Node) (beat : ℕ) (live : LiveNode) (t : Teller) (first then last : Outside) → IsOrderEnd end → SameRead first.link last.link → IsTime first.time beat → (o : Output stores before middle start (Beats beat ∷ []) live t first then) → OrderStopped stores before now end start (Beats beat ∷ []) o.node order first last → StationLived stores before now plan order start (Some end) first last
+stopped_in_order stores before middle now end plan order start beat live t first then last is read timed o c =
+    let s = made_before stores before now end start [] (Beats beat ∷ []) (Obeys order c.at ∷ []) first last c.stopped in
+    let keeps = beat_keeps order beat start o.node o.events o.run in
+    record {
+      run = record {
+        opening = Beats beat ∷ Obeys order c.at ∷ [];
+        is_opening = record { beat = beat; at = c.at; are = refl };
+        turns = [];
+        rests = [];
+        rested = tt;
+        at = stopped_in_opening stores before now end start (Beats beat ∷ Obeys order c.at ∷ []) first last read (timed, (c.timed, tt)) s;
+        whole = order_cut_off end s.rest is;
+      };
+      ends = order_ends_so plan end [] _ is;
+      awaited = tt;
+      judged = record {
+        refused = λ e. let r = c.refused (some_is e) in (sym keeps ∙ r.0, ap (λ (l : List LiveCall). length (Beats beat ∷ l)) r.1);
+        accepted = λ h. sym keeps ∙ c.accepted (less c.stopped.more h);
+      };
+    }
+  where
+    some_is : ◌≡◌ {A = Option RunEnd} (Some end) (Some refused_end) → end ≡ refused_end
+    some_is e = cc
+
+    less : (more : List LiveCall) → 2 ≤ length (Beats beat ∷ more) → 1 ≤ length more
+    less more h = omega (arith, h)
+
+-- it waited
+pub lived : {S : Type 0} (stores : Stores S) (before now : S) (plan : StationPlan) (order : Order) (start was : Node) (events : List NodeEvent) (beat at : ℕ) (r : Result (Unit {0}) RunEnd) (first last : Outside) → calls_do (Beats beat ∷ []) start ≡ done was events → node_refuses was order ≡ false → IfErr r IsWaitedEnd → WaitedFor stores before now plan start (Beats beat ∷ Obeys order at ∷ []) (result_err r) first last → StationLived stores before now plan order start (result_err r) first last
+lived stores before now plan order start was events beat at r first last run accepted is w = record {
+  run = record {
+    opening = Beats beat ∷ Obeys order at ∷ [];
+    is_opening = record { beat = beat; at = at; are = refl };
+    turns = w.turns;
+    rests = w.rests;
+    rested = w.rested;
+    at = w.at;
+    whole = w.whole;
+  };
+  ends = w.ends;
+  awaited = w.awaited;
+  judged = record {
+    refused = λ e. absurd (waited_not_refused (result_err r) (either_end r is) e);
+    accepted = λ h. sym (beat_keeps order beat start was events run) ∙ accepted;
+  };
+}
+
+-- ---- from its start
+
+pub opened_station : {S : Type 0} (stores : Stores S) (before now : S) (key : List ℕ) (me : Stream) (boot : ℕ) (view : StationView) (t : Teller) (link : LinkState) (text : Option (List ℕ)) (time : Option ℕ) → Serves stores.faults stores.is_infallible before now → IsStation (new_station key me boot) view → HasRead [] [] view.link → t.name ≡ (record { sys = me.sys; comp = me.comp }) → t.sent ≡ 0 → t.ending ≡ None → t.ticks ≡ 0 → Opened stores before now (Station (new_station key me boot)) (LiveStation view) t (outside link text time)
+opened_station stores before now key me boot view t link text time serves is stream name sent ending ticks = record {
+  output = record {
+    node = Station (new_station key me boot);
+    events = [];
+    run = refl;
+    is = is;
+    name = name;
+    count = sent;
+    ending = ending;
+    ticks = ticks;
+    faults = refl;
+    sent = append_known_nil link.sent;
+    printed = append_known_nil text;
+    time = refl;
+    kept = record { serves = serves; kept = inl (All-nil (λ kept. kept ≡ true)) };
+    stored = tt;
+  };
+  heard = stream;
+  same = is.link.end.extras;
+}
+
+-- over an empty store in memory, which never fails
+pub ran_station : (key : List ℕ) (plan : StationPlan) (order : Order) (boot : ℕ) (contents fails : List ℕ) (before after : MemStore) (end : Option RunEnd) (link : LinkState) (text : Option (List ℕ)) (asked time : Option ℕ) (last : Outside) → contents ≡ [] → fails ≡ [] → before ≡ store_from_start contents fails → asked ≡ time → IsTime time boot → StationLived mem_stores before after plan order (Station (new_station key (stream_asked plan) boot)) end (outside link text asked) last → StationRan key plan order end (outside link text time) last
+ran_station key plan order boot contents fails before after end link text asked time last empty sure start stays timed run =
+    let is : before ≡ store_from_start [] [] = start ∙ (ap (λ (c : List ℕ). store_from_start c fails) empty ∙ ap (store_from_start []) sure) in
+    record {
+      boot = boot;
+      timed = timed;
+      after = after;
+      lived =
+          subst (λ (x : Option ℕ). StationLived mem_stores (store_from_start [] []) after plan order (Station (new_station key (stream_asked plan) boot)) end (outside link text x) last) stays
+          (subst (λ (s : MemStore). StationLived mem_stores s after plan order (Station (new_station key (stream_asked plan) boot)) end (outside link text asked) last) is run);
+    }
+
+-- so no fault of it ends the run
+pub station_ends : (r : Result (Unit {0}) RunEnd) (key : List ℕ) (plan : StationPlan) (order : Order) (first last : Outside) → StationRan key plan order (result_err r) first last → IfErr r (λ end. (end ≡ Live StoreFault) ⊎ IsStationEnd end) → IfErr r IsStationEnd
+station_ends (Ok done) key plan order first last ran h = tt
+station_ends (Err end) key plan order first last ran (inr is) = is
+station_ends (Err end) key plan order first last ran (inl e) = absurd ((ran.lived.run.at.written.store (ap Some e)).fallible refl)
