@@ -1,18 +1,19 @@
 //! The program: opens what the words name, and passes it to `run`.
 #![tactic(auto)]
 
-ghost use Rattle.std.specs.Prelude.{map, string_bytes, length};
+ghost use Rattle.std.specs.Prelude.{◌≡◌, map, string_bytes, length};
 ghost use Rattle.command_line.specs.Built.{built};
 ghost use Rattle.command_line.specs.Grammar.{Asked, Asks};
 ghost use Rattle.station_cli.specs.Routing.{AreAsked};
-ghost use Rattle.station_cli.specs.Wants.{Wants};
+ghost use Rattle.station_cli.specs.Wants.{Wants, keepers_asked};
 
 mod ports;
 
 use mav_links::Link;
 use mav_ports::{StdClock, StdSink, StdSource};
+use plan_store::FileKeeper;
 use ports::{file_link, tcp_link, udp_link};
-use station_cli::{Inputs, SocketKind, Target, Wanted, WantedFault, run, wanted};
+use station_cli::{Inputs, SocketKind, Store, Target, Wanted, WantedFault, run, wanted};
 use std::alloc::AllocError;
 use std::fs::File;
 use std::io::{ErrorKind, Read, Stdin};
@@ -119,7 +120,29 @@ fn run_ports(
             },
         }
     }
-    Ok(run_over(rt, words, inputs, &mut ports))
+    run_stores(rt, words, wanted, inputs, &mut ports)
+}
+
+// The store that the words name, if they name one.
+fn run_stores(
+    rt: &HostRuntime,
+    words: &[String],
+    wanted: &Wanted,
+    inputs: &mut Inputs<StdSource<Reader>>,
+    ports: &mut Vec<Box<dyn Link>>,
+) -> Result<u8, AllocError>
+    requires wants { Wants (map string_bytes words.now) wanted.now }
+    requires links { length ports.old.items ≡ length wanted.now.ports.items }
+{
+    let mut stores: Vec<Store> = Vec::new(rt.alloc());
+    match &wanted.store {
+        Some(name) => {
+            let keeper = FileKeeper::new(*rt, rt.alloc(), name.as_str())?;
+            stores.push(Box::new(rt.alloc(), keeper)?)?;
+            Ok(run_over(rt, words, inputs, ports, &mut stores))
+        }
+        None => Ok(run_over(rt, words, inputs, ports, &mut stores)),
+    }
 }
 
 // Runs the words over standard output and the system's clock.
@@ -128,13 +151,22 @@ fn run_over(
     words: &[String],
     inputs: &mut Inputs<StdSource<Reader>>,
     ports: &mut Vec<Box<dyn Link>>,
+    stores: &mut Vec<Store>,
 ) -> u8
     requires { (asked : Asked) → Asks built (map string_bytes words.now) asked
-        → AreAsked (length ports.old.items) asked }
+        → AreAsked (length ports.old.items) asked × (length stores.old.items ≡ keepers_asked asked) }
 {
     let mut out = StdSink::new(io::writer(rt));
     let mut clock = StdClock::new(rt);
-    run(rt.alloc(), words, inputs, &mut out, &mut clock, ports)
+    run(
+        rt.alloc(),
+        words,
+        inputs,
+        &mut out,
+        &mut clock,
+        ports,
+        stores,
+    )
 }
 
 fn status(rt: &HostRuntime) -> Result<u8, AllocError> {
@@ -143,7 +175,13 @@ fn status(rt: &HostRuntime) -> Result<u8, AllocError> {
         Ok(wanted) => run_wanted(rt, &words, &wanted),
         // With nothing made: no words of a command are refused.
         Err(WantedFault::Usage) => {
-            Ok(run_over(rt, &words, &mut no_inputs(), &mut Vec::new(rt.alloc())))
+            Ok(run_over(
+                rt,
+                &words,
+                &mut no_inputs(),
+                &mut Vec::new(rt.alloc()),
+                &mut Vec::new(rt.alloc()),
+            ))
         }
         Err(WantedFault::NoMemory) => Err(AllocError),
     }

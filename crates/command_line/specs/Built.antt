@@ -3,12 +3,11 @@ use Rattle.std.specs.Prelude.{Bool, true, false}
 use Rattle.command_line.specs.declared.commands.Command.{Command}
 use Rattle.command_line.specs.declared.commands.Command.TheVariants.{Fleet, Dialect, Decode, Route, Drone, Station}
 use Rattle.command_line.specs.declared.commands.OptionName.{OptionName}
-use Rattle.command_line.specs.declared.commands.OptionName.TheVariants.{Frames, Key, Defs, One, Turns, Ticks, File}
+use Rattle.command_line.specs.declared.commands.OptionName.TheVariants.{Frames, Key, Defs, One, Turns, Ticks, File, Store}
 use Rattle.command_line.specs.Forms.{Built}
 use Rattle.command_line.specs.Operations.{OperationWords, List_files, Get_file, Put_file, Remove_file}
 
 abbrev pub is_built : Command → Bool
-is_built Station = false
 is_built _ = true
 
 abbrev pub is_option_built : Command → OptionName → Bool
@@ -23,6 +22,7 @@ is_option_built Route One = true
 is_option_built Route Turns = true
 is_option_built Drone Key = true
 is_option_built Drone Turns = true
+is_option_built Drone Store = true
 is_option_built Station Key = true
 is_option_built Station Ticks = true
 is_option_built Station File = true

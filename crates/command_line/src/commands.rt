@@ -70,7 +70,15 @@ impl Command {
     pub(crate) fn is_built(self) -> bool
         ensures { result ≡ is_built self }
     {
-        !matches!(self, Command::Station)
+        match self {
+            Command::Fleet
+            | Command::Dialect
+            | Command::Decode
+            | Command::Route
+            | Command::Drone
+            | Command::Station
+            | Command::Make => true,
+        }
     }
 
     /// Whether this is one of its options.
@@ -109,7 +117,10 @@ impl Command {
                 name,
                 OptionName::Key | OptionName::Defs | OptionName::One | OptionName::Turns
             ),
-            Command::Drone => matches!(name, OptionName::Key | OptionName::Turns),
+            Command::Drone => matches!(
+                name,
+                OptionName::Key | OptionName::Store | OptionName::Turns
+            ),
             Command::Station => matches!(
                 name,
                 OptionName::Key | OptionName::Ticks | OptionName::File

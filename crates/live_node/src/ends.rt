@@ -25,10 +25,8 @@ fn op_end(fault: OpFault) -> RunEnd
 {
     match fault {
         OpFault::NoMemory => RunEnd::NoMemory,
-        OpFault::Busy { .. }
-        | OpFault::EmptyPlan
-        | OpFault::PingsSpent
-        | OpFault::NotFit { .. } => REFUSED,
+        OpFault::Busy { .. } | OpFault::EmptyPlan | OpFault::PingsSpent | OpFault::NotFit { .. } =>
+            REFUSED,
     }
 }
 

@@ -212,5 +212,14 @@ pub fn run_station<L: Link, K: Sink, C: Clock>(
     let mut live = LiveNode::Station(StationNode::new(alloc, key, me, boot)?);
     let mut teller = Teller::new(alloc, name);
     let mut keeper = MemKeeper::new(alloc, Vec::new(alloc), Vec::new(alloc));
-    run_live(&mut live, &mut teller, plan, order, link, out, clock, &mut keeper)
+    run_live(
+        &mut live,
+        &mut teller,
+        plan,
+        order,
+        link,
+        out,
+        clock,
+        &mut keeper,
+    )
 }

@@ -21,6 +21,7 @@ use Rattle.fleet_command.proofs.Worked.{one_item_authentic, installed_once}
 use Rattle.fleet_command.proofs.Playable.{one_item_playable}
 use Rattle.command_line.specs.Names.{port_words}
 use Rattle.station_cli.specs.Routing.{AreAsked}
+use Rattle.station_cli.specs.Wants.{keepers_asked}
 use Rattle.station_cli.proofs.Same.{same_asked}
 use Rattle.station_cli.specs.Seen.{Input, Output, input_of, output_of, around, promised_over}
 use Rattle.station_cli.specs.Fleets.{CarriesOver, FleetsComplete}
@@ -70,17 +71,20 @@ asks_dialect words same = record {
   fits = record { command_built = refl; options_taken = tt; once = refl; key_given = λ needed. absurd (never needed); needed_given = λ name needed. absurd (never needed); plain_words = refl; one_stdin = lit≤ tt };
 }
 
--- none of these words names a port
+-- none of these words names a port or a store
 abbrev pub IsPlain : List (List ℕ) → Type 0
 IsPlain words = (words ≡ codes "fleet" ∷ the_file) ⊎ ((words ≡ codes "decode" ∷ the_file) ⊎ (words ≡ codes "dialect" ∷ []))
 
 no_port_in : (words : List (List ℕ)) (one other : Asked) → Asks built words one → Asks built words other → port_words one.command one.plain ≡ [] → port_words other.command other.plain ≡ []
 no_port_in words one other first second none = ap (λ (a : Asked). port_words a.command a.plain) (same_asked words other one second first) ∙ none
 
-pub no_ports : (words : List (List ℕ)) (links : ℕ) → IsPlain words → links ≡ 0 → (asked : Asked) → Asks built words asked → AreAsked links asked
-no_ports words links (inl fleet) none other asks = none ∙ ap length (sym (no_port_in words (asked Fleet) other (asks_fleet words fleet) asks refl))
-no_ports words links (inr (inl decode)) none other asks = none ∙ ap length (sym (no_port_in words (asked Decode) other (asks_decode words decode) asks refl))
-no_ports words links (inr (inr dialect)) none other asks = none ∙ ap length (sym (no_port_in words asked_dialect other (asks_dialect words dialect) asks refl))
+no_store_in : (words : List (List ℕ)) (one other : Asked) → Asks built words one → Asks built words other → keepers_asked one ≡ 0 → 0 ≡ keepers_asked other
+no_store_in words one other first second none = sym none ∙ ap keepers_asked (same_asked words one other first second)
+
+pub names_nothing : (words : List (List ℕ)) (links stores : ℕ) → IsPlain words → links ≡ 0 → stores ≡ 0 → (other : Asked) → Asks built words other → AreAsked links other × (stores ≡ keepers_asked other)
+names_nothing words links stores (inl fleet) none empty other asks = (none ∙ ap length (sym (no_port_in words (asked Fleet) other (asks_fleet words fleet) asks refl)), empty ∙ no_store_in words (asked Fleet) other (asks_fleet words fleet) asks refl)
+names_nothing words links stores (inr (inl decode)) none empty other asks = (none ∙ ap length (sym (no_port_in words (asked Decode) other (asks_decode words decode) asks refl)), empty ∙ no_store_in words (asked Decode) other (asks_decode words decode) asks refl)
+names_nothing words links stores (inr (inr dialect)) none empty other asks = (none ∙ ap length (sym (no_port_in words asked_dialect other (asks_dialect words dialect) asks refl)), empty ∙ no_store_in words asked_dialect other (asks_dialect words dialect) asks refl)
 
 -- such an input and such an output, before and after
 abbrev pub sure_input : SureReads → SureReads → Input

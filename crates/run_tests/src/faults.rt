@@ -1,8 +1,9 @@
 // Runs whose input fails, gives nothing or is too long, and runs whose output fails.
-ghost use Rattle.std.specs.Prelude.{map, string_bytes};
+ghost use Rattle.std.specs.Prelude.{◌≡◌, map, string_bytes};
 ghost use Rattle.command_line.specs.Built.{built};
 ghost use Rattle.command_line.specs.Grammar.{Asked, Asks};
 ghost use Rattle.station_cli.specs.Routing.{AreAsked};
+ghost use Rattle.station_cli.specs.Wants.{keepers_asked};
 
 use mav_ports::{Got, MemClock, Sink, Source, StdSink, StdSource, SureSink};
 use station_cli::{Inputs, WantedFault, run, wanted};
@@ -188,20 +189,28 @@ pub(crate) fn words_of(alloc: Global, text: &str) -> Result<Vec<String>, AllocEr
     Ok(words)
 }
 
-// The status of a run over words that name no port.
+// The status of a run over words that name no port and no store.
 fn run_unlinked<S: Source, K: Sink>(
     alloc: Global,
     words: &[String],
     inputs: &mut Inputs<S>,
     out: &mut K,
 ) -> u8
-    requires { (asked : Asked) → Asks built (map string_bytes words.now) asked → AreAsked 0 asked }
+    requires { (asked : Asked) → Asks built (map string_bytes words.now) asked → AreAsked 0 asked × (0 ≡ keepers_asked asked) }
 {
     let mut clock = MemClock::new(0);
-    run(alloc, words, inputs, out, &mut clock, &mut Vec::new(alloc))
+    run(
+        alloc,
+        words,
+        inputs,
+        out,
+        &mut clock,
+        &mut Vec::new(alloc),
+        &mut Vec::new(alloc),
+    )
 }
 
-// The status of a run; that of want of memory, if there is none for the words, or if they name a port.
+// The status of a run; that of want of memory, if there is none for the words, or if they name a port or a store.
 fn status_of<S: Source, K: Sink>(
     alloc: Global,
     text: &str,
@@ -210,7 +219,9 @@ fn status_of<S: Source, K: Sink>(
 ) -> u8 {
     match words_of(alloc, text) {
         Ok(words) => match wanted(alloc, &words) {
-            Ok(wanted) if wanted.ports.is_empty() => run_unlinked(alloc, &words, inputs, out),
+            Ok(wanted) if wanted.ports.is_empty() && wanted.store.is_none() => {
+                run_unlinked(alloc, &words, inputs, out)
+            }
             Err(WantedFault::Usage) => run_unlinked(alloc, &words, inputs, out),
             _ => 7,
         },

@@ -67,6 +67,7 @@ fn run_one(
         out,
         &mut MemClock::new(0),
         &mut Vec::new(alloc),
+        &mut Vec::new(alloc),
     )
 }
 

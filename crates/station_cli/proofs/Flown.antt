@@ -1,5 +1,5 @@
 -- The clause of `drone`, from those of its parts.
-use Rattle.std.proofs.Common.{◌≡◌, ◌∙◌, ◌≤◌, ℕ, List, [], ◌∷◌, inl, inr, refl, sym, ap, subst, arith, length, slice_index_or, slice_set, Option, Some, None, Result, Ok, Err}
+use Rattle.std.proofs.Common.{◌≡◌, ◌∙◌, ◌≤◌, ℕ, Bool, List, [], ◌∷◌, inl, inr, refl, sym, ap, subst, arith, length, slice_index_or, slice_set, Option, Some, None, Result, Ok, Err}
 use Rattle.std.specs.Fmt.{decimal}
 use Rattle.std.specs.Prelude.{IfSome, IfErr}
 use Rattle.std.specs.Result.{result_err}
@@ -17,46 +17,59 @@ use Rattle.key_file.specs.Spec.{given_key_spec}
 use Rattle.key_file.proofs.Stays.{key_steady}
 use Rattle.command_line.specs.declared.commands.Command.{Command}
 use Rattle.command_line.specs.declared.commands.Command.TheVariants.{Drone}
+use Rattle.command_line.specs.declared.commands.OptionName.TheVariants.{Store}
 use Rattle.command_line.specs.declared.operations.Task.{Task}
 use Rattle.command_line.specs.declared.ports.Port.{Port}
+use Rattle.command_line.specs.Forms.{has_given}
 use Rattle.command_line.specs.Grammar.{Asked}
 use Rattle.command_line.specs.Names.{port_words, turns_asked}
 use Rattle.command_line.specs.Nodes.{DroneSays, NodeSays}
 use Rattle.live_node.specs.declared.drones.DronePlan.{DronePlan}
 use Rattle.live_node.specs.Ports.{FaultsBy}
-use Rattle.live_node.specs.Runs.{outside}
-use Rattle.live_node.specs.Drones.{IsDroneEnd, NewDroneRuns}
+use Rattle.live_node.specs.Runs.{Outside, outside, Stores}
+use Rattle.live_node.specs.Drones.{IsDroneEnd, DroneRuns}
 use Rattle.station_cli.specs.Seen.{Input, Output}
 use Rattle.station_cli.specs.Routing.{WithGivenKey}
-use Rattle.station_cli.specs.Flying.{Flown, FlownReported}
+use Rattle.station_cli.specs.Flying.{Flown, RunsOver, StoredRun, Devices}
+use Rattle.station_cli.specs.Reported.{Reported}
 
 -- the only one of a list
-only_one : {A : Type 0} (xs : List A) (x : A) → length xs ≡ 1 → x ≡ slice_index_or xs 0 x → xs ≡ x ∷ []
+pub only_one : {A : Type 0} (xs : List A) (x : A) → length xs ≡ 1 → x ≡ slice_index_or xs 0 x → xs ≡ x ∷ []
 only_one [] x one is = absurd (omega (arith, one))
 only_one (y ∷ []) x one is = ap (λ z. z ∷ []) (sym is)
 only_one (y ∷ z ∷ more) x one is = absurd (omega (arith, one))
 
-changed_one : {A : Type 0} (xs : List A) (x : A) → length xs ≡ 1 → slice_set xs 0 x ≡ x ∷ []
+pub changed_one : {A : Type 0} (xs : List A) (x : A) → length xs ≡ 1 → slice_set xs 0 x ≡ x ∷ []
 changed_one [] x one = absurd (omega (arith, one))
 changed_one (y ∷ []) x one = refl
 changed_one (y ∷ z ∷ more) x one = absurd (omega (arith, one))
 
--- a drone ran at the only port
-pub flown_at : {A : Type 0} (state : A → LinkState) (asked : Asked) (before : List A) (first last : A) (out : Output) (end : Option RunEnd) (key : List ℕ) (plan : DronePlan) (port : List ℕ)
+-- a drone ran over the only store
+pub stored_at : {B : Type 0} (stores : Stores B) (key : List ℕ) (plan : DronePlan) (before : List B) (first last : B) (end : Option RunEnd) (port_before port_after : Outside)
+    → length before ≡ 1 → first ≡ slice_index_or before 0 first → DroneRuns stores key plan first last end port_before port_after → StoredRun stores key plan before (slice_set before 0 last) end port_before port_after
+stored_at stores key plan before first last end port_before port_after one is run = record {
+  first = first;
+  last = last;
+  alone = record { was = only_one before first one is; now = changed_one before last one };
+  run = run;
+}
+
+-- at the only port
+pub flown_at : {A B : Type 0} (state : A → LinkState) (stores : Stores B) (asked : Asked) (before : List A) (first last : A) (keepers keepers_after : List B) (time time_after : Option ℕ) (out : Output) (end : Option RunEnd) (key : List ℕ) (plan : DronePlan) (port : List ℕ) (named : Bool)
     → length before ≡ 1 → first ≡ slice_index_or before 0 first
     → asked.plain ≡ decimal plan.sys ∷ port ∷ [] → 1 ≤ plan.sys → plan.turns ≡ turns_asked asked.settings
-    → NewDroneRuns key plan end (outside (state first) out.sent_before) (outside (state last) out.sent_after)
+    → has_given Store asked.settings ≡ named
+    → RunsOver stores named key plan keepers keepers_after end (outside (state first) out.sent_before time) (outside (state last) out.sent_after time_after)
     → IfSome end (IsDroneEnd plan.turns)
     → FaultsBy end (state first).faults (state last).faults out.refusals_before out.refusals_after
-    → Flown state asked before (slice_set before 0 last) out end key
-flown_at state asked before first last out end key plan port one is words least turns run why faults = record {
+    → Flown (record { state = state; stores = stores; ports_before = before; ports_after = slice_set before 0 last; keepers_before = keepers; keepers_after = keepers_after; time_before = time; time_after = time_after }) asked out end key
+flown_at state stores asked before first last keepers keepers_after time time_after out end key plan port named one is words least turns named_is run why faults = record {
   plan = plan;
   is = record { port = port; plain = words; least = least; turns = turns };
   first = first;
   last = last;
-  was = only_one before first one is;
-  now = changed_one before last one;
-  run = run;
+  alone = record { was = only_one before first one is; now = changed_one before last one };
+  run = subst (λ (n : Bool). RunsOver stores n key plan keepers keepers_after end (outside (state first) out.sent_before time) (outside (state last) out.sent_after time_after)) (sym named_is) run;
   why = why;
   faults = faults;
 }
@@ -98,23 +111,23 @@ drone_link c plain ports system links is says asked =
     asked ∙ ap (λ (d : Command). length (port_words d plain)) is ∙ ap (λ (p : List (List ℕ)). length (port_words Drone p)) says.plain_is
 
 -- the same line
-pub flown_asked : {A : Type 0} (state : A → LinkState) (asked other : Asked) (runs : CommandSpec → Input → Type 0) (halted unmoved : Type 0) (before after : List A) (out : Output) (end : Option RunEnd) (key : Input) → asked ≡ other
-    → WithGivenKey runs halted unmoved key (λ bytes. Flown state asked before after out end bytes)
-    → WithGivenKey runs halted unmoved key (λ bytes. Flown state other before after out end bytes)
-flown_asked state asked other runs halted unmoved before after out end key same d =
-    subst (λ (a : Asked). WithGivenKey runs halted unmoved key (λ bytes. Flown state a before after out end bytes)) same d
+pub flown_asked : {A B : Type 0} (d : Devices A B) (asked other : Asked) (runs : CommandSpec → Input → Type 0) (halted unmoved : Type 0) (out : Output) (end : Option RunEnd) (key : Input) → asked ≡ other
+    → WithGivenKey runs halted unmoved key (λ bytes. Flown d asked out end bytes)
+    → WithGivenKey runs halted unmoved key (λ bytes. Flown d other out end bytes)
+flown_asked d asked other runs halted unmoved out end key same run =
+    subst (λ (a : Asked). WithGivenKey runs halted unmoved key (λ bytes. Flown d a out end bytes)) same run
 
 -- the run's status is written
-pub flown_reported : {A : Type 0} (state : A → LinkState) (asked : Asked) (before after : List A) (rb rm ra : ℕ) (sb sm sa : Option (List ℕ)) (ended reported : Result (Unit {0}) RunEnd) (key : List ℕ)
-    → Flown state asked before after (record { refusals_before = rb; refusals_after = rm; sent_before = sb; sent_after = sm }) (result_err ended) key
+pub ran_reported : (Ran : Output → Option RunEnd → Type 0) (rb rm ra : ℕ) (sb sm sa : Option (List ℕ)) (ended reported : Result (Unit {0}) RunEnd)
+    → Ran (record { refusals_before = rb; refusals_after = rm; sent_before = sb; sent_after = sm }) (result_err ended)
     → WritesStatus ended reported rm ra sm sa
-    → FlownReported state asked before after (record { refusals_before = rb; refusals_after = ra; sent_before = sb; sent_after = sa }) (code_of (result_err reported)) key
-flown_reported state asked before after rb rm ra sb sm sa ended reported key flown writes = record {
+    → Reported Ran (record { refusals_before = rb; refusals_after = ra; sent_before = sb; sent_after = sa }) (code_of (result_err reported))
+ran_reported Ran rb rm ra sb sm sa ended reported ran writes = record {
   ended = ended;
   reported = reported;
   refusals = rm;
   sent = sm;
-  flown = flown;
+  ran = ran;
   status = writes;
   code_is = refl;
 }

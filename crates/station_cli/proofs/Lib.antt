@@ -5,5 +5,6 @@ pub mod Scenarios
 pub mod Completes
 pub mod Routed
 pub mod Flown
+pub mod Stationed
 pub mod Made
 pub mod Links

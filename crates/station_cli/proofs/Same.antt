@@ -6,6 +6,7 @@ use Rattle.command_line.specs.Built.{built}
 use Rattle.command_line.specs.Forms.{has_given, reads_file}
 use Rattle.command_line.specs.Grammar.{Asked, Asks}
 use Rattle.command_line.proofs.Agreement.{written_once}
+use Rattle.station_cli.specs.Wants.{keepers_asked}
 
 pub same_asked : (words : List (List ℕ)) (asked other : Asked) → Asks built words asked → Asks built words other → asked ≡ other
 same_asked words asked other one two = written_once words asked other one.written two.written
@@ -27,3 +28,7 @@ same_reads words asked other reads one two is = ap (λ (a : Asked). reads_file a
 -- and is no other command
 pub same_other : (words : List (List ℕ)) (asked other : Asked) (c : Command) → Asks built words asked → Asks built words other → other.command ≢ c → asked.command ≢ c
 same_other words asked other c one two isnt = λ is. isnt (ap (λ (a : Asked). a.command) (same_asked words other asked two one) ∙ is)
+
+-- as many stores are named
+pub same_stores : (words : List (List ℕ)) (asked other : Asked) (count : ℕ) → Asks built words asked → Asks built words other → keepers_asked other ≡ count → keepers_asked asked ≡ count
+same_stores words asked other count one two is = ap keepers_asked (same_asked words asked other one two) ∙ is

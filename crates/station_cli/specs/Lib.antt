@@ -6,3 +6,6 @@ pub mod Fleets
 pub mod Routing
 pub mod Making
 pub mod Flying
+pub mod Reported
+pub mod Ordering
+pub mod Stationing

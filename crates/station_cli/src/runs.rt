@@ -16,7 +16,11 @@ ghost use Rattle.make_command.specs.Theorem.{GeneratedTheorem};
 ghost use Rattle.station_cli.specs.Making.{Makes};
 ghost use Rattle.route_command.specs.Promises.{RoutePromises};
 ghost use Rattle.route_command.specs.Routes.{RoutesBeforeStatus};
-ghost use Rattle.station_cli.specs.Flying.{Flown, FlownReported};
+ghost use Rattle.live_node.specs.Runs.{stores_of};
+ghost use Rattle.station_cli.specs.Flying.{Flown, devices};
+ghost use Rattle.station_cli.specs.Reported.{Reported};
+ghost use Rattle.station_cli.specs.Stationing.{Stationed, Stationing};
+ghost use Rattle.station_cli.specs.Wants.{keepers_asked};
 ghost use Rattle.station_cli.specs.Routing.{Routing, WithGivenKey, AllEnded, AreAsked, router_of};
 ghost use Rattle.station_cli.specs.Seen.{input_of, output_of, before_status_over, promised_over};
 ghost use Rattle.station_cli.specs.Usage.{UsageReported};
@@ -25,12 +29,14 @@ use crate::decoding::run_decode;
 use crate::fleets::run_fleet;
 use crate::flying::run_drone;
 use crate::routing::run_route;
-use crate::wants::Inputs;
+use crate::stationing::run_station;
+use crate::wants::{Inputs, Store};
 use command_line::{Command, Line, OptionName, WantedFault, read};
 use dialect_command::{dialect, profile};
 use make_command::make;
 use mav_links::Link;
 use mav_ports::{Clock, Sink, Source};
+use plan_store::Keeper;
 use run_status::{RunEnd, code_of, write_status};
 use std::alloc::Global;
 
@@ -65,6 +71,7 @@ fn run_line<S: Source, K: Sink, C: Clock>(
     line: &Line,
     inputs: &mut Inputs<S>,
     ports: &mut Vec<Box<dyn Link>>,
+    keepers: &mut Vec<Store>,
     out: &mut K,
     clock: &mut C,
 ) -> Result<(), RunEnd>
@@ -73,6 +80,7 @@ fn run_line<S: Source, K: Sink, C: Clock>(
     requires says { LineSays line.now }
     requires node { LineNodeSays line.now }
     requires links { AreAsked (length ports.old.items) (asked_by line.now) }
+    requires stores { length keepers.old.items ≡ keepers_asked (asked_by line.now) }
     ensures fleet { line.now.command ≡ Command.Fleet → Fleets
         (has_given OptionName.Key (map given_of line.now.settings.items))
         (has_given OptionName.Frames (map given_of line.now.settings.items))
@@ -108,17 +116,26 @@ fn run_line<S: Source, K: Sink, C: Clock>(
         (input_of S.has_ended S.faults S.idles S.left inputs.old.defs inputs.new.defs) }
     ensures drone { line.now.command ≡ Command.Drone → WithGivenKey
         (before_status_over (output_of K.faults K.sent out.old out.new) (result_err result)) (IsErr result)
-        (ports.new ≡ ports.old)
+        ((ports.new ≡ ports.old) × (keepers.new ≡ keepers.old) × (clock.new ≡ clock.old))
         (input_of S.has_ended S.faults S.idles S.left inputs.old.key inputs.new.key)
-        (λ bytes. Flown state (asked_by line.now) ports.old.items ports.new.items
+        (λ bytes. Flown (devices state (stores_of ⟦<Store as Keeper>⟧.faults ⟦<Store as Keeper>⟧.is_infallible ⟦<Store as Keeper>⟧.contents) C.always ports.old.items ports.new.items keepers.old.items keepers.new.items clock.old clock.new) (asked_by line.now)
         (output_of K.faults K.sent out.old out.new) (result_err result) bytes) }
+    ensures station { line.now.command ≡ Command.Station → Stationing
+        (before_status_over (output_of K.faults K.sent out.old out.new) (result_err result)) (IsErr result)
+        ((ports.new ≡ ports.old) × (keepers.new ≡ keepers.old) × (clock.new ≡ clock.old))
+        (has_given OptionName.File (map given_of line.now.settings.items))
+        (input_of S.has_ended S.faults S.idles S.left inputs.old.key inputs.new.key)
+        (input_of S.has_ended S.faults S.idles S.left inputs.old.main inputs.new.main)
+        (λ bytes items. Stationed (devices state (stores_of ⟦<Store as Keeper>⟧.faults ⟦<Store as Keeper>⟧.is_infallible ⟦<Store as Keeper>⟧.contents) C.always ports.old.items ports.new.items keepers.old.items keepers.new.items clock.old clock.new) (asked_by line.now)
+        (output_of K.faults K.sent out.old out.new) (result_err result) bytes items) }
     ensures make { line.now.command ≡ Command.Make → Makes (map string_bytes line.now.words.items)
         (λ number. RunBeforeStatus (make_spec number)
         (port_outcome ⊤ 0 0 0 0 (K.faults out.old) (K.faults out.new))
         (Some []) (Some []) (K.sent out.old) (K.sent out.new) (result_err result)) }
-    ensures unmoved { line.now.command ≢ Command.Route → line.now.command ≢ Command.Drone → ports.new ≡ ports.old }
-    ensures unasked { line.now.command ≢ Command.Drone → clock.new ≡ clock.old }
-    ensures unread_main { reads_file line.now.command ≡ false → inputs.new.main ≡ inputs.old.main }
+    ensures unmoved { line.now.command ≢ Command.Route → line.now.command ≢ Command.Drone → line.now.command ≢ Command.Station → ports.new ≡ ports.old }
+    ensures unasked { line.now.command ≢ Command.Drone → line.now.command ≢ Command.Station → clock.new ≡ clock.old }
+    ensures unkept { keepers_asked (asked_by line.now) ≡ 0 → keepers.new ≡ keepers.old }
+    ensures unread_main { reads_file line.now.command ≡ false → has_given OptionName.File (map given_of line.now.settings.items) ≡ false → inputs.new.main ≡ inputs.old.main }
     ensures unread_defs { has_given OptionName.Defs (map given_of line.now.settings.items) ≡ false
         → inputs.new.defs ≡ inputs.old.defs }
     ensures unread_key { has_given OptionName.Key (map given_of line.now.settings.items) ≡ false
@@ -134,8 +151,11 @@ fn run_line<S: Source, K: Sink, C: Clock>(
         Command::Decode => run_decode(alloc, line, inputs, out),
         Command::Route => run_route(alloc, line, inputs, ports, out),
         Command::Make => make(alloc, line.number, out),
-        Command::Drone => run_drone(alloc, line, &mut inputs.key, ports, out, clock),
-        Command::Station => unreachable!("it isn't built"),
+        Command::Drone => run_drone(alloc, line, &mut inputs.key, ports, keepers, out, clock),
+        Command::Station => match line.task {
+            Some(task) => run_station(alloc, line, task, inputs, ports, keepers, out, clock),
+            None => unreachable!("a station has a task"),
+        },
     }
 }
 
@@ -145,11 +165,12 @@ fn run_words<S: Source, K: Sink, C: Clock>(
     words: &[String],
     inputs: &mut Inputs<S>,
     ports: &mut Vec<Box<dyn Link>>,
+    keepers: &mut Vec<Store>,
     out: &mut K,
     clock: &mut C,
 ) -> Result<(), RunEnd>
     requires { (asked : Asked) → Asks built (map string_bytes words.now) asked
-        → AreAsked (length ports.old.items) asked }
+        → AreAsked (length ports.old.items) asked × (length keepers.old.items ≡ keepers_asked asked) }
     ensures fleet { (asked : Asked) → Asks built (map string_bytes words.now) asked
         → asked.command ≡ Command.Fleet → Fleets
         (has_given OptionName.Key asked.settings) (has_given OptionName.Frames asked.settings)
@@ -186,10 +207,19 @@ fn run_words<S: Source, K: Sink, C: Clock>(
     ensures drone { (asked : Asked) → Asks built (map string_bytes words.now) asked
         → asked.command ≡ Command.Drone → WithGivenKey
         (before_status_over (output_of K.faults K.sent out.old out.new) (result_err result)) (IsErr result)
-        (ports.new ≡ ports.old)
+        ((ports.new ≡ ports.old) × (keepers.new ≡ keepers.old) × (clock.new ≡ clock.old))
         (input_of S.has_ended S.faults S.idles S.left inputs.old.key inputs.new.key)
-        (λ bytes. Flown state asked ports.old.items ports.new.items
+        (λ bytes. Flown (devices state (stores_of ⟦<Store as Keeper>⟧.faults ⟦<Store as Keeper>⟧.is_infallible ⟦<Store as Keeper>⟧.contents) C.always ports.old.items ports.new.items keepers.old.items keepers.new.items clock.old clock.new) asked
         (output_of K.faults K.sent out.old out.new) (result_err result) bytes) }
+    ensures station { (asked : Asked) → Asks built (map string_bytes words.now) asked
+        → asked.command ≡ Command.Station → Stationing
+        (before_status_over (output_of K.faults K.sent out.old out.new) (result_err result)) (IsErr result)
+        ((ports.new ≡ ports.old) × (keepers.new ≡ keepers.old) × (clock.new ≡ clock.old))
+        (has_given OptionName.File asked.settings)
+        (input_of S.has_ended S.faults S.idles S.left inputs.old.key inputs.new.key)
+        (input_of S.has_ended S.faults S.idles S.left inputs.old.main inputs.new.main)
+        (λ bytes items. Stationed (devices state (stores_of ⟦<Store as Keeper>⟧.faults ⟦<Store as Keeper>⟧.is_infallible ⟦<Store as Keeper>⟧.contents) C.always ports.old.items ports.new.items keepers.old.items keepers.new.items clock.old clock.new) asked
+        (output_of K.faults K.sent out.old out.new) (result_err result) bytes items) }
     ensures make { (asked : Asked) → Asks built (map string_bytes words.now) asked
         → asked.command ≡ Command.Make → Makes asked.plain
         (λ number. RunBeforeStatus (make_spec number)
@@ -200,15 +230,19 @@ fn run_words<S: Source, K: Sink, C: Clock>(
         → IsErrOf result RunEnd.Usage ⊎ IsErrOf result RunEnd.NoMemory }
     ensures untouched { AskNothing built (map string_bytes words.now)
         → (inputs.new.main ≡ inputs.old.main) × (inputs.new.defs ≡ inputs.old.defs)
-        × (inputs.new.key ≡ inputs.old.key) × (ports.new ≡ ports.old) × (K.sent out.new ≡ K.sent out.old)
-        × (clock.new ≡ clock.old) }
+        × (inputs.new.key ≡ inputs.old.key) × (ports.new ≡ ports.old) × (keepers.new ≡ keepers.old)
+        × (K.sent out.new ≡ K.sent out.old) × (clock.new ≡ clock.old) }
     ensures unmoved { (asked : Asked) → Asks built (map string_bytes words.now) asked
-        → asked.command ≢ Command.Route → asked.command ≢ Command.Drone → ports.new ≡ ports.old }
+        → asked.command ≢ Command.Route → asked.command ≢ Command.Drone → asked.command ≢ Command.Station
+        → ports.new ≡ ports.old }
     ensures unasked { (asked : Asked) → Asks built (map string_bytes words.now) asked
-        → asked.command ≢ Command.Drone → clock.new ≡ clock.old }
+        → asked.command ≢ Command.Drone → asked.command ≢ Command.Station → clock.new ≡ clock.old }
+    ensures unkept { (asked : Asked) → Asks built (map string_bytes words.now) asked
+        → keepers_asked asked ≡ 0 → keepers.new ≡ keepers.old }
     ensures sound { ¬ IsErrOf result RunEnd.WriteFault → K.faults out.new ≡ K.faults out.old }
     ensures unread_main { (asked : Asked) → Asks built (map string_bytes words.now) asked
-        → reads_file asked.command ≡ false → inputs.new.main ≡ inputs.old.main }
+        → reads_file asked.command ≡ false → has_given OptionName.File asked.settings ≡ false
+        → inputs.new.main ≡ inputs.old.main }
     ensures unread_defs { (asked : Asked) → Asks built (map string_bytes words.now) asked
         → has_given OptionName.Defs asked.settings ≡ false → inputs.new.defs ≡ inputs.old.defs }
     ensures unread_key { (asked : Asked) → Asks built (map string_bytes words.now) asked
@@ -219,15 +253,15 @@ fn run_words<S: Source, K: Sink, C: Clock>(
         Err(WantedFault::Usage) => return Err(RunEnd::Usage),
         Err(WantedFault::NoMemory) => return Err(RunEnd::NoMemory),
     };
-    run_line(alloc, &line, inputs, ports, out, clock)
+    run_line(alloc, &line, inputs, ports, keepers, out, clock)
 }
 
 /// Runs the command that the words name, and returns its exit status. The words are those after
 /// the program's name.
 ///
 /// 0 done, 2 `usage`, 3 `bad PLACE: REASON`, 4 `read fault`, 5 a write failed, 6 `limit WHAT N`,
-/// 7 out of memory, 11 `turns spent N`, 12 `port fault`, 13 `stamps spent`. The text of a status is the last
-/// line of the output.
+/// 7 out of memory, 8 `refused CODE`, 9 `no answer N`, 10 `store fault`, 11 `turns spent N`, 12 `port fault`,
+/// 13 `stamps spent`. The text of a status is the last line of the output.
 ///
 /// The clause of a command has all that it promises of the run: `Promises` has a field for each
 /// status, and fields that say why no other comes; the command's specification says which bytes of its
@@ -239,10 +273,11 @@ pub fn run<S: Source, K: Sink, C: Clock>(
     out: &mut K,
     clock: &mut C,
     ports: &mut Vec<Box<dyn Link>>,
+    keepers: &mut Vec<Store>,
 ) -> u8
-    // There are as many links as the words name ports.
+    // There are as many links as the words name ports, and as many stores as they name.
     requires { (asked : Asked) → Asks built (map string_bytes words.now) asked
-        → AreAsked (length ports.old.items) asked }
+        → AreAsked (length ports.old.items) asked × (length keepers.old.items ≡ keepers_asked asked) }
     // `fleet [--frames] [--key F] FILE`: the run halts at the key, and the main input isn't read; or
     // the key is read, if the words name one, and the main input is played under it
     ensures fleet { (asked : Asked) → Asks built (map string_bytes words.now) asked
@@ -305,15 +340,26 @@ pub fn run<S: Source, K: Sink, C: Clock>(
         (K.faults out.old) (K.faults out.new) (K.sent out.old) (K.sent out.new) result)
         (input_of S.has_ended S.faults S.idles S.left inputs.old.key inputs.new.key)
         (input_of S.has_ended S.faults S.idles S.left inputs.old.defs inputs.new.defs) }
-    // `drone --key F [--turns N] SYS PORT`: the run halts at the key, and the port is as it was; or the key is read, and the
-    // drone runs at the port, without plans at its start
+    // `drone --key F [--store F] [--turns N] SYS PORT`: the run halts at the key, and the port, the store and the clock are
+    // as they were; or the key is read, and the drone runs at the port, with the plans of its store, or without any
     ensures drone { (asked : Asked) → Asks built (map string_bytes words.now) asked
         → asked.command ≡ Command.Drone → WithGivenKey
         (promised_over (output_of K.faults K.sent out.old out.new) result) (result ≢ 0)
-        (ports.new ≡ ports.old)
+        ((ports.new ≡ ports.old) × (keepers.new ≡ keepers.old) × (clock.new ≡ clock.old))
         (input_of S.has_ended S.faults S.idles S.left inputs.old.key inputs.new.key)
-        (λ bytes. FlownReported state asked ports.old.items ports.new.items
-        (output_of K.faults K.sent out.old out.new) result bytes) }
+        (λ bytes. Reported (λ written end. Flown (devices state (stores_of ⟦<Store as Keeper>⟧.faults ⟦<Store as Keeper>⟧.is_infallible ⟦<Store as Keeper>⟧.contents) C.always ports.old.items ports.new.items keepers.old.items keepers.new.items clock.old clock.new) asked written end bytes)
+        (output_of K.faults K.sent out.old out.new) result) }
+    // `station --key F [--ticks N] [--file F] SYS COMP DRONE PORT OP..`: the run halts at the key or at the file, and the port
+    // and the clock are as they were; or both are read, and the station runs at the port with its one operation
+    ensures station { (asked : Asked) → Asks built (map string_bytes words.now) asked
+        → asked.command ≡ Command.Station → Stationing
+        (promised_over (output_of K.faults K.sent out.old out.new) result) (result ≢ 0)
+        ((ports.new ≡ ports.old) × (keepers.new ≡ keepers.old) × (clock.new ≡ clock.old))
+        (has_given OptionName.File asked.settings)
+        (input_of S.has_ended S.faults S.idles S.left inputs.old.key inputs.new.key)
+        (input_of S.has_ended S.faults S.idles S.left inputs.old.main inputs.new.main)
+        (λ bytes items. Reported (λ written end. Stationed (devices state (stores_of ⟦<Store as Keeper>⟧.faults ⟦<Store as Keeper>⟧.is_infallible ⟦<Store as Keeper>⟧.contents) C.always ports.old.items ports.new.items keepers.old.items keepers.new.items clock.old clock.new) asked written end bytes items)
+        (output_of K.faults K.sent out.old out.new) result) }
     // `make N`, over no input
     ensures make { (asked : Asked) → Asks built (map string_bytes words.now) asked
         → asked.command ≡ Command.Make → Makes asked.plain
@@ -332,15 +378,20 @@ pub fn run<S: Source, K: Sink, C: Clock>(
         → (inputs.new.main ≡ inputs.old.main) × (inputs.new.defs ≡ inputs.old.defs)
         × (inputs.new.key ≡ inputs.old.key) }
     ensures unread_main { (asked : Asked) → Asks built (map string_bytes words.now) asked
-        → reads_file asked.command ≡ false → inputs.new.main ≡ inputs.old.main }
+        → reads_file asked.command ≡ false → has_given OptionName.File asked.settings ≡ false
+        → inputs.new.main ≡ inputs.old.main }
     ensures unread_defs { (asked : Asked) → Asks built (map string_bytes words.now) asked
         → has_given OptionName.Defs asked.settings ≡ false → inputs.new.defs ≡ inputs.old.defs }
     ensures unread_key { (asked : Asked) → Asks built (map string_bytes words.now) asked
         → has_given OptionName.Key asked.settings ≡ false → inputs.new.key ≡ inputs.old.key }
-    // A port is called only by `route` and `drone`, and only once each input that the words name was read to its end.
-    ensures unmoved { AskNothing built (map string_bytes words.now) → ports.new ≡ ports.old }
+    // A port is called only by `route`, `drone` and `station`, and only once each input that the words name was read to its
+    // end; a store only by a drone whose words name it.
+    ensures unmoved { AskNothing built (map string_bytes words.now) → (ports.new ≡ ports.old) × (keepers.new ≡ keepers.old) }
+    ensures unkept { (asked : Asked) → Asks built (map string_bytes words.now) asked
+        → keepers_asked asked ≡ 0 → keepers.new ≡ keepers.old }
     ensures unmoved_by_others { (asked : Asked) → Asks built (map string_bytes words.now) asked
-        → asked.command ≢ Command.Route → asked.command ≢ Command.Drone → ports.new ≡ ports.old }
+        → asked.command ≢ Command.Route → asked.command ≢ Command.Drone → asked.command ≢ Command.Station
+        → ports.new ≡ ports.old }
     ensures unmoved_before { (asked : Asked) → Asks built (map string_bytes words.now) asked
         → asked.command ≡ Command.Route → ¬ AllEnded (has_given OptionName.Defs asked.settings)
         (input_of S.has_ended S.faults S.idles S.left inputs.old.key inputs.new.key)
@@ -348,11 +399,11 @@ pub fn run<S: Source, K: Sink, C: Clock>(
         → ports.new ≡ ports.old }
     // The output refused a write only at status 5.
     ensures sound { result ≢ 5 → K.faults out.new ≡ K.faults out.old }
-    // The time is asked only by `drone`.
+    // The time is asked only by `drone` and `station`.
     ensures unasked { AskNothing built (map string_bytes words.now) → clock.new ≡ clock.old }
     ensures unasked_by_others { (asked : Asked) → Asks built (map string_bytes words.now) asked
-        → asked.command ≢ Command.Drone → clock.new ≡ clock.old }
+        → asked.command ≢ Command.Drone → asked.command ≢ Command.Station → clock.new ≡ clock.old }
 {
-    let ended = run_words(alloc, words, inputs, ports, out, clock);
+    let ended = run_words(alloc, words, inputs, ports, keepers, out, clock);
     code_of(write_status(alloc, ended, out))
 }

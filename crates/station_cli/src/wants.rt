@@ -1,10 +1,14 @@
 // What a run needs from its caller.
 use command_line::Port;
+use plan_store::Keeper;
+
+/// A store of a drone's plans.
+pub type Store = Box<dyn Keeper>;
 
 /// What the words ask `main` to make, in this order. What they don't name is None or empty.
 #[derive(Debug, Drop)]
 pub struct Wanted {
-    /// The main input; `-` is standard input.
+    /// The main input: the word FILE, or what `--file` names; `-` is standard input.
     pub main: Option<String>,
     /// The definitions, which `--defs` names.
     pub defs: Option<String>,
@@ -12,6 +16,9 @@ pub struct Wanted {
     pub key: Option<String>,
     /// The words PORT, in their order.
     pub ports: Vec<Port>,
+    /// The file of a drone's plans, which `--store` names.
+    pub store: Option<String>,
+    /// How many stores that is.
     pub keepers: u8,
 }
 

@@ -21,7 +21,8 @@ pub fn wanted(alloc: Global, words: &[String]) -> Result<Wanted, WantedFault>
         main: line.main(alloc)?,
         defs: line.value(alloc, OptionName::Defs)?,
         key: line.value(alloc, OptionName::Key)?,
+        store: line.value(alloc, OptionName::Store)?,
+        keepers: u8::from(line.has(OptionName::Store)),
         ports: line.ports,
-        keepers: 0,
     })
 }

@@ -10,17 +10,17 @@ use Rattle.fleet_command.specs.Examples.{one_item, one_item_installed}
 use Rattle.fleet_command.proofs.Worked.{spec as playing, one_item_code, one_item_output}
 use Rattle.run_tests.specs.Restarts.{restart_between, restart_between_report}
 use Rattle.run_tests.proofs.Restarted.{restart_code, restart_output}
-use Rattle.run_tests.proofs.Plainly.{no_ports, asked, asked_dialect, asks_fleet, asks_decode, asks_dialect, sure_input, no_input, sure, awake, status_reported, text_reported, installed_reported, completed_reported}
+use Rattle.run_tests.proofs.Plainly.{names_nothing, asked, asked_dialect, asks_fleet, asks_decode, asks_dialect, sure_input, no_input, sure, awake, status_reported, text_reported, installed_reported, completed_reported}
 use Rattle.run_tests.proofs.worked.run_one.Goals as goal
 
 pub run-requires : goal.run-requires
-run-requires c = no_ports (map string_bytes c.args.words.now) _ (elim c.requires.one [
+run-requires c = names_nothing (map string_bytes c.args.words.now) _ _ (elim c.requires.one [
   | inl fleet ↦ inl fleet.0
   | inr others ↦ elim others [
     | inl decode ↦ inr (inl decode.0)
     | inr words ↦ inr (inr words)
   ]
-]) (ap length c.new-2.ensures.items)
+]) (ap length c.new-2.ensures.items) (ap length c.new-3.ensures.items)
 
 pub returns-clause-status : goal.returns-clause-status
 returns-clause-status c = elim c.requires.one [

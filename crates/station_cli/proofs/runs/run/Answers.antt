@@ -14,7 +14,8 @@ use Rattle.station_cli.proofs.Completes.{fleets_complete}
 use Rattle.make_command.specs.Spec.{make_spec}
 use Rattle.make_command.proofs.Generated.{generated_theorem}
 use Rattle.station_cli.proofs.Routed.{routing_reported, ports_wait}
-use Rattle.station_cli.proofs.Flown.{drone_reported, flown_reported}
+use Rattle.station_cli.proofs.Flown.{drone_reported, ran_reported}
+use Rattle.station_cli.proofs.Stationed.{station_reported}
 use Rattle.station_cli.proofs.Made.{make_steady, makes_on, unmade_number}
 use Rattle.station_cli.proofs.runs.run.Goals as goal
 
@@ -54,7 +55,7 @@ returns-clause-profile g c = λ asked asks is unnamed.
 pub returns-clause-usage_only : goal.returns-clause-usage_only
 returns-clause-usage_only g c = λ nothing.
     let ended = c.run_words-ended in
-    rw c.code_of.ensures (words_reported _ _ _ _ _ _ ended.result c.write_status.result (ended.ensures.usage_only nothing) ended.ensures.sound (ended.ensures.untouched nothing).4 c.write_status.ensures.writes)
+    rw c.code_of.ensures (words_reported _ _ _ _ _ _ ended.result c.write_status.result (ended.ensures.usage_only nothing) ended.ensures.sound (ended.ensures.untouched nothing).5 c.write_status.ensures.writes)
 
 pub returns-clause-decode : goal.returns-clause-decode
 returns-clause-decode g c = λ asked asks is.
@@ -113,6 +114,17 @@ returns-clause-drone g c = λ asked asks is.
     let old = c.args.inputs.now in let new = ended.new.inputs in
     rw c.code_of.ensures (drone_reported _ _ _ _ _ (reported_over _ _ _ _ _ _ ended.result c.write_status.result ended.ensures.sound c.write_status.ensures.writes)
     (λ halted. halted_code _ _ _ _ ended.result c.write_status.result halted c.write_status.ensures.writes)
-    _ _ (λ key run. flown_reported _ _ _ _ _ _ _ _ _ _ ended.result c.write_status.result key run c.write_status.ensures.writes)
+    _ _ (λ key run. ran_reported _ _ _ _ _ _ _ ended.result c.write_status.result run c.write_status.ensures.writes)
     (input_of g.S.Source.has_ended g.S.Source.faults g.S.Source.idles g.S.Source.left old.key new.key)
     (λ spent. spent.1) (ended.ensures.drone asked asks is))
+
+pub returns-clause-station : goal.returns-clause-station
+returns-clause-station g c = λ asked asks is.
+    let ended = c.run_words-ended in
+    let old = c.args.inputs.now in let new = ended.new.inputs in
+    rw c.code_of.ensures (station_reported _ _ _ _ _ (reported_over _ _ _ _ _ _ ended.result c.write_status.result ended.ensures.sound c.write_status.ensures.writes)
+    (λ halted. halted_code _ _ _ _ ended.result c.write_status.result halted c.write_status.ensures.writes)
+    _ _ (λ key items run. ran_reported _ _ _ _ _ _ _ ended.result c.write_status.result run c.write_status.ensures.writes) _
+    (input_of g.S.Source.has_ended g.S.Source.faults g.S.Source.idles g.S.Source.left old.key new.key)
+    (input_of g.S.Source.has_ended g.S.Source.faults g.S.Source.idles g.S.Source.left old.main new.main)
+    (λ spent. spent.1) (λ spent. spent.1) (ended.ensures.station asked asks is))

@@ -1,16 +1,17 @@
 use Rattle.std.proofs.Common.{true, false, inl, refl}
-use Rattle.command_line.specs.declared.commands.Command.TheVariants.{Fleet, Dialect, Decode, Route, Drone, Make}
-use Rattle.command_line.specs.declared.commands.OptionName.TheVariants.{Frames, Defs, Key}
+use Rattle.command_line.specs.declared.commands.Command.TheVariants.{Fleet, Dialect, Decode, Route, Drone, Station, Make}
+use Rattle.command_line.specs.declared.commands.OptionName.TheVariants.{Frames, Defs, Key, File}
 use Rattle.run_status.proofs.RunsBeforeStatus.{before_status_nothing}
 use Rattle.dialect_command.specs.Spec.{dialect_spec, profile_spec}
 use Rattle.std.specs.Result.{result_err}
 use Rattle.station_cli.specs.Seen.{input_of, output_of, before_status_over}
-use Rattle.station_cli.proofs.Same.{same_asked, same_command, same_given, same_options, same_reads, same_other}
+use Rattle.station_cli.proofs.Same.{same_asked, same_command, same_given, same_options, same_reads, same_other, same_stores}
 use Rattle.station_cli.proofs.Decoded.{decodes_as, decodes_unread}
 use Rattle.station_cli.proofs.Scenarios.{fleets_as, fleets_unread}
 use Rattle.make_command.specs.Spec.{make_spec}
 use Rattle.station_cli.proofs.Routed.{routing_asked, key_unread}
 use Rattle.station_cli.proofs.Flown.{flown_asked}
+use Rattle.station_cli.proofs.Stationed.{stationed_asked}
 use Rattle.station_cli.proofs.Made.{makes_asked, unmade_number}
 use Rattle.station_cli.proofs.runs.run_words.Goals as goal
 
@@ -46,7 +47,7 @@ pub returns-clause-untouched : goal.returns-clause-untouched
 returns-clause-untouched g c = λ nothing. absurd (nothing _ c.in-Ok.ensures.asks)
 
 pub returns-clause-unread_main : goal.returns-clause-unread_main
-returns-clause-unread_main g c = λ asked asks is. c.run_line.ensures.unread_main (same_reads _ _ asked false c.in-Ok.ensures.asks asks is)
+returns-clause-unread_main g c = λ asked asks is unnamed. c.run_line.ensures.unread_main (same_reads _ _ asked false c.in-Ok.ensures.asks asks is) (same_given _ _ asked File false c.in-Ok.ensures.asks asks unnamed)
 
 pub returns-clause-unread_defs : goal.returns-clause-unread_defs
 returns-clause-unread_defs g c = λ asked asks unnamed. c.run_line.ensures.unread_defs (same_given _ _ asked Defs false c.in-Ok.ensures.asks asks unnamed)
@@ -87,21 +88,37 @@ returns-in-Err-NoMemory-clause-make g c = λ asked asks is.
     unmade_number asked _ asks is (λ number. before_status_nothing (make_spec number) _ _ _)
 
 pub returns-clause-unmoved : goal.returns-clause-unmoved
-returns-clause-unmoved g c = λ asked asks isnt neither. c.run_line.ensures.unmoved (same_other _ _ asked Route c.in-Ok.ensures.asks asks isnt) (same_other _ _ asked Drone c.in-Ok.ensures.asks asks neither)
+returns-clause-unmoved g c = λ asked asks route drone station. c.run_line.ensures.unmoved (same_other _ _ asked Route c.in-Ok.ensures.asks asks route) (same_other _ _ asked Drone c.in-Ok.ensures.asks asks drone) (same_other _ _ asked Station c.in-Ok.ensures.asks asks station)
 
 pub returns-clause-unasked : goal.returns-clause-unasked
-returns-clause-unasked g c = λ asked asks isnt. c.run_line.ensures.unasked (same_other _ _ asked Drone c.in-Ok.ensures.asks asks isnt)
+returns-clause-unasked g c = λ asked asks drone station. c.run_line.ensures.unasked (same_other _ _ asked Drone c.in-Ok.ensures.asks asks drone) (same_other _ _ asked Station c.in-Ok.ensures.asks asks station)
+
+pub returns-clause-unkept : goal.returns-clause-unkept
+returns-clause-unkept g c = λ asked asks none. c.run_line.ensures.unkept (same_stores _ _ asked 0 c.in-Ok.ensures.asks asks none)
 
 pub returns-clause-drone : goal.returns-clause-drone
 returns-clause-drone g c = λ asked asks is.
-    flown_asked _ _ asked (before_status_over (output_of g.K.Sink.faults g.K.Sink.sent c.args.out.now c.run_line.new.out) (result_err c.run_line.result)) _ _ _ _ _ _
+    flown_asked _ _ asked (before_status_over (output_of g.K.Sink.faults g.K.Sink.sent c.args.out.now c.run_line.new.out) (result_err c.run_line.result)) _ _ _ _
     (input_of g.S.Source.has_ended g.S.Source.faults g.S.Source.idles g.S.Source.left c.args.inputs.now.key c.run_line.new.inputs.key)
     (same_asked _ _ asked c.in-Ok.ensures.asks asks)
     (c.run_line.ensures.drone (same_command _ _ asked Drone c.in-Ok.ensures.asks asks is))
 
 pub returns-in-Err-NoMemory-clause-drone : goal.returns-in-Err-NoMemory-clause-drone
 returns-in-Err-NoMemory-clause-drone g c = λ asked asks is.
-    inl (key_unread g.S.Source.has_ended g.S.Source.faults g.S.Source.idles g.S.Source.left c.args.inputs.now.key (g.K.Sink.faults c.args.out.now) (g.K.Sink.sent c.args.out.now) _ _ refl refl)
+    inl (key_unread g.S.Source.has_ended g.S.Source.faults g.S.Source.idles g.S.Source.left c.args.inputs.now.key (g.K.Sink.faults c.args.out.now) (g.K.Sink.sent c.args.out.now) _ _ refl (refl, refl, refl))
+
+pub returns-clause-station : goal.returns-clause-station
+returns-clause-station g c = λ asked asks is.
+    let old = c.args.inputs.now in let new = c.run_line.new.inputs in
+    stationed_asked _ _ asked (before_status_over (output_of g.K.Sink.faults g.K.Sink.sent c.args.out.now c.run_line.new.out) (result_err c.run_line.result)) _ _ _ _
+    (input_of g.S.Source.has_ended g.S.Source.faults g.S.Source.idles g.S.Source.left old.key new.key)
+    (input_of g.S.Source.has_ended g.S.Source.faults g.S.Source.idles g.S.Source.left old.main new.main)
+    (same_asked _ _ asked c.in-Ok.ensures.asks asks)
+    (c.run_line.ensures.station (same_command _ _ asked Station c.in-Ok.ensures.asks asks is))
+
+pub returns-in-Err-NoMemory-clause-station : goal.returns-in-Err-NoMemory-clause-station
+returns-in-Err-NoMemory-clause-station g c = λ asked asks is.
+    inl (key_unread g.S.Source.has_ended g.S.Source.faults g.S.Source.idles g.S.Source.left c.args.inputs.now.key (g.K.Sink.faults c.args.out.now) (g.K.Sink.sent c.args.out.now) _ _ refl (refl, (refl, refl, refl)))
 
 pub run_line-requires-clause-fits : goal.run_line-requires-clause-fits
 run_line-requires-clause-fits g c = c.in-Ok.ensures.asks.fits
@@ -113,4 +130,7 @@ pub run_line-requires-clause-node : goal.run_line-requires-clause-node
 run_line-requires-clause-node g c = c.in-Ok.ensures.node
 
 pub run_line-requires-clause-links : goal.run_line-requires-clause-links
-run_line-requires-clause-links g c = c.requires _ c.in-Ok.ensures.asks
+run_line-requires-clause-links g c = (c.requires _ c.in-Ok.ensures.asks).0
+
+pub run_line-requires-clause-stores : goal.run_line-requires-clause-stores
+run_line-requires-clause-stores g c = (c.requires _ c.in-Ok.ensures.asks).1
