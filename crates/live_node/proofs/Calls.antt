@@ -30,11 +30,11 @@ use Rattle.live_node.specs.declared.nodes.Due.TheVariants.{Tick, Heartbeat, Sim}
 use Rattle.live_node.specs.declared.tellers.Ending.{Ending}
 use Rattle.live_node.specs.declared.tellers.Teller.{Teller}
 use Rattle.live_node.specs.Nodes.{IsLive, IsKeptBy}
-use Rattle.live_node.specs.Calls.{LiveCall, Hears, Obeys, call_does, calls_do, keeps_in, IsTime, ticks_with, ticks_over}
+use Rattle.live_node.specs.Calls.{LiveCall, call_does, calls_do, keeps_in, IsTime, ticks_with, ticks_over}
 use Rattle.live_node.specs.Texts.{frames_text, lines_of, count_over, ending_over}
 use Rattle.live_node.specs.Ports.{SentBy, PrintedBy, FaultsBy, IsRunEnd, end_by, IsTellingEnd}
 use Rattle.live_node.specs.Parts.{CallFails}
-use Rattle.live_node.specs.Runs.{Outside, outside, Stores, Kept, Written, IsSpentCall}
+use Rattle.live_node.specs.Runs.{Outside, outside, Stores, Kept, Written}
 use Rattle.live_node.specs.Progress.{Said, Output, CallsStopped, due_call, counted}
 use Rattle.live_node.proofs.Endings.{sent_by, printed_by, sent_after, printed_after, whole_after}
 use Rattle.live_node.proofs.Texts.{frames-append, lines-append, count-append, ending-append}

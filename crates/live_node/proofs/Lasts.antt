@@ -7,7 +7,7 @@ use Rattle.mav_nodes.specs.declared.faults.NodeFault.{NodeFault}
 use Rattle.mav_nodes.specs.declared.faults.NodeFault.TheVariants.{StampsSpent, Store, NoMemory}
 use Rattle.run_status.specs.declared.run_ends.RunEnd.{RunEnd}
 use Rattle.live_node.specs.Calls.{LiveCall}
-use Rattle.live_node.specs.Turns.{Turn, Reads, Waits, Breaks, turn_calls, IsHeard, AllHeard, Rest, rest_calls, calls_of, last_turn_calls, last_rest_calls, last_calls, IsTurnTimed, AreTurnsTimed, AreRestsTimed}
+use Rattle.live_node.specs.Turns.{Turn, Reads, Waits, Breaks, turn_calls, IsHeard, AllHeard, Rest, rest_calls, calls_of, last_turn_calls, last_rest_calls, IsTurnTimed, AreTurnsTimed, AreRestsTimed}
 use Rattle.live_node.specs.Ports.{end_by}
 use Rattle.live_node.specs.Runs.{GivesUp, LastHeard, HeardBy}
 

@@ -1,5 +1,5 @@
 -- An order that is followed, or isn't.
-use Rattle.std.proofs.Common.{◌≡◌, ◌⊎◌, inl, inr, ℕ, List, [], ◌∷◌, ◌++◌, Bool, true, false, Option, Some, None, refl, sym, ap, ◌∙◌, subst}
+use Rattle.std.proofs.Common.{◌≡◌, inl, inr, ℕ, List, [], ◌∷◌, ◌++◌, Bool, true, false, Option, Some, None, refl, sym, ap, ◌∙◌, subst}
 use Rattle.std.specs.Prelude.{◌||◌, is_some}
 use Rattle.std.proofs.lemmas.List.{append-nil}
 use Rattle.plan_upload.specs.declared.faults.OpFault.{OpFault}
@@ -12,9 +12,8 @@ use Rattle.mav_nodes.specs.declared.faults.NodeFault.{NodeFault}
 use Rattle.mav_nodes.specs.declared.faults.NodeFault.TheVariants.{StampsSpent as NoStamp, Store, NoMemory as NoNodeMemory}
 use Rattle.mav_nodes.specs.declared.faults.OrderFault.{OrderFault}
 use Rattle.mav_nodes.specs.declared.faults.OrderFault.TheVariants.{Begin, Op, Command, Param, Node as NodeFails}
-use Rattle.mav_nodes.specs.Nodes.{StationSide, StationView, IsStation, IsAccepted, order_refusal, order_fault, command_refusal, params_refusal, station_obeys}
+use Rattle.mav_nodes.specs.Nodes.{StationSide, StationView, IsStation, IsAccepted, order_refusal, order_fault, command_refusal, params_refusal}
 use Rattle.mav_nodes.specs.Promises.{OrderFails}
-use Rattle.mav_nodes.specs.Links.{Outcome}
 use Rattle.fleet_world.specs.WorldState.{Node, Drone, Station}
 use Rattle.fleet_world.specs.Steps.{as_station}
 use Rattle.run_status.specs.declared.input_errors.InputError.TheVariants.{StampsSpent}

@@ -1,5 +1,5 @@
 -- Time that passes after the port's end.
-use Rattle.std.proofs.Common.{◌≡◌, List, [], ◌∷◌, ◌++◌, ap, sym, ◌∙◌, subst, append_assoc, Some, Option}
+use Rattle.std.proofs.Common.{◌≡◌, List, [], ◌∷◌, ◌++◌, ap, sym, ◌∙◌, subst, append_assoc, Some}
 use Rattle.std.specs.List.{flat_map}
 use Rattle.std.specs.Io.KnownBytes.{prepend_known}
 use Rattle.mav_ports.specs.Gets.{IsSpent}
@@ -10,9 +10,9 @@ use Rattle.run_status.specs.declared.run_ends.RunEnd.{RunEnd}
 use Rattle.run_status.specs.declared.run_ends.RunEnd.TheVariants.{Stopped}
 use Rattle.live_node.specs.declared.nodes.LiveNode.{LiveNode}
 use Rattle.live_node.specs.declared.tellers.Teller.{Teller}
-use Rattle.live_node.specs.Nodes.{HasHeard, end_of}
+use Rattle.live_node.specs.Nodes.{end_of}
 use Rattle.live_node.specs.Calls.{extras_at, LiveCall}
-use Rattle.live_node.specs.Turns.{Turn, turn_bytes, turn_events, AllHeard, Rest, rest_calls, calls_of}
+use Rattle.live_node.specs.Turns.{Turn, turn_bytes, turn_events, Rest, rest_calls, calls_of}
 use Rattle.live_node.specs.Ports.{SameRead}
 use Rattle.live_node.specs.Runs.{Outside, Stores, HeardIn, IsSpentCall, RunsOutIn, RunAt}
 use Rattle.live_node.specs.Progress.{WaitDone, WaitStopped, PortEnded}

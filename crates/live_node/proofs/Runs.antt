@@ -1,5 +1,5 @@
 -- Runs that end without a call left to be made, or in their opening.
-use Rattle.std.proofs.Common.{◌≡◌, ℕ, List, [], ◌∷◌, ◌++◌, Option, Some, None, refl, sym, ap, ◌∙◌, subst}
+use Rattle.std.proofs.Common.{◌≡◌, List, [], ◌∷◌, Option, Some, None, refl, sym, ap, ◌∙◌}
 use Rattle.std.specs.Prelude.{map}
 use Rattle.std.specs.List.{flat_map}
 use Rattle.std.specs.Option.{option_map}
@@ -8,7 +8,7 @@ use Rattle.std.specs.Io.KnownBytes.{prepend_known}
 use Rattle.mav_ports.specs.declared.sources.Got.{Got}
 use Rattle.mav_ports.specs.declared.sources.Got.TheVariants.{Failed}
 use Rattle.mav_ports.proofs.Known.{prepend_known_nil}
-use Rattle.mav_links.specs.Links.{LinkState, Pauses, pauses_after}
+use Rattle.mav_links.specs.Links.{Pauses, pauses_after}
 use Rattle.mav_nodes.specs.News.{shown}
 use Rattle.fleet_world.specs.WorldState.{Node, node_name}
 use Rattle.run_status.specs.declared.input_errors.InputError.TheVariants.{StampsSpent}
@@ -22,7 +22,7 @@ use Rattle.live_node.specs.Calls.{extras_at, LiveCall, AreTimed}
 use Rattle.live_node.specs.Turns.{Turn, turn_bytes, pauses_over, AllHeard, Rest, calls_of, last_calls}
 use Rattle.live_node.specs.Texts.{frames_text, lines_of}
 use Rattle.live_node.specs.Ports.{SameRead}
-use Rattle.live_node.specs.Runs.{Outside, Stores, HeardIn, IsSpentCall, RunsOutIn, RunAt}
+use Rattle.live_node.specs.Runs.{Outside, Stores, HeardIn, RunAt}
 use Rattle.live_node.specs.Progress.{Output, Between, CallsStopped}
 use Rattle.live_node.proofs.Endings.{sent_by, printed_by}
 use Rattle.live_node.proofs.Lasts.{heard_all, calls_at_start}

@@ -1,8 +1,7 @@
 -- The whole run of a station.
-use Rattle.std.proofs.Common.{◌≡◌, ◌⊎◌, inl, inr, ℕ, ◌+◌, ◌≤◌, List, [], ◌∷◌, ◌++◌, Bool, true, false, Option, Some, None, Result, Ok, Err, refl, sym, ap, ◌∙◌, subst, arith}
-use Rattle.std.specs.Prelude.{length, nat_lt, IfOk, IfErr}
+use Rattle.std.proofs.Common.{◌≡◌, ◌⊎◌, inl, inr, ℕ, ◌≤◌, List, [], ◌∷◌, ◌++◌, Bool, true, false, Option, Some, None, Result, Ok, Err, refl, sym, ap, ◌∙◌, subst, arith}
+use Rattle.std.specs.Prelude.{length, nat_lt, IfErr}
 use Rattle.std.specs.Result.{result_err}
-use Rattle.std.proofs.lemmas.List.{append-nil, length-append}
 use Rattle.std.proofs.lemmas.List.Elements.{All-nil}
 use Rattle.mav_ports.proofs.Known.{append_known_nil}
 use Rattle.mav_links.specs.Links.{LinkState}
@@ -16,7 +15,7 @@ use Rattle.mav_nodes.specs.Nodes.{StationSide, StationView, IsStation, new_stati
 use Rattle.mav_nodes.specs.Stores.{Serves}
 use Rattle.mav_nodes.specs.Streams.{HasRead}
 use Rattle.fleet_world.specs.WorldState.{Node, Drone, Station}
-use Rattle.fleet_world.specs.Steps.{as_drone, as_station, node_beats}
+use Rattle.fleet_world.specs.Steps.{as_drone, as_station}
 use Rattle.run_status.specs.declared.input_errors.InputError.TheVariants.{Bad, AtLimit, StampsSpent}
 use Rattle.run_status.specs.declared.live_ends.LiveEnd.TheVariants.{RefusedWith, NoAnswer, StoreFault, PortTurns, PortFault}
 use Rattle.run_status.specs.declared.run_ends.RunEnd.{RunEnd}
@@ -27,15 +26,15 @@ use Rattle.live_node.specs.declared.stations.StationPlan.{StationPlan}
 use Rattle.live_node.specs.declared.tellers.Ending.{Ending}
 use Rattle.live_node.specs.declared.tellers.Ending.TheVariants.{Done, Refused, Unanswered}
 use Rattle.live_node.specs.declared.tellers.Teller.{Teller}
-use Rattle.live_node.specs.Calls.{LiveCall, Beats, Obeys, calls_do, ticks_over, IsTime}
-use Rattle.live_node.specs.Turns.{Turn, Rest, calls_of}
+use Rattle.live_node.specs.Calls.{LiveCall, Beats, Obeys, calls_do, IsTime}
+use Rattle.live_node.specs.Turns.{Turn, Rest}
 use Rattle.live_node.specs.Texts.{ending_over}
 use Rattle.live_node.specs.Ports.{SameRead, IsRunEnd}
-use Rattle.live_node.specs.Runs.{Outside, outside, Stores, MayRest, RunAt, IsWhole}
+use Rattle.live_node.specs.Runs.{Outside, outside, Stores, MayRest, IsWhole}
 use Rattle.live_node.specs.Drones.{mem_stores}
 use Rattle.live_node.specs.Orders.{node_refuses, refused_end}
 use Rattle.live_node.specs.Progress.{Output, Between, CallStopped, Opened}
-use Rattle.live_node.specs.Stations.{verdict, judged, Awaited, HasEnded, StationEnds, IsOrderEnd, IsWaitedEnd, IsStationEnd, IsOrdered, StationLived, StationRan, StationRuns, stream_asked}
+use Rattle.live_node.specs.Stations.{verdict, judged, Awaited, HasEnded, StationEnds, IsOrderEnd, IsWaitedEnd, IsStationEnd, StationLived, StationRan, stream_asked}
 use Rattle.live_node.specs.Waiting.{OrderStopped, WatchDone, WatchStopped, Outlasted, OutlastStopped, WaitedFor}
 use Rattle.live_node.proofs.Openings.{cut_off}
 use Rattle.live_node.proofs.Runs.{run_over, still_self, stopped_in_opening}

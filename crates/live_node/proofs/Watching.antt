@@ -1,12 +1,11 @@
 -- Turns and times that are taken until the verdict.
-use Rattle.std.proofs.Common.{◌≡◌, ◌⊎◌, inl, inr, ℕ, ◌+◌, ◌≤◌, ◌<◌, List, [], ◌∷◌, ◌++◌, Bool, true, false, Option, Some, None, Result, Ok, Err, refl, sym, ap, ◌∙◌, subst, arith}
-use Rattle.std.specs.Prelude.{◌-◌, ◌^◌, nat_lt, min, max, length, is_some, if◌then◌else◌}
+use Rattle.std.proofs.Common.{◌≡◌, inl, inr, ℕ, ◌+◌, ◌≤◌, ◌<◌, List, [], ◌∷◌, ◌++◌, Bool, true, false, Option, Some, None, Result, Err, refl, sym, ap, ◌∙◌, subst, arith}
+use Rattle.std.specs.Prelude.{◌-◌, ◌^◌, nat_lt, min, length, is_some, if◌then◌else◌}
 use Rattle.std.specs.List.{flat_map}
 use Rattle.std.proofs.lemmas.Bool.{ltb-true}
 use Rattle.std.proofs.lemmas.List.{length-append}
 use Rattle.mav_ports.specs.Counts.{next_count}
 use Rattle.mav_ports.specs.Gets.{IsSpent}
-use Rattle.mav_nodes.specs.News.{NodeEvent}
 use Rattle.fleet_world.specs.WorldState.{Node}
 use Rattle.run_status.specs.declared.live_ends.LiveEnd.TheVariants.{NoAnswer}
 use Rattle.run_status.specs.declared.run_ends.RunEnd.{RunEnd}

@@ -16,7 +16,7 @@ use Rattle.run_status.specs.declared.input_errors.InputError.TheVariants.{Stamps
 use Rattle.run_status.specs.declared.run_ends.RunEnd.{RunEnd}
 use Rattle.run_status.specs.declared.run_ends.RunEnd.TheVariants.{Stopped, NoMemory, Live}
 use Rattle.live_node.specs.Calls.{LiveCall, extras_at, call_does, calls_do, node_hears, keeps_in, AreTimed}
-use Rattle.live_node.specs.Turns.{Turn, Reads, Waits, Breaks, turn_bytes, turn_events, idles_over, pauses_over, ReadFrom, IsHeard, AllHeard, Rest, calls_of, last_calls, AreTurnsTimed, AreRestsTimed}
+use Rattle.live_node.specs.Turns.{Turn, Breaks, turn_bytes, turn_events, idles_over, pauses_over, ReadFrom, IsHeard, AllHeard, Rest, calls_of, last_calls, AreTurnsTimed, AreRestsTimed}
 use Rattle.live_node.specs.Texts.{frames_text, lines_of}
 use Rattle.live_node.specs.Ports.{SentBy, PrintedBy}
 

@@ -7,12 +7,12 @@ use Rattle.live_node.specs.declared.nodes.LiveNode.{LiveNode}
 use Rattle.live_node.specs.declared.stations.StationPlan.{StationPlan}
 use Rattle.live_node.specs.declared.tellers.Teller.{Teller}
 use Rattle.live_node.specs.Calls.{LiveCall, Obeys, IsTime, ticks_over}
-use Rattle.live_node.specs.Turns.{Turn, Rest, calls_of}
+use Rattle.live_node.specs.Turns.{Turn, Rest}
 use Rattle.live_node.specs.Texts.{ending_over}
 use Rattle.live_node.specs.Runs.{Outside, Stores, MayRest, RunAt, IsWhole}
 use Rattle.live_node.specs.Orders.{node_refuses, refused_end}
 use Rattle.live_node.specs.Progress.{Output, Between, CallsStopped, PortEnded}
-use Rattle.live_node.specs.Stations.{verdict, Awaits, Awaited, HasEnded, StationEnds}
+use Rattle.live_node.specs.Stations.{verdict, Awaited, HasEnded, StationEnds}
 
 -- the order was followed by a node that was so
 pub record OrderDone {S : Type 0} (stores : Stores S) (before now : S) (start : Node) (made : List LiveCall) (was : Node) (order : Order) (live : LiveNode) (teller : Teller) (first last : Outside) : Type 0 where

@@ -1,10 +1,10 @@
 // The lines of news, and all that is written of a call's news.
-ghost use Rattle.std.specs.Prelude.{◌≡◌, ◌⊎◌, ◌∷◌, [], List, map, Some, None, OnOk, OnErr, IfOk, IfErr, IsErrOf};
+ghost use Rattle.std.specs.Prelude.{◌≡◌, ◌⊎◌, ◌∷◌, [], List, map, Some, None, OnOk, IfOk, IfErr};
 ghost use Rattle.std.specs.Result.{result_err};
 ghost use Rattle.mav_nodes.specs.News.{NodeEvent, shown, said_by, events_of};
 ghost use Rattle.fleet_world.specs.ParamLists.{HaveValues};
 ghost use Rattle.plan_upload.specs.Outcomes.{told_of};
-ghost use Rattle.live_node.specs.Texts.{tells, count_with, ending_in, ending_told};
+ghost use Rattle.live_node.specs.Texts.{count_with, ending_in, ending_told};
 ghost use Rattle.live_node.specs.Ports.{FaultsBy, PrintFaults, SameRead, IsTellingEnd};
 ghost use Rattle.live_node.specs.Progress.{Said, Tells, TellsAll, Prints};
 

@@ -1,12 +1,12 @@
 // Runs whose input fails, gives nothing or is too long, and runs whose output fails.
-ghost use Rattle.std.specs.Prelude.{◌≡◌, map, string_bytes};
+ghost use Rattle.std.specs.Prelude.{◌≡◌, true, false, is_some, length, map, string_bytes};
 ghost use Rattle.command_line.specs.Built.{built};
 ghost use Rattle.command_line.specs.Grammar.{Asked, Asks};
 ghost use Rattle.station_cli.specs.Routing.{AreAsked};
 ghost use Rattle.station_cli.specs.Wants.{keepers_asked};
 
 use mav_ports::{Got, MemClock, Sink, Source, StdSink, StdSource, SureSink};
-use station_cli::{Inputs, WantedFault, run, wanted};
+use station_cli::{Inputs, Wanted, WantedFault, run, wanted};
 use std::alloc::{AllocError, Global};
 use std::io::{self, Error, ErrorKind, Read, Write};
 use std::test::Fail;
@@ -210,6 +210,13 @@ fn run_unlinked<S: Source, K: Sink>(
     )
 }
 
+fn names_nothing(wanted: &Wanted) -> bool
+    ensures ports { result ≡ true → length wanted.now.ports.items ≡ 0 }
+    ensures store { result ≡ true → is_some wanted.now.store ≡ false }
+{
+    wanted.ports.is_empty() && wanted.store.is_none()
+}
+
 // The status of a run; that of want of memory, if there is none for the words, or if they name a port or a store.
 fn status_of<S: Source, K: Sink>(
     alloc: Global,
@@ -219,9 +226,7 @@ fn status_of<S: Source, K: Sink>(
 ) -> u8 {
     match words_of(alloc, text) {
         Ok(words) => match wanted(alloc, &words) {
-            Ok(wanted) if wanted.ports.is_empty() && wanted.store.is_none() => {
-                run_unlinked(alloc, &words, inputs, out)
-            }
+            Ok(wanted) if names_nothing(&wanted) => run_unlinked(alloc, &words, inputs, out),
             Err(WantedFault::Usage) => run_unlinked(alloc, &words, inputs, out),
             _ => 7,
         },

@@ -1,5 +1,5 @@
 -- The order that an operation of a station's words gives.
-use Rattle.std.specs.Prelude.{◌≡◌, ℕ, List, Option, Some, None, option_map}
+use Rattle.std.specs.Prelude.{◌≡◌, List, option_map}
 use Rattle.std.specs.Int.{w32, from_le_bytes}
 use Rattle.mav_names.specs.declared.names.Stream.{Stream}
 use Rattle.plan_items.specs.declared.items.Item.{Item}

@@ -7,9 +7,7 @@ use Rattle.plan_file.specs.Spec.{plan_spec, HoldsItems}
 use Rattle.mav_nodes.specs.declared.orders.Order.{Order}
 use Rattle.run_status.specs.declared.run_ends.RunEnd.{RunEnd}
 use Rattle.run_status.specs.Runs.{CommandSpec}
-use Rattle.command_line.specs.declared.commands.OptionName.TheVariants.{File}
 use Rattle.command_line.specs.declared.operations.Task.{Task}
-use Rattle.command_line.specs.Forms.{has_given}
 use Rattle.command_line.specs.Grammar.{Asked}
 use Rattle.command_line.specs.Names.{ticks_asked}
 use Rattle.command_line.specs.OperationTexts.{OperationSays}

@@ -1,7 +1,6 @@
 // The command `drone`, with the key that its line names.
 ghost use Rattle.std.specs.Prelude.{◌≡◌, length, true, false, map, string_bytes, IsErr, IsErrOf};
 ghost use Rattle.std.specs.Result.{result_err};
-ghost use Rattle.mav_ports.specs.Gets.{IsSpent};
 ghost use Rattle.command_line.specs.Forms.{has_given};
 ghost use Rattle.command_line.specs.Lines.{asked_by, given_of};
 ghost use Rattle.command_line.specs.Nodes.{DroneSays};

@@ -1,6 +1,5 @@
 // The order of an operation.
-ghost use Rattle.std.specs.Prelude.{◌≡◌, List, []};
-ghost use Rattle.plan_items.specs.declared.items.Item.{Item};
+ghost use Rattle.std.specs.Prelude.{◌≡◌};
 ghost use Rattle.plan_items.specs.Plans.{items_of};
 ghost use Rattle.station_cli.specs.Ordering.{kind_of, OrdersFor};
 

@@ -1,8 +1,7 @@
 // The command `station`, with the key and the file that its line names.
-ghost use Rattle.std.specs.Prelude.{◌≡◌, ◌≤◌, length, Some, [], true, false, map, string_bytes, IsErr, IsErrOf, IfOk, IfErr, List, ℕ};
+ghost use Rattle.std.specs.Prelude.{◌≡◌, length, Some, true, false, map, string_bytes, IsErr, IsErrOf, IfOk, IfErr, List, ℕ};
 ghost use Rattle.std.specs.Result.{result_err};
 ghost use Rattle.std.specs.declared.option.Option.{Option};
-ghost use Rattle.mav_ports.specs.Gets.{IsSpent};
 ghost use Rattle.plan_items.specs.Plans.{items_of};
 ghost use Rattle.command_line.specs.Forms.{has_given};
 ghost use Rattle.command_line.specs.Lines.{asked_by, given_of};
@@ -11,7 +10,7 @@ ghost use Rattle.live_node.specs.Runs.{stores_of};
 ghost use Rattle.plan_file.specs.Spec.{plan_spec};
 ghost use Rattle.station_cli.specs.Flying.{devices};
 ghost use Rattle.station_cli.specs.Stationing.{Stationed, Stationing, PlanIs};
-ghost use Rattle.station_cli.specs.Seen.{Output, input_of, output_of, before_status_over};
+ghost use Rattle.station_cli.specs.Seen.{input_of, output_of, before_status_over};
 
 use crate::ordering::order_of;
 use crate::wants::{Inputs, Store};

@@ -1,4 +1,4 @@
-use Rattle.std.proofs.Common.{rules, arith, [], ◌∷◌, ◌++◌, ◌∙◌, refl}
+use Rattle.std.proofs.Common.{rules, arith, [], ◌∙◌, refl}
 use Rattle.live_node.proofs.Taken.{taken_more, stopped_after}
 use Rattle.live_node.proofs.drones.run_turns.Goals as goal
 

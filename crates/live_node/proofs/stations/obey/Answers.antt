@@ -5,7 +5,7 @@ use Rattle.mav_nodes.proofs.StoreCalls.{serves_same}
 use Rattle.live_node.specs.Calls.{Obeys}
 use Rattle.live_node.proofs.Calls.{call_told, call_stopped, port_same, output_later, on_time}
 use Rattle.live_node.proofs.Results.{told_ok, told_err}
-use Rattle.live_node.proofs.Ordering.{not_followed, not_refused, telling_order_ends, order_ends, order_counts}
+use Rattle.live_node.proofs.Ordering.{not_followed, not_refused}
 use Rattle.live_node.proofs.stations.obey.Goals as goal
 
 pub returns-in-Ok-clause-done : goal.returns-in-Ok-clause-done

@@ -1,8 +1,8 @@
-use Rattle.std.proofs.Common.{rules, [], ap, sym, ◌∙◌, refl, arith, subst}
+use Rattle.std.proofs.Common.{rules, [], ap, sym, ◌∙◌, refl, arith}
 use Rattle.std.specs.Prelude.{is_some}
 use Rattle.live_node.specs.Turns.{calls_of}
-use Rattle.live_node.proofs.Resting.{rest_done, rest_of, rest_stopped, cut_rest}
-use Rattle.live_node.proofs.Watching.{OutlastTaken, outlast_more, outlast_stopped, outlasted, no_verdict, a_verdict}
+use Rattle.live_node.proofs.Resting.{rest_done, rest_of}
+use Rattle.live_node.proofs.Watching.{outlast_more, outlast_stopped, outlasted, no_verdict, a_verdict}
 use Rattle.live_node.proofs.stations.outlast.Goals as goal
 
 pub returns-then-is_some-clause-done : goal.returns-then-is_some-clause-done

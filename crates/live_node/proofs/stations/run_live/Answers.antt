@@ -2,7 +2,7 @@ use Rattle.std.proofs.Common.{[], ◌∷◌, ◌∙◌}
 use Rattle.live_node.specs.Calls.{Beats, Obeys}
 use Rattle.live_node.proofs.Ports.{same_twice}
 use Rattle.live_node.proofs.TurnEnds.{started}
-use Rattle.live_node.proofs.StationRuns.{stopped_in_beat, stopped_in_order, lived, run_waited_end, live_end}
+use Rattle.live_node.proofs.StationRuns.{stopped_in_beat, stopped_in_order, lived}
 use Rattle.live_node.proofs.stations.run_live.Goals as goal
 
 pub returns-in-Err-clause-ran : goal.returns-in-Err-clause-ran

@@ -3,7 +3,7 @@ use Rattle.mav_nodes.specs.Nodes.{new_station}
 use Rattle.mav_nodes.proofs.StoreCalls.{serves_same}
 use Rattle.fleet_world.specs.WorldState.{Station}
 use Rattle.live_node.specs.Drones.{mem_stores}
-use Rattle.live_node.specs.Stations.{StationRan, stream_asked}
+use Rattle.live_node.specs.Stations.{stream_asked}
 use Rattle.live_node.proofs.StationRuns.{opened_station, ran_station, station_ends}
 use Rattle.live_node.proofs.stations.run_station.Goals as goal
 

@@ -1,4 +1,4 @@
-use Rattle.live_node.proofs.StationRuns.{waited_turns, waited_rests, watch_cut, outlast_cut, judge_end}
+use Rattle.live_node.proofs.StationRuns.{waited_turns, waited_rests, watch_cut, outlast_cut}
 use Rattle.live_node.proofs.stations.wait_for.Goals as goal
 
 pub returns-in-Ok-true-clause-waited : goal.returns-in-Ok-true-clause-waited

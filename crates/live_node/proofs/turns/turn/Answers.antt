@@ -1,10 +1,10 @@
-use Rattle.std.proofs.Common.{[], ◌++◌, inl, inr, refl}
+use Rattle.std.proofs.Common.{[], inl, inr, refl}
 use Rattle.std.specs.List.{flat_map}
 use Rattle.live_node.specs.Calls.{extras_at}
 use Rattle.live_node.specs.Turns.{turn_bytes, turn_events, calls_of}
 use Rattle.live_node.specs.Runs.{outside}
 use Rattle.live_node.proofs.Turning.{output_read}
-use Rattle.live_node.proofs.Runs.{run_over, still_failed, between_read, port_no_stamps, port_no_store}
+use Rattle.live_node.proofs.Runs.{run_over, still_failed, port_no_stamps, port_no_store}
 use Rattle.live_node.proofs.TurnEnds.{piece_done, piece_cut, wait_done, wait_cut}
 use Rattle.live_node.proofs.turns.turn.Goals as goal
 
