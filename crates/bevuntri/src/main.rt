@@ -11,8 +11,8 @@ mod ports;
 
 use mav_links::Link;
 use mav_ports::{StdClock, StdSink, StdSource};
-use plan_store::FileKeeper;
-use ports::{file_link, tcp_link, udp_link};
+use plan_store::{FailKeeper, FileKeeper};
+use ports::{file_link, tcp_link, udp_link, wait_of};
 use station_cli::{Inputs, SocketKind, Store, Target, Wanted, WantedFault, run, wanted};
 use std::alloc::AllocError;
 use std::fs::File;
@@ -104,6 +104,7 @@ fn run_ports(
 ) -> Result<u8, AllocError>
     requires { Wants (map string_bytes words.now) wanted.now }
 {
+    let wait = wait_of(words);
     let mut ports: Vec<Box<dyn Link>> = Vec::new(rt.alloc());
     for port in &wanted.ports {
         match &port.target {
@@ -112,10 +113,10 @@ fn run_ports(
             }
             Target::Socket(socket) => match socket.kind {
                 SocketKind::Tcp | SocketKind::Listen => {
-                    ports.push(Box::new(rt.alloc(), tcp_link(rt, socket)?)?)?;
+                    ports.push(Box::new(rt.alloc(), tcp_link(rt, socket, wait)?)?)?;
                 }
                 SocketKind::Udp | SocketKind::UdpListen => {
-                    ports.push(Box::new(rt.alloc(), udp_link(rt, socket)?)?)?;
+                    ports.push(Box::new(rt.alloc(), udp_link(rt, socket, wait)?)?)?;
                 }
             },
         }
@@ -123,7 +124,7 @@ fn run_ports(
     run_stores(rt, words, wanted, inputs, &mut ports)
 }
 
-// The store that the words name, if they name one.
+// The store that the words name, if they name one: a file, and not standard input, which is `-` and fails at each call.
 fn run_stores(
     rt: &HostRuntime,
     words: &[String],
@@ -136,6 +137,10 @@ fn run_stores(
 {
     let mut stores: Vec<Store> = Vec::new(rt.alloc());
     match &wanted.store {
+        Some(name) if name.as_str() == "-" => {
+            stores.push(Box::new(rt.alloc(), FailKeeper::new())?)?;
+            Ok(run_over(rt, words, inputs, ports, &mut stores))
+        }
         Some(name) => {
             let keeper = FileKeeper::new(*rt, rt.alloc(), name.as_str())?;
             stores.push(Box::new(rt.alloc(), keeper)?)?;
