@@ -1,0 +1,155 @@
+// Runs of a live drone and a live station over a link in memory.
+ghost use Rattle.std.specs.Prelude.{◌≡◌, true, false, is_some, length, map, string_bytes};
+ghost use Rattle.command_line.specs.Built.{built};
+ghost use Rattle.command_line.specs.Grammar.{Asked, Asks};
+ghost use Rattle.station_cli.specs.Routing.{AreAsked};
+ghost use Rattle.station_cli.specs.Wants.{keepers_asked};
+
+use crate::faults::words_of;
+use mav_links::{Link, MemLink};
+use mav_ports::{MemClock, SureSink, SureSource};
+use station_cli::{Inputs, Wanted, run, wanted};
+use std::alloc::{AllocError, Global};
+use std::test::Fail;
+
+const KEY: &[u8] = b"000102030405060708090a0b0c0d0e0f101112131415161718191a1b1c1d1e1f";
+
+// Words over a link without bytes that idles at the first reads, so many, and fails at these reads and writes; the status,
+// what was written to the output, and how many bytes to the link.
+#[derive(Clone, Copy)]
+struct LiveRun {
+    words: &'static str,
+    idles: u64,
+    read_fails: &'static [u64],
+    write_fails: &'static [u64],
+    status: u8,
+    output: &'static [u8],
+    sent: usize,
+}
+
+// A signed HEARTBEAT has 34 bytes, and so has a signed PING 1 for everyone, whose last bytes, zeros, are left out.
+static RUNS: [LiveRun; 4] = [
+    LiveRun {
+        words: "drone --key k 1 file:a:b",
+        idles: 0,
+        read_fails: &[],
+        write_fails: &[],
+        status: 0,
+        output: b"1 1.1 HEARTBEAT\n",
+        sent: 34,
+    },
+    LiveRun {
+        words: "drone --key k 1 file:a:b",
+        idles: 0,
+        read_fails: &[0],
+        write_fails: &[],
+        status: 12,
+        output: b"1 1.1 HEARTBEAT\nport fault\n",
+        sent: 34,
+    },
+    LiveRun {
+        words: "station --key k 255 190 1 file:a:b get mission",
+        idles: 0,
+        read_fails: &[],
+        write_fails: &[0],
+        status: 12,
+        output: b"1 255.190 HEARTBEAT\nport fault\n",
+        sent: 0,
+    },
+    LiveRun {
+        words: "station --key k --ticks 3 255 190 1 file:a:b get mission",
+        idles: 9,
+        read_fails: &[],
+        write_fails: &[],
+        status: 9,
+        output: b"1 255.190 HEARTBEAT\n2 255.190 PING 1 to 0.0\n3 255.190 PING 1 to 0.0\n4 255.190 HEARTBEAT\n5 255.190 PING 1 to 0.0\n6 255.190 HEARTBEAT\n7 255.190 PING 1 to 0.0\n8 255.190 HEARTBEAT\nno answer 3\n",
+        sent: 272,
+    },
+];
+
+fn link_of(alloc: Global, wanted: &LiveRun) -> Result<MemLink, AllocError> {
+    let mut idles = Vec::new(alloc);
+    for at in 0..wanted.idles {
+        idles.push(at)?;
+    }
+    MemLink::new(
+        alloc,
+        Vec::new(alloc),
+        4096,
+        wanted.read_fails.to_vec(alloc)?,
+        idles,
+        4096,
+        wanted.write_fails.to_vec(alloc)?,
+    )
+}
+
+// Whether words name so many ports, and no store.
+fn names_ports(wanted: &Wanted, links: usize) -> bool
+    ensures ports { result ≡ true → length wanted.now.ports.items ≡ links }
+    ensures store { result ≡ true → is_some wanted.now.store ≡ false }
+{
+    wanted.ports.len() == links && wanted.store.is_none()
+}
+
+fn run_linked(
+    alloc: Global,
+    words: &[String],
+    out: &mut SureSink,
+    ports: &mut Vec<Box<dyn Link>>,
+) -> Result<u8, AllocError>
+    requires { (asked : Asked) → Asks built (map string_bytes words.now) asked
+        → AreAsked (length ports.old.items) asked × (0 ≡ keepers_asked asked) }
+{
+    let mut inputs = Inputs {
+        main: SureSource::new(Vec::new(alloc)),
+        defs: SureSource::new(Vec::new(alloc)),
+        key: SureSource::new(KEY.to_vec(alloc)?),
+    };
+    let mut clock = MemClock::new(1_000_000);
+    Ok(run(
+        alloc,
+        words,
+        &mut inputs,
+        out,
+        &mut clock,
+        ports,
+        &mut Vec::new(alloc),
+    ))
+}
+
+// The status of a run over the links; that of want of memory, if the words aren't of so many ports alone.
+fn status_over(
+    alloc: Global,
+    text: &str,
+    out: &mut SureSink,
+    ports: &mut Vec<Box<dyn Link>>,
+) -> Result<u8, AllocError> {
+    let words = words_of(alloc, text)?;
+    match wanted(alloc, &words) {
+        Ok(wanted) if names_ports(&wanted, ports.len()) => run_linked(alloc, &words, out, ports),
+        _ => Ok(7),
+    }
+}
+
+fn is_met(alloc: Global, wanted: &LiveRun) -> Result<bool, AllocError> {
+    let mut out = SureSink::with_room(alloc, 4096)?;
+    let mut ports: Vec<Box<dyn Link>> = Vec::new(alloc);
+    ports.push(Box::new(alloc, link_of(alloc, wanted)?)?)?;
+    let status = status_over(alloc, wanted.words, &mut out, &mut ports)?;
+    Ok(status == wanted.status && out.sent() == wanted.output && sent_by(&ports) == wanted.sent)
+}
+
+fn sent_by(ports: &[Box<dyn Link>]) -> usize {
+    match ports {
+        [port] => port.sent().len(),
+        _ => 0,
+    }
+}
+
+#[test]
+fn live_nodes_run_over_a_link_in_memory(rt: HostRuntime) -> Result<(), Fail> {
+    for wanted in &RUNS {
+        assert!(rt; is_met(rt.alloc(), wanted)?);
+    }
+    Ok(())
+}
