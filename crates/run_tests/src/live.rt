@@ -14,11 +14,22 @@ use std::test::Fail;
 
 const KEY: &[u8] = b"000102030405060708090a0b0c0d0e0f101112131415161718191a1b1c1d1e1f";
 
-// Words over a link without bytes that idles at the first reads, so many, and fails at these reads and writes; the status,
+// PING 1, an acknowledgement and the count 0 from a drone without a mission, signed under the key.
+const EMPTY_DRONE: &[u8] = &[
+    0xFD, 0x0E, 0x01, 0x00, 0x00, 0x01, 0x01, 0x04, 0x00, 0x00, 0x40, 0x42, 0x0F, 0x00, 0x00, 0x00,
+    0x00, 0x00, 0x01, 0x00, 0x00, 0x00, 0xFF, 0xBE, 0x94, 0xA3, 0x00, 0x41, 0x42, 0x0F, 0x00, 0x00,
+    0x00, 0x10, 0xD2, 0xF2, 0xC5, 0xCC, 0xAC, 0xFD, 0x03, 0x01, 0x00, 0x01, 0x01, 0x01, 0x2F, 0x00,
+    0x00, 0xFF, 0xBE, 0x01, 0xBF, 0x6E, 0x00, 0x42, 0x42, 0x0F, 0x00, 0x00, 0x00, 0x04, 0x48, 0xE0,
+    0x45, 0x9C, 0x67, 0xFD, 0x04, 0x01, 0x00, 0x02, 0x01, 0x01, 0x2C, 0x00, 0x00, 0x00, 0x00, 0xFF,
+    0xBE, 0x0E, 0x8C, 0x00, 0x43, 0x42, 0x0F, 0x00, 0x00, 0x00, 0xFA, 0x5D, 0x35, 0x38, 0xE6, 0x9F,
+];
+
+// Words over a link with these bytes that idles at the first reads, so many, and fails at these reads and writes; the status,
 // what was written to the output, and how many bytes to the link.
 #[derive(Clone, Copy)]
 struct LiveRun {
     words: &'static str,
+    bytes: &'static [u8],
     idles: u64,
     read_fails: &'static [u64],
     write_fails: &'static [u64],
@@ -28,9 +39,10 @@ struct LiveRun {
 }
 
 // A signed HEARTBEAT has 34 bytes, and so has a signed PING 1 for everyone, whose last bytes, zeros, are left out.
-static RUNS: [LiveRun; 4] = [
+static RUNS: [LiveRun; 5] = [
     LiveRun {
         words: "drone --key k 1 file:a:b",
+        bytes: b"",
         idles: 0,
         read_fails: &[],
         write_fails: &[],
@@ -40,6 +52,7 @@ static RUNS: [LiveRun; 4] = [
     },
     LiveRun {
         words: "drone --key k 1 file:a:b",
+        bytes: b"",
         idles: 0,
         read_fails: &[0],
         write_fails: &[],
@@ -49,6 +62,7 @@ static RUNS: [LiveRun; 4] = [
     },
     LiveRun {
         words: "station --key k 255 190 1 file:a:b get mission",
+        bytes: b"",
         idles: 0,
         read_fails: &[],
         write_fails: &[0],
@@ -58,12 +72,23 @@ static RUNS: [LiveRun; 4] = [
     },
     LiveRun {
         words: "station --key k --ticks 3 255 190 1 file:a:b get mission",
+        bytes: b"",
         idles: 9,
         read_fails: &[],
         write_fails: &[],
         status: 9,
         output: b"1 255.190 HEARTBEAT\n2 255.190 PING 1 to 0.0\n3 255.190 PING 1 to 0.0\n4 255.190 HEARTBEAT\n5 255.190 PING 1 to 0.0\n6 255.190 HEARTBEAT\n7 255.190 PING 1 to 0.0\n8 255.190 HEARTBEAT\nno answer 3\n",
         sent: 272,
+    },
+    LiveRun {
+        words: "station --key k 255 190 1 file:a:b get mission",
+        bytes: EMPTY_DRONE,
+        idles: 0,
+        read_fails: &[],
+        write_fails: &[],
+        status: 0,
+        output: b"1 255.190 HEARTBEAT\n2 255.190 PING 1 to 0.0\n3 255.190 ACK 15 mission to 1.1\n4 255.190 LIST mission to 1.1\n5 255.190 ACK 0 mission to 1.1\noutcome 255.190 got 0\n",
+        sent: 150,
     },
 ];
 
@@ -74,7 +99,7 @@ fn link_of(alloc: Global, wanted: &LiveRun) -> Result<MemLink, AllocError> {
     }
     MemLink::new(
         alloc,
-        Vec::new(alloc),
+        wanted.bytes.to_vec(alloc)?,
         4096,
         wanted.read_fails.to_vec(alloc)?,
         idles,
