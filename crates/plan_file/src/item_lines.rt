@@ -1,10 +1,12 @@
 // What one line of a file adds to a plan.
-ghost use Rattle.std.specs.Prelude.{◌≡◌, ◌≤◌, ◌++◌, ◌+ℤ◌, [], pos, false, length, OnOk, OnErr, IfErr, FitsSigned};
+ghost use Rattle.std.specs.Prelude.{◌≡◌, ◌≤◌, ◌++◌, ◌+ℤ◌, [], pos, false, length, Some, None, OnOk, OnErr, IfErr, FitsSigned};
 ghost use Rattle.std.specs.Int.{w32};
 ghost use Rattle.plan_items.specs.Plans.{items_of};
 ghost use Rattle.scenario_lines.specs.LineContext.{context_of};
 ghost use Rattle.scenario_lines.specs.Permits.{IsPermitted};
-ghost use Rattle.scenario_lines.specs.Reasons.{leaves_range};
+ghost use Rattle.scenario_lines.specs.Faults.{IfBad};
+ghost use Rattle.scenario_lines.specs.Grammar.{line_of};
+ghost use Rattle.scenario_lines.specs.Reasons.{leaves_range, item_reason_against};
 ghost use Rattle.plan_file.specs.FileLines.{without_cr};
 ghost use Rattle.plan_file.specs.FileLines.{items_from};
 ghost use Rattle.plan_file.specs.Spec.{reported_reason, bad_line, items_in, going, text_read};
@@ -24,10 +26,25 @@ pub(crate) fn read_line(
 ) -> Result<(), RunEnd>
     ensures { Leads result (text_read (going (items_of plan.old)) number text.now) (items_of plan.new) }
 {
-    match read_item_line(alloc, plan.len(), text) {
-        Ok(line) => Ok(add(plan, line)?),
+    match add_line(alloc, plan, text) {
+        Ok(()) => Ok(()),
         Err(LineFault::Bad(reason)) => Err(bad_line(number, reason)),
         Err(LineFault::NoMemory) => Err(RunEnd::NoMemory),
+    }
+}
+
+/// Adds the items of a line, which may be blank, or says what is wrong with it. A plan has at most 2,000 items.
+pub fn add_line(alloc: Global, plan: &mut Plan, text: &[u8]) -> Result<(), LineFault>
+    ensures ok { OnOk result ((item_reason_against (length (items_of plan.old)) text.now ≡ None)
+        × (items_of plan.new ≡ items_of plan.old ++ items_in (line_of text.now))) }
+    ensures bad { IfErr result (λ e. IfBad e (λ r. item_reason_against (length (items_of plan.old)) text.now ≡ Some r)) }
+{
+    match read_item_line(alloc, plan.len(), text) {
+        Ok(line) => match add(plan, line) {
+            Ok(()) => Ok(()),
+            Err(_) => Err(LineFault::NoMemory),
+        },
+        Err(fault) => Err(fault),
     }
 }
 
@@ -66,8 +83,8 @@ fn moved(item: Item, by: u64) -> Item
     moved
 }
 
-// What a whole line says: a CR before its LF is no part of that.
-pub(crate) fn without_cr(line: &[u8]) -> &[u8]
+/// What a whole line says: a CR before its LF is no part of that.
+pub fn without_cr(line: &[u8]) -> &[u8]
     ensures { result.now ≡ without_cr line.now }
 {
     match line {
@@ -96,7 +113,7 @@ fn reported_reason(reason: Reason) -> StatusReason
 }
 
 /// There is a reason against this line.
-pub(crate) fn bad_line(number: usize, reason: Reason) -> RunEnd
+pub fn bad_line(number: usize, reason: Reason) -> RunEnd
     ensures { result ≡ RunEnd.Stopped (bad_line number reason) }
 {
     RunEnd::Stopped(InputError::Bad(Place::Line(number), reported_reason(reason)))

@@ -2,7 +2,8 @@
 //!
 //! [`read_plan`] reads an input to its end and returns the plan of its items. The lines are those of
 //! scenarios, and so are their limits; an empty line and one that begins with `#` do nothing. Never
-//! more than one line is held, and nothing is read after a piece with a bad line.
+//! more than one line is held, and nothing is read after a piece with a bad line. [`add_line`] adds the items of one line
+//! of any other file.
 #![tactic(auto)]
 
 mod item_lines;
@@ -11,4 +12,5 @@ mod reading;
 #[cfg(test)]
 mod tests;
 
+pub use item_lines::{add_line, bad_line, without_cr};
 pub use reading::read_plan;

@@ -2,9 +2,9 @@
 use Rattle.std.specs.Prelude.{ℕ, List, [], ◌++◌, codes, Option, Some, None}
 use Rattle.std.specs.Fmt.{decimal}
 use Rattle.run_status.specs.declared.input_errors.Place.{Place}
-use Rattle.run_status.specs.declared.input_errors.Place.TheVariants.{Line, Key as KeyPlace, Definitions, Operation, Store}
+use Rattle.run_status.specs.declared.input_errors.Place.TheVariants.{Line, Key as KeyPlace, Definitions, Operation, Store, Fence, Mission}
 use Rattle.run_status.specs.declared.input_errors.Reason.{Reason}
-use Rattle.run_status.specs.declared.input_errors.Reason.TheVariants.{Long, Word, Later, Count, Number, Node, Kind, Hex, Twice, Range, Draft, Clock, Key, Json, Shape, FieldType, Name, TwiceId, TwiceName, Layout, TooMany, Refused, Kept}
+use Rattle.run_status.specs.declared.input_errors.Reason.TheVariants.{Long, Word, Later, Count, Number, Node, Kind, Hex, Twice, Range, Draft, Clock, Key, Json, Shape, FieldType, Name, TwiceId, TwiceName, Layout, TooMany, Refused, Kept, Plan}
 use Rattle.run_status.specs.declared.input_errors.Bound.{Bound}
 use Rattle.run_status.specs.declared.input_errors.Bound.TheVariants.{Lines, Frames, Drones, Stations, Restarts, DefinitionBytes, InputBytes, Entries}
 use Rattle.run_status.specs.declared.input_errors.InputError.{InputError}
@@ -38,6 +38,7 @@ reason_word Layout = codes "layout"
 reason_word TooMany = codes "too many"
 reason_word Refused = codes "refused"
 reason_word Kept = codes "kept"
+reason_word Plan = codes "plan"
 
 -- a bound as it is printed, with its number
 abbrev pub bound_words : Bound → List ℕ
@@ -56,6 +57,8 @@ place_text KeyPlace = codes "key"
 place_text Definitions = codes "definitions"
 place_text Operation = codes "operation"
 place_text Store = codes "store"
+place_text Fence = codes "fence"
+place_text Mission = codes "mission"
 
 abbrev pub error_text : InputError → List ℕ
 error_text (Bad place reason) = codes "bad " ++ (place_text place ++ (codes ": " ++ (reason_word reason ++ codes "\n")))

@@ -17,6 +17,10 @@ pub enum Place {
     Operation,
     /// What a drone has stored, which `--store` names.
     Store,
+    /// The fence of a file that `fence` reads.
+    Fence,
+    /// The mission of such a file.
+    Mission,
 }
 
 /// What is wrong there. Each is printed as one or two words.
@@ -45,6 +49,7 @@ pub enum Reason {
     TooMany,
     Refused,
     Kept,
+    Plan,
 }
 
 /// A limit of the program, which is printed with its number.
@@ -100,6 +105,7 @@ impl Reason {
             Reason::TooMany => "too many",
             Reason::Refused => "refused",
             Reason::Kept => "kept",
+            Reason::Plan => "plan",
         }
     }
 }
@@ -131,6 +137,8 @@ impl Place {
             Place::Definitions => String::from_str(alloc, "definitions"),
             Place::Operation => String::from_str(alloc, "operation"),
             Place::Store => String::from_str(alloc, "store"),
+            Place::Fence => String::from_str(alloc, "fence"),
+            Place::Mission => String::from_str(alloc, "mission"),
         }
     }
 }

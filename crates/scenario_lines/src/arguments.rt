@@ -13,7 +13,8 @@ impl Words<'_> {
     ghost use Rattle.scenario_lines.specs.Readings.{whole, signed, signed_or_zero, wire, wire_or_zero, named, plan_kind, plan_kind_or_all, read_item};
     ghost use Rattle.scenario_lines.specs.LineContext.{has_name, has_drone, has_station};
 
-    pub(crate) fn whole(&self, index: usize, low: u64, high: u64) -> Result<u64, Reason>
+    /// A whole number from `low` to `high`, in decimal without leading zeros; else the reason is `number`.
+    pub fn whole(&self, index: usize, low: u64, high: u64) -> Result<u64, Reason>
         ensures exact { result ≡ whole self.now index low high }
         ensures least { IfOk result (λ n. low ≤ n) }
         ensures most { IfOk result (λ n. n ≤ high) }
@@ -21,7 +22,8 @@ impl Words<'_> {
         number(self.at(index), low, high).ok_or(Reason::Number)
     }
 
-    pub(crate) fn signed(&self, index: usize) -> Result<i32, Reason>
+    /// A whole number of 32 bits; else the reason is `number`.
+    pub fn signed(&self, index: usize) -> Result<i32, Reason>
         ensures { result ≡ signed self.now index }
     {
         integer(self.at(index)).ok_or(Reason::Number)

@@ -2,7 +2,8 @@
 //!
 //! `read` reads one line against what is known of the world: the nodes that were named (`Roster`), the
 //! items in the draft and the clock. `read_item_line` reads lines of items alone. Both are stated by
-//! definitions over plain lists (`reason_against`, `line_of`). Nothing here does what a line says.
+//! definitions over plain lists (`reason_against`, `line_of`). `Words` reads the words of a line of another form. Nothing here does
+//! what a line says.
 #![tactic(auto)]
 
 mod arguments;
@@ -23,8 +24,10 @@ mod words;
 pub use faults::{LineFault, Reason};
 pub use laws::lines_read_are_permitted;
 pub use lines::Line;
+pub use name_words::is_word;
 pub use reading::{read, read_item_line};
 pub use roster::{Named, Role, Roster};
 use std::alloc::AllocError;
+pub use words::Words;
 
 pub type NoMemory = AllocError;

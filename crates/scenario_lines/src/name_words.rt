@@ -8,7 +8,7 @@ use crate::numbers::number;
 use mav_names::Name;
 use plan_items::PlanKind;
 
-pub(crate) fn is_word(word: &[u8], text: &str) -> bool
+pub fn is_word(word: &[u8], text: &str) -> bool
     ensures { result ≡ bytes_eq word.now text.now }
 {
     word == text.as_bytes()

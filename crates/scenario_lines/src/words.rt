@@ -7,7 +7,7 @@ use std::marker::Model;
 
 /// The words of a line, which one space parts.
 #[derive(Drop)]
-pub(crate) struct Words<'a> {
+pub struct Words<'a> {
     words: Vec<&'a [u8]>,
 }
 
@@ -23,7 +23,7 @@ impl<'a> Words<'a> {
     ghost use Rattle.std.specs.Prelude.{length};
     ghost use Rattle.scenario_lines.specs.Words.{words_of, word_at};
 
-    pub(crate) fn of(alloc: Global, text: &'a [u8]) -> Result<Words<'a>, NoMemory>
+    pub fn of(alloc: Global, text: &'a [u8]) -> Result<Words<'a>, NoMemory>
         ensures { IfOk result (λ words. words ≡ words_of text.now) }
     {
         Ok(Words {
@@ -31,14 +31,14 @@ impl<'a> Words<'a> {
         })
     }
 
-    pub(crate) fn len(&self) -> usize
+    pub fn len(&self) -> usize
         ensures { result ≡ length self.now }
     {
         self.words.len()
     }
 
     /// The word at an index, from 0, and no byte past the last one.
-    pub(crate) fn at(&self, index: usize) -> &[u8]
+    pub fn at(&self, index: usize) -> &[u8]
         ensures { result.now ≡ word_at self.now index }
     {
         match self.words.get(index) {

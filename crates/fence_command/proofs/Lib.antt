@@ -1,0 +1,7 @@
+pub mod ByteLines
+pub mod Steps
+pub mod Stays
+pub mod Endings
+pub mod WholeText
+pub mod Finish
+pub mod Worked

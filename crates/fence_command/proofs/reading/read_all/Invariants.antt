@@ -1,0 +1,16 @@
+use Rattle.std.proofs.Common.{◌≡◌, ◌≤◌, ℕ, List}
+use Rattle.std.specs.Io.KnownBytes.{prepend_known}
+use Rattle.fence_command.specs.Files.{state_of}
+use Rattle.fence_command.specs.ByteByByte.{Reading, budget}
+use Rattle.fence_command.proofs.reading.read_all.Given as goal
+
+abbrev pub invariant-loop-count : goal.invariant-loop-count
+invariant-loop-count g l = record {
+  reading : (taken : List ℕ) × (g.S.Source.left l.initial.input ≡ prepend_known taken (g.S.Source.left l.input))
+      × Reading taken (state_of l.reader.file) l.reader.number l.reader.line.items;
+  faults : g.S.Source.faults l.input ≡ g.S.Source.faults l.initial.input;
+  idles : g.S.Source.idles l.initial.input ≤ g.S.Source.idles l.input;
+}
+
+abbrev pub decreases-loop-count : goal.decreases-loop-count
+decreases-loop-count g l = budget l.reader.number l.reader.line.items

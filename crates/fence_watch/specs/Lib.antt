@@ -1,0 +1,3 @@
+pub mod Segments
+pub mod Fences
+pub mod Judging
