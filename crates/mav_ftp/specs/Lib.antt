@@ -1,0 +1,14 @@
+pub mod Payload
+pub mod Replies
+pub mod Files
+pub mod Sessions
+pub mod Listing
+pub mod Exchanges
+pub mod Steps
+pub mod Server
+pub mod Laws
+pub mod Ranges
+pub mod Client
+pub mod ClientView
+pub mod ClientLaws
+pub mod ClientRanges
