@@ -1,0 +1,4 @@
+pub mod RowEvents
+pub mod Parses
+pub mod LogSpans
+pub mod LogSteps

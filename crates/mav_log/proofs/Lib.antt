@@ -1,0 +1,5 @@
+pub mod Telling
+pub mod Ends
+pub mod Steps
+pub mod Stays
+mod Worked

@@ -1,0 +1,22 @@
+use Rattle.std.proofs.Common.{ℕ, List, ◌++◌, false, ap, ◌∙◌, subst}
+use Rattle.mav_ports.specs.Puts.{SentPrefix}
+use Rattle.mav_log.specs.Tellings.{Telling}
+use Rattle.mav_log.proofs.Telling.{tells_written, on_ok, if_err}
+use Rattle.mav_log.proofs.running.take.Goals as goal
+
+pub returns-clause-told : goal.returns-clause-told
+returns-clause-told g c = λ taken before h.
+    let bytes = taken ++ c.args.piece.now in
+    let all = c.in_ok-tell_all.ensures.told false bytes before (record { told = h.told; has = c.feed.ensures.told taken h.told h.has; sent = h.sent }) in
+    on_ok c.write_held.result c.write_held.ensures.moved (λ moved. record {
+      tells = tells_written false bytes before (g.T.Teller.has_told c.tell_all.new.teller) c.tell_all.new.text.items c.write_held.new.lines.items (g.K.Sink.sent c.tell_all.new.out) (g.K.Sink.sent c.write_held.new.out) all.tells moved;
+      all = all.all ∙ ap (λ (t : Telling). t.told false bytes) c.feed.ensures.same;
+    })
+
+pub returns-clause-halted : goal.returns-clause-halted
+returns-clause-halted g c = λ taken before h.
+    let bytes = taken ++ c.args.piece.now in
+    let all = c.in_ok-tell_all.ensures.told false bytes before (record { told = h.told; has = c.feed.ensures.told taken h.told h.has; sent = h.sent }) in
+    if_err c.write_held.result
+    (subst (λ (text : List ℕ). SentPrefix before (g.K.Sink.sent c.write_held.new.out) text) (all.all ∙ ap (λ (t : Telling). t.told false bytes) c.feed.ensures.same)
+    (c.write_held.ensures.front before all.tells.told all.tells.sent))

@@ -1,0 +1,6 @@
+pub mod Tellings
+pub mod LogText
+pub mod RowsMade
+pub mod Spec
+pub mod Tellers
+pub mod TellingLaws

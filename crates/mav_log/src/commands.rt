@@ -1,0 +1,73 @@
+// The commands over logs.
+ghost use Rattle.std.specs.Prelude.{◌≡◌, ◌≤◌, IsErrOf};
+ghost use Rattle.std.specs.Result.{result_err};
+ghost use Rattle.mav_ports.specs.Gets.{IsSpent};
+ghost use Rattle.run_status.specs.Runs.{RunBeforeStatus, port_outcome};
+ghost use Rattle.mav_log.specs.Spec.{show_spec, filter_spec, make_spec};
+
+use crate::filter::Filter;
+use crate::make::Make;
+use crate::running::run_teller;
+use crate::show::Show;
+use dialect::Dialect;
+use mav_ports::{Sink, Source};
+use run_status::RunEnd;
+use std::alloc::Global;
+
+/// Prints the rows of a log, whose frames have these messages, and the bytes that are in none. What is printed of what
+/// was read is written before more is read. Why the run halted, if it did, isn't written.
+pub fn run_show<S: Source, K: Sink>(
+    alloc: Global,
+    known: Dialect,
+    main: &mut S,
+    out: &mut K,
+) -> Result<(), RunEnd>
+    ensures untold { RunBeforeStatus (show_spec known) (port_outcome
+        (S.has_ended main.new × IsSpent (S.left main.new)) (S.faults main.old) (S.faults main.new)
+        (S.idles main.old) (S.idles main.new) (K.faults out.old) (K.faults out.new))
+        (S.left main.old) (S.left main.new) (K.sent out.old) (K.sent out.new)
+        (result_err result) }
+    ensures sound { ¬ IsErrOf result RunEnd.WriteFault → K.faults out.new ≡ K.faults out.old }
+{
+    let mut show = Show::new(alloc, known)?;
+    run_teller(alloc, &mut show, main, out)
+}
+
+/// Writes the rows of a log whose frames are of a system, as they are.
+pub fn run_filter<S: Source, K: Sink>(
+    alloc: Global,
+    known: Dialect,
+    sys: u8,
+    main: &mut S,
+    out: &mut K,
+) -> Result<(), RunEnd>
+    ensures untold { RunBeforeStatus (filter_spec known sys) (port_outcome
+        (S.has_ended main.new × IsSpent (S.left main.new)) (S.faults main.old) (S.faults main.new)
+        (S.idles main.old) (S.idles main.new) (K.faults out.old) (K.faults out.new))
+        (S.left main.old) (S.left main.new) (K.sent out.old) (K.sent out.new)
+        (result_err result) }
+    ensures sound { ¬ IsErrOf result RunEnd.WriteFault → K.faults out.new ≡ K.faults out.old }
+{
+    let mut filter = Filter::new(alloc, known, sys)?;
+    run_teller(alloc, &mut filter, main, out)
+}
+
+/// Writes the frames of a stream as rows, the first at `start` and each 1,000 microseconds after the one before.
+pub fn run_make<S: Source, K: Sink>(
+    alloc: Global,
+    known: Dialect,
+    start: u64,
+    main: &mut S,
+    out: &mut K,
+) -> Result<(), RunEnd>
+    requires { start ≤ 4000000000000000 }
+    ensures untold { RunBeforeStatus (make_spec known start) (port_outcome
+        (S.has_ended main.new × IsSpent (S.left main.new)) (S.faults main.old) (S.faults main.new)
+        (S.idles main.old) (S.idles main.new) (K.faults out.old) (K.faults out.new))
+        (S.left main.old) (S.left main.new) (K.sent out.old) (K.sent out.new)
+        (result_err result) }
+    ensures sound { ¬ IsErrOf result RunEnd.WriteFault → K.faults out.new ≡ K.faults out.old }
+{
+    let mut make = Make::new(alloc, known, start)?;
+    run_teller(alloc, &mut make, main, out)
+}

@@ -1,0 +1,19 @@
+//! The commands over telemetry logs: `log show` prints the rows of a log, `log filter` writes those of one system, and
+//! `log make` writes the frames of a stream as rows.
+//!
+//! Each is a `Teller`, which makes a text of the bytes of an input as they come; one run reads the input in pieces of
+//! 64 KiB and writes what is told of a piece before more is read, in constant memory. `specs/Spec.antt` says what stops
+//! a run and what it writes. The text of a halt isn't written here. Rows, their parse and the reader of small pieces
+//! come from `log_rows`.
+#![tactic(auto)]
+
+mod commands;
+mod filter;
+mod make;
+mod running;
+mod scanner;
+mod show;
+mod tellers;
+
+pub use commands::{run_filter, run_make, run_show};
+pub use log_rows::{LogNext, LogReader, Row, put_row};
