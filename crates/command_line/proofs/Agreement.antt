@@ -7,11 +7,11 @@ use Rattle.command_line.specs.declared.pieces.Sort.{Sort}
 use Rattle.command_line.specs.declared.pieces.Sort.TheVariants.{Plain, Dashes, Alone, Joined as JoinedSort, Apart as ApartSort, Unknown}
 use Rattle.command_line.specs.declared.pieces.Place.{Place}
 use Rattle.command_line.specs.declared.pieces.Place.TheVariants.{Anything, Value, Behind}
-use Rattle.command_line.specs.Commands.{command_word, option_word, has_value}
+use Rattle.command_line.specs.Commands.{command_words, option_word, has_value}
 use Rattle.command_line.specs.Forms.{Given}
 use Rattle.command_line.specs.Grammar.{is_dashed, Piece, Flag, Apart, Joined, Bare, ArePieces, words_of, behind_words, settings_of, plain_of, plain_behind, Asked, Written}
-use Rattle.command_line.specs.Pieces.{command_named, sort_of, joined_value, Parts, given, plainly, sorted, parts_at}
-use Rattle.command_line.proofs.Sorts.{IsSort, sort_is, sort_alone, sort_apart, sort_joined, sort_plain, command_word_of, command_of_word}
+use Rattle.command_line.specs.Pieces.{Begun, begun, sort_of, joined_value, Parts, given, plainly, sorted, parts_at}
+use Rattle.command_line.proofs.Sorts.{IsSort, sort_is, sort_alone, sort_apart, sort_joined, sort_plain, begun_words, words_begun}
 
 -- words after a command, and what they give
 pub record Tree (words : List (List ℕ)) (parts : Parts) : Type 0 where
@@ -161,40 +161,33 @@ parts_of_tree (Bare word ∷ ps) behind are =
     ap (λ s. sorted s word (λ place. parts_at place rest)) (sort_plain word are.0) ∙ ap (plainly word) (parts_of_tree ps behind are.1)
 
 -- a command's words are written as they are read
-pub written : (word : List ℕ) (ws : List (List ℕ)) (c : Command) (p : Parts) → command_named word ≡ Some c → parts_at Anything ws ≡ Some p → Written (word ∷ ws) (record { command = c; settings = p.settings; plain = p.plain })
-written word ws c p named found =
-    let t = tree_at ws Anything p found in
+pub written : (words ws : List (List ℕ)) (c : Command) (p : Parts) → begun words ≡ Some (record { command = c; rest = ws }) → parts_at Anything ws ≡ Some p → Written words (record { command = c; settings = p.settings; plain = p.plain })
+written words ws c p found parts =
+    let t = tree_at ws Anything p parts in
     record {
       pieces = t.pieces;
       behind = t.behind;
       are_pieces = t.are_pieces;
-      words_are = ap (λ w. w ∷ ws) (command_word_of word c named) ∙ ap (λ more. command_word c ∷ more) t.words_are;
+      words_are = begun_words words _ found ∙ ap (λ more. command_words c ++ more) t.words_are;
       settings_are = t.settings_are;
       plain_are = t.plain_are;
     }
 
-first_or : List (List ℕ) → List ℕ
-first_or [] = []
-first_or (w ∷ ws) = w
-
-rest_of : List (List ℕ) → List (List ℕ)
-rest_of [] = []
-rest_of (w ∷ ws) = ws
-
 -- and read as they are written
-pub read_named : (word : List ℕ) (ws : List (List ℕ)) (a : Asked) → Written (word ∷ ws) a → command_named word ≡ Some a.command
-unfolding first_or
-read_named word ws a w = ap command_named (ap first_or w.words_are) ∙ command_of_word a.command
+abbrev pub rest_of : (words : List (List ℕ)) (a : Asked) → Written words a → List (List ℕ)
+rest_of words a w = words_of w.pieces ++ behind_words w.behind
 
-pub read_parts : (word : List ℕ) (ws : List (List ℕ)) (a : Asked) → Written (word ∷ ws) a → parts_at Anything ws ≡ Some (record { settings = a.settings; plain = a.plain })
-unfolding rest_of
-read_parts word ws a w =
-    ap (parts_at Anything) (ap rest_of w.words_are) ∙ parts_of_tree w.pieces w.behind w.are_pieces
+abbrev pub begins : (words : List (List ℕ)) (a : Asked) → Written words a → Begun
+begins words a w = record { command = a.command; rest = rest_of words a w }
+
+pub read_begun : (words : List (List ℕ)) (a : Asked) → (w : Written words a) → begun words ≡ Some (begins words a w)
+read_begun words a w = ap begun w.words_are ∙ words_begun a.command (rest_of words a w)
+
+pub read_parts : (words : List (List ℕ)) (a : Asked) → (w : Written words a) → parts_at Anything (rest_of words a w) ≡ Some (record { settings = a.settings; plain = a.plain })
+read_parts words a w =
+    parts_of_tree w.pieces w.behind w.are_pieces
     ∙ ap (λ s. Some (record { settings = s; plain = plain_of w.pieces ++ plain_behind w.behind })) (sym w.settings_are)
     ∙ ap (λ q. Some (record { settings = a.settings; plain = q })) (sym w.plain_are)
-
-pub never_empty : (a : Asked) → Written [] a → ⊥
-never_empty a w = cc w.words_are
 
 same_asked : (a b : Asked) → a.command ≡ b.command → a.settings ≡ b.settings → a.plain ≡ b.plain → a ≡ b
 same_asked a b e f g = ap (λ c. let r : Asked = record { command = c; settings = a.settings; plain = a.plain } in r) e ∙ ap (λ s. let r : Asked = record { command = b.command; settings = s; plain = a.plain } in r) f ∙ ap (λ q. let r : Asked = record { command = b.command; settings = b.settings; plain = q } in r) g
@@ -207,10 +200,20 @@ abbrev pub plain_in : Option Parts → List (List ℕ)
 plain_in None = []
 plain_in (Some p) = p.plain
 
+abbrev pub words_after : Option Begun → List (List ℕ)
+words_after None = []
+words_after (Some b) = b.rest
+
+abbrev pub command_or : Command → Option Begun → Command
+command_or c None = c
+command_or c (Some b) = b.command
+
+pub same_begun : (b d : Begun) → Some b ≡ Some d → (b.command ≡ d.command) × (b.rest ≡ d.rest)
+same_begun b d e = (ap (command_or b.command) e, ap words_after e)
+
 -- at most one line is written so
 pub written_once : (words : List (List ℕ)) (a b : Asked) → Written words a → Written words b → a ≡ b
-written_once [] a b v w = absurd (never_empty a v)
-written_once (word ∷ ws) a b v w =
-    let command : a.command ≡ b.command = cc (read_named word ws a v, read_named word ws b w) in
-    let parts : Some (record { settings = a.settings; plain = a.plain }) ≡ Some (record { settings = b.settings; plain = b.plain }) = sym (read_parts word ws a v) ∙ read_parts word ws b w in
+written_once words a b v w =
+    let (command, rest) = same_begun (begins words a v) (begins words b w) (sym (read_begun words a v) ∙ read_begun words b w) in
+    let parts = sym (read_parts words a v) ∙ ap (parts_at Anything) rest ∙ read_parts words b w in
     same_asked a b command (ap settings_in parts) (ap plain_in parts)

@@ -1,23 +1,24 @@
 -- The tests of a line agree with the forms of what is built.
-use Rattle.std.proofs.Common.{◌≡◌, ◌∙◌, ◌≤◌, ◌<◌, ◌-◌, ◌&&◌, ◌||◌, not, nat_le, ℕ, Bool, true, false, List, [], ◌∷◌, refl, sym, ap, arith, IsTrue, map, length, take, drop, get_or, Some, option_map, string_bytes, ◌⊎◌, inl, inr}
+use Rattle.std.proofs.Common.{◌≡◌, ◌∙◌, ◌≤◌, ◌<◌, ◌-◌, ◌^◌, ◌&&◌, ◌||◌, not, nat_le, ℕ, Bool, true, false, List, [], ◌∷◌, refl, sym, ap, arith, IsTrue, map, length, take, drop, get_or, Some, is_some, option_map, string_bytes, ◌⊎◌, inl, inr}
 use Rattle.std.proofs.lemmas.Bool.{cases_Bool, cond-true, cond-false, and_parts, and_from, and_left, and_right, leb-true, le-leb}
 use Rattle.std.proofs.lemmas.Grind.{common_steps}
 use Rattle.std.proofs.lemmas.List.Sums.{AllPass-from_list_all, list_all-from_AllPass}
 use Rattle.std.specs.List.{find, list_all, list_any, All}
 use Rattle.command_line.specs.declared.lines.Setting.{Setting}
 use Rattle.command_line.specs.declared.commands.Command.{Command}
-use Rattle.command_line.specs.declared.commands.Command.TheVariants.{Fleet, Dialect, Decode, Route, Drone, Station, Make}
+use Rattle.command_line.specs.declared.commands.Command.TheVariants.{Fleet, Dialect, Decode, Route, Drone, Station, Make, LogShow, LogFilter, LogMake, Fence}
 use Rattle.command_line.specs.declared.commands.OptionName.{OptionName}
 use Rattle.command_line.specs.declared.commands.OptionName.TheVariants.{Frames, Key, Defs, One, Turns, Ticks, File, Store}
 use Rattle.command_line.specs.Commands.{has_option, needs_key}
 use Rattle.command_line.specs.Built.{is_built, is_option_built, needs_now, built}
-use Rattle.command_line.specs.Forms.{Given, most_turns, is_named, IsValue, AreTaken, all_differ, has_given, stdin_files, IsFile, ArePlain, Fits}
+use Rattle.command_line.specs.Forms.{Given, latest_start, most_turns, is_named, IsValue, AreTaken, all_differ, has_given, stdin_files, IsFile, ArePlain, Fits}
 use Rattle.command_line.specs.Names.{value_given}
-use Rattle.command_line.specs.Operations.{OneNumber}
+use Rattle.command_line.specs.Operations.{OneNumber, NumberAndFile}
 use Rattle.command_line.specs.Pieces.{all_options}
 use Rattle.command_line.specs.Ports.{IsRouterPort}
+use Rattle.command_line.specs.Numbers.{number_in}
 use Rattle.command_line.specs.PortTexts.{is_some_text, is_router_port}
-use Rattle.command_line.specs.Lines.{given_of, is_value_now, taken_now, is_key, is_needed, has_needed, is_one_file, is_no_word, are_ports, is_one_number, plain_now, fits_now}
+use Rattle.command_line.specs.Lines.{given_of, is_value_now, taken_now, is_key, is_needed, has_needed, is_one_file, is_no_word, are_ports, is_one_number, is_number_and_file, plain_now, fits_now}
 use Rattle.command_line.proofs.NodeWords.{drone_form, form_drone, station_form, form_station}
 use Rattle.command_line.proofs.Numerals.{number_form, form_number}
 use Rattle.command_line.proofs.PortWords.{some_text, text_some, no_text, router_form, form_router}
@@ -97,6 +98,19 @@ one_number (word ∷ other ∷ more) never = absurd (cc never)
 number_one : (plain : List (List ℕ)) → OneNumber 0 1000000 plain → is_one_number plain ≡ true
 number_one plain (word, same, is) = ap is_one_number same ∙ form_number 0 1000000 word (omega arith) is
 
+number_and_file : (most : ℕ) (plain : List (List ℕ)) → is_number_and_file most plain ≡ true → NumberAndFile 0 most plain
+number_and_file most [] never = absurd (cc never)
+number_and_file most (word ∷ []) never = absurd (cc never)
+number_and_file most (word ∷ file ∷ []) e =
+    let (some, is) = and_parts (is_some_text file) (is_some (number_in 0 most word)) e in
+    record { number = word; file = file; plain_is = refl; is_number = number_form 0 most word is; is_file = some_text file some }
+number_and_file most (word ∷ file ∷ other ∷ more) never = absurd (cc never)
+
+file_and_number : (most : ℕ) (plain : List (List ℕ)) → most < 2 ^ 64 → NumberAndFile 0 most plain → is_number_and_file most plain ≡ true
+file_and_number most plain few n =
+    ap (is_number_and_file most) n.plain_is
+    ∙ and_from (is_some_text n.file) (is_some (number_in 0 most n.number)) (text_some n.file n.is_file) (form_number 0 most n.number few n.is_number)
+
 plain_is : (c : Command) (gs : List Given) (plain : List (List ℕ)) → plain_now c (has_given File gs) plain ≡ true → ArePlain built c gs plain
 plain_is Fleet gs plain e = one_file plain e
 plain_is Dialect gs plain e = no_word plain e
@@ -105,6 +119,10 @@ plain_is Route gs plain e = ports_form plain e
 plain_is Drone gs plain e = drone_form plain e
 plain_is Station gs plain e = station_form (has_given File gs) plain e
 plain_is Make gs plain e = one_number plain e
+plain_is LogShow gs plain e = one_file plain e
+plain_is LogFilter gs plain e = number_and_file 255 plain e
+plain_is LogMake gs plain e = number_and_file latest_start plain e
+plain_is Fence gs plain e = one_file plain e
 
 is_plain : (c : Command) (gs : List Given) (plain : List (List ℕ)) → ArePlain built c gs plain → plain_now c (has_given File gs) plain ≡ true
 is_plain Fleet gs plain are = file_one plain are
@@ -114,6 +132,10 @@ is_plain Route gs plain are = form_ports plain are
 is_plain Drone gs plain are = form_drone plain are
 is_plain Station gs plain are = form_station (has_given File gs) plain are
 is_plain Make gs plain are = number_one plain are
+is_plain LogShow gs plain are = file_one plain are
+is_plain LogFilter gs plain are = file_and_number 255 plain (omega arith) are
+is_plain LogMake gs plain are = file_and_number latest_start plain (omega arith) are
+is_plain Fence gs plain are = file_one plain are
 
 -- the options that are needed
 implied : (a b : Bool) → (not a || b) ≡ true → a ≡ true → b ≡ true

@@ -1,17 +1,17 @@
 -- What the words of `drone` and `station` that the program holds say.
-use Rattle.std.proofs.Common.{◌≡◌, ◌∙◌, ◌≤◌, ◌<◌, ◌-◌, ℕ, Bool, true, false, List, [], ◌∷◌, refl, sym, ap, arith, lit≤, length, take, drop, get_or, map, Some, is_some, String, string_bytes}
-use Rattle.std.proofs.lemmas.Bool.{and_from}
+use Rattle.std.proofs.Common.{◌≡◌, ◌∙◌, ◌≤◌, ◌<◌, ◌-◌, ℕ, Bool, true, false, List, [], ◌∷◌, refl, sym, ap, arith, lit≤, length, take, drop, get_or, map, Option, Some, None, is_some, String, string_bytes}
+use Rattle.std.proofs.lemmas.Bool.{and_from, and_left, and_right}
 use Rattle.std.proofs.lemmas.Grind.{common_steps}
 use Rattle.std.specs.Fmt.{decimal}
 use Rattle.std.specs.declared.alloc.Global.{Global}
 use Rattle.command_line.specs.declared.commands.Command.TheVariants.{Drone, Station}
 use Rattle.command_line.specs.declared.operations.Task.{Task}
 use Rattle.command_line.specs.declared.ports.Port.{Port}
-use Rattle.command_line.specs.Lines.{Says}
+use Rattle.command_line.specs.Lines.{Says, is_number_and_file, NumberRead}
 use Rattle.command_line.specs.Names.{port_words}
 use Rattle.command_line.specs.Nodes.{is_node, task_in, is_drone, is_station, OnePort, DroneSays, StationSays}
 use Rattle.command_line.specs.Numbers.{number_in}
-use Rattle.command_line.specs.PortTexts.{is_port, port_text}
+use Rattle.command_line.specs.PortTexts.{is_some_text, is_port, port_text}
 use Rattle.command_line.proofs.Numerals.{number_is}
 use Rattle.command_line.proofs.NodeWords.{task_found}
 use Rattle.command_line.proofs.OperationWords.{operation_says}
@@ -29,6 +29,24 @@ not_two [] never = refl
 not_two (x ∷ []) never = refl
 not_two (x ∷ y ∷ []) never = absurd (never (lit≤ tt) (lit≤ tt))
 not_two (x ∷ y ∷ z ∷ zs) never = refl
+
+pub no_number : (most : ℕ) (xs : List (String Global)) → (2 ≤ length xs → length xs < 3 → ⊥) → is_number_and_file most (map string_bytes xs) ≡ false
+no_number most [] never = refl
+no_number most (x ∷ []) never = refl
+no_number most (x ∷ y ∷ []) never = absurd (never (lit≤ tt) (lit≤ tt))
+no_number most (x ∷ y ∷ z ∷ zs) never = refl
+
+-- a number and a file, by how the number is read
+pub no_file : (most : ℕ) (words : List (List ℕ)) (v w : List ℕ) → words ≡ v ∷ w ∷ [] → is_some_text w ≡ false → is_number_and_file most words ≡ false
+no_file most words v w held none = ap (is_number_and_file most) held ∙ and_left (is_some_text w) (is_some (number_in 0 most v)) none
+
+pub number_read : (most : ℕ) (words : List (List ℕ)) (v w : List ℕ) (r : Option ℕ) → words ≡ v ∷ w ∷ [] → is_some_text w ≡ true → r ≡ number_in 0 most v → NumberRead most words r
+number_read most words v w None held some is = ap (is_number_and_file most) held ∙ and_right (is_some_text w) (is_some (number_in 0 most v)) (ap is_some (sym is))
+number_read most words v w (Some n) held some is =
+    let (written, least, high) = number_is 0 most n v (sym is) in (
+      ap (is_number_and_file most) held ∙ and_from (is_some_text w) (is_some (number_in 0 most v)) some (ap is_some (sym is)),
+      record { file = w; plain_is = held ∙ ap (λ x. x ∷ w ∷ []) written; at_most = high },
+    )
 
 take_rest : (xs : List (String Global)) (a b c d : String Global) → take (length (a ∷ b ∷ c ∷ d ∷ xs) - 4) (drop 4 (a ∷ b ∷ c ∷ d ∷ xs)) ≡ xs
 take_rest xs a b c d = grind (arith, common_steps)
@@ -59,7 +77,7 @@ pub drone_read : (ws : List (List ℕ)) (sys port : List ℕ) (system : ℕ) (po
 drone_read ws sys port system ports are node is one =
     let (written, least, most) = number_is 1 255 system sys (sym node) in (
       ap is_drone are ∙ and_from (is_node sys) (is_port port) (ap is_some (sym node)) is,
-      record { ports_are = port_is port ports one ∙ ap (port_words Drone) (sym are); number_is = λ never. absurd (cc never); at_most = lit≤ tt },
+      record { ports_are = port_is port ports one ∙ ap (port_words Drone) (sym are); number_is = tt },
       record { port = port; plain_is = are ∙ ap (λ w. w ∷ port ∷ []) written; least = least; one_port = one },
     )
 
@@ -72,7 +90,7 @@ station_read file_given ws sys comp drone port op system task ports are node fou
     let (comp_written, comp_least, comp_most) = number_is 1 255 task.component comp parts.comp_is in
     let (drone_written, drone_least, drone_most) = number_is 1 255 task.drone drone parts.drone_is in (
       ap (is_station file_given) are ∙ and_from (is_node sys) _ (ap is_some (sym node)) (and_from (is_some (task_in file_given comp drone op)) (is_port port) (ap is_some (sym found)) is),
-      record { ports_are = port_is port ports one ∙ ap (port_words Station) (sym are); number_is = λ never. absurd (cc never); at_most = lit≤ tt },
+      record { ports_are = port_is port ports one ∙ ap (port_words Station) (sym are); number_is = tt },
       record {
         port = port;
         words = op;

@@ -1,7 +1,7 @@
 -- What is built of the commands, their options and the operations of a station. Later work changes these tables.
 use Rattle.std.specs.Prelude.{Bool, true, false}
 use Rattle.command_line.specs.declared.commands.Command.{Command}
-use Rattle.command_line.specs.declared.commands.Command.TheVariants.{Fleet, Dialect, Decode, Route, Drone, Station}
+use Rattle.command_line.specs.declared.commands.Command.TheVariants.{Fleet, Dialect, Decode, Route, Drone, Station, LogShow, LogFilter, LogMake}
 use Rattle.command_line.specs.declared.commands.OptionName.{OptionName}
 use Rattle.command_line.specs.declared.commands.OptionName.TheVariants.{Frames, Key, Defs, One, Turns, Ticks, File, Store}
 use Rattle.command_line.specs.Forms.{Built}
@@ -26,6 +26,9 @@ is_option_built Drone Store = true
 is_option_built Station Key = true
 is_option_built Station Ticks = true
 is_option_built Station File = true
+is_option_built LogShow Defs = true
+is_option_built LogFilter Defs = true
+is_option_built LogMake Defs = true
 is_option_built _ _ = false
 
 -- the options that a command needs as it is built, and won't need for ever: a router on one thread alone

@@ -1,11 +1,11 @@
 -- The commands of the program and their options, in tables.
-use Rattle.std.specs.Prelude.{ℕ, Bool, true, false, List, codes}
+use Rattle.std.specs.Prelude.{ℕ, Bool, true, false, if◌then◌else◌, List, [], ◌∷◌, codes}
 use Rattle.command_line.specs.declared.commands.Command.{Command}
-use Rattle.command_line.specs.declared.commands.Command.TheVariants.{Fleet, Dialect, Decode, Route, Drone, Station, Make}
+use Rattle.command_line.specs.declared.commands.Command.TheVariants.{Fleet, Dialect, Decode, Route, Drone, Station, Make, LogShow, LogFilter, LogMake, Fence}
 use Rattle.command_line.specs.declared.commands.OptionName.{OptionName}
 use Rattle.command_line.specs.declared.commands.OptionName.TheVariants.{Frames, Key, Defs, One, Turns, Ticks, File, Store}
 
--- the first word of a command's lines
+-- the word of a command, the second one of those on logs
 abbrev pub command_word : Command → List ℕ
 command_word Fleet = codes "fleet"
 command_word Dialect = codes "dialect"
@@ -14,6 +14,21 @@ command_word Route = codes "route"
 command_word Drone = codes "drone"
 command_word Station = codes "station"
 command_word Make = codes "make"
+command_word LogShow = codes "show"
+command_word LogFilter = codes "filter"
+command_word LogMake = codes "make"
+command_word Fence = codes "fence"
+
+-- the commands whose first word is `log`
+abbrev pub is_on_logs : Command → Bool
+is_on_logs LogShow = true
+is_on_logs LogFilter = true
+is_on_logs LogMake = true
+is_on_logs _ = false
+
+-- the words with which its lines begin
+abbrev pub command_words : Command → List (List ℕ)
+command_words command = if is_on_logs command then codes "log" ∷ command_word command ∷ [] else command_word command ∷ []
 
 -- the word of an option
 abbrev pub option_word : OptionName → List ℕ
@@ -54,6 +69,9 @@ has_option Drone Turns = true
 has_option Station Key = true
 has_option Station Ticks = true
 has_option Station File = true
+has_option LogShow Defs = true
+has_option LogFilter Defs = true
+has_option LogMake Defs = true
 has_option _ _ = false
 
 -- the commands that need a key

@@ -1,15 +1,15 @@
 -- What the options and plain words of each command are, as a user may write them.
-use Rattle.std.specs.Prelude.{◌≡◌, ◌≢◌, ◌≤◌, ◌+◌, ◌&&◌, ℕ, Bool, true, false, not, List, [], ◌∷◌, length, IsTrue, codes, count_by, All}
+use Rattle.std.specs.Prelude.{◌≡◌, ◌≢◌, ◌≤◌, ◌+◌, ◌&&◌, ℕ, Bool, true, false, not, if◌then◌else◌, List, [], ◌∷◌, length, drop, IsTrue, codes, count_by, All}
 use Rattle.std.specs.List.{list_any}
 use Rattle.std.specs.Str.{bytes_eq}
 use Rattle.command_line.specs.declared.commands.Command.{Command}
-use Rattle.command_line.specs.declared.commands.Command.TheVariants.{Fleet, Dialect, Decode, Route, Drone, Station, Make}
+use Rattle.command_line.specs.declared.commands.Command.TheVariants.{Fleet, Dialect, Decode, Route, Drone, Station, Make, LogShow, LogFilter, LogMake, Fence}
 use Rattle.command_line.specs.declared.commands.OptionName.{OptionName}
 use Rattle.command_line.specs.declared.commands.OptionName.TheVariants.{Frames, Key, Defs, One, Turns, Ticks, File, Store}
 use Rattle.command_line.specs.Commands.{option_word, has_option, needs_key}
 use Rattle.command_line.specs.Numbers.{IsNumber}
 use Rattle.command_line.specs.Ports.{IsRouterPort}
-use Rattle.command_line.specs.Operations.{OperationWords, DroneWords, StationWords, OneNumber}
+use Rattle.command_line.specs.Operations.{OperationWords, DroneWords, StationWords, OneNumber, NumberAndFile}
 
 -- an option of a line, and its value
 pub record Given : Type 0 where
@@ -26,6 +26,10 @@ pub record Built : Type 0 where
 -- the most turns, ticks and steps that can be asked for
 abbrev pub most_turns : ℕ
 most_turns = 1000000000
+
+-- the last moment at which a log may be made to begin, in microseconds since 1970
+abbrev pub latest_start : ℕ
+latest_start = 4000000000000000
 
 -- the value of an option; the name of a file is any text, `-` is standard input
 abbrev pub IsValue : OptionName → List ℕ → Type 0
@@ -72,19 +76,29 @@ names_file _ = false
 abbrev pub is_stdin_given : Given → Bool
 is_stdin_given g = names_file g.name && is_stdin g.value
 
--- the commands whose plain word names a file
+-- the commands with a plain word that names a file
 abbrev pub reads_file : Command → Bool
 reads_file Fleet = true
 reads_file Decode = true
+reads_file LogShow = true
+reads_file LogFilter = true
+reads_file LogMake = true
+reads_file Fence = true
 reads_file _ = false
 
-abbrev pub plain_files : Bool → List (List ℕ) → List (List ℕ)
-plain_files true plain = plain
-plain_files false plain = []
+-- and those with a number before it
+abbrev pub has_number_first : Command → Bool
+has_number_first LogFilter = true
+has_number_first LogMake = true
+has_number_first _ = false
+
+-- the plain words that name files
+abbrev pub file_words : Command → List (List ℕ) → List (List ℕ)
+file_words command plain = if reads_file command then (if has_number_first command then drop 1 plain else plain) else []
 
 -- how many files of the line are standard input
 abbrev pub stdin_files : Command → List Given → List (List ℕ) → ℕ
-stdin_files command settings plain = count_by is_stdin_given settings + count_by is_stdin (plain_files (reads_file command) plain)
+stdin_files command settings plain = count_by is_stdin_given settings + count_by is_stdin (file_words command plain)
 
 -- a plain word that names a file
 abbrev pub IsFile : List (List ℕ) → Type 0
@@ -99,6 +113,10 @@ ArePlain built Route settings plain = (1 ≤ length plain) × (length plain ≤ 
 ArePlain built Drone settings plain = DroneWords plain  -- SYS PORT
 ArePlain built Station settings plain = StationWords built.operations (has_given File settings) plain  -- SYS COMP DRONE PORT OP..
 ArePlain built Make settings plain = OneNumber 0 1000000 plain  -- N
+ArePlain built LogShow settings plain = IsFile plain  -- FILE
+ArePlain built LogFilter settings plain = NumberAndFile 0 255 plain  -- SYS FILE
+ArePlain built LogMake settings plain = NumberAndFile 0 latest_start plain  -- START FILE
+ArePlain built Fence settings plain = IsFile plain  -- FILE
 
 -- the options and the plain words are of the forms that the command has
 pub record Fits (built : Built) (command : Command) (settings : List Given) (plain : List (List ℕ)) : Type 0 where

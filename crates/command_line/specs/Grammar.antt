@@ -2,7 +2,7 @@
 use Rattle.std.specs.Prelude.{◌≡◌, ◌==◌, ℕ, Bool, true, false, List, [], ◌∷◌, ◌++◌, Option, Some, None, codes}
 use Rattle.command_line.specs.declared.commands.Command.{Command}
 use Rattle.command_line.specs.declared.commands.OptionName.{OptionName}
-use Rattle.command_line.specs.Commands.{command_word, option_word, has_value}
+use Rattle.command_line.specs.Commands.{command_words, option_word, has_value}
 use Rattle.command_line.specs.Forms.{Built, Given, Fits}
 
 -- a word that begins with `-` and isn't `-` alone
@@ -76,7 +76,7 @@ pub record Written (words : List (List ℕ)) (asked : Asked) : Type 0 where
   pub pieces : List Piece
   pub behind : Option (List (List ℕ))
   pub are_pieces : ArePieces pieces
-  pub words_are : words ≡ command_word asked.command ∷ (words_of pieces ++ behind_words behind)
+  pub words_are : words ≡ command_words asked.command ++ (words_of pieces ++ behind_words behind)
   pub settings_are : asked.settings ≡ settings_of pieces
   pub plain_are : asked.plain ≡ plain_of pieces ++ plain_behind behind
 

@@ -4,7 +4,7 @@ use Rattle.std.specs.Fmt.{decimal}
 use Rattle.std.specs.List.{list_all}
 use Rattle.std.specs.declared.alloc.Global.{Global}
 use Rattle.command_line.specs.declared.commands.Command.{Command}
-use Rattle.command_line.specs.declared.commands.Command.TheVariants.{Fleet, Dialect, Decode, Route, Drone, Station, Make}
+use Rattle.command_line.specs.declared.commands.Command.TheVariants.{Fleet, Dialect, Decode, Route, Drone, Station, Make, LogShow, LogFilter, LogMake, Fence}
 use Rattle.command_line.specs.declared.commands.OptionName.{OptionName}
 use Rattle.command_line.specs.declared.commands.OptionName.TheVariants.{Frames, Key, Defs, One, Turns, Ticks, File, Store}
 use Rattle.command_line.specs.declared.pieces.Place.{Place}
@@ -16,7 +16,7 @@ use Rattle.command_line.specs.Commands.{has_option, needs_key}
 use Rattle.command_line.specs.Numbers.{number_in}
 use Rattle.command_line.specs.PortTexts.{is_some_text, is_router_port, port_text}
 use Rattle.command_line.specs.Built.{is_built, is_option_built, needs_now}
-use Rattle.command_line.specs.Forms.{Given, most_turns, all_differ, has_given, stdin_files}
+use Rattle.command_line.specs.Forms.{Given, latest_start, most_turns, all_differ, has_given, stdin_files}
 use Rattle.command_line.specs.Names.{port_words}
 use Rattle.command_line.specs.Nodes.{is_drone, is_station, NodeSays}
 use Rattle.command_line.specs.Pieces.{Parts, joined, parts_at, all_options}
@@ -77,6 +77,12 @@ is_one_number [] = false
 is_one_number (word ∷ []) = is_some (number_in 0 1000000 word)
 is_one_number (word ∷ other ∷ more) = false
 
+abbrev pub is_number_and_file : ℕ → List (List ℕ) → Bool
+is_number_and_file most [] = false
+is_number_and_file most (word ∷ []) = false
+is_number_and_file most (word ∷ file ∷ []) = is_some_text file && is_some (number_in 0 most word)
+is_number_and_file most (word ∷ file ∷ other ∷ more) = false
+
 -- whether plain words are of the command's form, by whether the file of an operation is given
 abbrev pub plain_now : Command → Bool → List (List ℕ) → Bool
 plain_now Fleet file_given plain = is_one_file plain
@@ -86,17 +92,38 @@ plain_now Route file_given plain = are_ports plain
 plain_now Drone file_given plain = is_drone plain
 plain_now Station file_given plain = is_station file_given plain
 plain_now Make file_given plain = is_one_number plain
+plain_now LogShow file_given plain = is_one_file plain
+plain_now LogFilter file_given plain = is_number_and_file 255 plain
+plain_now LogMake file_given plain = is_number_and_file latest_start plain
+plain_now Fence file_given plain = is_one_file plain
 
 abbrev pub fits_now : Command → List Given → List (List ℕ) → Bool
 fits_now command settings plain =
     is_built command && (list_all (taken_now command) settings && (all_differ settings
     && (has_needed command settings && (plain_now command (has_given File settings) plain && nat_le (stdin_files command settings plain) 1))))
 
--- what the plain words of a command say: its ports, and the number of `make`
+-- a number of this range, and a file
+pub record NumberFirst (most : ℕ) (plain : List (List ℕ)) (number : ℕ) : Type 0 where
+  pub file : List ℕ
+  pub plain_is : plain ≡ decimal number ∷ file ∷ []
+  pub at_most : number ≤ most
+
+-- what was read of a number and a file; nothing exactly if the words aren't such
+abbrev pub NumberRead : ℕ → List (List ℕ) → Option ℕ → Type 0
+NumberRead most plain None = is_number_and_file most plain ≡ false
+NumberRead most plain (Some number) = (is_number_and_file most plain ≡ true) × NumberFirst most plain number
+
+-- the number of a command that has one
+abbrev pub NumberSays : Command → List (List ℕ) → ℕ → Type 0
+NumberSays Make plain number = (plain ≡ decimal number ∷ []) × (number ≤ 1000000)
+NumberSays LogFilter plain number = NumberFirst 255 plain number
+NumberSays LogMake plain number = NumberFirst latest_start plain number
+NumberSays _ plain number = Unit {0}
+
+-- what the plain words of a command say: its ports, and its number
 pub record Says (command : Command) (plain : List (List ℕ)) (ports : List Port) (number : ℕ) : Type 0 where
   pub ports_are : map port_text ports ≡ port_words command plain
-  pub number_is : command ≡ Make → plain ≡ decimal number ∷ []
-  pub at_most : number ≤ 1000000
+  pub number_is : NumberSays command plain number
 
 -- what was read of plain words; nothing exactly if they aren't of the command's form
 abbrev pub PlainRead : Command → Bool → List (List ℕ) → Option Values → Type 0

@@ -6,7 +6,7 @@ use Rattle.command_line.specs.declared.commands.Command.TheVariants.{Route, Dron
 use Rattle.command_line.specs.declared.commands.OptionName.{OptionName}
 use Rattle.command_line.specs.declared.commands.OptionName.TheVariants.{File, Turns, Ticks}
 use Rattle.command_line.specs.Numbers.{number_in}
-use Rattle.command_line.specs.Forms.{Given, most_turns, is_named, reads_file}
+use Rattle.command_line.specs.Forms.{Given, most_turns, is_named, reads_file, file_words}
 use Rattle.command_line.specs.Grammar.{Asked}
 
 -- the value of an option, if it is given
@@ -19,7 +19,7 @@ first_word (word ∷ words) = Some word
 
 -- the file that is read after the others: the plain word FILE, or the file of an operation
 abbrev pub main_file : Asked → Option (List ℕ)
-main_file asked = if reads_file asked.command then first_word asked.plain else value_given File asked.settings
+main_file asked = if reads_file asked.command then first_word (file_words asked.command asked.plain) else value_given File asked.settings
 
 -- the words PORT
 abbrev pub port_words : Command → List (List ℕ) → List (List ℕ)

@@ -1,5 +1,5 @@
--- The plain words of `drone`, `station` and `make`.
-use Rattle.std.specs.Prelude.{◌≡◌, ◌||◌, ℕ, Bool, true, false, List, [], ◌∷◌, IsTrue, codes}
+-- The plain words of `drone` and `station`, and of the commands with a number.
+use Rattle.std.specs.Prelude.{◌≡◌, ◌≢◌, ◌||◌, ℕ, Bool, true, false, List, [], ◌∷◌, IsTrue, codes}
 use Rattle.std.specs.Str.{bytes_eq}
 use Rattle.command_line.specs.Numbers.{IsNumber, IsWire, IsParameter}
 use Rattle.command_line.specs.Ports.{IsPort}
@@ -81,3 +81,11 @@ pub record StationWords (is_built : OperationWords → Bool) (file_given : Bool)
 -- N
 abbrev pub OneNumber : ℕ → ℕ → List (List ℕ) → Type 0
 OneNumber low high plain = (word : List ℕ) × (plain ≡ word ∷ []) × IsNumber low high word
+
+-- N FILE
+pub record NumberAndFile (low high : ℕ) (plain : List (List ℕ)) : Type 0 where
+  pub number : List ℕ
+  pub file : List ℕ
+  pub plain_is : plain ≡ number ∷ file ∷ []
+  pub is_number : IsNumber low high number
+  pub is_file : file ≢ []

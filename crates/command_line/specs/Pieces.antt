@@ -3,7 +3,7 @@ use Rattle.std.specs.Prelude.{◌==◌, nat_lt, ℕ, Bool, if◌then◌else◌, 
 use Rattle.std.specs.List.{find, before_first, after_first, position_or_len}
 use Rattle.std.specs.Str.{bytes_eq}
 use Rattle.command_line.specs.declared.commands.Command.{Command}
-use Rattle.command_line.specs.declared.commands.Command.TheVariants.{Fleet, Dialect, Decode, Route, Drone, Station, Make}
+use Rattle.command_line.specs.declared.commands.Command.TheVariants.{Fleet, Dialect, Decode, Route, Drone, Station, Make, LogShow, LogFilter, LogMake, Fence}
 use Rattle.command_line.specs.declared.commands.OptionName.{OptionName}
 use Rattle.command_line.specs.declared.commands.OptionName.TheVariants.{Frames, Key, Defs, One, Turns, Ticks, File, Store}
 use Rattle.command_line.specs.declared.pieces.Sort.{Sort}
@@ -14,14 +14,35 @@ use Rattle.command_line.specs.Commands.{command_word, option_word, has_value}
 use Rattle.command_line.specs.Forms.{Given}
 use Rattle.command_line.specs.Grammar.{is_dashed}
 
-abbrev pub all_commands : List Command
-all_commands = Fleet ∷ Dialect ∷ Decode ∷ Route ∷ Drone ∷ Station ∷ Make ∷ []
+-- the commands of one word, and those of `log`
+abbrev pub single_commands : List Command
+single_commands = Fleet ∷ Dialect ∷ Decode ∷ Route ∷ Drone ∷ Station ∷ Make ∷ Fence ∷ []
+
+abbrev pub log_commands : List Command
+log_commands = LogShow ∷ LogFilter ∷ LogMake ∷ []
 
 abbrev pub all_options : List OptionName
 all_options = Frames ∷ Key ∷ Defs ∷ One ∷ Turns ∷ Ticks ∷ File ∷ Store ∷ []
 
-abbrev pub command_named : List ℕ → Option Command
-command_named word = find (λ c. bytes_eq word (command_word c)) all_commands
+abbrev pub named_in : List Command → List ℕ → Option Command
+named_in commands word = find (λ c. bytes_eq word (command_word c)) commands
+
+-- the command with which words begin, and the words after it
+pub record Begun : Type 0 where
+  pub command : Command
+  pub rest : List (List ℕ)
+
+abbrev pub begun_by : List (List ℕ) → Option Command → Option Begun
+begun_by rest None = None
+begun_by rest (Some command) = Some (record { command = command; rest = rest })
+
+abbrev pub begun_log : List (List ℕ) → Option Begun
+begun_log [] = None
+begun_log (w ∷ ws) = begun_by ws (named_in log_commands w)
+
+abbrev pub begun : List (List ℕ) → Option Begun
+begun [] = None
+begun (w ∷ ws) = if bytes_eq w (codes "log") then begun_log ws else begun_by ws (named_in single_commands w)
 
 abbrev pub option_named : List ℕ → Option OptionName
 option_named word = find (λ o. bytes_eq word (option_word o)) all_options

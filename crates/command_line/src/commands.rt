@@ -14,6 +14,13 @@ pub enum Command {
     Drone,
     Station,
     Make,
+    /// `log show`
+    LogShow,
+    /// `log filter`
+    LogFilter,
+    /// `log make`
+    LogMake,
+    Fence,
 }
 
 /// An option that some command has.
@@ -29,7 +36,8 @@ pub enum OptionName {
     Store,
 }
 
-pub(crate) const COMMANDS: [Command; 7] = [
+// The commands of one word.
+pub(crate) const COMMANDS: [Command; 8] = [
     Command::Fleet,
     Command::Dialect,
     Command::Decode,
@@ -37,6 +45,14 @@ pub(crate) const COMMANDS: [Command; 7] = [
     Command::Drone,
     Command::Station,
     Command::Make,
+    Command::Fence,
+];
+
+// The commands whose first word is `log`.
+pub(crate) const LOG_COMMANDS: [Command; 3] = [
+    Command::LogShow,
+    Command::LogFilter,
+    Command::LogMake,
 ];
 
 pub(crate) const OPTION_NAMES: [OptionName; 8] = [
@@ -51,7 +67,7 @@ pub(crate) const OPTION_NAMES: [OptionName; 8] = [
 ];
 
 impl Command {
-    /// The first word of its lines.
+    /// Its word, the second one of its lines if it is on logs.
     pub(crate) fn word(self) -> &'static str
         ensures { result.now ≡ command_word self }
     {
@@ -62,7 +78,10 @@ impl Command {
             Command::Route => "route",
             Command::Drone => "drone",
             Command::Station => "station",
-            Command::Make => "make",
+            Command::Make | Command::LogMake => "make",
+            Command::LogShow => "show",
+            Command::LogFilter => "filter",
+            Command::Fence => "fence",
         }
     }
 
@@ -77,7 +96,11 @@ impl Command {
             | Command::Route
             | Command::Drone
             | Command::Station
-            | Command::Make => true,
+            | Command::Make
+            | Command::LogShow
+            | Command::LogFilter
+            | Command::LogMake
+            | Command::Fence => true,
         }
     }
 
@@ -87,7 +110,9 @@ impl Command {
     {
         match self {
             Command::Fleet => matches!(name, OptionName::Frames | OptionName::Key),
-            Command::Dialect => matches!(name, OptionName::Defs),
+            Command::Dialect | Command::LogShow | Command::LogFilter | Command::LogMake => {
+                matches!(name, OptionName::Defs)
+            }
             Command::Decode => matches!(name, OptionName::Defs | OptionName::Key),
             Command::Route => matches!(
                 name,
@@ -101,7 +126,7 @@ impl Command {
                 name,
                 OptionName::Key | OptionName::Ticks | OptionName::File
             ),
-            Command::Make => false,
+            Command::Make | Command::Fence => false,
         }
     }
 
@@ -111,7 +136,9 @@ impl Command {
     {
         match self {
             Command::Fleet => matches!(name, OptionName::Frames | OptionName::Key),
-            Command::Dialect => matches!(name, OptionName::Defs),
+            Command::Dialect | Command::LogShow | Command::LogFilter | Command::LogMake => {
+                matches!(name, OptionName::Defs)
+            }
             Command::Decode => matches!(name, OptionName::Defs | OptionName::Key),
             Command::Route => matches!(
                 name,
@@ -125,7 +152,7 @@ impl Command {
                 name,
                 OptionName::Key | OptionName::Ticks | OptionName::File
             ),
-            Command::Make => false,
+            Command::Make | Command::Fence => false,
         }
     }
 }

@@ -7,7 +7,7 @@ ghost use Rattle.command_line.specs.Lines.{given_of, asked_by};
 ghost use Rattle.command_line.specs.Names.{value_given, first_word, main_file, number_given, turns_asked, ticks_asked};
 
 use crate::commands::OptionName;
-use crate::forms::{has_given, is_named, reads_file};
+use crate::forms::{file_words, has_given, is_named, reads_file};
 use crate::lines::{Line, Setting};
 use std::alloc::{AllocError, Global};
 
@@ -78,7 +78,7 @@ impl Line {
         ensures { IfOk result (λ file. option_map string_bytes file ≡ main_file (asked_by self.now)) }
     {
         if reads_file(self.command) {
-            first_word(alloc, &self.words)
+            first_word(alloc, file_words(self.command, &self.words))
         } else {
             self.value(alloc, OptionName::File)
         }

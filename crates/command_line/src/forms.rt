@@ -1,8 +1,8 @@
 // Whether options are of the forms that the command has.
-ghost use Rattle.std.specs.Prelude.{◌≡◌, ◌||◌, not, true, map, string_bytes, count_by, nat_le};
+ghost use Rattle.std.specs.Prelude.{◌≡◌, ◌||◌, not, true, map, string_bytes, count_by, drop, nat_le};
 ghost use Rattle.std.specs.List.{list_all, list_any};
 ghost use Rattle.command_line.specs.Forms.{all_differ, has_given, is_named, is_stdin, is_stdin_given, names_file};
-ghost use Rattle.command_line.specs.Forms.{reads_file, stdin_files};
+ghost use Rattle.command_line.specs.Forms.{reads_file, has_number_first, file_words, stdin_files};
 ghost use Rattle.command_line.specs.Lines.{given_of, is_value_now, taken_now, is_needed, plain_now, fits_now};
 ghost use Rattle.command_line.specs.Pieces.{all_options};
 ghost use Rattle.command_line.specs.PortTexts.{is_some_text};
@@ -98,7 +98,44 @@ fn names_file(name: OptionName) -> bool
 pub(crate) fn reads_file(command: Command) -> bool
     ensures { result ≡ reads_file command }
 {
-    matches!(command, Command::Fleet | Command::Decode)
+    matches!(
+        command,
+        Command::Fleet
+            | Command::Decode
+            | Command::LogShow
+            | Command::LogFilter
+            | Command::LogMake
+            | Command::Fence
+    )
+}
+
+fn has_number_first(command: Command) -> bool
+    ensures { result ≡ has_number_first command }
+{
+    matches!(command, Command::LogFilter | Command::LogMake)
+}
+
+fn after_first(words: &[String]) -> &[String]
+    ensures { map string_bytes result.now ≡ drop 1 (map string_bytes words.now) }
+{
+    match words {
+        [_, rest @ ..] => rest,
+        [] => &[],
+    }
+}
+
+/// The plain words that name files.
+pub(crate) fn file_words(command: Command, words: &[String]) -> &[String]
+    ensures { map string_bytes result.now ≡ file_words command (map string_bytes words.now) }
+{
+    if !reads_file(command) {
+        return &[];
+    }
+    if has_number_first(command) {
+        after_first(words)
+    } else {
+        words
+    }
 }
 
 fn is_stdin_setting(setting: &Setting) -> bool
@@ -150,10 +187,6 @@ fn is_stdin_once(line: &Line) -> bool
         (map string_bytes line.now.words.items)) 1 }
 {
     let in_settings = stdin_settings(&line.settings);
-    let in_words = if reads_file(line.command) {
-        stdin_words(&line.words)
-    } else {
-        0
-    };
+    let in_words = stdin_words(file_words(line.command, &line.words));
     in_settings <= 1 && in_words <= 1 - in_settings
 }

@@ -27,8 +27,9 @@ pub struct Line {
     pub words: Vec<String>,
     /// The ports that these name.
     pub ports: Vec<Port>,
-    /// The number of `make`; 0 for another command.
-    pub number: u32,
+    /// The number of `make`, the system of `log filter`, or the start of `log make` in microseconds since 1970; 0 for
+    /// another command.
+    pub number: u64,
     /// The system of a drone or a station; 0 for another command.
     pub system: u8,
     /// What a station is told; None for another command.

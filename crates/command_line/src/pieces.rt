@@ -1,10 +1,11 @@
 // What a word is by itself.
-ghost use Rattle.std.specs.Prelude.{◌≡◌};
+ghost use Rattle.std.specs.Prelude.{◌≡◌, Some, None, map, string_bytes};
+ghost use Rattle.std.specs.Option.{MatchOption};
 ghost use Rattle.command_line.specs.Grammar.{is_dashed};
-ghost use Rattle.command_line.specs.Pieces.{command_named, option_named, alone_sort, joined_sort};
+ghost use Rattle.command_line.specs.Pieces.{named_in, single_commands, log_commands, begun, begun_log, option_named, alone_sort, joined_sort};
 ghost use Rattle.command_line.specs.Pieces.{option_sort, sort_of, joined_value};
 
-use crate::commands::{COMMANDS, Command, OPTION_NAMES, OptionName};
+use crate::commands::{COMMANDS, Command, LOG_COMMANDS, OPTION_NAMES, OptionName};
 
 /// What a word is before `--`.
 #[derive(Clone, Copy)]
@@ -30,13 +31,53 @@ pub(crate) enum Place {
     Behind,
 }
 
-pub(crate) fn command_named(word: &str) -> Option<Command>
-    ensures { result ≡ command_named word.now }
+fn single_command(word: &str) -> Option<Command>
+    ensures { result ≡ named_in single_commands word.now }
 {
     COMMANDS
         .iter()
         .copied()
         .find(|command| word == command.word())
+}
+
+fn log_command(word: &str) -> Option<Command>
+    ensures { result ≡ named_in log_commands word.now }
+{
+    LOG_COMMANDS
+        .iter()
+        .copied()
+        .find(|command| word == command.word())
+}
+
+// The command on logs with which the words after `log` begin, and the words after it.
+fn begun_log(words: &[String]) -> Option<(Command, &[String])>
+    ensures { MatchOption result (begun_log (map string_bytes words.now) ≡ None)
+        (λ found. begun_log (map string_bytes words.now) ≡ Some (record { command = found.0; rest = map string_bytes found.1.now })) }
+{
+    let [word, rest @ ..] = words else {
+        return None;
+    };
+    match log_command(word.as_str()) {
+        Some(command) => Some((command, rest)),
+        None => None,
+    }
+}
+
+/// The command with which words begin, and the words after it.
+pub(crate) fn begun(words: &[String]) -> Option<(Command, &[String])>
+    ensures { MatchOption result (begun (map string_bytes words.now) ≡ None)
+        (λ found. begun (map string_bytes words.now) ≡ Some (record { command = found.0; rest = map string_bytes found.1.now })) }
+{
+    let [word, rest @ ..] = words else {
+        return None;
+    };
+    if word.as_str() == "log" {
+        return begun_log(rest);
+    }
+    match single_command(word.as_str()) {
+        Some(command) => Some((command, rest)),
+        None => None,
+    }
 }
 
 fn option_named(word: &str) -> Option<OptionName>

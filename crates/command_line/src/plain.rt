@@ -1,8 +1,8 @@
 // What the plain words of a line say.
-ghost use Rattle.std.specs.Prelude.{◌≡◌, ◌≤◌, ◌∷◌, [], map, string_bytes, IfOk, IfSome};
+ghost use Rattle.std.specs.Prelude.{◌≡◌, ◌≤◌, ◌∷◌, [], Some, None, map, string_bytes, IfOk, IfSome};
 ghost use Rattle.std.specs.Fmt.{decimal};
 ghost use Rattle.command_line.specs.PortTexts.{IsRead, port_text};
-ghost use Rattle.command_line.specs.Lines.{is_one_file, are_ports, is_one_number, PlainRead};
+ghost use Rattle.command_line.specs.Lines.{is_one_file, are_ports, is_one_number, NumberRead, PlainRead};
 
 use crate::commands::Command;
 use crate::forms::is_some_text;
@@ -12,17 +12,17 @@ use crate::operations::Task;
 use crate::ports::{Port, read_ports};
 use std::alloc::{AllocError, Global};
 
-/// The ports, the number of `make`, the system of a drone or a station, and what a station is told; no ports, 0, 0 and None
-/// for a command that has no such words.
+/// The ports, the number of a command that has one, the system of a drone or a station, and what a station is told; no
+/// ports, 0, 0 and None for a command that has no such words.
 #[derive(Drop)]
 pub(crate) struct Values {
     pub(crate) ports: Vec<Port>,
-    pub(crate) number: u32,
+    pub(crate) number: u64,
     pub(crate) system: u8,
     pub(crate) task: Option<Task>,
 }
 
-fn without_ports(alloc: Global, number: u32) -> Values
+fn without_ports(alloc: Global, number: u64) -> Values
     ensures ports { result.ports.items ≡ [] }
     ensures number { result.number ≡ number }
 {
@@ -79,6 +79,37 @@ fn one_number(words: &[String]) -> Option<u64>
     }
 }
 
+// The most that the system of `log filter` and the start of `log make` may be.
+const MOST_SYSTEM: u64 = 255;
+
+const LATEST_START: u64 = 4_000_000_000_000_000;
+
+// A number, and the name of a file.
+fn number_and_file(words: &[String], most: u64) -> Option<u64>
+    ensures { NumberRead most (map string_bytes words.now) result }
+{
+    match words {
+        [word, file] => {
+            if !is_some_text(file.as_str()) {
+                return None;
+            }
+            number(word.as_str(), 0, most)
+        }
+        _ => None,
+    }
+}
+
+// A number that was read, without ports.
+fn numbered(alloc: Global, number: Option<u64>) -> Option<Values>
+    ensures none { result ≡ None → number ≡ None }
+    ensures some { IfSome result (λ v. (number ≡ Some v.number) × (v.ports.items ≡ [])) }
+{
+    match number {
+        Some(number) => Some(without_ports(alloc, number)),
+        None => None,
+    }
+}
+
 /// What the plain words of a command say, or None if they aren't of its form.
 pub(crate) fn read_plain(
     alloc: Global,
@@ -89,7 +120,8 @@ pub(crate) fn read_plain(
     ensures { IfOk result (PlainRead command file_given (map string_bytes words.now)) }
 {
     match command {
-        Command::Fleet | Command::Decode if is_one_file(words) => Ok(Some(without_ports(alloc, 0))),
+        Command::Fleet | Command::Decode | Command::LogShow | Command::Fence
+            if is_one_file(words) => { Ok(Some(without_ports(alloc, 0))) }
         Command::Dialect if words.is_empty() => Ok(Some(without_ports(alloc, 0))),
         Command::Route => match router_ports(alloc, words)? {
             Some(ports) => Ok(Some(with_ports(ports))),
@@ -97,10 +129,9 @@ pub(crate) fn read_plain(
         },
         Command::Drone => read_drone(alloc, words),
         Command::Station => read_station(alloc, file_given, words),
-        Command::Make => match one_number(words) {
-            Some(number) => Ok(Some(without_ports(alloc, number as u32))),
-            None => Ok(None),
-        },
+        Command::Make => Ok(numbered(alloc, one_number(words))),
+        Command::LogFilter => Ok(numbered(alloc, number_and_file(words, MOST_SYSTEM))),
+        Command::LogMake => Ok(numbered(alloc, number_and_file(words, LATEST_START))),
         _ => Ok(None),
     }
 }

@@ -10,7 +10,7 @@ use crate::faults::WantedFault;
 use crate::forms::{fits, has_given};
 use crate::lines::{Line, Setting};
 use crate::numbers::number;
-use crate::pieces::{Place, Sort, command_named, is_dashed, joined_value, sort_of};
+use crate::pieces::{Place, Sort, begun, is_dashed, joined_value, sort_of};
 use crate::plain::read_plain;
 use std::alloc::Global;
 
@@ -160,10 +160,7 @@ pub fn read(alloc: Global, words: &[String]) -> Result<Line, WantedFault>
     ensures node { IfOk result LineNodeSays }
     ensures usage { IsErrOf result WantedFault.Usage → AskNothing built (map string_bytes words.now) }
 {
-    let [first, behind @ ..] = words else {
-        return Err(WantedFault::Usage);
-    };
-    let Some(command) = command_named(first.as_str()) else {
+    let Some((command, behind)) = begun(words) else {
         return Err(WantedFault::Usage);
     };
     let reader = read_behind(alloc, behind)?;

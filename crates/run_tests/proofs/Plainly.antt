@@ -1,5 +1,5 @@
 -- What the clauses of `run` say of a command without options, if the ports are in memory and don't fail.
-use Rattle.std.proofs.Common.{◌≡◌, ◌≢◌, ◌+◌, ◌-◌, ◌^◌, ◌<◌, ◌≤◌, ◌⊎◌, inl, inr, ◌∙◌, ℕ, true, false, List, [], ◌∷◌, codes, length, refl, sym, ap, arith, lit≤, Option, Some, None, IsTrue}
+use Rattle.std.proofs.Common.{◌≡◌, ◌≢◌, ◌+◌, ◌-◌, ◌^◌, ◌<◌, ◌≤◌, ◌⊎◌, inl, inr, ◌∙◌, ℕ, true, false, List, [], ◌∷◌, ◌++◌, codes, length, refl, sym, ap, arith, lit≤, Option, Some, None, IsTrue}
 use Rattle.std.specs.Io.KnownBytes.{append_known}
 use Rattle.std.specs.Prelude.{⊤}
 use Rattle.mav_ports.specs.Counts.{Rose}
@@ -9,7 +9,7 @@ use Rattle.command_line.specs.declared.commands.Command.{Command}
 use Rattle.command_line.specs.declared.commands.Command.TheVariants.{Fleet, Dialect, Decode}
 use Rattle.command_line.specs.declared.commands.OptionName.{OptionName}
 use Rattle.command_line.specs.Built.{built, is_built, needs_now}
-use Rattle.command_line.specs.Commands.{command_word, needs_key}
+use Rattle.command_line.specs.Commands.{command_words, needs_key}
 use Rattle.command_line.specs.Forms.{stdin_files, ArePlain, IsFile}
 use Rattle.command_line.specs.Grammar.{Asked, Asks, Bare}
 use Rattle.run_status.specs.Runs.{CommandSpec, end_of, output_of as output_by}
@@ -42,7 +42,7 @@ asked command = record { command = command; settings = []; plain = the_file }
 is_file : IsFile the_file
 is_file = (codes "file", refl, some_byte 102 (codes "ile"))
 
-asks : (command : Command) (words : List (List ℕ)) → words ≡ command_word command ∷ the_file → is_built command ≡ true → (IsTrue (needs_key command) → ⊥) → ((name : OptionName) → IsTrue (needs_now command name) → ⊥) → ArePlain built command [] the_file → stdin_files command [] the_file ≤ 1 → Asks built words (asked command)
+asks : (command : Command) (words : List (List ℕ)) → words ≡ command_words command ++ the_file → is_built command ≡ true → (IsTrue (needs_key command) → ⊥) → ((name : OptionName) → IsTrue (needs_now command name) → ⊥) → ArePlain built command [] the_file → stdin_files command [] the_file ≤ 1 → Asks built words (asked command)
 asks command words same is_built no_key no_other plain one = record {
   written = record { pieces = Bare (codes "file") ∷ []; behind = None; are_pieces = (refl, tt); words_are = same; settings_are = refl; plain_are = refl };
   fits = record {

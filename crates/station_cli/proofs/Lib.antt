@@ -7,4 +7,5 @@ pub mod Routed
 pub mod Flown
 pub mod Stationed
 pub mod Made
+pub mod Logged
 pub mod Links

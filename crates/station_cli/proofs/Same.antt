@@ -3,6 +3,7 @@ use Rattle.std.proofs.Common.{◌≡◌, ◌≢◌, ◌∙◌, ℕ, Bool, List, 
 use Rattle.command_line.specs.declared.commands.Command.{Command}
 use Rattle.command_line.specs.declared.commands.OptionName.{OptionName}
 use Rattle.command_line.specs.Built.{built}
+use Rattle.command_line.specs.Commands.{is_on_logs}
 use Rattle.command_line.specs.Forms.{has_given, reads_file}
 use Rattle.command_line.specs.Grammar.{Asked, Asks}
 use Rattle.command_line.proofs.Agreement.{written_once}
@@ -32,3 +33,7 @@ same_other words asked other c one two isnt = λ is. isnt (ap (λ (a : Asked). a
 -- as many stores are named
 pub same_stores : (words : List (List ℕ)) (asked other : Asked) (count : ℕ) → Asks built words asked → Asks built words other → keepers_asked other ≡ count → keepers_asked asked ≡ count
 same_stores words asked other count one two is = ap keepers_asked (same_asked words asked other one two) ∙ is
+
+-- both are on logs, or neither is
+pub same_logs : (words : List (List ℕ)) (asked other : Asked) (on_logs : Bool) → Asks built words asked → Asks built words other → is_on_logs other.command ≡ on_logs → is_on_logs asked.command ≡ on_logs
+same_logs words asked other on_logs one two is = ap (λ (a : Asked). is_on_logs a.command) (same_asked words asked other one two) ∙ is

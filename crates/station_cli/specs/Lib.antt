@@ -5,6 +5,7 @@ pub mod Decoding
 pub mod Fleets
 pub mod Routing
 pub mod Making
+pub mod Logging
 pub mod Flying
 pub mod Reported
 pub mod Ordering

@@ -10,6 +10,8 @@ mod decoding;
 mod fleets;
 mod flying;
 mod keys;
+mod logging;
+mod making;
 mod ordering;
 mod routing;
 mod runs;

@@ -5,11 +5,14 @@ ghost use Rattle.std.specs.Result.{result_err};
 ghost use Rattle.mav_ports.specs.Gets.{IsSpent};
 ghost use Rattle.run_status.specs.Runs.{RunBeforeStatus, Promises, port_outcome};
 ghost use Rattle.command_line.specs.Built.{built};
+ghost use Rattle.command_line.specs.Commands.{is_on_logs};
 ghost use Rattle.command_line.specs.Forms.{Fits, has_given, reads_file};
 ghost use Rattle.command_line.specs.Grammar.{Asked, Asks, AskNothing};
 ghost use Rattle.command_line.specs.Lines.{given_of, asked_by, LineSays, LineNodeSays};
 ghost use Rattle.dialect_command.specs.Spec.{dialect_spec, profile_spec};
 ghost use Rattle.station_cli.specs.Decoding.{Decodes};
+ghost use Rattle.fence_command.specs.Spec.{fence_spec};
+ghost use Rattle.station_cli.specs.Logging.{Logs};
 ghost use Rattle.station_cli.specs.Fleets.{Fleets, FleetsCarry, FleetsComplete};
 ghost use Rattle.make_command.specs.Spec.{make_spec};
 ghost use Rattle.make_command.specs.Theorem.{GeneratedTheorem};
@@ -28,12 +31,14 @@ ghost use Rattle.station_cli.specs.Usage.{UsageReported};
 use crate::decoding::run_decode;
 use crate::fleets::run_fleet;
 use crate::flying::run_drone;
+use crate::logging::run_log;
+use crate::making::run_make;
 use crate::routing::run_route;
 use crate::stationing::run_station;
 use crate::wants::{Inputs, Store};
 use command_line::{Command, Line, OptionName, WantedFault, read};
 use dialect_command::{dialect, profile};
-use make_command::make;
+use fence_command::fence;
 use mav_links::Link;
 use mav_ports::{Clock, Sink, Source};
 use plan_store::Keeper;
@@ -132,6 +137,13 @@ fn run_line<S: Source, K: Sink, C: Clock>(
         (λ number. RunBeforeStatus (make_spec number)
         (port_outcome ⊤ 0 0 0 0 (K.faults out.old) (K.faults out.new))
         (Some []) (Some []) (K.sent out.old) (K.sent out.new) (result_err result)) }
+    ensures log { is_on_logs line.now.command ≡ true → Logs line.now.command (map string_bytes line.now.words.items)
+        (has_given OptionName.Defs (map given_of line.now.settings.items))
+        (before_status_over (output_of K.faults K.sent out.old out.new) (result_err result)) (IsErr result)
+        (input_of S.has_ended S.faults S.idles S.left inputs.old.defs inputs.new.defs)
+        (input_of S.has_ended S.faults S.idles S.left inputs.old.main inputs.new.main) }
+    ensures fence { line.now.command ≡ Command.Fence → before_status_over (output_of K.faults K.sent out.old out.new)
+        (result_err result) fence_spec (input_of S.has_ended S.faults S.idles S.left inputs.old.main inputs.new.main) }
     ensures unmoved { line.now.command ≢ Command.Route → line.now.command ≢ Command.Drone → line.now.command ≢ Command.Station → ports.new ≡ ports.old }
     ensures unasked { line.now.command ≢ Command.Drone → line.now.command ≢ Command.Station → clock.new ≡ clock.old }
     ensures unkept { keepers_asked (asked_by line.now) ≡ 0 → keepers.new ≡ keepers.old }
@@ -150,7 +162,11 @@ fn run_line<S: Source, K: Sink, C: Clock>(
         }
         Command::Decode => run_decode(alloc, line, inputs, out),
         Command::Route => run_route(alloc, line, inputs, ports, out),
-        Command::Make => make(alloc, line.number, out),
+        Command::Make => run_make(alloc, line, out),
+        Command::Fence => fence(alloc, &mut inputs.main, out),
+        Command::LogShow | Command::LogFilter | Command::LogMake => {
+            run_log(alloc, line, inputs, out)
+        }
         Command::Drone => run_drone(alloc, line, &mut inputs.key, ports, keepers, out, clock),
         Command::Station => match line.task {
             Some(task) => run_station(alloc, line, task, inputs, ports, keepers, out, clock),
@@ -225,6 +241,14 @@ fn run_words<S: Source, K: Sink, C: Clock>(
         (λ number. RunBeforeStatus (make_spec number)
         (port_outcome ⊤ 0 0 0 0 (K.faults out.old) (K.faults out.new))
         (Some []) (Some []) (K.sent out.old) (K.sent out.new) (result_err result)) }
+    ensures log { (asked : Asked) → Asks built (map string_bytes words.now) asked
+        → is_on_logs asked.command ≡ true → Logs asked.command asked.plain (has_given OptionName.Defs asked.settings)
+        (before_status_over (output_of K.faults K.sent out.old out.new) (result_err result)) (IsErr result)
+        (input_of S.has_ended S.faults S.idles S.left inputs.old.defs inputs.new.defs)
+        (input_of S.has_ended S.faults S.idles S.left inputs.old.main inputs.new.main) }
+    ensures fence { (asked : Asked) → Asks built (map string_bytes words.now) asked
+        → asked.command ≡ Command.Fence → before_status_over (output_of K.faults K.sent out.old out.new)
+        (result_err result) fence_spec (input_of S.has_ended S.faults S.idles S.left inputs.old.main inputs.new.main) }
     ensures usage { IsErrOf result RunEnd.Usage → AskNothing built (map string_bytes words.now) }
     ensures usage_only { AskNothing built (map string_bytes words.now)
         → IsErrOf result RunEnd.Usage ⊎ IsErrOf result RunEnd.NoMemory }
@@ -368,6 +392,18 @@ pub fn run<S: Source, K: Sink, C: Clock>(
     // The scenario that it generates is played to its end and authentic, so it has the main theorem.
     ensures make_theorem { (asked : Asked) → Asks built (map string_bytes words.now) asked
         → asked.command ≡ Command.Make → Makes asked.plain GeneratedTheorem }
+    // `log show [--defs F] FILE`, `log filter [--defs F] SYS FILE` and `log make [--defs F] START FILE`: the run halts at the
+    // definitions, with nothing written of them and the main input unread; or they are read, if the words name them, and the
+    // command runs over the main input by them
+    ensures log { (asked : Asked) → Asks built (map string_bytes words.now) asked
+        → is_on_logs asked.command ≡ true → Logs asked.command asked.plain (has_given OptionName.Defs asked.settings)
+        (promised_over (output_of K.faults K.sent out.old out.new) result) (result ≢ 0)
+        (input_of S.has_ended S.faults S.idles S.left inputs.old.defs inputs.new.defs)
+        (input_of S.has_ended S.faults S.idles S.left inputs.old.main inputs.new.main) }
+    // `fence FILE`
+    ensures fence { (asked : Asked) → Asks built (map string_bytes words.now) asked
+        → asked.command ≡ Command.Fence → promised_over (output_of K.faults K.sent out.old out.new) result fence_spec
+        (input_of S.has_ended S.faults S.idles S.left inputs.old.main inputs.new.main) }
     // The words are of no command exactly if the status is 2, unless the output refused that
     // text or there was no memory.
     ensures usage { result ≡ 2 → AskNothing built (map string_bytes words.now) }

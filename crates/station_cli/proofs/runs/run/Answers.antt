@@ -17,6 +17,9 @@ use Rattle.station_cli.proofs.Routed.{routing_reported, ports_wait}
 use Rattle.station_cli.proofs.Flown.{drone_reported, ran_reported}
 use Rattle.station_cli.proofs.Stationed.{station_reported}
 use Rattle.station_cli.proofs.Made.{make_steady, makes_on, unmade_number}
+use Rattle.fence_command.specs.Spec.{fence_spec}
+use Rattle.fence_command.proofs.Stays.{fence_steady}
+use Rattle.station_cli.proofs.Logged.{logs_reported}
 use Rattle.station_cli.proofs.runs.run.Goals as goal
 
 pub returns-clause-fleet : goal.returns-clause-fleet
@@ -128,3 +131,18 @@ returns-clause-station g c = λ asked asks is.
     (input_of g.S.Source.has_ended g.S.Source.faults g.S.Source.idles g.S.Source.left old.key new.key)
     (input_of g.S.Source.has_ended g.S.Source.faults g.S.Source.idles g.S.Source.left old.main new.main)
     (λ spent. spent.1) (λ spent. spent.1) (ended.ensures.station asked asks is))
+
+pub returns-clause-log : goal.returns-clause-log
+returns-clause-log g c = λ asked asks is.
+    let ended = c.run_words-ended in
+    rw c.code_of.ensures (logs_reported _ _ _ _ (reported_over _ _ _ _ _ _ ended.result c.write_status.result ended.ensures.sound c.write_status.ensures.writes)
+    (λ halted. halted_code _ _ _ _ ended.result c.write_status.result halted c.write_status.ensures.writes)
+    _ _ _ _ _ (λ spent. spent.1) (λ spent. spent.1) (ended.ensures.log asked asks is))
+
+pub returns-clause-fence : goal.returns-clause-fence
+returns-clause-fence g c = λ asked asks is.
+    let ended = c.run_words-ended in
+    let old = c.args.inputs.now in let new = ended.new.inputs in
+    rw c.code_of.ensures (reported_over _ _ _ _ _ _ ended.result c.write_status.result ended.ensures.sound c.write_status.ensures.writes
+    fence_spec fence_steady (input_of g.S.Source.has_ended g.S.Source.faults g.S.Source.idles g.S.Source.left old.main new.main)
+    (λ spent. spent.1) (ended.ensures.fence asked asks is))

@@ -1,11 +1,11 @@
 use Rattle.std.proofs.Common.{true, false, inl, refl}
-use Rattle.command_line.specs.declared.commands.Command.TheVariants.{Fleet, Dialect, Decode, Route, Drone, Station, Make}
+use Rattle.command_line.specs.declared.commands.Command.TheVariants.{Fleet, Dialect, Decode, Route, Drone, Station, Make, Fence}
 use Rattle.command_line.specs.declared.commands.OptionName.TheVariants.{Frames, Defs, Key, File}
 use Rattle.run_status.proofs.RunsBeforeStatus.{before_status_nothing}
 use Rattle.dialect_command.specs.Spec.{dialect_spec, profile_spec}
 use Rattle.std.specs.Result.{result_err}
 use Rattle.station_cli.specs.Seen.{input_of, output_of, before_status_over}
-use Rattle.station_cli.proofs.Same.{same_asked, same_command, same_given, same_options, same_reads, same_other, same_stores}
+use Rattle.station_cli.proofs.Same.{same_asked, same_command, same_given, same_options, same_reads, same_other, same_logs, same_stores}
 use Rattle.station_cli.proofs.Decoded.{decodes_as, decodes_unread}
 use Rattle.station_cli.proofs.Scenarios.{fleets_as, fleets_unread}
 use Rattle.make_command.specs.Spec.{make_spec}
@@ -13,6 +13,8 @@ use Rattle.station_cli.proofs.Routed.{routing_asked, key_unread}
 use Rattle.station_cli.proofs.Flown.{flown_asked}
 use Rattle.station_cli.proofs.Stationed.{stationed_asked}
 use Rattle.station_cli.proofs.Made.{makes_asked, unmade_number}
+use Rattle.fence_command.specs.Spec.{fence_spec}
+use Rattle.station_cli.proofs.Logged.{logs_asked, logs_unread}
 use Rattle.station_cli.proofs.runs.run_words.Goals as goal
 
 pub returns-in-Err-NoMemory-clause-fleet : goal.returns-in-Err-NoMemory-clause-fleet
@@ -134,3 +136,24 @@ run_line-requires-clause-links g c = (c.requires _ c.in-Ok.ensures.asks).0
 
 pub run_line-requires-clause-stores : goal.run_line-requires-clause-stores
 run_line-requires-clause-stores g c = (c.requires _ c.in-Ok.ensures.asks).1
+
+pub returns-clause-log : goal.returns-clause-log
+returns-clause-log g c = λ asked asks is.
+    let old = c.args.inputs.now in let new = c.run_line.new.inputs in
+    logs_asked _ asked (before_status_over (output_of g.K.Sink.faults g.K.Sink.sent c.args.out.now c.run_line.new.out) (result_err c.run_line.result)) _
+    (input_of g.S.Source.has_ended g.S.Source.faults g.S.Source.idles g.S.Source.left old.defs new.defs)
+    (input_of g.S.Source.has_ended g.S.Source.faults g.S.Source.idles g.S.Source.left old.main new.main)
+    (same_asked _ _ asked c.in-Ok.ensures.asks asks)
+    (c.run_line.ensures.log (same_logs _ _ asked true c.in-Ok.ensures.asks asks is))
+
+pub returns-in-Err-NoMemory-clause-log : goal.returns-in-Err-NoMemory-clause-log
+returns-in-Err-NoMemory-clause-log g c = λ asked asks is.
+    let inputs = c.args.inputs.now in
+    logs_unread g.S.Source.has_ended g.S.Source.faults g.S.Source.idles g.S.Source.left inputs.defs inputs.main (g.K.Sink.faults c.args.out.now) (g.K.Sink.sent c.args.out.now) _ refl
+    asked.command asked.settings asked.plain _ is asks.fits.plain_words
+
+pub returns-clause-fence : goal.returns-clause-fence
+returns-clause-fence g c = λ asked asks is. c.run_line.ensures.fence (same_command _ _ asked Fence c.in-Ok.ensures.asks asks is)
+
+pub returns-in-Err-NoMemory-clause-fence : goal.returns-in-Err-NoMemory-clause-fence
+returns-in-Err-NoMemory-clause-fence g c = λ asked asks is. before_status_nothing fence_spec _ _ _
