@@ -1,6 +1,9 @@
-//! Worked examples of commands, parameters and flights, by computation from the definitions alone. Nothing here runs, and nothing
-//! depends on it.
+//! Worked examples of commands, parameters and flights, by computation from the definitions alone; and a file that is
+//! transferred between both ends, which a test alone shows to succeed with ample memory. Nothing depends on it.
 #![tactic(auto)]
+
+#[cfg(test)]
+mod files;
 
 ghost use Rattle.service_examples.specs.Commands.{WorkedCommands};
 ghost use Rattle.service_examples.specs.Params.{WorkedParams};
