@@ -2,19 +2,16 @@
 //!
 //! A [`Keeper`] loads its contents and replaces them: a save that failed leaves the old ones or
 //! the new ones, and [`save_or_load`] finds out which by a load. [`MemKeeper`] is exact, for tests
-//! and scenarios; [`FileKeeper`] wraps a file and promises nothing of what the file holds. What
-//! the bytes mean is up to the caller.
+//! and scenarios. What the bytes mean is up to the caller.
 #![tactic(auto)]
 
 mod fail_keeper;
-mod file_keeper;
 mod handed;
 mod keepers;
 mod mem_keeper;
 mod saves;
 
 pub use fail_keeper::FailKeeper;
-pub use file_keeper::FileKeeper;
 pub use handed::Handed;
 pub use keepers::{KeepFault, Keeper, MAX_SAVED_BYTES};
 pub use mem_keeper::MemKeeper;

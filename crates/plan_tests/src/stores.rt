@@ -1,20 +1,12 @@
 // Stores as nodes and the program use them.
-use plan_store::{FileKeeper, Handed, KeepFault, Keeper, MemKeeper, Stored, save_or_load};
-use std::env::Env;
-use std::fs::{File, OpenFile};
-use std::rt::Files;
+use plan_store::{Handed, KeepFault, Keeper, MemKeeper, Stored, save_or_load};
 use std::test::Fail;
-use std::{env, fs, io, process};
 
 fn loads<K: Keeper>(keeper: &mut K, bytes: &[u8]) -> bool {
     match keeper.load() {
         Ok(loaded) => loaded.as_slice() == bytes,
         Err(_) => false,
     }
-}
-
-fn load_fails<K: Keeper>(keeper: &mut K) -> bool {
-    matches!(keeper.load(), Err(KeepFault::Store))
 }
 
 fn letter(saved: Result<Stored, KeepFault>) -> u8 {
@@ -72,29 +64,5 @@ fn a_load_decides_what_a_failed_save_left(rt: HostRuntime) -> Result<(), Fail> {
     assert_eq!(rt; two_saves_of_last(&mut keepers), Some(*b"on"));
     // Call 3 leaves the new contents, which call 4 loads; calls 5 and 6 both fail.
     assert_eq!(rt; two_saves_of_last(&mut keepers), Some(*b"ns"));
-    Ok(())
-}
-
-// A file's name that no other run has.
-fn path_of_test<R: Env + AllocGlobal>(rt: &R, process: u32) -> io::Result<String> {
-    let folder = env::temp_dir(rt)?;
-    Ok(format!(in rt.alloc(); "{}/plan_store_{process}", folder.as_str())?)
-}
-
-// Makes a file of so many zeros.
-fn make_long<R: Files>(files: &R, path: &str, len: u64) -> io::Result<()> {
-    File::create(files, path)?.set_len(len)
-}
-
-#[test]
-fn a_file_keeps_what_was_saved(rt: HostRuntime) -> Result<(), Fail> {
-    let path = path_of_test(&rt, process::id(rt.process()))?;
-    let mut keeper = FileKeeper::new(rt, rt.alloc(), path.as_str())?;
-    assert!(rt; loads(&mut keeper, b""));
-    assert!(rt; keeper.save(b"one").is_ok());
-    assert!(rt; loads(&mut keeper, b"one"));
-    assert!(rt; make_long(&rt, path.as_str(), 65_537).is_ok());
-    assert!(rt; load_fails(&mut keeper));
-    assert!(rt; fs::remove_file(&rt, path.as_str()).is_ok());
     Ok(())
 }

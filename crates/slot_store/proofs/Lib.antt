@@ -1,0 +1,9 @@
+mod Moments
+mod Decisions
+mod Images
+mod Bodies
+mod Saves
+mod Options
+mod Past
+mod Patches
+mod Draws

@@ -1,0 +1,15 @@
+use Rattle.std.proofs.Common.{ap, refl, subst}
+use Rattle.slot_store.specs.declared.mem_disk.MemDisk.{MemDisk}
+use Rattle.slot_store.proofs.Past.{elapses}
+use Rattle.slot_store.specs.MemDisks.{IsImage}
+use Rattle.slot_store.proofs.Patches.{no_range}
+use Rattle.slot_store.proofs.mem_disk.MemDiskDisk.sync.Goals as goal
+
+pub returns-then-branch-clause-time : goal.returns-then-branch-clause-time
+returns-then-branch-clause-time c = elapses c.args.self.now.past.items c.begin.new.self.past.items c.fault.new.self.past.items c.args.self.now.bytes.items c.fault.new.self.bytes.items c.args.self.now.ranges.items c.fault.new.self.ranges.items c.in_ok-begin.ensures.past (ap (λ (d : MemDisk). d.past.items) c.fault.ensures)
+
+pub returns-clause-durable : goal.returns-clause-durable
+returns-clause-durable c = λ image is. no_range c.begin.new.self.bytes.items image (subst (λ r. IsImage c.begin.new.self.bytes.items r image) c.clear.ensures.items is)
+
+pub returns-clause-time : goal.returns-clause-time
+returns-clause-time c = elapses c.args.self.now.past.items c.begin.new.self.past.items c.begin.new.self.past.items c.args.self.now.bytes.items c.begin.new.self.bytes.items c.args.self.now.ranges.items c.clear.new.self.items c.in_ok-begin.ensures.past refl

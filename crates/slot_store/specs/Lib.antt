@@ -1,0 +1,4 @@
+pub mod Disks
+pub mod Layout
+pub mod Crashes
+pub mod MemDisks
