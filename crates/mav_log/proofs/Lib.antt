@@ -2,4 +2,5 @@ pub mod Telling
 pub mod Ends
 pub mod Steps
 pub mod Stays
+mod StatusTold
 mod Worked

@@ -5,10 +5,10 @@ ghost use Rattle.mav_ports.specs.Gets.{IsSpent};
 ghost use Rattle.run_status.specs.Runs.{RunBeforeStatus, port_outcome};
 ghost use Rattle.mav_log.specs.Spec.{show_spec, filter_spec, make_spec};
 
-use crate::filter::Filter;
-use crate::make::Make;
+use crate::filter_teller::Filter;
+use crate::make_teller::Make;
 use crate::running::run_teller;
-use crate::show::Show;
+use crate::show_teller::Show;
 use dialect::Dialect;
 use mav_ports::{Sink, Source};
 use run_status::RunEnd;

@@ -3,17 +3,21 @@
 //!
 //! Each is a `Teller`, which makes a text of the bytes of an input as they come; one run reads the input in pieces of
 //! 64 KiB and writes what is told of a piece before more is read, in constant memory. `specs/Spec.antt` says what stops
-//! a run and what it writes. The text of a halt isn't written here. Rows, their parse and the reader of small pieces
-//! come from `log_rows`.
+//! a run and what it writes. [`run_show`], [`run_filter`] and [`run_make`] leave the text of a halt to their caller;
+//! [`show`], [`filter`] and [`make`](fn@make) write it too, and return the status. Rows, their parse and the reader of
+//! small pieces come from `log_rows`, and a log that is played as a link from `log_replay`.
 #![tactic(auto)]
 
 mod commands;
-mod filter;
-mod make;
+mod filter_teller;
+mod make_teller;
 mod running;
 mod scanner;
-mod show;
+mod show_teller;
+mod statuses;
 mod tellers;
 
 pub use commands::{run_filter, run_make, run_show};
+pub use log_replay::Replay;
 pub use log_rows::{LogNext, LogReader, Row, put_row};
+pub use statuses::{filter, make, show};

@@ -1,0 +1,2 @@
+mod LeftFrames
+mod Turns
