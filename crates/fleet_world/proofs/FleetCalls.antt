@@ -11,7 +11,7 @@ use Rattle.std.proofs.Math.Seq.{set-get_or}
 use Rattle.mav_nodes.specs.Nodes.{StationSide, station_obeys}
 use Rattle.mav_nodes.specs.declared.orders.Order.{Order}
 use Rattle.mav_nodes.specs.declared.faults.OrderFault.{OrderFault}
-use Rattle.mav_nodes.specs.declared.faults.OrderFault.TheVariants.{Begin as BeginFails, Op as OpFails, Command as CommandFails, Param as ParamFails, Node as StationFails}
+use Rattle.mav_nodes.specs.declared.faults.OrderFault.TheVariants.{Begin as BeginFails, Op as OpFails, Command as CommandFails, Param as ParamFails, File as FileFails, Node as StationFails}
 use Rattle.fleet_world.specs.WorldState.{Node, Station, named}
 use Rattle.fleet_world.specs.Steps.{as_station}
 use Rattle.fleet_world.specs.WorldView.{IsNode, Fleet, IsFleet}
@@ -99,6 +99,7 @@ refuses_weaker clock node order P Q (BeginFails fault) f h = (h.0, h.1, f h.2)
 refuses_weaker clock node order P Q (OpFails why) f h = (h.0, f h.1)
 refuses_weaker clock node order P Q (CommandFails busy) f h = (h.0, f h.1)
 refuses_weaker clock node order P Q (ParamFails busy) f h = (h.0, f h.1)
+refuses_weaker clock node order P Q (FileFails fault) f h = (h.0, f h.1)
 refuses_weaker clock node order P Q (StationFails fault) f h = h
 
 module _ (inside seen after : Fleet) (k n : ℕ) (view new : ViewNode) (order : Order) (same : inside ≡ seen) (size : n ≡ length inside.nodes) (within : k < n) (read : view ≡ get_or inside.nodes k view) (e : after ≡ record inside { nodes = slice_set inside.nodes k new }) where

@@ -12,7 +12,8 @@ use Rattle.mav_sign.specs.History.{stream_of, answer_to}
 use Rattle.mav_sign.specs.Endpoints.{frames_of}
 use Rattle.drone_sim.specs.Sim.{armed}
 use Rattle.mav_nodes.specs.Payloads.{plan_in, service_in}
-use Rattle.mav_nodes.specs.Services.{ServiceStep, StationServices, drone_flies, station_waits, asks_command, asks_params, command_of}
+use Rattle.mav_nodes.specs.FileServices.{begins, file_order}
+use Rattle.mav_nodes.specs.Services.{ServiceStep, StationServices, drone_flies, station_waits, asks_command, asks_params, asks_file, command_of}
 use Rattle.command_proto.specs.Commander.{commands}
 use Rattle.param_proto.specs.Client.{reads, sets, lists}
 use Rattle.mav_nodes.specs.News.{NodeEvent}
@@ -22,7 +23,7 @@ use Rattle.mav_nodes.specs.Nodes.{DroneSide, StationSide, drone_rules, drone_rec
 use Rattle.mav_nodes.specs.LowBounds.{stored_low}
 use Rattle.mav_nodes.specs.Restarts.{started_again, restarted_drone, drone_restarts}
 use Rattle.mav_nodes.specs.declared.orders.Order.{Order}
-use Rattle.mav_nodes.specs.declared.orders.Order.TheVariants.{Begin, Cancel, Clear, Get, Command, ParamRead, ParamSet, ParamList}
+use Rattle.mav_nodes.specs.declared.orders.Order.TheVariants.{Begin, Cancel, Clear, Get, Command, ParamRead, ParamSet, ParamList, File}
 use Rattle.plan_items.specs.Kinds.{number_of}
 use Rattle.plan_items.specs.Plans.{items_of}
 use Rattle.plan_upload.specs.Kinds.{clear_number}
@@ -221,3 +222,4 @@ obeys_keeps clock (Command drone number word) n = service_keeps clock n (asks_co
 obeys_keeps clock (ParamRead drone id) n = service_keeps clock n (asks_params n.services (reads n.services.client drone id))
 obeys_keeps clock (ParamSet drone param) n = service_keeps clock n (asks_params n.services (sets n.services.client drone param))
 obeys_keeps clock (ParamList drone) n = service_keeps clock n (asks_params n.services (lists n.services.client drone))
+obeys_keeps clock (File drone op) n = service_keeps clock n (asks_file n.services (begins n.services.files drone (file_order op)))

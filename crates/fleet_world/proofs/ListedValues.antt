@@ -28,15 +28,17 @@ use Rattle.param_proto.specs.Params.{same_id}
 use Rattle.param_proto.specs.Client.{ClientState, ClientStep, Operation, Task, Reads, Sets_to, All_listed, ParamsEnd, One_value, All_values, No_answer, known_values, with_value, was_taken, heard_at, rests, param_in, one_comes, listed, value_comes, answered, told, client_step, idle_limit, operation_ticks, client_tick, reads, sets, lists}
 use Rattle.param_proto.proofs.ListLaws.{every_end, idle_message, idle_tick}
 use Rattle.drone_sim.specs.Sim.{armed, sim_tick}
-use Rattle.mav_nodes.specs.News.{NodeEvent, Sends, Installs, Empties, Drops, Ends, Ends_command, Gives_param, Ends_params, Reaches, Captures}
+use Rattle.mav_nodes.specs.News.{NodeEvent, Sends, Installs, Empties, Drops, Ends, Ends_command, Gives_param, Ends_params, Reaches, Captures, Ends_file}
 use Rattle.mav_nodes.specs.Payloads.{plan_in, service_in}
-use Rattle.mav_nodes.specs.Services.{ServiceStep, DroneServices, drone_flies, sim_step, reached_events, captured_events, StationServices, command_events, params_events, station_serves, station_waits, asks_command, asks_params, command_of}
+use Rattle.mav_nodes.specs.declared.news.FileEnd.{FileEnd}
+use Rattle.mav_nodes.specs.FileServices.{transfer_heard, transfer_waits, begins, file_order}
+use Rattle.mav_nodes.specs.Services.{ServiceStep, DroneServices, drone_flies, sim_step, reached_events, captured_events, StationServices, command_events, params_events, station_serves, station_waits, asks_command, asks_params, asks_file, file_events, command_of}
 use Rattle.mav_nodes.specs.Links.{Link, Outcome, done, behind, and_then, tries, sends, sends_all}
 use Rattle.mav_nodes.specs.Steps.{Side, Rules, CoreStep, answers, with_core, steps, serves, serves_if, takes, admits, hears, hears_all, hears_keeping, receives}
 use Rattle.mav_nodes.specs.Nodes.{DroneSide, StationSide, change_events, told_events, drone_rules, drone_rules_keeping, drone_receives, drone_beats, drone_ticks, drone_sims, drone_heartbeat, drone_waits, station_rules, station_does, station_heartbeat, services_tick, station_ticks, station_beats, station_obeys}
 use Rattle.mav_nodes.specs.Restarts.{restarted_drone}
 use Rattle.mav_nodes.specs.declared.orders.Order.{Order}
-use Rattle.mav_nodes.specs.declared.orders.Order.TheVariants.{Begin, Cancel, Clear, Get, Command, ParamRead, ParamSet, ParamList}
+use Rattle.mav_nodes.specs.declared.orders.Order.TheVariants.{Begin, Cancel, Clear, Get, Command, ParamRead, ParamSet, ParamList, File}
 use Rattle.fleet_world.specs.WorldState.{Node, Drone, Station}
 use Rattle.fleet_world.specs.declared.calls.Call.{Call}
 use Rattle.fleet_world.specs.declared.calls.Call.TheVariants.{Take, Noise, Heartbeat, Tick, Sim, Restart}
@@ -58,6 +60,7 @@ IsQuiet (Ends_command result) = Unit {0}
 IsQuiet (Gives_param param) = Unit {0}
 IsQuiet (Reaches number) = Unit {0}
 IsQuiet (Captures total) = Unit {0}
+IsQuiet (Ends_file end) = Unit {0}
 
 abbrev AreQuiet : List NodeEvent → Type 0
 AreQuiet [] = Unit {0}
@@ -79,6 +82,7 @@ quiet_event values (Ends_command result) q = tt
 quiet_event values (Gives_param param) q = tt
 quiet_event values (Reaches number) q = tt
 quiet_event values (Captures total) q = tt
+quiet_event values (Ends_file end) q = tt
 
 quiet_have : (values : List Param) (es : List NodeEvent) → AreQuiet es → HaveValues values es
 quiet_have values [] q = tt
@@ -333,18 +337,27 @@ commands_quiet : (end : Option CommandEnd) → AreQuiet (command_events end)
 commands_quiet None = tt
 commands_quiet (Some end) = (tt, tt)
 
+files_quiet : (end : Option FileEnd) → AreQuiet (file_events end)
+files_quiet None = tt
+files_quiet (Some end) = (tt, tt)
+
+-- commands come before, and files after
+around : (before : ClientState) (step : ClientStep) (command : Option CommandEnd) (file : Option FileEnd) → Listed before step.client (params_events step.end) → Listed before step.client ((command_events command ++ params_events step.end) ++ file_events file)
+around before step command file l =
+    listed_both before step.client step.client (command_events command ++ params_events step.end) (file_events file)
+    (listed_both before before step.client (command_events command) (params_events step.end) (listed_quiet before (command_events command) (commands_quiet command)) l)
+    (listed_quiet step.client (file_events file) (files_quiet file))
+
 served : (v : StationServices) (from : Stream) (m : Message) → StationListed v (station_serves v from m).services (station_serves v from m).last
 served v from m =
     let step = client_step v.client from m in
-    let end = (commander_step v.commander from m).end in
-    listed_both v.client v.client step.client (command_events end) (params_events step.end) (listed_quiet v.client (command_events end) (commands_quiet end))
+    around v.client step (commander_step v.commander from m).end (transfer_heard v.files from m).end
     (listed_by v.client step (λ e. idle_message v.client e from m) (λ values e. (message_closes v.client from m (All_values values) e, every_end v.client from m values e)))
 
 waited : (v : StationServices) → StationListed v (station_waits v).services (station_waits v).last
 waited v =
     let step = client_tick v.client in
-    let end = (commander_tick v.commander).end in
-    listed_both v.client v.client step.client (command_events end) (params_events step.end) (listed_quiet v.client (command_events end) (commands_quiet end))
+    around v.client step (commander_tick v.commander).end (transfer_waits v.files).end
     (listed_by v.client step (λ e. idle_tick v.client e) (λ values e. absurd (tick_ends v.client v.client.operation values e)))
 
 told_quiet : (told : Option Told) → AreQuiet (told_events told)
@@ -449,3 +462,4 @@ obeys_known clock (Command drone number word) n =
 obeys_known clock (ParamRead drone id) n = let step = asks_params n.services (reads n.services.client drone id) in silent_known clock n step.services step.answers
 obeys_known clock (ParamSet drone param) n = let step = asks_params n.services (sets n.services.client drone param) in silent_known clock n step.services step.answers
 obeys_known clock (ParamList drone) n = let step = asks_params n.services (lists n.services.client drone) in silent_known clock n step.services step.answers
+obeys_known clock (File drone op) n = let step = asks_file n.services (begins n.services.files drone (file_order op)) in silent_known clock n step.services step.answers

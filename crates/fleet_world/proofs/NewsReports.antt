@@ -6,9 +6,10 @@ use Rattle.mav_names.specs.declared.names.Name.{Name}
 use Rattle.param_proto.specs.declared.params.Param.{Param}
 use Rattle.mav_frame.specs.Packet.{Packet}
 use Rattle.mav_messages.specs.declared.messages.Message.{Message}
-use Rattle.mav_nodes.specs.News.{NodeEvent, Sends, Installs, Empties, Drops, Ends, Ends_command, Gives_param, Ends_params, Reaches, Captures, Shown, Shows_sent, Shows_installed, Shows_emptied, Shows_dropped, Shows_ended, Shows_command, Shows_param, Shows_params, Shows_reached, Shows_captured, shown, said_by, events_of}
+use Rattle.mav_nodes.specs.News.{NodeEvent, Sends, Installs, Empties, Drops, Ends, Ends_command, Gives_param, Ends_params, Reaches, Captures, Ends_file, Shown, Shows_sent, Shows_installed, Shows_emptied, Shows_dropped, Shows_ended, Shows_command, Shows_param, Shows_params, Shows_reached, Shows_captured, Shows_file, shown, said_by, events_of}
+use Rattle.mav_nodes.specs.declared.news.FileEnd.{FileEnd}
 use Rattle.mav_nodes.specs.declared.news.News.{News}
-use Rattle.mav_nodes.specs.declared.news.News.TheVariants.{Sent, Installed, Emptied, Dropped, Outcome, Command, Param as Told_param, Params, Reached, Captured}
+use Rattle.mav_nodes.specs.declared.news.News.TheVariants.{Sent, Installed, Emptied, Dropped, Outcome, Command, Param as Told_param, Params, Reached, Captured, File}
 use Rattle.fleet_report.specs.Events.{Event, Sent as SentEvent}
 use Rattle.fleet_report.specs.Reports.{ReportState, reported}
 use Rattle.fleet_world.specs.WorldView.{Kept, kept_as}
@@ -33,6 +34,7 @@ packets-append (Gives_param param ∷ xs) ys = packets-append xs ys
 packets-append (Ends_params values ∷ xs) ys = packets-append xs ys
 packets-append (Reaches number ∷ xs) ys = packets-append xs ys
 packets-append (Captures total ∷ xs) ys = packets-append xs ys
+packets-append (Ends_file end ∷ xs) ys = packets-append xs ys
 
 behind_event : (event : Event) {xs ys : List Event} → xs ≡ ys → event ∷ xs ≡ event ∷ ys
 behind_event event e = ap (λ (l : List Event). event ∷ l) e
@@ -52,6 +54,7 @@ reported_by-append name before after (Gives_param param ∷ xs) ys e = behind_ev
 reported_by-append name before after (Ends_params values ∷ xs) ys e = behind_event _ (reported_by-append name before after xs ys e)
 reported_by-append name before after (Reaches number ∷ xs) ys e = behind_event _ (reported_by-append name before after xs ys e)
 reported_by-append name before after (Captures total ∷ xs) ys e = behind_event _ (reported_by-append name before after xs ys e)
+reported_by-append name before after (Ends_file end ∷ xs) ys e = reported_by-append name before after xs ys e
 
 -- ---- reported
 
@@ -150,6 +153,24 @@ frame_said (Ok t) piece name values number packet message before after is did = 
     by_event (Ends_params listed) count e n = cc
     by_event (Reaches number) count e n = cc
     by_event (Captures total) count e n = cc
+    by_event (Ends_file end) count e n = cc
+
+-- what a file gives, the report doesn't say
+pub file_untold : (piece : News) (end : FileEnd) (name : Name) (report : ReportState) (event : NodeEvent) (count : ℕ) → piece ≡ File end → said_by piece ≡ shown event → report ≡ reports report (reported_by name count (event ∷ []))
+file_untold piece end name report event count is e = by_event event (sym (ap said_by is) ∙ e)
+  where
+    by_event : (event : NodeEvent) → Shows_file end ≡ shown event → report ≡ reports report (reported_by name count (event ∷ []))
+    by_event (Sends packet message) e = cc
+    by_event (Installs kind items by) e = cc
+    by_event (Empties kind) e = cc
+    by_event (Drops answer) e = cc
+    by_event (Ends outcome) e = cc
+    by_event (Ends_command result) e = cc
+    by_event (Gives_param param) e = cc
+    by_event (Ends_params listed) e = cc
+    by_event (Reaches number) e = cc
+    by_event (Captures total) e = cc
+    by_event (Ends_file other) e = sym (reports-none report)
 
 -- a frame that is kept
 pub frame_kept : {T E : Type 0} (r : Result T E) (piece : News) (packet : Packet) (message : Message) (kept more : List Kept) → piece ≡ Sent packet message → OnOk r (more ≡ kept ++ kept_as packet ∷ []) → OnOk r ((event : NodeEvent) → said_by piece ≡ shown event → more ≡ kept ++ map kept_as (packets_in (event ∷ [])))
@@ -170,6 +191,7 @@ frame_kept (Ok t) piece packet message kept more is pushed = λ event e. by_even
     by_event (Ends_params listed) e = cc
     by_event (Reaches number) e = cc
     by_event (Captures total) e = cc
+    by_event (Ends_file end) e = cc
 
 pub frame_counted : {T E : Type 0} (r : Result T E) (piece : News) (packet : Packet) (kept more : List Kept) → OnOk r (more ≡ kept ++ kept_as packet ∷ []) → OnOk r (is_frame piece ≡ true → length more ≡ length kept + 1)
 frame_counted (Err e) piece packet kept more pushed = tt
@@ -204,6 +226,7 @@ is_sent (Shows_param param) = false
 is_sent (Shows_params count) = false
 is_sent (Shows_reached number) = false
 is_sent (Shows_captured total) = false
+is_sent (Shows_file end) = false
 
 piece_sent : (piece : News) → is_frame piece ≡ is_sent (said_by piece)
 piece_sent (Sent frame message) = refl
@@ -216,6 +239,7 @@ piece_sent (Told_param param) = refl
 piece_sent (Params count) = refl
 piece_sent (Reached number) = refl
 piece_sent (Captured total) = refl
+piece_sent (File end) = refl
 
 event_sent : (event : NodeEvent) (xs : List NodeEvent) → cond (is_sent (shown event)) 1 0 + length (packets_in xs) ≡ length (packets_in (event ∷ xs))
 event_sent (Sends packet message) xs = one_more _
@@ -228,6 +252,7 @@ event_sent (Gives_param param) xs = none_more _
 event_sent (Ends_params values) xs = none_more _
 event_sent (Reaches number) xs = none_more _
 event_sent (Captures total) xs = none_more _
+event_sent (Ends_file end) xs = none_more _
 
 -- a piece that is no frame leaves what is kept
 pub nothing_kept : (piece : News) (kept : List Kept) → is_frame piece ≡ false → (event : NodeEvent) → said_by piece ≡ shown event → kept ≡ kept ++ map kept_as (packets_in (event ∷ []))
@@ -244,6 +269,7 @@ nothing_kept piece kept none event e = by_event event (sym (ap is_sent e) ∙ (s
     by_event (Ends_params values) bare = sym (append-nil kept)
     by_event (Reaches number) bare = sym (append-nil kept)
     by_event (Captures total) bare = sym (append-nil kept)
+    by_event (Ends_file end) bare = sym (append-nil kept)
 
 frames_counted : (ns : List News) (xs : List NodeEvent) (piece : News) (event : NodeEvent) → counted is_frame ns ≡ length (packets_in xs) → said_by piece ≡ shown event → counted is_frame (piece ∷ ns) ≡ length (packets_in (event ∷ xs))
 frames_counted ns xs piece event more e =

@@ -17,12 +17,13 @@ use Rattle.command_proto.specs.Commander.{open_command}
 use Rattle.param_proto.specs.Client.{Operation}
 use Rattle.mav_nodes.specs.News.{NodeEvent, shown, events_of}
 use Rattle.mav_nodes.specs.Links.{Outcome}
-use Rattle.mav_nodes.specs.Nodes.{StationSide, station_obeys, station_commands, station_lists_params, order_refusal, order_fault, command_refusal, params_refusal, order_plan, station_begins}
+use Rattle.mav_nodes.specs.Nodes.{StationSide, station_obeys, station_commands, station_lists_params, order_refusal, order_fault, command_refusal, params_refusal, file_refusal, order_plan, station_begins}
 use Rattle.mav_nodes.specs.declared.news.News.{News}
+use Rattle.mav_ftp.specs.declared.client.faults.FtpFault.{FtpFault}
 use Rattle.mav_nodes.specs.declared.orders.Order.{Order}
-use Rattle.mav_nodes.specs.declared.orders.Order.TheVariants.{Begin, Cancel, Clear, Get, Command, ParamRead, ParamSet, ParamList}
+use Rattle.mav_nodes.specs.declared.orders.Order.TheVariants.{Begin, Cancel, Clear, Get, Command, ParamRead, ParamSet, ParamList, File}
 use Rattle.mav_nodes.specs.declared.faults.OrderFault.{OrderFault}
-use Rattle.mav_nodes.specs.declared.faults.OrderFault.TheVariants.{Begin as BeginFails, Op as OpFails, Command as CommandFails, Param as ParamFails, Node as StationFails}
+use Rattle.mav_nodes.specs.declared.faults.OrderFault.TheVariants.{Begin as BeginFails, Op as OpFails, Command as CommandFails, Param as ParamFails, File as FileFails, Node as StationFails}
 use Rattle.mav_nodes.specs.declared.faults.NodeFault.{NodeFault}
 use Rattle.mav_nodes.specs.declared.faults.NodeFault.TheVariants.{StampsSpent, Store as NodeStore, NoMemory as NoNodeMemory}
 use Rattle.fleet_world.specs.StoredDrones.{FailsBy}
@@ -33,10 +34,10 @@ use Rattle.fleet_world.specs.declared.faults.WorldFault.TheVariants.{Node as Nod
 use Rattle.fleet_world.specs.WorldState.{WorldState, Node, Station, stream_of, is_station_named}
 use Rattle.fleet_world.specs.WorldView.{IsFleet, WorldView, IsState}
 use Rattle.fleet_world.specs.Steps.{Step, StepError, as_station, node_does, station_line, upload_begins, orders_at, orders_found, orders_to, begins, asks, command_busy, params_busy, commands, lists_params}
-use Rattle.fleet_world.specs.NodeSteps.{reports_news, handed_back, obeys_or, obeys}
+use Rattle.fleet_world.specs.NodeSteps.{reports_news, handed_back, obeys_unless, obeys_or, obeys}
 use Rattle.fleet_world.specs.Promises.{Moved, Follows, Refuses, WorldOutcome, IsStepError, RefusalReported, IsGivenUp}
 use Rattle.fleet_world.proofs.Found.{FoundStation, found_station}
-use Rattle.fleet_world.proofs.Reporting.{reports-one}
+use Rattle.fleet_world.proofs.Reporting.{reports-none, reports-one}
 use Rattle.fleet_world.specs.ParamLists.{params_of, HaveValues}
 use Rattle.fleet_world.proofs.ListedValues.{obeys_known}
 use Rattle.fleet_world.proofs.WorldCalls.{NodesOnly, moved_state, moved_outcome, moved_error}
@@ -45,7 +46,8 @@ use Rattle.fleet_world.proofs.WorldCalls.{NodesOnly, moved_state, moved_outcome,
 
 obeyed : (state : WorldState) (k : ℕ) (name : Name) (node : StationSide) (order : Order) → Follows node order → node_does state k name (as_station (station_obeys state.clock order node)) ≡ obeys state k name node order
 obeyed state k name node order follows =
-    λ i. obeys_or state k name node order (sym follows.plan i) (sym follows.command i) (sym follows.params i)
+    ap (obeys_unless state k name node order) (sym follows.file)
+    ∙ (λ i. obeys_or state k name node order (sym follows.plan i) (sym follows.command i) (sym follows.params i))
 
 module _ (w after : WorldView) (k : ℕ) (name : Name) (order : Order) (news items : List News) (same : news ≡ items) (only : NodesOnly w after) where
   clock_is : (state : WorldState) (node : StationSide) → IsState state w.frames w → as_station (station_obeys w.fleet.clock order node) ≡ as_station (station_obeys state.clock order node)
@@ -91,6 +93,7 @@ op_refusal station (Command drone number word) why e other = cc
 op_refusal station (ParamRead drone id) why e other = cc
 op_refusal station (ParamSet drone param) why e other = cc
 op_refusal station (ParamList drone) why e other = cc
+op_refusal station (File drone op) why e other = cc
 
 refused_as : (state : WorldState) (k : ℕ) (name : Name) (node : StationSide) (order : Order) (why : OpFault) (plan : Option Plan) → order_refusal node.core order ≡ Some why → order_plan order ≡ plan → ◌≡◌ {A = Result Step StepError} (Ok (record { state = handed_back state plan; events = Refused name why ∷ [] })) (obeys state k name node order)
 refused_as state k name node order why plan refused given =
@@ -108,6 +111,7 @@ busy_command state k name node (Command drone command word) number e =
 busy_command state k name node (ParamRead drone id) number e = cc
 busy_command state k name node (ParamSet drone param) number e = cc
 busy_command state k name node (ParamList drone) number e = cc
+busy_command state k name node (File drone op) number e = cc
 
 busy_params : (state : WorldState) (k : ℕ) (name : Name) (node : StationSide) (order : Order) → params_refusal node.services order ≡ true → ◌≡◌ {A = Result Step StepError} (Ok (record { state = state; events = Params_refused name ∷ [] })) (obeys state k name node order)
 busy_params state k name node (Begin drone kind plan) e = cc
@@ -118,6 +122,18 @@ busy_params state k name node (Command drone number word) e = cc
 busy_params state k name node (ParamRead drone id) e = ap (obeys_or state k name node (ParamRead drone id) None None) (sym e)
 busy_params state k name node (ParamSet drone param) e = ap (obeys_or state k name node (ParamSet drone param) None None) (sym e)
 busy_params state k name node (ParamList drone) e = ap (obeys_or state k name node (ParamList drone) None None) (sym e)
+busy_params state k name node (File drone op) e = cc
+
+file_refused : (state : WorldState) (k : ℕ) (name : Name) (node : StationSide) (order : Order) (fault : FtpFault) → file_refusal node.services order ≡ Some fault → ◌≡◌ {A = Result Step StepError} (Ok (record { state = state; events = [] })) (obeys state k name node order)
+file_refused state k name node (Begin drone kind plan) fault e = cc
+file_refused state k name node Cancel fault e = cc
+file_refused state k name node (Clear drone kind) fault e = cc
+file_refused state k name node (Get drone kind) fault e = cc
+file_refused state k name node (Command drone number word) fault e = cc
+file_refused state k name node (ParamRead drone id) fault e = cc
+file_refused state k name node (ParamSet drone param) fault e = cc
+file_refused state k name node (ParamList drone) fault e = cc
+file_refused state k name node (File drone op) fault e = ap (obeys_unless state k name node (File drone op)) (sym e)
 
 drafted : (state : WorldState) (frames : Bool) (w after : WorldView) (items : List Item) → IsState state frames w → after ≡ record w { draft = items } → IsState (record state { draft = items }) frames after
 drafted state frames w after items is e = subst (IsState (record state { draft = items }) frames) (sym e) (record {
@@ -150,6 +166,9 @@ module _ (state : WorldState) (w after last : WorldView) (k : ℕ) (name : Name)
   refuse_by (ParamFails busy) refused reporting =
       subst (λ (z : Result Step StepError). WorldOutcome z w.frames last start end) (busy_params state k name node order refused.0)
       (subst (IsState state w.frames) (sym reporting.0) (left_state state w after is refused.1 only), reporting.1 ∙ reports-one start (Params_refused name))
+  refuse_by (FileFails fault) refused reporting =
+      subst (λ (z : Result Step StepError). WorldOutcome z w.frames last start end) (file_refused state k name node order fault refused.0)
+      (subst (IsState state w.frames) (sym reporting.0) (left_state state w after is refused.1 only), reporting.1 ∙ sym (reports-none start))
   refuse_by (StationFails fault) refused reporting = absurd reporting
 
   spent_error : (fault : NodeFault) → Follows node order → FailsBy fault (station_obeys w.fleet.clock order node) → IsStepError (obeys state k name node order) (NodeFails fault)
@@ -164,6 +183,7 @@ module _ (state : WorldState) (w after last : WorldView) (k : ℕ) (name : Name)
   give_up_by (OpFails why) e refused up = subst (IsStepError (obeys state k name node order)) (sym up) tt
   give_up_by (CommandFails busy) e refused up = subst (IsStepError (obeys state k name node order)) (sym up) tt
   give_up_by (ParamFails busy) e refused up = subst (IsStepError (obeys state k name node order)) (sym up) tt
+  give_up_by (FileFails fault) e refused up = absurd up
   give_up_by (StationFails fault) e refused up = subst (IsStepError (obeys state k name node order)) (sym up) (spent_error fault refused.0 refused.1)
 
 pub refuse_outcome : {T E : Type 0} (r : Result T E) (w after last : WorldView) (k : ℕ) (name : Name) (order : Order) (fault : OrderFault) (start end : ReportState) → NodesOnly w after → ((nodes : List Node) → (node : StationSide) → IsFleet nodes w.fleet → slice_get nodes k ≡ Some (Station node) → Refuses w.fleet.clock node order (IsFleet nodes after.fleet) fault) → OnOk r (RefusalReported name fault after last start end) → OnOk r ((state : WorldState) → (node : StationSide) → IsState state w.frames w → slice_get state.nodes k ≡ Some (Station node) → WorldOutcome (obeys state k name node order) w.frames last start end)

@@ -1,7 +1,7 @@
 -- Drones among what contracts see of nodes, and frames among news.
 use Rattle.std.specs.Prelude.{ℕ, ◌+◌, Bool, true, false, if◌then◌else◌, List, [], ◌∷◌}
 use Rattle.mav_nodes.specs.declared.news.News.{News}
-use Rattle.mav_nodes.specs.declared.news.News.TheVariants.{Sent, Installed, Emptied, Dropped, Outcome, Command, Param, Params, Reached, Captured}
+use Rattle.mav_nodes.specs.declared.news.News.TheVariants.{Sent, Installed, Emptied, Dropped, Outcome, Command, Param, Params, Reached, Captured, File}
 use Rattle.fleet_world.specs.declared.nodes.Node.{Node}
 use Rattle.fleet_world.specs.declared.nodes.Node.TheVariants.{Drone, Station}
 
@@ -20,6 +20,7 @@ is_frame (Param param) = false
 is_frame (Params count) = false
 is_frame (Reached item) = false
 is_frame (Captured total) = false
+is_frame (File end) = false
 
 -- how many pass a test
 abbrev pub counted : {A : Type 0} → (A → Bool) → List A → ℕ

@@ -5,8 +5,9 @@ use Rattle.mav_names.specs.declared.names.Name.{Name}
 use Rattle.mav_nodes.specs.News.{NodeEvent}
 use Rattle.mav_nodes.specs.Links.{Outcome, done}
 use Rattle.mav_nodes.specs.Restarts.{drone_restarts}
-use Rattle.mav_nodes.specs.Nodes.{DroneSide, StationSide, station_obeys, order_refusal, command_refusal, params_refusal, order_plan}
+use Rattle.mav_nodes.specs.Nodes.{DroneSide, StationSide, station_obeys, order_refusal, command_refusal, params_refusal, file_refusal, order_plan}
 use Rattle.mav_nodes.specs.declared.orders.Order.{Order}
+use Rattle.mav_ftp.specs.declared.client.faults.FtpFault.{FtpFault}
 use Rattle.plan_items.specs.declared.plans.Plan.{Plan}
 use Rattle.plan_items.specs.Plans.{items_of}
 use Rattle.plan_upload.specs.declared.faults.OpFault.{OpFault}
@@ -65,13 +66,18 @@ abbrev pub handed_back : WorldState → Option Plan → WorldState
 handed_back s None = s
 handed_back s (Some plan) = record s { draft = items_of plan }
 
+-- an order that isn't refused for another cause. No line asks for files, and nothing is reported if that is refused
+abbrev pub obeys_unless : WorldState → ℕ → Name → StationSide → Order → Option FtpFault → Result Step StepError
+obeys_unless s k name node order None = node_does s k name (as_station (station_obeys s.clock order node))
+obeys_unless s k name node order (Some fault) = Ok (record { state = s; events = [] })
+
 -- an order that a station's core refuses for that fault, that its services refuse since this command is open or since
 -- something is asked of parameters, or that it follows
 abbrev pub obeys_or : WorldState → ℕ → Name → StationSide → Order → Option OpFault → Option ℕ → Bool → Result Step StepError
 obeys_or s k name node order (Some why) command params = Ok (record { state = handed_back s (order_plan order); events = Refused name why ∷ [] })
 obeys_or s k name node order None (Some number) params = Ok (record { state = s; events = Command_refused name ∷ [] })
 obeys_or s k name node order None None true = Ok (record { state = s; events = Params_refused name ∷ [] })
-obeys_or s k name node order None None false = node_does s k name (as_station (station_obeys s.clock order node))
+obeys_or s k name node order None None false = obeys_unless s k name node order (file_refusal node.services order)
 
 abbrev pub obeys : WorldState → ℕ → Name → StationSide → Order → Result Step StepError
 obeys s k name node order =

@@ -3,7 +3,7 @@
 use Rattle.std.specs.Prelude.{◌≡◌, List, [], ◌∷◌, Option, Some, None}
 use Rattle.param_proto.specs.declared.params.Param.{Param}
 use Rattle.param_proto.specs.Client.{known_values}
-use Rattle.mav_nodes.specs.News.{NodeEvent, Sends, Installs, Empties, Drops, Ends, Ends_command, Gives_param, Ends_params, Reaches, Captures}
+use Rattle.mav_nodes.specs.News.{NodeEvent, Sends, Installs, Empties, Drops, Ends, Ends_command, Gives_param, Ends_params, Reaches, Captures, Ends_file}
 use Rattle.fleet_world.specs.WorldState.{Node, Drone, Station}
 
 -- the values of a station's latest list, from the first up to one that it doesn't know
@@ -25,6 +25,7 @@ HasValues values (Ends_command result) = Unit {0}
 HasValues values (Gives_param param) = Unit {0}
 HasValues values (Reaches item) = Unit {0}
 HasValues values (Captures total) = Unit {0}
+HasValues values (Ends_file end) = Unit {0}
 
 -- each of them
 abbrev pub HaveValues : List Param → List NodeEvent → Type 0

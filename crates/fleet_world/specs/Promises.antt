@@ -6,10 +6,10 @@ use Rattle.mav_nodes.specs.News.{NodeEvent, shown, events_of}
 use Rattle.mav_nodes.specs.Links.{Outcome}
 use Rattle.mav_nodes.specs.Promises.{Did}
 use Rattle.mav_nodes.specs.declared.news.News.{News}
-use Rattle.mav_nodes.specs.Nodes.{StationSide, station_obeys, order_refusal, order_fault, command_refusal, params_refusal, order_plan}
+use Rattle.mav_nodes.specs.Nodes.{StationSide, station_obeys, order_refusal, order_fault, command_refusal, params_refusal, file_refusal, order_plan}
 use Rattle.mav_nodes.specs.declared.orders.Order.{Order}
 use Rattle.mav_nodes.specs.declared.faults.OrderFault.{OrderFault}
-use Rattle.mav_nodes.specs.declared.faults.OrderFault.TheVariants.{Begin as BeginFails, Op as OpFails, Command as CommandFails, Param as ParamFails, Node as StationFails}
+use Rattle.mav_nodes.specs.declared.faults.OrderFault.TheVariants.{Begin as BeginFails, Op as OpFails, Command as CommandFails, Param as ParamFails, File as FileFails, Node as StationFails}
 use Rattle.mav_nodes.specs.declared.faults.NodeFault.{NodeFault}
 use Rattle.mav_nodes.specs.declared.faults.StartFault.{StartFault}
 use Rattle.mav_nodes.specs.declared.faults.StartFault.TheVariants.{Store as StartStore, BadKept, NoMemory as NoStartMemory}
@@ -53,6 +53,7 @@ pub record Follows (node : StationSide) (order : Order) : Type 0 where
   pub plan : order_refusal node.core order ≡ None
   pub command : command_refusal node.services order ≡ None
   pub params : params_refusal node.services order ≡ false
+  pub file : file_refusal node.services order ≡ None
 
 -- a station refused an order or had no timestamp left for it: `Left` is what holds if nothing changed
 abbrev pub Refuses : ℕ → StationSide → Order → Type 0 → OrderFault → Type 0
@@ -60,6 +61,7 @@ Refuses clock node order Left (BeginFails fault) = (order_refusal node.core orde
 Refuses clock node order Left (OpFails why) = (order_fault node.core order ≡ Some why) × Left
 Refuses clock node order Left (CommandFails busy) = (command_refusal node.services order ≡ Some busy.command) × Left
 Refuses clock node order Left (ParamFails busy) = (params_refusal node.services order ≡ true) × Left
+Refuses clock node order Left (FileFails fault) = (file_refusal node.services order ≡ Some fault) × Left
 Refuses clock node order Left (StationFails fault) = Follows node order × FailsBy fault (station_obeys clock order node)
 
 -- ---- of what a node did
@@ -95,6 +97,7 @@ RefusalReported station (BeginFails fault) w after before report = (after ≡ re
 RefusalReported station (OpFails why) w after before report = (after ≡ w) × (report ≡ reported before (Refused station why)) × (why ≢ NoOpMemory)
 RefusalReported station (CommandFails busy) w after before report = (after ≡ w) × (report ≡ reported before (Command_refused station))
 RefusalReported station (ParamFails busy) w after before report = (after ≡ w) × (report ≡ reported before (Params_refused station))
+RefusalReported station (FileFails fault) w after before report = (after ≡ w) × (report ≡ before)
 RefusalReported station (StationFails fault) w after before report = ⊥
 
 -- why a refusal isn't reported
@@ -103,6 +106,7 @@ IsGivenUp (BeginFails fault) e = e ≡ NoMemory
 IsGivenUp (OpFails why) e = e ≡ NoMemory
 IsGivenUp (CommandFails busy) e = e ≡ NoMemory
 IsGivenUp (ParamFails busy) e = e ≡ NoMemory
+IsGivenUp (FileFails fault) e = ⊥
 IsGivenUp (StationFails fault) e = e ≡ NodeFails fault
 
 -- the same without an event

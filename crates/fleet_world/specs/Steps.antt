@@ -10,7 +10,7 @@ use Rattle.plan_upload.specs.Kinds.{clear_number}
 use Rattle.plan_upload.specs.declared.faults.OpFault.{OpFault}
 use Rattle.plan_upload.specs.Addresses.{node_of, same_name}
 use Rattle.plan_upload.specs.Refusals.{upload_refusal, refusal}
-use Rattle.mav_nodes.specs.News.{NodeEvent, Sends, Installs, Empties, Drops, Ends, Ends_command, Gives_param, Ends_params, Reaches, Captures}
+use Rattle.mav_nodes.specs.News.{NodeEvent, Sends, Installs, Empties, Drops, Ends, Ends_command, Gives_param, Ends_params, Reaches, Captures, Ends_file}
 use Rattle.mav_nodes.specs.Links.{Outcome, done}
 use Rattle.command_proto.specs.Commander.{open_command}
 use Rattle.param_proto.specs.Client.{Operation as ParamOperation}
@@ -74,6 +74,7 @@ packets_in (Gives_param param ∷ es) = packets_in es
 packets_in (Ends_params values ∷ es) = packets_in es
 packets_in (Reaches item ∷ es) = packets_in es
 packets_in (Captures total ∷ es) = packets_in es
+packets_in (Ends_file end ∷ es) = packets_in es
 
 -- what is reported of what happened in a node, after so many frames were sent
 abbrev pub reported_by : Name → ℕ → List NodeEvent → List Event
@@ -88,6 +89,7 @@ reported_by node before (Gives_param param ∷ es) = Param_given node param ∷ 
 reported_by node before (Ends_params values ∷ es) = Params_ended node values ∷ reported_by node before es
 reported_by node before (Reaches item ∷ es) = Reached node item ∷ reported_by node before es
 reported_by node before (Captures total ∷ es) = Captured node total ∷ reported_by node before es
+reported_by node before (Ends_file end ∷ es) = reported_by node before es
 
 abbrev pub as_drone : Outcome DroneSide → Outcome Node
 as_drone None = None

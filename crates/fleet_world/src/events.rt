@@ -80,6 +80,8 @@ pub fn report_piece(
         News::Params(None) => report.params_unanswered(name),
         News::Reached(item) => report.reached(name, *item),
         News::Captured(total) => report.captured(name, *total),
+        // What it gives isn't text.
+        News::File(_) => Ok(()),
     }
 }
 

@@ -64,6 +64,7 @@ impl World {
                 report.params_refused(station)?;
                 Ok(())
             }
+            OrderFault::File(_) => Ok(()),
             OrderFault::Node(fault) => Err(WorldFault::Node(fault)),
         }
     }

@@ -4,7 +4,7 @@ use Rattle.std.proofs.lemmas.List.{map-append}
 use Rattle.std.specs.Prelude.{All, OnOk, map}
 use Rattle.mav_nodes.specs.declared.news.News.{News}
 use Rattle.mav_nodes.specs.declared.orders.Order.{Order}
-use Rattle.mav_nodes.specs.declared.orders.Order.TheVariants.{Begin, Cancel, Clear, Get, Command, ParamRead, ParamSet, ParamList}
+use Rattle.mav_nodes.specs.declared.orders.Order.TheVariants.{Begin, Cancel, Clear, Get, Command, ParamRead, ParamSet, ParamList, File}
 use Rattle.plan_items.specs.declared.messages.PlanMsg.{PlanMsg}
 use Rattle.plan_upload.specs.Station.{StationState, station_tick}
 use Rattle.mav_nodes.specs.News.{NodeEvent, Shown, shown, events_of}
@@ -43,6 +43,7 @@ obeys clock (Command drone number word) node other = absurd (cc)
 obeys clock (ParamRead drone id) node other = absurd (cc)
 obeys clock (ParamSet drone param) node other = absurd (cc)
 obeys clock (ParamList drone) node other = absurd (cc)
+obeys clock (File drone op) node other = absurd (cc)
 
 -- and at one to its services theirs
 pub asks : (clock : ℕ) (order : Order) (node : StationSide) → is_service order ≡ true → station_obeys clock order node ≡ serves clock node.link node.core (service_step node.services order)
@@ -54,17 +55,19 @@ asks clock (Command drone number word) node own = refl
 asks clock (ParamRead drone id) node own = refl
 asks clock (ParamSet drone param) node own = refl
 asks clock (ParamList drone) node own = refl
+asks clock (File drone op) node own = refl
 
 -- no service refuses an order of the mission protocol
 pub unasked : (order : Order) (station : StationView) → is_service order ≡ false → order_refusal station.station order ≡ None → IsAccepted station order
-unasked (Begin drone kind plan) station other free = record { plan = free; command = refl; params = refl }
-unasked Cancel station other free = record { plan = free; command = refl; params = refl }
-unasked (Clear drone kind) station other free = record { plan = free; command = refl; params = refl }
-unasked (Get drone kind) station other free = record { plan = free; command = refl; params = refl }
+unasked (Begin drone kind plan) station other free = record { plan = free; command = refl; params = refl; file = refl }
+unasked Cancel station other free = record { plan = free; command = refl; params = refl; file = refl }
+unasked (Clear drone kind) station other free = record { plan = free; command = refl; params = refl; file = refl }
+unasked (Get drone kind) station other free = record { plan = free; command = refl; params = refl; file = refl }
 unasked (Command drone number word) station other free = absurd (cc)
 unasked (ParamRead drone id) station other free = absurd (cc)
 unasked (ParamSet drone param) station other free = absurd (cc)
 unasked (ParamList drone) station other free = absurd (cc)
+unasked (File drone op) station other free = absurd (cc)
 
 -- nor its core one to its services
 pub unordered : (order : Order) (station : StationView) → is_service order ≡ true → AcceptsService station.services order → IsAccepted station order
@@ -72,10 +75,11 @@ unordered (Begin drone kind plan) station own free = absurd (cc)
 unordered Cancel station own free = absurd (cc)
 unordered (Clear drone kind) station own free = absurd (cc)
 unordered (Get drone kind) station own free = absurd (cc)
-unordered (Command drone number word) station own free = record { plan = refl; command = free.command; params = free.params }
-unordered (ParamRead drone id) station own free = record { plan = refl; command = free.command; params = free.params }
-unordered (ParamSet drone param) station own free = record { plan = refl; command = free.command; params = free.params }
-unordered (ParamList drone) station own free = record { plan = refl; command = free.command; params = free.params }
+unordered (Command drone number word) station own free = record { plan = refl; command = free.command; params = free.params; file = free.file }
+unordered (ParamRead drone id) station own free = record { plan = refl; command = free.command; params = free.params; file = free.file }
+unordered (ParamSet drone param) station own free = record { plan = refl; command = free.command; params = free.params; file = free.file }
+unordered (ParamList drone) station own free = record { plan = refl; command = free.command; params = free.params; file = free.file }
+unordered (File drone op) station own free = record { plan = refl; command = free.command; params = free.params; file = free.file }
 
 -- ---- a store that never fails keeps all
 

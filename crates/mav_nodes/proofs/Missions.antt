@@ -4,7 +4,7 @@ use Rattle.std.specs.Prelude.{map}
 use Rattle.std.specs.List.{list_any}
 use Rattle.plan_items.specs.declared.kinds.PlanKind.TheVariants.{Mission, Fence, Rally}
 use Rattle.mav_nodes.specs.declared.steps.PlanNews.{PlanNews}
-use Rattle.mav_nodes.specs.News.{NodeEvent, Sends, Installs, Empties, Drops, Ends, Ends_command, Gives_param, Ends_params, Reaches, Captures, shown}
+use Rattle.mav_nodes.specs.News.{NodeEvent, Sends, Installs, Empties, Drops, Ends, Ends_command, Gives_param, Ends_params, Reaches, Captures, Ends_file, shown}
 use Rattle.drone_sim.specs.Sim.{SimState, changes}
 use Rattle.mav_nodes.specs.Services.{DroneServices, changes_mission, drone_notes}
 use Rattle.mav_nodes.specs.Cores.{said_of_plans, shows_mission}
@@ -24,6 +24,7 @@ one (Gives_param param) = refl
 one (Ends_params values) = refl
 one (Reaches number) = refl
 one (Captures total) = refl
+one (Ends_file end) = refl
 
 all : (events : List NodeEvent) → list_any changes_mission events ≡ list_any shows_mission (map shown events)
 all [] = refl

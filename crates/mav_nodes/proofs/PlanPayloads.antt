@@ -6,13 +6,13 @@ use Rattle.field_layout.specs.Definition.{Definition}
 use Rattle.field_layout.specs.Payload.{Represents}
 use Rattle.field_layout.proofs.Unique.{one_list}
 use Rattle.field_layout.proofs.Decoding.{IsBytes, decoded_all, decoded_represents}
-use Rattle.mav_profile.specs.Profile.{profile_definitions, ping_definition, mission_request_list_definition, mission_count_definition, mission_clear_all_definition, mission_ack_definition, mission_request_int_definition, mission_item_int_definition, param_request_read_definition, param_request_list_definition, param_value_definition, param_set_definition, command_long_definition, command_ack_definition}
+use Rattle.mav_profile.specs.Profile.{profile_definitions, ping_definition, mission_request_list_definition, mission_count_definition, mission_clear_all_definition, mission_ack_definition, mission_request_int_definition, mission_item_int_definition, param_request_read_definition, param_request_list_definition, param_value_definition, param_set_definition, command_long_definition, command_ack_definition, file_transfer_protocol_definition}
 use Rattle.plan_items.specs.declared.messages.PlanMsg.TheVariants as plan
 use Rattle.mav_messages.specs.declared.messages.Message.{Message}
 use Rattle.mav_messages.specs.declared.messages.Message.TheVariants.{Heartbeat, Ping, ParamRequestRead, ParamRequestList, ParamValue, ParamSet, GlobalPositionInt, MissionCurrent, MissionRequestList, MissionCount, MissionClearAll, MissionItemReached, MissionAck, MissionRequestInt, MissionItemInt, CommandLong, CommandAck, FileTransferProtocol, Statustext}
 use Rattle.mav_messages.specs.Messages.{profile_definition, definition_of, values_of}
 use Rattle.mav_messages.specs.Plans.{plan_of}
-use Rattle.mav_nodes.specs.Payloads.{ItemFits, ping_in, list_in, count_in, clear_in, ack_in, request_in, item_in, plan_in, ServiceFits, param_read_in, param_list_in, param_value_in, param_set_in, command_in, command_ack_in, service_in, service_of}
+use Rattle.mav_nodes.specs.Payloads.{ItemFits, ping_in, list_in, count_in, clear_in, ack_in, request_in, item_in, plan_in, ServiceFits, param_read_in, param_list_in, param_value_in, param_set_in, command_in, command_ack_in, file_in, service_in, service_of}
 
 values_are : (def : Definition) (payload : List ℕ) → IsBytes payload → (values : List (List ℕ)) → Represents def payload values → values ≡ decoded_all def payload
 values_are def payload bytes values of =
@@ -123,7 +123,8 @@ service_read (CommandLong m) payload bytes fits of =
 service_read (CommandAck m) payload bytes fits of =
     (λ i. Some (CommandAck (record { command = m.command; result = m.result; progress = m.progress; result_param2 = sym fits i; target_system = m.target_system; target_component = m.target_component })))
     ∙ ap (λ (v : List (List ℕ)). Some (command_ack_in v)) (values_are command_ack_definition payload bytes (values_of (CommandAck m)) of)
-service_read (FileTransferProtocol m) payload bytes fits of = refl
+service_read (FileTransferProtocol m) payload bytes fits of =
+    ap (λ (v : List (List ℕ)). Some (file_in v)) (values_are file_transfer_protocol_definition payload bytes (values_of (FileTransferProtocol m)) of)
 service_read (Statustext m) payload bytes fits of = refl
 
 -- the message of another service of a frame, by the message that was read
@@ -140,4 +141,5 @@ no_service_carried id payload none =
     let d23 = differs id 23 none (known param_set_definition) in
     let d76 = differs id 76 none (known command_long_definition) in
     let d77 = differs id 77 none (known command_ack_definition) in
-    rw (d20, d21, d22, d23, d76, d77) refl
+    let d110 = differs id 110 none (known file_transfer_protocol_definition) in
+    rw (d20, d21, d22, d23, d76, d77, d110) refl

@@ -1,4 +1,5 @@
 pub mod News
+pub mod FileServices
 pub mod Services
 pub mod Payloads
 pub mod Signed

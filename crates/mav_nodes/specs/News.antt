@@ -9,8 +9,9 @@ use Rattle.mav_frame.specs.Packet.{Packet}
 use Rattle.mav_messages.specs.declared.messages.Message.{Message}
 use Rattle.mav_sign.specs.declared.admission.Admit.{Admit}
 use Rattle.param_proto.specs.declared.params.Param.{Param}
+use Rattle.mav_nodes.specs.declared.news.FileEnd.{FileEnd}
 use Rattle.mav_nodes.specs.declared.news.News.{News}
-use Rattle.mav_nodes.specs.declared.news.News.TheVariants.{Sent, Installed, Emptied, Dropped, Outcome, Command, Param as Told_param, Params, Reached, Captured}
+use Rattle.mav_nodes.specs.declared.news.News.TheVariants.{Sent, Installed, Emptied, Dropped, Outcome, Command, Param as Told_param, Params, Reached, Captured, File}
 
 pub data NodeEvent : Type 0 where
   -- a frame was sent, which carries the message
@@ -33,6 +34,8 @@ pub data NodeEvent : Type 0 where
   Reaches : (number : ℕ) → NodeEvent
   -- a drone took a picture, and so many with it
   Captures : (total : ℕ) → NodeEvent
+  -- what was asked of files has ended
+  Ends_file : (end : FileEnd) → NodeEvent
 
 -- what news report of an event: of an installed plan, how many items it has, and of a list of parameters, how many they are
 pub data Shown : Type 0 where
@@ -46,6 +49,7 @@ pub data Shown : Type 0 where
   Shows_params : (count : Option ℕ) → Shown
   Shows_reached : (number : ℕ) → Shown
   Shows_captured : (total : ℕ) → Shown
+  Shows_file : (end : FileEnd) → Shown
 
 -- how many values there are, if there are any
 abbrev pub counted : Option (List Param) → Option ℕ
@@ -63,6 +67,7 @@ shown (Gives_param param) = Shows_param param
 shown (Ends_params values) = Shows_params (counted values)
 shown (Reaches number) = Shows_reached number
 shown (Captures total) = Shows_captured total
+shown (Ends_file end) = Shows_file end
 
 -- what a piece of news reports
 abbrev pub said_by : News → Shown
@@ -76,6 +81,7 @@ said_by (Told_param param) = Shows_param param
 said_by (Params count) = Shows_params count
 said_by (Reached number) = Shows_reached number
 said_by (Captured total) = Shows_captured total
+said_by (File end) = Shows_file end
 
 abbrev pub events_of : List News → List Shown
 events_of news = map said_by news

@@ -22,14 +22,17 @@ use Rattle.plan_upload.specs.declared.faults.OpFault.TheVariants.{NoMemory}
 use Rattle.plan_upload.specs.Kinds.{clear_number}
 use Rattle.plan_upload.specs.Refusals.{upload_refusal, refusal, first_of}
 use Rattle.mav_nodes.specs.declared.orders.Order.{Order}
-use Rattle.mav_nodes.specs.declared.orders.Order.TheVariants.{Begin, Cancel, Clear, Get, Command, ParamRead, ParamSet, ParamList}
+use Rattle.mav_nodes.specs.declared.orders.Order.TheVariants.{Begin, Cancel, Clear, Get, Command, ParamRead, ParamSet, ParamList, File}
 use Rattle.mav_nodes.specs.News.{NodeEvent, Installs, Empties, Ends}
 use Rattle.command_proto.specs.Commander.{commands, open_command}
 use Rattle.param_proto.specs.declared.params.Param.{Param}
 use Rattle.param_proto.specs.Client.{reads, sets, lists}
+use Rattle.mav_ftp.specs.declared.client.faults.FtpFault.{FtpFault}
+use Rattle.mav_ftp.specs.Client.{FileOrder, order_fault as file_fault}
+use Rattle.mav_nodes.specs.FileServices.{begins, file_order}
 use Rattle.drone_sim.specs.declared.points.Point.{Point}
 use Rattle.drone_sim.specs.Sim.{armed}
-use Rattle.mav_nodes.specs.Services.{ServiceStep, DroneServices, StationServices, new_drone_services, new_station_services, drone_serves, drone_notes, drone_flies, station_serves, station_waits, command_of, asks_command, asks_params, rests}
+use Rattle.mav_nodes.specs.Services.{ServiceStep, DroneServices, StationServices, new_drone_services, new_station_services, drone_serves, drone_notes, drone_flies, station_serves, station_waits, command_of, asks_command, asks_params, asks_file, rests}
 use Rattle.mav_nodes.specs.Links.{LinkView, IsLink, Outcome, and_then, new_link, sends}
 use Rattle.mav_nodes.specs.Steps.{Side, Rules, CoreStep, with_core, steps, serves, receives, receives_keeping}
 
@@ -205,6 +208,10 @@ station_sets_param clock drone param node = serves clock node.link node.core (as
 abbrev pub station_lists_params : ℕ → Stream → StationSide → Outcome StationSide
 station_lists_params clock drone node = serves clock node.link node.core (asks_params node.services (lists node.services.client drone))
 
+-- it begins an operation on files
+abbrev pub station_transfers : ℕ → Stream → FileOrder → StationSide → Outcome StationSide
+station_transfers clock drone order node = serves clock node.link node.core (asks_file node.services (begins node.services.files drone order))
+
 pub record StationView : Type 0 where
   pub link : LinkView
   pub station : StationState
@@ -225,6 +232,7 @@ order_step station (Command drone number word) = stays station
 order_step station (ParamRead drone id) = stays station
 order_step station (ParamSet drone param) = stays station
 order_step station (ParamList drone) = stays station
+order_step station (File drone op) = stays station
 
 -- an order to its services: what these do
 abbrev pub service_step : StationServices → Order → ServiceStep StationServices
@@ -232,6 +240,7 @@ service_step v (Command drone number word) = asks_command v (commands v.commande
 service_step v (ParamRead drone id) = asks_params v (reads v.client drone id)
 service_step v (ParamSet drone param) = asks_params v (sets v.client drone param)
 service_step v (ParamList drone) = asks_params v (lists v.client drone)
+service_step v (File drone op) = asks_file v (begins v.files drone (file_order op))
 service_step v (Begin drone kind plan) = rests v
 service_step v Cancel = rests v
 service_step v (Clear drone kind) = rests v
@@ -243,6 +252,7 @@ is_service (Command drone number word) = true
 is_service (ParamRead drone id) = true
 is_service (ParamSet drone param) = true
 is_service (ParamList drone) = true
+is_service (File drone op) = true
 is_service (Begin drone kind plan) = false
 is_service Cancel = false
 is_service (Clear drone kind) = false
@@ -258,6 +268,7 @@ station_obeys clock (Command drone number word) node = station_commands clock dr
 station_obeys clock (ParamRead drone id) node = station_reads_param clock drone id node
 station_obeys clock (ParamSet drone param) node = station_sets_param clock drone param node
 station_obeys clock (ParamList drone) node = station_lists_params clock drone node
+station_obeys clock (File drone op) node = station_transfers clock drone (file_order op) node
 
 -- why its core refuses an order
 abbrev pub order_refusal : StationState → Order → Option OpFault
@@ -269,6 +280,7 @@ order_refusal station (Command drone number word) = None
 order_refusal station (ParamRead drone id) = None
 order_refusal station (ParamSet drone param) = None
 order_refusal station (ParamList drone) = None
+order_refusal station (File drone op) = None
 
 -- why an order without a plan fails in the core: a download also fails if there is no memory for its buffer
 abbrev pub order_fault : StationState → Order → Option OpFault
@@ -280,6 +292,7 @@ order_fault station (Command drone number word) = None
 order_fault station (ParamRead drone id) = None
 order_fault station (ParamSet drone param) = None
 order_fault station (ParamList drone) = None
+order_fault station (File drone op) = None
 
 -- why its services refuse an order: a command is open, by its number
 abbrev pub command_refusal : StationServices → Order → Option ℕ
@@ -291,23 +304,38 @@ command_refusal v (Get drone kind) = None
 command_refusal v (ParamRead drone id) = None
 command_refusal v (ParamSet drone param) = None
 command_refusal v (ParamList drone) = None
+command_refusal v (File drone op) = None
 
 -- or something is asked of parameters already
 abbrev pub params_refusal : StationServices → Order → Bool
 params_refusal v (ParamRead drone id) = is_some v.client.operation
 params_refusal v (ParamSet drone param) = is_some v.client.operation
 params_refusal v (ParamList drone) = is_some v.client.operation
+params_refusal v (File drone op) = false
 params_refusal v (Begin drone kind plan) = false
 params_refusal v Cancel = false
 params_refusal v (Clear drone kind) = false
 params_refusal v (Get drone kind) = false
 params_refusal v (Command drone number word) = false
 
+-- or what is asked of files
+abbrev pub file_refusal : StationServices → Order → Option FtpFault
+file_refusal v (File drone op) = file_fault v.files.transfer (file_order op)
+file_refusal v (Begin drone kind plan) = None
+file_refusal v Cancel = None
+file_refusal v (Clear drone kind) = None
+file_refusal v (Get drone kind) = None
+file_refusal v (Command drone number word) = None
+file_refusal v (ParamRead drone id) = None
+file_refusal v (ParamSet drone param) = None
+file_refusal v (ParamList drone) = None
+
 -- no cause refuses it
 pub record IsAccepted (station : StationView) (order : Order) : Type 0 where
   pub plan : order_refusal station.station order ≡ None
   pub command : command_refusal station.services order ≡ None
   pub params : params_refusal station.services order ≡ false
+  pub file : file_refusal station.services order ≡ None
 
 -- the plan that an order gives
 abbrev pub order_plan : Order → Option Plan
@@ -319,3 +347,4 @@ order_plan (Command drone number word) = None
 order_plan (ParamRead drone id) = None
 order_plan (ParamSet drone param) = None
 order_plan (ParamList drone) = None
+order_plan (File drone op) = None

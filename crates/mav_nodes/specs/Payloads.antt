@@ -1,5 +1,5 @@
 -- The message of the mission protocol in a payload, and that of another service of a node (MAVLink guide, Mission Protocol,
--- Command Protocol, Parameter Protocol; MAVLink common messages).
+-- Command Protocol, Parameter Protocol, MAVLink FTP; MAVLink common messages).
 use Rattle.std.specs.Prelude.{ℕ, ◌≡◌, ◌==◌, if◌then◌else◌, List, [], ◌∷◌, map, slice_index, Option, Some, None}
 use Rattle.std.specs.List.{enumerate_from}
 use Rattle.std.specs.Int.{w16, w32, cast_signed, cast_unsigned}
@@ -8,10 +8,10 @@ use Rattle.field_layout.specs.Definition.{Definition, all_fields, element_count}
 use Rattle.field_layout.specs.WireOrder.{Placed, offset_of}
 use Rattle.field_layout.specs.Payload.{words_at}
 use Rattle.field_layout.specs.Reading.{words_from}
-use Rattle.mav_profile.specs.Profile.{ping_definition, mission_request_list_definition, mission_count_definition, mission_clear_all_definition, mission_ack_definition, mission_request_int_definition, mission_item_int_definition, param_request_read_definition, param_request_list_definition, param_value_definition, param_set_definition, command_long_definition, command_ack_definition}
+use Rattle.mav_profile.specs.Profile.{ping_definition, mission_request_list_definition, mission_count_definition, mission_clear_all_definition, mission_ack_definition, mission_request_int_definition, mission_item_int_definition, param_request_read_definition, param_request_list_definition, param_value_definition, param_set_definition, command_long_definition, command_ack_definition, file_transfer_protocol_definition}
 use Rattle.mav_names.specs.declared.names.Name.{Name}
 use Rattle.mav_messages.specs.declared.messages.Message.{Message}
-use Rattle.mav_messages.specs.declared.messages.Message.TheVariants.{ParamRequestRead, ParamRequestList, ParamValue, ParamSet, CommandLong, CommandAck}
+use Rattle.mav_messages.specs.declared.messages.Message.TheVariants.{ParamRequestRead, ParamRequestList, ParamValue, ParamSet, CommandLong, CommandAck, FileTransferProtocol}
 use Rattle.plan_items.specs.declared.messages.PlanMsg.{PlanMsg}
 use Rattle.plan_items.specs.declared.messages.PlanMsg.TheVariants.{Count, Request, Item as Give, Ack, List as Listing, Clear, Ping}
 
@@ -133,7 +133,15 @@ command_ack_in v = CommandAck (record {
   target_component = word_of v 5;
 })
 
--- the message of the command or parameter protocol that a frame of that id carries, if it carries one
+abbrev pub file_in : List (List ℕ) → Message
+file_in v = FileTransferProtocol (record {
+  target_network = word_of v 0;
+  target_system = word_of v 1;
+  target_component = word_of v 2;
+  payload = words_at v 3;
+})
+
+-- the message of commands, parameters or file transfer that a frame of that id carries, if it carries one
 abbrev pub service_in : ℕ → List ℕ → Option Message
 service_in id payload =
     if id == 20 then Some (param_read_in (values_in param_request_read_definition payload))
@@ -142,6 +150,7 @@ service_in id payload =
     else if id == 23 then Some (param_set_in (values_in param_set_definition payload))
     else if id == 76 then Some (command_in (values_in command_long_definition payload))
     else if id == 77 then Some (command_ack_in (values_in command_ack_definition payload))
+    else if id == 110 then Some (file_in (values_in file_transfer_protocol_definition payload))
     else None
 
 -- a message of these protocols
@@ -152,6 +161,7 @@ service_of (ParamValue m) = Some (ParamValue m)
 service_of (ParamSet m) = Some (ParamSet m)
 service_of (CommandLong m) = Some (CommandLong m)
 service_of (CommandAck m) = Some (CommandAck m)
+service_of (FileTransferProtocol m) = Some (FileTransferProtocol m)
 service_of _ = None
 
 -- its signed numbers are those of their words

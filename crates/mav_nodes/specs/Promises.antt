@@ -14,10 +14,10 @@ use Rattle.mav_nodes.specs.News.{shown, events_of}
 use Rattle.mav_nodes.specs.Links.{Link, LinkView, IsLink, Outcome}
 use Rattle.plan_upload.specs.Station.{StationState}
 use Rattle.mav_nodes.specs.Services.{StationServices}
-use Rattle.mav_nodes.specs.Nodes.{DroneSide, StationSide, DroneView, IsDrone, StationView, IsStation, IsAccepted, station_obeys, order_refusal, order_plan, order_fault, command_refusal, params_refusal}
+use Rattle.mav_nodes.specs.Nodes.{DroneSide, StationSide, DroneView, IsDrone, StationView, IsStation, IsAccepted, station_obeys, order_refusal, order_plan, order_fault, command_refusal, params_refusal, file_refusal}
 use Rattle.mav_nodes.specs.declared.orders.Order.{Order}
 use Rattle.mav_nodes.specs.declared.faults.OrderFault.{OrderFault}
-use Rattle.mav_nodes.specs.declared.faults.OrderFault.TheVariants.{Begin, Op, Command, Param, Node}
+use Rattle.mav_nodes.specs.declared.faults.OrderFault.TheVariants.{Begin, Op, Command, Param, File, Node}
 use Rattle.mav_nodes.specs.declared.faults.NodeFault.{NodeFault}
 use Rattle.mav_nodes.specs.declared.faults.NodeFault.TheVariants.{StampsSpent, Store, NoMemory}
 
@@ -85,6 +85,7 @@ IsPlanRefusal station order (Begin fault) = (order_refusal station order ≡ Som
 IsPlanRefusal station order (Op fault) = order_fault station order ≡ Some fault
 IsPlanRefusal station order (Command busy) = ⊥
 IsPlanRefusal station order (Param busy) = ⊥
+IsPlanRefusal station order (File fault) = ⊥
 IsPlanRefusal station order (Node fault) = ⊥
 
 -- the same, or its services refused it
@@ -93,18 +94,21 @@ IsRefusal station order (Begin fault) = (order_refusal station.station order ≡
 IsRefusal station order (Op fault) = order_fault station.station order ≡ Some fault
 IsRefusal station order (Command busy) = command_refusal station.services order ≡ Some busy.command
 IsRefusal station order (Param busy) = params_refusal station.services order ≡ true
+IsRefusal station order (File fault) = file_refusal station.services order ≡ Some fault
 IsRefusal station order (Node fault) = ⊥
 
 -- the services of a station follow an order, or refuse it, and then nothing changes; or there is no memory
 pub record AcceptsService (v : StationServices) (order : Order) : Type 0 where
   pub command : command_refusal v order ≡ None
   pub params : params_refusal v order ≡ false
+  pub file : file_refusal v order ≡ None
 
 abbrev pub RefusesService : StationServices → Order → OrderFault → Type 0
 RefusesService v order (Begin fault) = ⊥
 RefusesService v order (Op fault) = ⊥
 RefusesService v order (Command busy) = command_refusal v order ≡ Some busy.command
 RefusesService v order (Param busy) = params_refusal v order ≡ true
+RefusesService v order (File fault) = file_refusal v order ≡ Some fault
 RefusesService v order (Node fault) = AcceptsService v order × (fault ≡ NoMemory)
 
 abbrev pub KeepsService : StationServices → StationServices → OrderFault → Type 0
@@ -112,6 +116,7 @@ KeepsService before after (Begin fault) = after ≡ before
 KeepsService before after (Op fault) = after ≡ before
 KeepsService before after (Command busy) = after ≡ before
 KeepsService before after (Param busy) = after ≡ before
+KeepsService before after (File fault) = after ≡ before
 KeepsService before after (Node fault) = Unit {0}
 
 -- the same, or no timestamp was left for the message that is sent for it
@@ -127,4 +132,5 @@ OrderKeeps before after (Begin fault) = after ≡ before
 OrderKeeps before after (Op fault) = after ≡ before
 OrderKeeps before after (Command busy) = after ≡ before
 OrderKeeps before after (Param busy) = after ≡ before
+OrderKeeps before after (File fault) = after ≡ before
 OrderKeeps before after (Node fault) = Unit {0}

@@ -1,5 +1,5 @@
--- The services of a node beside its plan core: a drone's commands, parameters and simulator, and a station's commands and
--- parameters.
+-- The services of a node beside its plan core: a drone's commands, parameters, files and simulator, and a station's
+-- commands, parameters and file transfer.
 use Rattle.std.specs.Prelude.{ℕ, ℤ, pos, negsuc, ◌+◌, ◌-◌, ◌/◌, ◌%◌, ◌^◌, Bool, true, false, if◌then◌else◌, List, [], ◌∷◌, ◌++◌, length, replicate, zero, suc, codes, Option, Some, None, unwrap_or}
 use Rattle.std.specs.List.{list_any}
 use Rattle.std.specs.Int.{w32, cast_unsigned, cast_signed}
@@ -20,7 +20,10 @@ use Rattle.command_proto.specs.Commander.{CommanderState, CommanderStep, Command
 use Rattle.param_proto.specs.declared.params.Param.{Param}
 use Rattle.param_proto.specs.Server.{ServerState, new_server, server_step, place_of, word_in}
 use Rattle.param_proto.specs.Client.{ClientState, ClientStep, ParamsEnd, One_value, All_values, No_answer as No_params_answer, new_client, client_step, client_tick}
-use Rattle.mav_nodes.specs.News.{NodeEvent, Installs, Empties, Ends_command, Gives_param, Ends_params, Reaches, Captures}
+use Rattle.mav_ftp.specs.Server.{FilesState, no_files}
+use Rattle.mav_nodes.specs.declared.news.FileEnd.{FileEnd}
+use Rattle.mav_nodes.specs.News.{NodeEvent, Installs, Empties, Ends_command, Gives_param, Ends_params, Reaches, Captures, Ends_file}
+use Rattle.mav_nodes.specs.FileServices.{FilesStep, StationFiles, TransferStep, files_step, new_station_files, transfer_heard, transfer_waits}
 
 -- what the services of a node do at a message, a tick or an order: the services after it, the messages that are sent, and
 -- what ends with it
@@ -36,12 +39,13 @@ sent_of (Some message) = message ∷ []
 
 -- ---- a drone's
 
--- the drone that is simulated, with the time of its simulator in milliseconds, its commands, and its parameters
+-- the drone that is simulated, with the time of its simulator in milliseconds, its commands, its parameters, and its files
 pub record DroneServices : Type 0 where
   pub sim : SimState
   pub time : ℕ
   pub executor : ExecutorState
   pub server : ServerState
+  pub files : FilesState
 
 -- ---- its parameters
 
@@ -77,6 +81,7 @@ new_drone_services sys home = record {
   time = 0;
   executor = new_executor (record { sys = sys; comp = 1 });
   server = new_server (drone_params home);
+  files = no_files;
 }
 
 -- ---- what they do
@@ -93,18 +98,26 @@ abbrev pub acts_by : SimState → Option Action → SimState
 acts_by sim None = sim
 acts_by sim (Some action) = acts sim action
 
--- the answers of the parameters are all taken
-abbrev pub drone_served : DroneServices → ExecutorStep → ServerState → ServiceStep DroneServices
-drone_served v e s = record {
+-- what its executor and its parameters do; the answers of the parameters are all taken
+abbrev pub drone_executes : DroneServices → ExecutorStep → ServerState → ServiceStep DroneServices
+drone_executes v e s = record {
   services = record v { sim = acts_by v.sim e.action; executor = e.executor; server = record s { waiting = [] } };
   answers = sent_of e.answer ++ s.waiting;
+  last = [];
+}
+
+-- then its files
+abbrev pub drone_served : DroneServices → ExecutorStep → ServerState → FilesStep → ServiceStep DroneServices
+drone_served v e s f = record {
+  services = record v { sim = acts_by v.sim e.action; executor = e.executor; server = record s { waiting = [] }; files = f.files };
+  answers = (sent_of e.answer ++ s.waiting) ++ f.answers;
   last = [];
 }
 
 -- a message that is none of the mission protocol
 abbrev pub drone_serves : DroneState → DroneServices → Stream → Message → ServiceStep DroneServices
 drone_serves drone v from message =
-    drone_served v (executor_step v.executor from message (ready_of drone v)) (server_step v.server v.executor.me message)
+    drone_served v (executor_step v.executor from message (ready_of drone v)) (server_step v.server v.executor.me message) (files_step v.files v.executor.me from message)
 
 -- the mission is installed or emptied
 abbrev pub changes_mission : NodeEvent → Bool
@@ -177,9 +190,10 @@ drone_flies drone v = drone_flown v (sim_tick v.sim drone.plans.mission (sim_ste
 pub record StationServices : Type 0 where
   pub commander : CommanderState
   pub client : ClientState
+  pub files : StationFiles
 
 abbrev pub new_station_services : Name → StationServices
-new_station_services me = record { commander = new_commander me; client = new_client me }
+new_station_services me = record { commander = new_commander me; client = new_client me; files = new_station_files me }
 
 abbrev pub result_of : CommandEnd → Option ℕ
 result_of (Result result) = Some result
@@ -198,20 +212,33 @@ abbrev pub params_events : Option ParamsEnd → List NodeEvent
 params_events None = []
 params_events (Some end) = params_event end ∷ []
 
+abbrev pub file_events : Option FileEnd → List NodeEvent
+file_events None = []
+file_events (Some end) = Ends_file end ∷ []
+
 -- commands come before parameters
-abbrev pub station_served : CommanderStep → ClientStep → ServiceStep StationServices
-station_served c p = record {
-  services = record { commander = c.commander; client = p.client };
+abbrev pub station_asked : StationServices → CommanderStep → ClientStep → ServiceStep StationServices
+station_asked v c p = record {
+  services = record v { commander = c.commander; client = p.client };
   answers = sent_of c.answer ++ sent_of p.answer;
   last = command_events c.end ++ params_events p.end;
 }
 
+-- and these before files
+abbrev pub station_served : CommanderStep → ClientStep → TransferStep → ServiceStep StationServices
+station_served c p f = record {
+  services = record { commander = c.commander; client = p.client; files = f.files };
+  answers = (sent_of c.answer ++ sent_of p.answer) ++ f.answers;
+  last = (command_events c.end ++ params_events p.end) ++ file_events f.end;
+}
+
 -- a message that is none of the mission protocol, and a tick
 abbrev pub station_serves : StationServices → Stream → Message → ServiceStep StationServices
-station_serves v from message = station_served (commander_step v.commander from message) (client_step v.client from message)
+station_serves v from message =
+    station_served (commander_step v.commander from message) (client_step v.client from message) (transfer_heard v.files from message)
 
 abbrev pub station_waits : StationServices → ServiceStep StationServices
-station_waits v = station_served (commander_tick v.commander) (client_tick v.client)
+station_waits v = station_served (commander_tick v.commander) (client_tick v.client) (transfer_waits v.files)
 
 -- ---- what a station is asked
 
@@ -224,6 +251,9 @@ asks_command v c = record { services = record v { commander = c.commander }; ans
 
 abbrev pub asks_params : StationServices → ClientStep → ServiceStep StationServices
 asks_params v p = record { services = record v { client = p.client }; answers = sent_of p.answer; last = [] }
+
+abbrev pub asks_file : StationServices → TransferStep → ServiceStep StationServices
+asks_file v f = record { services = record v { files = f.files }; answers = f.answers; last = [] }
 
 abbrev pub rests : StationServices → ServiceStep StationServices
 rests v = record { services = v; answers = []; last = [] }

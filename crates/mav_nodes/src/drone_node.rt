@@ -28,8 +28,8 @@ const AUTOPILOT: u8 = 1;
 const LINK: u8 = 0;
 
 /// A drone over datagrams, which keeps its plans in a store: the one that it was started with is handed to each call.
-/// Contracts see its end of the links, its plan core, and its services: it executes commands, serves parameters, and flies
-/// as a simulated drone.
+/// Contracts see its end of the links, its plan core, and its services: it executes commands, serves parameters and files,
+/// and flies as a simulated drone.
 ///
 /// It saves before a timestamp above the stored low bound is admitted or sent, and before its plans change. If a save
 /// fails it loads, and what the store then has decides: a change of plans that isn't stored is refused, and a bound that
@@ -64,7 +64,7 @@ fn stream_of(sys: u8) -> Stream
 impl DroneNode {
     /// The drone of this system, disarmed at that location, in units of 1e-7 degrees, with the plans that the store has
     /// and with its low bound of timestamps; with empty plans if the store is empty. It knows the messages of the
-    /// profile. All its memory is allocated here, but for the news and what is stored.
+    /// profile. All its memory is allocated here, but for the news, what is stored, and its files.
     pub fn start<K: Keeper>(
         alloc: Global,
         key: Key,

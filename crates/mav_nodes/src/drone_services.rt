@@ -1,18 +1,21 @@
-// A drone's services: commands, parameters and its simulator.
+// A drone's services: commands, parameters, files and its simulator.
 ghost use Rattle.std.specs.Prelude.{◌≡◌, ◌++◌, [], OnOk, IfOk};
 ghost use Rattle.std.specs.List.{list_any};
-ghost use Rattle.param_proto.specs.Server.{new_server};
+ghost use Rattle.param_proto.specs.Server.{new_server, server_step};
 ghost use Rattle.mav_nodes.specs.News.{Shows_emptied};
 ghost use Rattle.mav_nodes.specs.Cores.{IsServed, said_of_plans, shows_mission};
-ghost use Rattle.mav_nodes.specs.Services.{drone_params, new_drone_services, drone_flies};
+ghost use Rattle.command_proto.specs.Executor.{executor_step};
+ghost use Rattle.mav_nodes.specs.Services.{drone_params, new_drone_services, drone_flies, drone_executes, ready_of, acts_by, sent_of};
 
 use crate::NoMemory;
+use crate::drone_files::serve_files;
 use crate::drone_flights::{say_flight, sim_step};
 use crate::drone_params::drone_params;
 use crate::services::{Served, Services};
 use crate::steps::PlanNews;
 use command_proto::{Executor, Ready};
 use drone_sim::Sim;
+use mav_ftp::FtpServer;
 use mav_messages::Message;
 use mav_names::{Name, Stream};
 use param_proto::ParamServer;
@@ -24,7 +27,7 @@ use std::marker::Model;
 // So many milliseconds pass in one tick of the simulator.
 const TICK: u32 = 1_000;
 
-/// Executes commands, serves parameters, and flies the drone: the time in milliseconds since its start is that of the
+/// Executes commands, serves parameters and files, and flies the drone: the time in milliseconds since its start is that of the
 /// simulator.
 #[derive(Drop)]
 pub(crate) struct DroneServices {
@@ -32,6 +35,7 @@ pub(crate) struct DroneServices {
     time: u32,
     executor: Executor,
     server: ParamServer,
+    files: FtpServer,
 }
 
 impl Model for DroneServices {
@@ -39,7 +43,7 @@ impl Model for DroneServices {
 
     ghost Value = { DroneServices };
 
-    ghost view = { λ v. record { sim = v.sim; time = v.time; executor = v.executor; server = v.server } };
+    ghost view = { λ v. record { sim = v.sim; time = v.time; executor = v.executor; server = v.server; files = v.files } };
 }
 
 fn is_mission(kind: PlanKind) -> bool
@@ -81,11 +85,13 @@ impl DroneServices {
     {
         let executor = Executor::new(alloc, Name { sys, comp: 1 })?;
         let server = served_params(alloc, x, y)?;
+        let files = FtpServer::new(alloc)?;
         Ok(DroneServices {
             sim: Sim::new(x, y),
             time: 0,
             executor,
             server,
+            files,
         })
     }
 
@@ -94,6 +100,55 @@ impl DroneServices {
         ensures { result.now ≡ self.now.sim }
     {
         &self.sim
+    }
+
+    // What the executor does at a message, and what the drone does by it.
+    fn obey(
+        &mut self,
+        from: Stream,
+        message: &Message,
+        ready: Ready,
+        answers: &mut Vec<Message>,
+    ) -> Result<(), NoMemory>
+        ensures services { OnOk result (self.new ≡ record self.old {
+          sim = acts_by self.old.sim (executor_step self.old.executor from message.now ready).action;
+          executor = (executor_step self.old.executor from message.now ready).executor;
+        }) }
+        ensures answers { OnOk result (answers.new.items ≡ answers.old.items ++ sent_of (executor_step self.old.executor from message.now ready).answer) }
+    {
+        if let Some((answer, action)) = self.executor.step(from, message, ready) {
+            if let Some(action) = action {
+                self.sim.act(action);
+            }
+            answers.push(answer)?;
+        }
+        Ok(())
+    }
+
+    // What the executor and the parameters do at a message.
+    fn execute(
+        &mut self,
+        alloc: Global,
+        core: &Drone,
+        from: Stream,
+        message: &Message,
+    ) -> Result<Served, NoMemory>
+        ensures { IfOk result (IsServed (drone_executes self.old (executor_step self.old.executor from message.now (ready_of core.now self.old)) (server_step self.old.server self.old.executor.me message.now)) self.new) }
+    {
+        let me = self.executor.me();
+        let planned = core.plan(PlanKind::Mission).len() > 0;
+        let ready = Ready {
+            armed: self.sim.armed(),
+            planned,
+        };
+        let mut answers = Vec::new(alloc);
+        self.obey(from, message, ready, &mut answers)?;
+        self.server.step(me, message);
+        take_all(&mut self.server, &mut answers)?;
+        Ok(Served {
+            answers,
+            last: Vec::new(alloc),
+        })
     }
 
     /// One tick of the simulator, over the mission of the plan core.
@@ -139,23 +194,8 @@ impl Services<Drone> for DroneServices {
         message: &Message,
     ) -> Result<Served, NoMemory> {
         let me = self.executor.me();
-        let planned = core.plan(PlanKind::Mission).len() > 0;
-        let ready = Ready {
-            armed: self.sim.armed(),
-            planned,
-        };
-        let mut answers = Vec::new(alloc);
-        if let Some((answer, action)) = self.executor.step(from, message, ready) {
-            if let Some(action) = action {
-                self.sim.act(action);
-            }
-            answers.push(answer)?;
-        }
-        self.server.step(me, message);
-        take_all(&mut self.server, &mut answers)?;
-        Ok(Served {
-            answers,
-            last: Vec::new(alloc),
-        })
+        let mut served = self.execute(alloc, core, from, message)?;
+        serve_files(&mut self.files, me, from, message, &mut served.answers)?;
+        Ok(served)
     }
 }

@@ -1,5 +1,6 @@
 // Why a call of a node fails.
 use command_proto::CommandBusy;
+use mav_ftp::FtpFault;
 use mav_sign::StampsSpent as SpentStamps;
 use param_proto::ParamBusy;
 use plan_store::KeepFault;
@@ -141,6 +142,8 @@ pub enum OrderFault {
     Command(CommandBusy),
     /// What was asked of parameters was refused, since something is asked of them already.
     Param(ParamBusy),
+    /// What was asked of files was refused.
+    File(FtpFault),
     /// The station is given up.
     Node(NodeFault),
 }

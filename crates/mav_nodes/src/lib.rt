@@ -1,5 +1,5 @@
 //! Drones and stations as nodes over datagrams, or over streams that come in pieces: each frame that comes in is tried, an
-//! admitted plan message goes to the node's plan core, one of commands or parameters to its services, and what they reply
+//! admitted plan message goes to the node's plan core, one of commands, parameters or files to its services, and what they reply
 //! is sent at once in signed frames.
 //!
 //! A node reports all that happened as a list of [`News`]; a caller sends the frames among them. What a node does is a
@@ -13,7 +13,9 @@
 //! fault, after which the node isn't used again.
 #![tactic(auto)]
 
+mod addresses;
 mod drone_core;
+mod drone_files;
 mod drone_flights;
 mod drone_node;
 mod drone_params;
@@ -27,6 +29,7 @@ mod no_store;
 mod node;
 mod orders;
 mod services;
+mod station_files;
 mod station_node;
 mod station_services;
 mod steps;
@@ -34,8 +37,8 @@ mod stores;
 
 pub use drone_node::DroneNode;
 pub use faults::{NodeFault, OrderFault, StartFault};
-pub use news::News;
-pub use orders::Order;
+pub use news::{FileEnd, News};
+pub use orders::{FileOp, Order};
 pub use station_node::StationNode;
 use std::alloc::AllocError;
 

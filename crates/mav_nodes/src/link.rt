@@ -119,7 +119,8 @@ fn as_service(message: &Message) -> Option<Message>
         | Message::ParamValue(_)
         | Message::ParamSet(_)
         | Message::CommandLong(_)
-        | Message::CommandAck(_) => Some(*message),
+        | Message::CommandAck(_)
+        | Message::FileTransferProtocol(_) => Some(*message),
         _ => None,
     }
 }

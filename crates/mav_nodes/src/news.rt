@@ -2,6 +2,7 @@
 ghost use Rattle.std.specs.Prelude.{◌≡◌, ◌++◌, ◌∷◌, [], OnOk, IfErr};
 
 use crate::NodeFault;
+use field_layout::Label;
 use mav_frame::Frame;
 use mav_messages::Message;
 use mav_names::Stream;
@@ -9,6 +10,17 @@ use mav_sign::Admit;
 use param_proto::Param;
 use plan_items::PlanKind;
 use plan_upload::Outcome;
+
+/// How what a station asked of files has ended.
+#[derive(Drop)]
+pub enum FileEnd {
+    /// It is done, and gives these bytes: the entries of a list, those of a file, or none.
+    Done(Label),
+    /// The drone refused it, with this error code.
+    Refused(u8),
+    /// No reply came.
+    NoAnswer,
+}
 
 /// What happened in a node, in order.
 #[derive(Drop)]
@@ -40,6 +52,8 @@ pub enum News {
     Reached(u16),
     /// The drone took a picture, and has taken so many.
     Captured(u32),
+    /// What the station asked of files has ended.
+    File(FileEnd),
 }
 
 /// One piece of news more.

@@ -1,7 +1,21 @@
 // What a station is asked to do.
+use field_layout::Label;
 use mav_names::Stream;
 use param_proto::Param;
 use plan_items::{Plan, PlanKind};
+
+/// What is asked of a drone's files. Names are 1 to 64 bytes out of letters, digits, `.`, `_` and `-`.
+#[derive(Drop)]
+pub enum FileOp {
+    /// The entries of all files.
+    List,
+    /// The bytes of the file of a name.
+    Fetch(Label),
+    /// To make a file of a name and of at most 1,048,576 bytes.
+    Store(Label, Vec<u8>),
+    /// To remove the file of a name.
+    Remove(Label),
+}
 
 /// An order to a station.
 #[derive(Drop)]
@@ -43,5 +57,10 @@ pub enum Order {
     /// To list a drone's parameters.
     ParamList {
         drone: Stream,
+    },
+    /// To list a drone's files, or to fetch, store or remove one.
+    File {
+        drone: Stream,
+        op: FileOp,
     },
 }

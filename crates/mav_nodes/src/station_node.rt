@@ -29,7 +29,7 @@ use std::alloc::Global;
 use std::marker::Model;
 
 /// A ground station over datagrams. Contracts see its end of the links, its plan core, and its services: it gives
-/// commands, and reads, sets and lists parameters.
+/// commands, reads, sets and lists parameters, and lists, fetches, stores and removes files.
 #[derive(Drop)]
 pub struct StationNode {
     alloc: Global,
@@ -119,7 +119,8 @@ fn obey(station: &mut Station, order: Order) -> Result<Option<PlanMsg>, OrderFau
         Order::Command { .. }
         | Order::ParamRead { .. }
         | Order::ParamSet { .. }
-        | Order::ParamList { .. } => Ok(None),
+        | Order::ParamList { .. }
+        | Order::File { .. } => Ok(None),
     }
 }
 
@@ -133,6 +134,7 @@ fn is_for_services(order: &Order) -> bool
             | Order::ParamRead { .. }
             | Order::ParamSet { .. }
             | Order::ParamList { .. }
+            | Order::File { .. }
     )
 }
 
@@ -273,7 +275,7 @@ impl StationNode {
     }
 
     /// One tick: what an operation sends again, or how it continues; and then the same of the open command, and of what is
-    /// asked of parameters.
+    /// asked of parameters and of files.
     pub fn tick(&mut self, clock: u64) -> Result<Vec<News>, NodeFault>
         ensures done { IfOk result (λ news. (node : StationSide) → IsStation node self.old
             → StationDid (station_ticks clock node) self.new [] news.items) }

@@ -1,16 +1,18 @@
-// A station's services: commands and parameters.
+// A station's services: commands, parameters and file transfer.
 ghost use Rattle.std.specs.Prelude.{◌≡◌, ◌++◌, ◌∷◌, [], OnOk, IfErr, IfOk};
 ghost use Rattle.mav_nodes.specs.News.{events_of};
-ghost use Rattle.mav_nodes.specs.Services.{new_station_services, station_waits};
+ghost use Rattle.command_proto.specs.Commander.{commander_step};
+ghost use Rattle.mav_nodes.specs.Services.{new_station_services, station_waits, station_asked};
 ghost use Rattle.mav_nodes.specs.Returned.{shown_of_result, command_again, shown_of_command, shown_of_end, params_again, shown_of_params};
 ghost use Rattle.mav_nodes.specs.Cores.{IsServed};
 ghost use Rattle.mav_nodes.specs.Nodes.{service_step};
-ghost use Rattle.param_proto.specs.Client.{known_values};
+ghost use Rattle.param_proto.specs.Client.{known_values, client_step};
 ghost use Rattle.mav_nodes.specs.declared.faults.NodeFault.TheVariants.{NoMemory};
 ghost use Rattle.mav_nodes.specs.declared.faults.OrderFault.TheVariants.{Node};
 ghost use Rattle.mav_nodes.specs.Promises.{AcceptsService, RefusesService, KeepsService};
 
 use crate::services::{Served, Services};
+use crate::station_files::StationFiles;
 use crate::steps::PlanNews;
 use crate::{News, NoMemory, NodeFault, Order, OrderFault};
 use command_proto::{CommandTick, Commander};
@@ -21,11 +23,12 @@ use plan_upload::Station;
 use std::alloc::Global;
 use std::marker::Model;
 
-/// Gives commands, and reads, sets and lists parameters.
+/// Gives commands, reads, sets and lists parameters, and lists, fetches, stores and removes files.
 #[derive(Drop)]
 pub(crate) struct StationServices {
     commander: Commander,
     client: ParamClient,
+    files: StationFiles,
 }
 
 impl Model for StationServices {
@@ -33,7 +36,7 @@ impl Model for StationServices {
 
     ghost Value = { StationServices };
 
-    ghost view = { λ v. record { commander = v.commander; client = v.client } };
+    ghost view = { λ v. record { commander = v.commander; client = v.client; files = v.files } };
 }
 
 // The result of a command, if there is one.
@@ -116,6 +119,7 @@ impl StationServices {
         Ok(StationServices {
             commander: Commander::new(me),
             client,
+            files: StationFiles::new(alloc, me),
         })
     }
 
@@ -126,6 +130,19 @@ impl StationServices {
         self.client.got()
     }
 
+    // What the commander and the client of parameters make of a message.
+    fn hear(&mut self, alloc: Global, from: Stream, message: &Message) -> Result<Served, NoMemory>
+        ensures { IfOk result (IsServed (station_asked self.old (commander_step self.old.commander from message.now) (client_step self.old.client from message.now)) self.new) }
+    {
+        let mut last = Vec::new(alloc);
+        tell_result(self.commander.step(from, message), &mut last)?;
+        tell_end(self.client.step(from, message), &mut last)?;
+        Ok(Served {
+            answers: Vec::new(alloc),
+            last,
+        })
+    }
+
     /// One tick.
     pub(crate) fn wait(&mut self, alloc: Global) -> Result<Served, NoMemory>
         ensures { IfOk result (IsServed (station_waits self.old) self.new) }
@@ -134,6 +151,7 @@ impl StationServices {
         let mut last = Vec::new(alloc);
         tell_command(self.commander.tick(), &mut answers, &mut last)?;
         tell_params(self.client.tick(), &mut answers, &mut last)?;
+        self.files.wait(&mut answers, &mut last)?;
         Ok(Served { answers, last })
     }
 
@@ -168,6 +186,10 @@ impl StationServices {
                 Ok(message) => message,
                 Err(busy) => return Err(OrderFault::Param(busy)),
             },
+            Order::File { drone, op } => match self.files.begin(drone, op) {
+                Ok(message) => message,
+                Err(fault) => return Err(OrderFault::File(fault)),
+            },
             _ => return Ok(Served {
                 answers: Vec::new(alloc),
                 last: Vec::new(alloc),
@@ -193,12 +215,9 @@ impl Services<Station> for StationServices {
         from: Stream,
         message: &Message,
     ) -> Result<Served, NoMemory> {
-        let mut last = Vec::new(alloc);
-        tell_result(self.commander.step(from, message), &mut last)?;
-        tell_end(self.client.step(from, message), &mut last)?;
-        Ok(Served {
-            answers: Vec::new(alloc),
-            last,
-        })
+        let mut served = self.hear(alloc, from, message)?;
+        self.files
+            .hear(from, message, &mut served.answers, &mut served.last)?;
+        Ok(served)
     }
 }
