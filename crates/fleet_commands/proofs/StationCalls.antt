@@ -23,6 +23,7 @@ use Rattle.param_proto.specs.Client.{ClientStep, client_step, client_tick, lists
 use Rattle.mav_nodes.specs.News.{NodeEvent, Drops}
 use Rattle.mav_nodes.specs.Links.{Link, tries, sends, sends_all}
 use Rattle.mav_nodes.specs.Payloads.{plan_in, service_in}
+use Rattle.mav_nodes.specs.FileServices.{TransferStep, file_message, transfer_heard, transfer_waits}
 use Rattle.mav_nodes.specs.Services.{ServiceStep, StationServices, sent_of, station_served, command_of, asks_params}
 use Rattle.mav_nodes.specs.Steps.{answers, steps, serves, takes, admits, hears, hears_all}
 use Rattle.mav_nodes.specs.Nodes.{StationSide, station_rules, station_does, told_events, station_receives, services_tick, station_ticks, station_beats, station_heartbeat, station_begins, station_cancels, station_clears, station_gets, station_commands, station_lists_params}
@@ -32,6 +33,7 @@ use Rattle.fleet_invariants.proofs.Tests.{by_test}
 use Rattle.fleet_invariants.proofs.Histories.{trying_previous}
 use Rattle.fleet_invariants.proofs.Nodes.{Silent}
 use Rattle.fleet_invariants.proofs.Hearing.{services_silent}
+use Rattle.fleet_invariants.proofs.Files.{SaysOfFiles, Says_nothing, Says_one, station_says, tick_says}
 use Rattle.fleet_invariants.proofs.Params.{IsOfParams, client_hears, client_waits}
 use Rattle.fleet_invariants.proofs.Services.{station_waiting, command_asked}
 use Rattle.fleet_commands.proofs.Lists.{last_command}
@@ -91,6 +93,15 @@ none_plain : (o : Option Message) → o ≡ None → AllOf IsPlain (sent_of o)
 none_plain None e = tt
 none_plain (Some m) e = absurd (cc)
 
+-- ---- those of file transfer
+
+file_plain : (to : Stream) (bytes : List ℕ) → IsPlain (file_message to bytes)
+file_plain to bytes payload = refl
+
+files_plain : (ms : List Message) → SaysOfFiles ms → AllOf IsPlain ms
+files_plain ms (Says_nothing e) = subst (AllOf IsPlain) (sym e) tt
+files_plain ms (Says_one to bytes e) = subst (AllOf IsPlain) (sym e) (file_plain to bytes, tt)
+
 told_silent : (o : Option Told) → Silent (told_events o)
 told_silent None = tt
 told_silent (Some t) = tt
@@ -148,10 +159,13 @@ module _ (frames : List Packet) (me : Stream) (clock : ℕ) (count : ℕ) where
   taking n from None (Some m) ps h =
       let c : CommanderStep = commander_step n.services.commander from m in
       let r : ClientStep = client_step n.services.client from m in
+      let f : TransferStep = transfer_heard n.services.files from m in
       let says = commander_hears (latest ps) n.services.commander from m h.voice.given in
-      quietly (station_served c r) n.core n.link ps
+      quietly (station_served c r f) n.core n.link ps
+      (all_of_both IsPlain (sent_of c.answer ++ sent_of r.answer) f.answers
       (all_of_both IsPlain (sent_of c.answer) (sent_of r.answer) (none_plain c.answer says.answer) (asks_plain r.answer (client_hears n.services.client from m).asks))
-      (services_silent c r)
+      (files_plain f.answers (station_says n.services.files from m)))
+      (services_silent c r f)
       (record { me_is = h.me_is; begun = h.begun; voice = record { rising = h.voice.rising; last = h.voice.last; runs = h.voice.runs; given = says.issue }; own = h.own })
   taking n from (Some m) service ps h = stepping n ps (station_step n.core from m) h
 
@@ -212,8 +226,14 @@ module _ (frames : List Packet) (me : Stream) (clock : ℕ) (count : ℕ) where
           r : ClientStep
           r = client_tick a.services.client
 
+          f : TransferStep
+          f = transfer_waits a.services.files
+
           plain : AllOf IsPlain (sent_of r.answer)
           plain = asks_plain r.answer (client_waits a.services.client).asks
+
+          of_files : AllOf IsPlain f.answers
+          of_files = files_plain f.answers (tick_says a.services.files)
 
           in_range : IfSome c.commander.issue IssueInRange
           in_range =
@@ -221,11 +241,13 @@ module _ (frames : List Packet) (me : Stream) (clock : ℕ) (count : ℕ) where
 
           says : Says (latest qs) c → Goes StationSays qs (services_tick clock a)
           says (Nothing none) =
-              quietly (station_served c r) a.core a.link qs (all_of_both IsPlain (sent_of c.answer) (sent_of r.answer) (none_plain c.answer none.answer) plain) (services_silent c r)
+              quietly (station_served c r f) a.core a.link qs
+              (all_of_both IsPlain (sent_of c.answer ++ sent_of r.answer) f.answers (all_of_both IsPlain (sent_of c.answer) (sent_of r.answer) (none_plain c.answer none.answer) plain) of_files) (services_silent c r f)
               (record { me_is = k.me_is; begun = k.begun; voice = record { rising = k.voice.rising; last = k.voice.last; runs = k.voice.runs; given = none.issue }; own = k.own })
           says (Gives g) =
-              subst (λ (o : Option Message). Goes StationSays qs (serves clock a.link a.core (record { services = (station_served c r).services; answers = sent_of o ++ sent_of r.answer; last = (station_served c r).last }))) (sym g.answer)
-              (commanding count (station_served c r).services (station_served c r).last g.issue a.services.commander.issue (sent_of r.answer) a.core a.link qs g.kept plain (services_silent c r)
+              subst (λ (o : Option Message). Goes StationSays qs (serves clock a.link a.core (record { services = (station_served c r f).services; answers = (sent_of o ++ sent_of r.answer) ++ f.answers; last = (station_served c r f).last }))) (sym g.answer)
+              (commanding count (station_served c r f).services (station_served c r f).last g.issue a.services.commander.issue (sent_of r.answer ++ f.answers) a.core a.link qs g.kept
+              (all_of_both IsPlain (sent_of r.answer) f.answers plain of_files) (services_silent c r f)
               (subst (λ (o : Option Issue). IfSome o IssueInRange) g.kept in_range) g.again (let e = g.later in omega arith) k)
 
       record Ticks (a : StationSide) (qs : List Packet) : Type 0 where

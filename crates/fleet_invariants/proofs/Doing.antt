@@ -19,6 +19,7 @@ use Rattle.drone_sim.specs.Sim.{armed, sim_tick}
 use Rattle.mav_nodes.specs.Links.{Outcome, behind, sends}
 use Rattle.mav_nodes.specs.Steps.{Side, CoreStep, with_core, steps}
 use Rattle.mav_nodes.specs.Nodes.{DroneSide, StationSide, drone_receives, drone_waits, tick_answer, drone_ticks, drone_heartbeat, drone_beats, station_receives, station_does, services_tick, station_ticks, station_heartbeat, station_beats, station_begins, station_cancels, station_clears, station_gets, station_commands, station_lists_params, drone_sims}
+use Rattle.mav_nodes.specs.FileServices.{transfer_waits}
 use Rattle.mav_nodes.specs.Services.{sim_step, drone_flies}
 use Rattle.mav_nodes.proofs.Sendings.{heartbeats_fit}
 use Rattle.plan_ranges.specs.Ranges.{InRange, ItemInRange, NameInRange, StreamInRange}
@@ -103,7 +104,7 @@ module _ (s : WorldState) (k : ℕ) (g : Steady s) where
         a_station (station_ticks s.clock n)
         (then_next Station s k (steps s.clock n.link n.services (station_does (station_tick n.core))) (services_tick s.clock)
         (station_goes s k n g found (station_tick n.core) (stations.ticks n.core (g.cores k (Station n) found).range) (station_tick_stays n.core))
-        (λ d first. station_services (advanced s k (Station d.node) d.events) k first.steady d.node first.there (commander_tick d.node.services.commander) (client_tick d.node.services.client)
+        (λ d first. station_services (advanced s k (Station d.node) d.events) k first.steady d.node first.there (commander_tick d.node.services.commander) (client_tick d.node.services.client) (transfer_waits d.node.services.files)
         (station_waiting (node_of d.node.link.me) d.node.services (first.steady.cores k (Station d.node) first.there).services)))
 
     station_beating : NodeDoes s k (as_station (station_beats s.clock n))

@@ -12,22 +12,24 @@ use Rattle.plan_upload.specs.Station.{StationStep, Told, station_step}
 use Rattle.mav_frame.specs.Packet.{Packet, SignatureBlock}
 use Rattle.field_layout.specs.Payload.{FitsLayout}
 use Rattle.mav_messages.specs.declared.messages.Message.{Message}
-use Rattle.mav_messages.specs.declared.messages.Message.TheVariants.{ParamRequestRead, ParamRequestList, ParamValue, ParamSet, CommandLong, CommandAck}
+use Rattle.mav_messages.specs.declared.messages.Message.TheVariants.{ParamRequestRead, ParamRequestList, ParamValue, ParamSet, CommandLong, CommandAck, FileTransferProtocol}
 use Rattle.mav_messages.specs.Messages.{definition_of, values_of}
 use Rattle.mav_messages.specs.Plans.{plan_of}
-use Rattle.command_proto.specs.Commander.{CommanderStep, CommandEnd}
-use Rattle.param_proto.specs.Client.{ClientStep, ParamsEnd, One_value, All_values, No_answer}
+use Rattle.command_proto.specs.Commander.{CommanderStep, CommandEnd, commander_step}
+use Rattle.param_proto.specs.Client.{ClientStep, ParamsEnd, One_value, All_values, No_answer, client_step}
 use Rattle.plan_upload.specs.Addresses.{node_of}
 use Rattle.mav_sign.specs.declared.admission.Admit.{Admit}
 use Rattle.mav_sign.specs.declared.admission.Admit.TheVariants.{Admitted, Unsigned, BadSignature, BelowFloor, NotLater, TooOld, TooManyStreams}
 use Rattle.mav_sign.specs.History.{tried, last_of, answer_to, stream_of}
 use Rattle.mav_sign.specs.Signing.{Verifies}
 use Rattle.mav_nodes.specs.LowBounds.{stored_low}
-use Rattle.mav_nodes.specs.News.{NodeEvent, Sends, Installs, Empties, Drops, Ends, Ends_command, Gives_param, Ends_params, Reaches, Captures}
+use Rattle.mav_nodes.specs.News.{NodeEvent, Sends, Installs, Empties, Drops, Ends, Ends_command, Gives_param, Ends_params, Reaches, Captures, Ends_file}
 use Rattle.mav_nodes.specs.Links.{tries}
 use Rattle.mav_nodes.specs.Steps.{steps, serves, takes, admits, hears, hears_all}
 use Rattle.mav_nodes.specs.Payloads.{plan_in, service_in, service_of}
-use Rattle.mav_nodes.specs.Services.{drone_serves, drone_notes, reached_events, captured_events, station_served, command_events, params_events}
+use Rattle.mav_nodes.specs.declared.news.FileEnd.{FileEnd}
+use Rattle.mav_nodes.specs.FileServices.{TransferStep, transfer_heard}
+use Rattle.mav_nodes.specs.Services.{drone_serves, drone_notes, reached_events, captured_events, station_served, command_events, params_events, file_events}
 use Rattle.mav_nodes.specs.Nodes.{DroneSide, StationSide, change_events, drone_core, drone_rules, told_events, station_does, station_rules}
 use Rattle.mav_nodes.proofs.Bounds.{payload_small}
 use Rattle.mav_nodes.proofs.Sendings.{plan_reads_back, service_reads_back}
@@ -87,6 +89,7 @@ service_fits (ParamValue m) h = h
 service_fits (ParamSet m) h = h
 service_fits (CommandLong m) h = h
 service_fits (CommandAck m) h = h
+service_fits (FileTransferProtocol m) h = h
 service_fits _ h = tt
 
 service_in_range : (s : WorldState) (p : Packet) (q : IsSent s p) → IfSome (service_in p.id p.payload) Fits
@@ -127,6 +130,7 @@ both_silent (Gives_param param ∷ es) fs h k = both_silent es fs h k
 both_silent (Ends_params values ∷ es) fs h k = both_silent es fs h k
 both_silent (Reaches number ∷ es) fs h k = both_silent es fs h k
 both_silent (Captures total ∷ es) fs h k = both_silent es fs h k
+both_silent (Ends_file end ∷ es) fs h k = both_silent es fs h k
 
 reached_silent : (reached : Option ℕ) → Silent (reached_events reached)
 reached_silent None = tt
@@ -139,8 +143,14 @@ captured_silent false total = tt
 pub flown_silent : (reached : Option ℕ) (captured : Bool) (total : ℕ) → Silent (reached_events reached ++ captured_events captured total)
 flown_silent reached captured total = both_silent (reached_events reached) (captured_events captured total) (reached_silent reached) (captured_silent captured total)
 
-pub services_silent : (c : CommanderStep) (p : ClientStep) → Silent (station_served c p).last
-services_silent c p = both_silent (command_events c.end) (params_events p.end) (command_silent c.end) (params_silent p.end)
+file_silent : (o : Option FileEnd) → Silent (file_events o)
+file_silent None = tt
+file_silent (Some end) = tt
+
+pub services_silent : (c : CommanderStep) (p : ClientStep) (f : TransferStep) → Silent (station_served c p f).last
+services_silent c p f =
+    both_silent (command_events c.end ++ params_events p.end) (file_events f.end)
+    (both_silent (command_events c.end) (params_events p.end) (command_silent c.end) (params_silent p.end)) (file_silent f.end)
 
 -- ---- a station's core
 
@@ -151,8 +161,8 @@ module _ (s : WorldState) (k : ℕ) (n : StationSide) (g : Steady s) (found : sl
 
 -- its services
 module _ (s : WorldState) (k : ℕ) (g : Steady s) (n : StationSide) (found : slice_get s.nodes k ≡ Some (Station n)) where
-  pub station_services : (c : CommanderStep) (p : ClientStep) → Serves (SoundStationServices (node_of n.link.me)) (station_served c p) → NodeDoes s k (as_node Station (serves s.clock n.link n.core (station_served c p)))
-  station_services c p h = station_serves_so s k g n found (station_served c p) h (services_silent c p)
+  pub station_services : (c : CommanderStep) (p : ClientStep) (f : TransferStep) → Serves (SoundStationServices (node_of n.link.me)) (station_served c p f) → NodeDoes s k (as_node Station (serves s.clock n.link n.core (station_served c p f)))
+  station_services c p f h = station_serves_so s k g n found (station_served c p f) h (services_silent c p f)
 
 -- ---- one frame
 
@@ -221,7 +231,8 @@ module _ (s : WorldState) (k : ℕ) (packet : Packet) (g : Steady s) (known : Ve
         let first = station_tries s k n g found packet known in
         let own = first.steady.cores k (Station station_tried) first.there in
         after_first s k (Station station_tried) _ first
-        (station_services (advanced s k (Station station_tried) []) k first.steady station_tried first.there _ _ (station_serving (node_of n.link.me) n.services own.services from m))
+        (station_services (advanced s k (Station station_tried) []) k first.steady station_tried first.there
+        (commander_step n.services.commander from m) (client_step n.services.client from m) (transfer_heard n.services.files from m) (station_serving (node_of n.link.me) n.services own.services from m))
     station_takes q from (Some m) other range =
         let first = station_tries s k n g found packet known in
         let step = station_step n.core from m in

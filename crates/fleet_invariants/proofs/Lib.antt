@@ -8,6 +8,7 @@ pub mod Growth
 pub mod Moves
 pub mod Messages
 pub mod Params
+pub mod Files
 pub mod Services
 pub mod Roles
 pub mod Links

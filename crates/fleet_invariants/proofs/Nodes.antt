@@ -11,7 +11,7 @@ use Rattle.plan_upload.specs.Station.{StationState}
 use Rattle.mav_frame.specs.Packet.{Packet}
 use Rattle.mav_sign.specs.Signing.{Verifies}
 use Rattle.mav_nodes.specs.LowBounds.{stored_low}
-use Rattle.mav_nodes.specs.News.{NodeEvent, Sends, Installs, Empties, Drops, Ends, Ends_command, Gives_param, Ends_params, Reaches, Captures}
+use Rattle.mav_nodes.specs.News.{NodeEvent, Sends, Installs, Empties, Drops, Ends, Ends_command, Gives_param, Ends_params, Reaches, Captures, Ends_file}
 use Rattle.mav_nodes.specs.Links.{Link, Done, Outcome, done, behind, and_then, tries}
 use Rattle.mav_nodes.specs.Services.{DroneServices, StationServices}
 use Rattle.mav_nodes.specs.Steps.{Side, CoreStep, answers, with_core, steps}
@@ -43,6 +43,7 @@ Silent (Gives_param param ∷ es) = Silent es
 Silent (Ends_params values ∷ es) = Silent es
 Silent (Reaches number ∷ es) = Silent es
 Silent (Captures total ∷ es) = Silent es
+Silent (Ends_file end ∷ es) = Silent es
 
 pub packets_more : (es fs : List NodeEvent) → packets_in (es ++ fs) ≡ packets_in es ++ packets_in fs
 packets_more [] fs = refl
@@ -56,6 +57,7 @@ packets_more (Gives_param param ∷ es) fs = packets_more es fs
 packets_more (Ends_params values ∷ es) fs = packets_more es fs
 packets_more (Reaches number ∷ es) fs = packets_more es fs
 packets_more (Captures total ∷ es) fs = packets_more es fs
+packets_more (Ends_file end ∷ es) fs = packets_more es fs
 
 pub silent_none : (es : List NodeEvent) → Silent es → packets_in es ≡ []
 silent_none [] h = refl
@@ -69,6 +71,7 @@ silent_none (Gives_param param ∷ es) h = silent_none es h
 silent_none (Ends_params values ∷ es) h = silent_none es h
 silent_none (Reaches number ∷ es) h = silent_none es h
 silent_none (Captures total ∷ es) h = silent_none es h
+silent_none (Ends_file end ∷ es) h = silent_none es h
 
 pub silent_read : (es : List NodeEvent) → Silent es → AllRead es
 silent_read [] h = tt
@@ -82,6 +85,7 @@ silent_read (Gives_param param ∷ es) h = (tt, silent_read es h)
 silent_read (Ends_params values ∷ es) h = (tt, silent_read es h)
 silent_read (Reaches number ∷ es) h = (tt, silent_read es h)
 silent_read (Captures total ∷ es) h = (tt, silent_read es h)
+silent_read (Ends_file end ∷ es) h = (tt, silent_read es h)
 
 pub all_read : (es fs : List NodeEvent) → AllRead es → AllRead fs → AllRead (es ++ fs)
 all_read [] fs h k = k

@@ -11,7 +11,7 @@ use Rattle.plan_upload.specs.Drone.{DroneState}
 use Rattle.mav_messages.specs.declared.commands.CommandLong.{CommandLong}
 use Rattle.mav_messages.specs.declared.commands.CommandAck.{CommandAck}
 use Rattle.mav_messages.specs.declared.messages.Message.{Message}
-use Rattle.mav_messages.specs.declared.messages.Message.TheVariants.{CommandLong as Commands, CommandAck as Acknowledges}
+use Rattle.mav_messages.specs.declared.messages.Message.TheVariants.{CommandLong as Commands, CommandAck as Acknowledges, FileTransferProtocol}
 use Rattle.mav_messages.specs.Messages.{definition_of, values_of}
 use Rattle.std.specs.List.{list_any}
 use Rattle.plan_items.specs.declared.actions.Action.{Action}
@@ -37,9 +37,12 @@ use Rattle.param_proto.specs.Server.{server_step}
 use Rattle.param_proto.specs.Ranges.{MessageInRange, StepInRange}
 use Rattle.param_proto.proofs.ParamRanges.{server_stays}
 use Rattle.param_proto.proofs.ClientRanges.{lists_in_range, step_in_range, tick_in_range}
+use Rattle.mav_ftp.proofs.FilesRanges.{none_at_first}
+use Rattle.mav_nodes.specs.FileServices.{TransferStep, files_step, transfer_heard, transfer_waits}
 use Rattle.mav_nodes.specs.Services.{ServiceStep, sent_of, DroneServices, StationServices, drone_params, ready_of, acts_by, drone_serves, drone_notes, position_message, reached_messages, next_time, sim_step, drone_flown, drone_flies, new_drone_services, new_station_services, station_served, station_serves, station_waits, command_of, asks_command, asks_params, changes_mission}
 use Rattle.fleet_invariants.specs.Services.{param_count, SoundDroneServices, SoundStationServices}
 use Rattle.fleet_invariants.proofs.Tests.{by_test}
+use Rattle.fleet_invariants.proofs.Files.{SaysOfFiles, Says_nothing, says_few, drone_says, files_go, no_transfer, hears_idly, waits_idly}
 use Rattle.fleet_invariants.proofs.Params.{Sendable, AllSendable, all_sendable, served, ClientGoes, client_hears, client_waits, one_asked, all_normal}
 
 -- ---- messages
@@ -123,14 +126,21 @@ pub record Serves {Services : Type 0} (Sound : Services → Type 0) (t : Service
   pub answers : AllSendable t.answers
   pub few : length t.answers ≤ most_answers
 
--- either its executor answers, or its server does
+-- either its executor answers, or its server does, or a request for files is replied to
 one_service : (drone : DroneState) (v : DroneServices) (from : Stream) (m : Message) → length v.server.params ≡ param_count → length (drone_serves drone v from m).answers ≤ most_answers
 one_service drone v from (Commands m) h =
     let e = executor_step v.executor from (Commands m) (ready_of drone v) in
     let both = length-append (sent_of e.answer) [] in
+    let all = length-append (sent_of e.answer ++ []) [] in
     let one = one_at_most e.answer in
-    omega (arith, both, one)
-one_service drone v from m h = (served v.server h v.executor.me m).few
+    omega (arith, both, all, one)
+one_service drone v from (FileTransferProtocol m) h =
+    let one = says_few (files_step v.files v.executor.me from (FileTransferProtocol m)).answers (drone_says v.files v.executor.me from (FileTransferProtocol m)) in
+    omega (arith, one)
+one_service drone v from m h =
+    let all = length-append (server_step v.server v.executor.me m).waiting [] in
+    let few = (served v.server h v.executor.me m).few in
+    omega (arith, all, few)
 
 -- what its simulator does by a command
 acted_fit : (sim : SimState) (action : Option Action) → SimInRange sim → SimInRange (acts_by sim action)
@@ -146,6 +156,7 @@ drone_serving known me drone v from m h range is fits =
     let in_range = executed v.executor h.executor from range.sys range.comp (ready_of drone v) m fits in
     let s = served v.server h.count v.executor.me m in
     let stays = server_stays v.server h.server v.executor.me m in
+    let files = files_go v.files v.executor.me from m h.files range fits in
     record {
       services = record {
         me_is = goes.me_is ∙ h.me_is;
@@ -156,8 +167,12 @@ drone_serving known me drone v from m h range is fits =
         waiting = refl;
         sim = acted_fit v.sim e.action h.sim;
         time = h.time;
+        files = files.files;
       };
-      answers = both_sendable (sent_of e.answer) _ (one_sendable e.answer (some_sendable e.answer in_range.answer goes.answer)) (all_sendable (server_step v.server v.executor.me m).waiting s.are stays.waiting);
+      answers =
+          both_sendable (sent_of e.answer ++ (server_step v.server v.executor.me m).waiting) (files_step v.files v.executor.me from m).answers
+          (both_sendable (sent_of e.answer) _ (one_sendable e.answer (some_sendable e.answer in_range.answer goes.answer)) (all_sendable (server_step v.server v.executor.me m).waiting s.are stays.waiting))
+          files.answers;
       few = one_service drone v from m h.count;
     }
 
@@ -180,6 +195,7 @@ drone_noting known me v events h =
       waiting = h.waiting;
       sim = changes_fit v.sim h.sim;
       time = h.time;
+      files = h.files;
     }) (λ _. h)
 
 -- ---- a tick of its simulator
@@ -218,6 +234,7 @@ drone_flying known me drone v items h =
         waiting = h.waiting;
         sim = fit.sim;
         time = later;
+        files = h.files;
       };
       answers = (position_sendable (next_time v.time) tick.sim.position later fit.sim.position, reached_sendable tick.reached fit.reached);
       few = flown_few v tick;
@@ -235,6 +252,7 @@ drone_services_more known more h me other same v k = record {
   waiting = k.waiting;
   sim = k.sim;
   time = k.time;
+  files = k.files;
 }
 
 forty : (home : Point) → length (drone_params home) ≡ 40
@@ -250,6 +268,7 @@ drone_services_fresh known sys home range = record {
   waiting = refl;
   sim = new_fits home range;
   time = omega arith;
+  files = none_at_first;
 }
 
 -- ---- a station's
@@ -281,17 +300,26 @@ module _ (c : CommanderState) where
 commander_sends : (t : CommanderStep) (me : Name) → CommanderStepInRange t → CommanderGoes me t → IfSome t.answer Sendable
 commander_sends t me h k = some_sendable t.answer h.answer k.answer
 
--- a station sends at most two messages
-pub station_few : (c : CommanderStep) (p : ClientStep) → length (station_served c p).answers ≤ most_answers
-station_few c p =
-    let both = length-append (sent_of c.answer) (sent_of p.answer) in let one = one_at_most c.answer in let other = one_at_most p.answer in omega (arith, both, one, other)
+-- a station sends at most three messages
+pub station_few : (c : CommanderStep) (p : ClientStep) (f : TransferStep) → SaysOfFiles f.answers → length (station_served c p f).answers ≤ most_answers
+station_few c p f says =
+    let both = length-append (sent_of c.answer) (sent_of p.answer) in
+    let all = length-append (sent_of c.answer ++ sent_of p.answer) f.answers in
+    let one = one_at_most c.answer in
+    let other = one_at_most p.answer in
+    let last = says_few f.answers says in
+    omega (arith, both, all, one, other, last)
 
-served_both : (me : Name) (c : CommanderStep) (p : ClientStep) → CommanderStepInRange c → CommanderGoes me c → StepInRange p → ClientGoes me p → Serves (SoundStationServices me) (station_served c p)
-served_both me c p h k r l = record {
-  services = record { commander_me = k.me_is; client_me = l.me_is; commander = h.commander; client = r.client };
-  answers = both_sendable (sent_of c.answer) (sent_of p.answer) (one_sendable c.answer (commander_sends c me h k)) (one_sendable p.answer (one_asked p.answer l.asks r.answer));
-  few = station_few c p;
-}
+served_both : (me : Name) (v : StationServices) (c : CommanderStep) (p : ClientStep) (f : TransferStep) → SoundStationServices me v → CommanderStepInRange c → CommanderGoes me c → StepInRange p → ClientGoes me p
+    → f ≡ no_transfer v.files → Serves (SoundStationServices me) (station_served c p f)
+served_both me v c p f own h k r l idle =
+    subst (λ (g : TransferStep). Serves (SoundStationServices me) (station_served c p g)) (sym idle) (record {
+      services = record { commander_me = k.me_is; client_me = l.me_is; commander = h.commander; client = r.client; files_me = own.files_me; no_transfer = own.no_transfer };
+      answers =
+          both_sendable (sent_of c.answer ++ sent_of p.answer) []
+          (both_sendable (sent_of c.answer) (sent_of p.answer) (one_sendable c.answer (commander_sends c me h k)) (one_sendable p.answer (one_asked p.answer l.asks r.answer))) tt;
+      few = station_few c p (no_transfer v.files) (Says_nothing refl);
+    })
 
 -- names that are one
 commander_same : (me other : Name) (t : CommanderStep) → me ≡ other → CommanderGoes me t → CommanderGoes other t
@@ -303,13 +331,13 @@ client_same me other t same h = record { me_is = h.me_is ∙ same; asks = h.asks
 module _ (me : Name) (v : StationServices) (h : SoundStationServices me v) where
   pub station_serving : (from : Stream) (m : Message) → Serves (SoundStationServices me) (station_serves v from m)
   station_serving from m =
-      served_both me (commander_step v.commander from m) (client_step v.client from m) (stepped v.commander from m h.commander)
-      (commander_same _ me _ h.commander_me (commander_goes v.commander from m)) (step_in_range v.client h.client from m) (client_same _ me _ h.client_me (client_hears v.client from m))
+      served_both me v (commander_step v.commander from m) (client_step v.client from m) (transfer_heard v.files from m) h (stepped v.commander from m h.commander)
+      (commander_same _ me _ h.commander_me (commander_goes v.commander from m)) (step_in_range v.client h.client from m) (client_same _ me _ h.client_me (client_hears v.client from m)) (hears_idly v.files from m h.no_transfer)
 
   pub station_waiting : Serves (SoundStationServices me) (station_waits v)
   station_waiting =
-      served_both me (commander_tick v.commander) (client_tick v.client) (ticked v.commander h.commander)
-      (commander_same _ me _ h.commander_me (waits v.commander v.commander.issue)) (tick_in_range v.client h.client) (client_same _ me _ h.client_me (client_waits v.client))
+      served_both me v (commander_tick v.commander) (client_tick v.client) (transfer_waits v.files) h (ticked v.commander h.commander)
+      (commander_same _ me _ h.commander_me (waits v.commander v.commander.issue)) (tick_in_range v.client h.client) (client_same _ me _ h.client_me (client_waits v.client)) (waits_idly v.files h.no_transfer)
 
   pub command_asked : (drone : Stream) (number word : ℕ) → StreamInRange drone → number < 65536 → word < 2 ^ 32
       → Serves (SoundStationServices me) (asks_command v (commands v.commander drone (command_of number word)))
@@ -325,7 +353,7 @@ module _ (me : Name) (v : StationServices) (h : SoundStationServices me v) where
       } in
       let step = issued v.commander drone (command_of number word) issue in
       record {
-        services = record { commander_me = h.commander_me; client_me = h.client_me; commander = step.commander; client = h.client };
+        services = record { commander_me = h.commander_me; client_me = h.client_me; commander = step.commander; client = h.client; files_me = h.files_me; no_transfer = h.no_transfer };
         answers = (sendable_of (command_message (first_issue drone (command_of number word))) step.answer tt, tt);
         few = omega arith;
       }
@@ -337,13 +365,20 @@ module _ (me : Name) (v : StationServices) (h : SoundStationServices me v) where
   params_asked drone range =
       let step = lists_in_range v.client drone (record { sys = range.sys; comp = range.comp }) in
       record {
-        services = record { commander_me = h.commander_me; client_me = h.client_me; commander = h.commander; client = step.client };
+        services = record { commander_me = h.commander_me; client_me = h.client_me; commander = h.commander; client = step.client; files_me = h.files_me; no_transfer = h.no_transfer };
         answers = one_sendable (lists v.client drone).answer (one_asked (lists v.client drone).answer tt step.answer);
         few = omega arith;
       }
 
 pub station_services_fresh : (me : Name) → SoundStationServices me (new_station_services me)
-station_services_fresh me = record { commander_me = refl; client_me = refl; commander = tt; client = tt }
+station_services_fresh me = record { commander_me = refl; client_me = refl; commander = tt; client = tt; files_me = refl; no_transfer = refl }
 
 pub station_services_same : (me other : Name) (v : StationServices) → me ≡ other → SoundStationServices me v → SoundStationServices other v
-station_services_same me other v same h = record { commander_me = h.commander_me ∙ same; client_me = h.client_me ∙ same; commander = h.commander; client = h.client }
+station_services_same me other v same h = record {
+  commander_me = h.commander_me ∙ same;
+  client_me = h.client_me ∙ same;
+  commander = h.commander;
+  client = h.client;
+  files_me = h.files_me ∙ same;
+  no_transfer = h.no_transfer;
+}

@@ -23,6 +23,7 @@ use Rattle.fleet_invariants.proofs.Calls.{sound_does}
 use Rattle.mav_nodes.specs.News.{NodeEvent}
 use Rattle.std.specs.List.{list_any}
 use Rattle.mav_nodes.specs.Links.{Link, Outcome, sends}
+use Rattle.mav_nodes.specs.FileServices.{transfer_heard, transfer_waits}
 use Rattle.mav_nodes.specs.Services.{ServiceStep, DroneServices, StationServices, station_waits, command_of, asks_command, asks_params, sim_step, drone_flies, changes_mission, drone_notes}
 use Rattle.mav_nodes.specs.Steps.{Side, Rules, CoreStep, with_core, steps, serves, receives}
 use Rattle.command_proto.specs.Commander.{open_command, commands as gives, commander_step, commander_tick}
@@ -62,6 +63,7 @@ use Rattle.fleet_invariants.proofs.Plays.{choosing, one_line, sound_start, sound
 use Rattle.fleet_invariants.proofs.Counts.{few_frames, IsShort, line_short}
 use Rattle.fleet_invariants.proofs.Timestamps.{IsDone, Near, IsNear, SendsFew, ends_done, beats_near, steps_near, serves_near, both_done, NearFrame, all_done}
 use Rattle.fleet_invariants.specs.Services.{param_count}
+use Rattle.fleet_invariants.proofs.Files.{station_says, tick_says}
 use Rattle.fleet_invariants.proofs.Services.{most_answers, drone_few, station_few, flown_few}
 
 -- ---- what a node does
@@ -82,7 +84,7 @@ pub drones_send_few : SendsFew drone_rules (λ (v : DroneServices). length v.ser
 drones_send_few = record { few = λ core v from m h. (drone_few core v from m h).0; again = λ core v from m h. (drone_few core v from m h).1; noted = params_noted }
 
 pub stations_send_few : SendsFew station_rules (λ (v : StationServices). Unit {0})
-stations_send_few = record { few = λ core v from m h. station_few (commander_step v.commander from m) (client_step v.client from m); again = λ core v from m h. tt; noted = λ v events h. tt }
+stations_send_few = record { few = λ core v from m h. station_few (commander_step v.commander from m) (client_step v.client from m) (transfer_heard v.files from m) (station_says v.files from m); again = λ core v from m h. tt; noted = λ v events h. tt }
 
 -- a datagram with no more frames than a line has bytes
 abbrev HasFew : List ℕ → Type 0
@@ -142,7 +144,7 @@ module _ (s : WorldState) (g : Sound s) where
   ticks_done : EachDone (node_ticks s.clock)
   ticks_done k (Drone n) found = drone_done (drone_ticks s.clock n) (steps_done n.link n.services (drone_waits (drone_tick n.core)) (near_at k (Drone n) found))
   ticks_done k (Station n) found = station_done (station_ticks s.clock n)
-      (both_done s.clock s.key Any (ahead s) n.link n.services (station_does (station_tick n.core)) station_waits tt (λ v _. (tt, station_few (commander_tick v.commander) (client_tick v.client))) (near_at k (Station n) found) more_room)
+      (both_done s.clock s.key Any (ahead s) n.link n.services (station_does (station_tick n.core)) station_waits tt (λ v _. (tt, station_few (commander_tick v.commander) (client_tick v.client) (transfer_waits v.files) (tick_says v.files))) (near_at k (Station n) found) more_room)
 
   heartbeats_done : EachDone (node_beats s.clock)
   heartbeats_done k (Drone n) found = drone_done (drone_beats s.clock n) (beats_done n.link n.core n.services (drone_heartbeat (armed n.services.sim)) (near_at k (Drone n) found))

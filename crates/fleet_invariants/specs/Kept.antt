@@ -10,7 +10,7 @@ use Rattle.mav_messages.specs.Plans.{plan_of}
 use Rattle.mav_sign.specs.Signing.{Verifies, signature_of}
 use Rattle.mav_sign.specs.History.{previous_in}
 use Rattle.mav_sign.specs.Endpoints.{frames_of}
-use Rattle.mav_nodes.specs.News.{NodeEvent, Sends, Installs, Empties, Drops, Ends, Ends_command, Gives_param, Ends_params, Reaches, Captures}
+use Rattle.mav_nodes.specs.News.{NodeEvent, Sends, Installs, Empties, Drops, Ends, Ends_command, Gives_param, Ends_params, Reaches, Captures, Ends_file}
 use Rattle.mav_nodes.specs.Links.{Outcome}
 use Rattle.mav_nodes.specs.Payloads.{plan_in, service_in, service_of}
 use Rattle.scenario_lines.specs.declared.lines.Line.{Line}
@@ -54,6 +54,7 @@ Reads (Gives_param param) = Unit {0}
 Reads (Ends_params values) = Unit {0}
 Reads (Reaches number) = Unit {0}
 Reads (Captures total) = Unit {0}
+Reads (Ends_file end) = Unit {0}
 
 abbrev pub AllRead : List NodeEvent → Type 0
 AllRead [] = Unit {0}

@@ -15,7 +15,7 @@ use Rattle.mav_sign.specs.declared.admission.Admit.TheVariants.{Admitted, Unsign
 use Rattle.mav_sign.specs.Signing.{signature_of}
 use Rattle.mav_sign.specs.Endpoints.{frames_of}
 use Rattle.mav_sign.specs.History.{Entry, answer_to, block_answer, stamp_answer, answer_after, unless_below, low_of, one_minute, stream_limit, last_of, local_of, streams_of, next_in, greatest_stamp}
-use Rattle.mav_nodes.specs.News.{NodeEvent, Sends, Installs, Empties, Drops, Ends, Ends_command, Gives_param, Ends_params, Reaches, Captures}
+use Rattle.mav_nodes.specs.News.{NodeEvent, Sends, Installs, Empties, Drops, Ends, Ends_command, Gives_param, Ends_params, Reaches, Captures, Ends_file}
 use Rattle.mav_nodes.specs.Payloads.{plan_in, service_in}
 use Rattle.mav_nodes.specs.Links.{Link, Outcome, done, behind, and_then, tries, sent_at, sends}
 use Rattle.mav_nodes.specs.Signed.{signed_packet}
@@ -74,6 +74,7 @@ packets_append (Gives_param param ∷ es) fs = packets_append es fs
 packets_append (Ends_params values ∷ es) fs = packets_append es fs
 packets_append (Reaches number ∷ es) fs = packets_append es fs
 packets_append (Captures total ∷ es) fs = packets_append es fs
+packets_append (Ends_file end ∷ es) fs = packets_append es fs
 
 module _ (key : List ℕ) (p : Packet) (stamp : ℕ) (m : PlanMsg) (c : Carries key p stamp m) where
   abbrev block : SignatureBlock

@@ -25,6 +25,7 @@ use Rattle.mav_sign.specs.History.{answer_to, stream_of as stream_in, next_in, g
 use Rattle.mav_nodes.specs.News.{NodeEvent}
 use Rattle.mav_nodes.specs.Payloads.{plan_in, service_in}
 use Rattle.mav_nodes.specs.Links.{Link, Done, Outcome, behind, and_then, tries, sends, sends_all}
+use Rattle.mav_nodes.specs.FileServices.{transfer_heard}
 use Rattle.mav_nodes.specs.Services.{DroneServices, StationServices, station_served}
 use Rattle.mav_nodes.specs.Nodes.{DroneSide, StationSide, drone_rules, station_rules, change_events}
 use Rattle.mav_nodes.specs.Steps.{Side, Rules, with_core, answers, steps, serves, takes, admits, hears, hears_all, receives}
@@ -114,7 +115,8 @@ quiet_stations = record {
   served = λ t v from m.
       let c = commander_step v.commander from m in
       let p = client_step v.client from m in
-      silent_none (station_served c p).last (services_silent c p);
+      let f = transfer_heard v.files from m in
+      silent_none (station_served c p f).last (services_silent c p f);
 }
 
 module _ {Core Services : Type 0} (rules : Rules Core Services) (quiet : Quiet rules) (Few : Services → Type 0) (sends_few : SendsFew rules Few) (clock : ℕ) where

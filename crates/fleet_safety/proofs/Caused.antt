@@ -40,15 +40,15 @@ use Rattle.scenario_lines.specs.declared.lines.Line.TheVariants as line
 use Rattle.fleet_world.specs.WorldState.{WorldState, Node, Drone, Station, node_name, stream_of, is_named, is_drone_named, is_station_named}
 use Rattle.fleet_world.specs.declared.locations.Location.{Location}
 use Rattle.fleet_world.specs.Steps.{Step, StepError, as_drone, as_station, given_to, given_to_all, node_does, node_beats, node_ticks, station_line, restart_line, orders, upload_begins, command_busy, params_busy, asks, node_flies, calls, location_in, locates_as}
-use Rattle.fleet_invariants.specs.Sound.{link_of, Sound}
+use Rattle.fleet_invariants.specs.Sound.{link_of, SoundCore, Sound}
 use Rattle.fleet_invariants.proofs.Heard.{heard_is}
 use Rattle.fleet_safety.specs.Actions.{Action, Order, Accepts_upload, Accepts_clear, Accepts_get, spoken, spoken_in, asking, command_at, params_at, moves, ticks, comes_to, accepted, cancelled, ticked, beaten, restarted_at, restarted, at_drone, if_drone, to_drone, upload_at, clear_at, get_at, cancel_at, if_admitted, if_plan, if_sent, hearing, index_of, ordering, node_hears, state_with, at_index, if_found, at_node, and_next, at_station, if_ordered, to_station, acts, hears_then, frames_heard, datagram_heard, frame_given, row_given, flown, flow_actions, delivered, calls_of, simmed, flight_actions}
 use Rattle.fleet_safety.specs.Safe.{events_of}
-use Rattle.fleet_safety.specs.Causes.{without_waits, AtMostOne, EachEvent, Of, Gives, Talks, Hears, HearsOne, TicksOnce, StartsAgain, Causes, Flies}
+use Rattle.fleet_safety.specs.Causes.{without_waits, AtMostOne, EachEvent, Of, Gives, Talks, Hears, HearsOne, TicksOnce, TicksAtMost, StartsAgain, Causes, Flies}
 use Rattle.fleet_safety.proofs.Lists.{some_is}
 use Rattle.fleet_safety.proofs.Follows.{events_on}
 use Rattle.fleet_safety.proofs.Services.{few_flown, flown_aside}
-use Rattle.fleet_safety.proofs.Talks.{waits_on, each_on, each_maps, at_most_one, spoken_talks, outcome_talks, Few, drone_wait, station_wait, sends_few, commands_few, params_few, plan_silent, drone_ticks_silent, drone_few, station_few, station_ticks_few, all_few}
+use Rattle.fleet_safety.proofs.Talks.{waits_on, each_on, each_maps, at_most_one, spoken_talks, outcome_talks, Few, drone_wait, station_wait, sends_few, commands_few, params_few, plan_silent, drone_ticks_silent, drone_few, station_few, station_ticks_few, idle_ticks_few, all_few}
 
 -- ---- the node at the index of a name has that name
 
@@ -277,8 +277,8 @@ sims_few clock (Drone a) =
     omega (arith, sent, said)
 sims_few clock (Station a) = omega arith
 
-ticks_once : (clock : ℕ) (name : Name) (a : Node) → node_of (link_of a).me ≡ name → TicksOnce name (without_waits (moves clock a (ticks a) ++ spoken_in a (node_ticks clock a)))
-ticks_once clock name (Drone a) is = record {
+drone_ticks_once : (most clock : ℕ) (name : Name) (a : DroneSide) → node_of a.link.me ≡ name → TicksOnce most name (without_waits (moves clock (Drone a) (ticks (Drone a)) ++ spoken_in (Drone a) (node_ticks clock (Drone a))))
+drone_ticks_once most clock name a is = record {
   stream = a.link.me;
   name_is = is;
   later = [];
@@ -286,14 +286,26 @@ ticks_once clock name (Drone a) is = record {
   talks = tt;
   few = omega arith;
 }
-ticks_once clock name (Station a) is = record {
+
+station_ticks_once : (most clock : ℕ) (name : Name) (a : StationSide) → node_of a.link.me ≡ name → length (without_waits (spoken_in (Station a) (node_ticks clock (Station a)))) ≤ most
+    → TicksOnce most name (without_waits (moves clock (Station a) (ticks (Station a)) ++ spoken_in (Station a) (node_ticks clock (Station a))))
+station_ticks_once most clock name a is few = record {
   stream = a.link.me;
   name_is = is;
   later = without_waits (spoken_in (Station a) (node_ticks clock (Station a)));
   is = inr refl;
   talks = outcome_talks (Station a) a.link.me refl (node_ticks clock (Station a));
-  few = station_ticks_few clock a;
+  few = few;
 }
+
+ticks_once : (clock : ℕ) (name : Name) (a : Node) → node_of (link_of a).me ≡ name → TicksOnce 3 name (without_waits (moves clock a (ticks a) ++ spoken_in a (node_ticks clock a)))
+ticks_once clock name (Drone a) is = drone_ticks_once 3 clock name a is
+ticks_once clock name (Station a) is = station_ticks_once 3 clock name a is (station_ticks_few clock a)
+
+-- in a sound state no station transfers a file
+ticks_soundly : (clock : ℕ) (name : Name) (a : Node) → SoundCore a → node_of (link_of a).me ≡ name → TicksOnce 2 name (without_waits (moves clock a (ticks a) ++ spoken_in a (node_ticks clock a)))
+ticks_soundly clock name (Drone a) sound is = drone_ticks_once 2 clock name a is
+ticks_soundly clock name (Station a) sound is = station_ticks_once 2 clock name a is (idle_ticks_few clock a sound.services.no_transfer)
 
 module _ (number : ℕ) where
   hears_then_gives : (k : ℕ) (s : WorldState) (a : Node) (p : Packet) (me : Stream) → (link_of a).me ≡ me → (next : WorldState → Node → List Action) → ((t : WorldState) (b : Node) → (link_of b).me ≡ me → EachEvent (Hears me) (main (next t b))) → (o : Outcome Node) → NodeKeeps me o → EachEvent (Hears me) (main (hears_then number s k a p o next))
@@ -444,9 +456,9 @@ module _ (number : ℕ) where
   every_cause s (line.Flow k) = flow_gives k s
   every_cause s (line.Noise node bytes) = at_node_has (EachEvent (Of node Hears)) s node (datagram_heard number bytes) tt (λ k a is. datagram_of bytes s node k a is)
   every_cause s (line.Tick node) =
-      at_node_has (λ es. (es ≡ []) ⊎ TicksOnce node es) s node (ticked number) (inl refl)
+      at_node_has (TicksAtMost 3 node) s node (ticked number) (inl refl)
       (λ k a is.
-      acts_one (λ es. (es ≡ []) ⊎ TicksOnce node es) number (moves s.clock a (ticks a) ++ spoken_in a (node_ticks s.clock a)) [] (node_does s k (node_name a) (node_ticks s.clock a)) (inl refl)
+      acts_one (TicksAtMost 3 node) number (moves s.clock a (ticks a) ++ spoken_in a (node_ticks s.clock a)) [] (node_does s k (node_name a) (node_ticks s.clock a)) (inl refl)
       (inr (ticks_once s.clock node a is)))
   every_cause s (line.Clock n) = refl
   every_cause s (line.Sim drone ticks) = flight_flies ticks drone s
@@ -535,3 +547,10 @@ module _ (number : ℕ) where
 
     pub every_delivery : (which : ℕ) (node : Name) → HearsOne node (main (calls_of number s (line.Deliver which node)))
     every_delivery which node = delivered_one which node (which - 1) (slice_get s.sent (which - 1)) refl
+
+    pub every_tick : (node : Name) → TicksAtMost 2 node (main (calls_of number s (line.Tick node)))
+    every_tick node =
+        at_placed_node (TicksAtMost 2 node) s node (ticked number) (inl refl)
+        (λ k a there is.
+        acts_one (TicksAtMost 2 node) number (moves s.clock a (ticks a) ++ spoken_in a (node_ticks s.clock a)) [] (node_does s k (node_name a) (node_ticks s.clock a)) (inl refl)
+        (inr (ticks_soundly s.clock node a (sound.cores k a there) is)))

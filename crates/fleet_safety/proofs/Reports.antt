@@ -18,7 +18,7 @@ use Rattle.plan_safety.proofs.Keys.{by_test, number_same}
 use Rattle.plan_safety.proofs.DroneShape.{Shape, EventOf, plans_after}
 use Rattle.plan_safety.proofs.FleetMoves.{plus}
 use Rattle.mav_names.specs.declared.names.Name.{Name}
-use Rattle.mav_nodes.specs.News.{NodeEvent, Sends, Installs as NodeInstalls, Empties as NodeEmpties, Drops, Ends, Ends_command, Gives_param, Ends_params, Reaches, Captures}
+use Rattle.mav_nodes.specs.News.{NodeEvent, Sends, Installs as NodeInstalls, Empties as NodeEmpties, Drops, Ends, Ends_command, Gives_param, Ends_params, Reaches, Captures, Ends_file}
 use Rattle.mav_nodes.specs.Nodes.{change_events, told_events}
 use Rattle.fleet_report.specs.Events as report
 use Rattle.fleet_world.specs.Steps.{packets_in, reported_by}
@@ -82,6 +82,7 @@ packets_on (Gives_param param ∷ es) fs = packets_on es fs
 packets_on (Ends_params values ∷ es) fs = packets_on es fs
 packets_on (Reaches number ∷ es) fs = packets_on es fs
 packets_on (Captures total ∷ es) fs = packets_on es fs
+packets_on (Ends_file end ∷ es) fs = packets_on es fs
 
 pub reported_by_on : (name : Name) (before : ℕ) (es fs : List NodeEvent) → reported_by name before (es ++ fs) ≡ reported_by name before es ++ reported_by name (before + length (packets_in es)) fs
 reported_by_on name before [] fs = ap (λ k. reported_by name k fs) (none before)
@@ -102,6 +103,7 @@ reported_by_on name before (Gives_param param ∷ es) fs = ap (λ r. report.Para
 reported_by_on name before (Ends_params values ∷ es) fs = ap (λ r. report.Params_ended name values ∷ r) (reported_by_on name before es fs)
 reported_by_on name before (Reaches number ∷ es) fs = ap (λ r. report.Reached name number ∷ r) (reported_by_on name before es fs)
 reported_by_on name before (Captures total ∷ es) fs = ap (λ r. report.Captured name total ∷ r) (reported_by_on name before es fs)
+reported_by_on name before (Ends_file end ∷ es) fs = reported_by_on name before es fs
 
 pub seen_by_on : (name : Name) (before : ℕ) (es fs : List NodeEvent) → seen_by name before (es ++ fs) ≡ seen_by name before es ++ seen_by name (before + length (packets_in es)) fs
 seen_by_on name before es fs = ap seen (reported_by_on name before es fs) ∙ seen_on (reported_by name before es) (reported_by name (before + length (packets_in es)) fs)

@@ -1,5 +1,5 @@
 -- What the services of nodes send carries no message of the mission protocol, and what ends with it is reported elsewhere.
-use Rattle.std.proofs.Common.{◌≡◌, ℕ, ℤ, pos, negsuc, zero, suc, ◌+◌, ◌≤◌, ◌==◌, Bool, nat_lt, List, [], ◌∷◌, ◌++◌, length, slice_get, Option, Some, None, IfSome, refl, arith, true, false}
+use Rattle.std.proofs.Common.{◌≡◌, ℕ, ℤ, pos, negsuc, zero, suc, ◌+◌, ◌≤◌, ◌==◌, Bool, nat_lt, List, [], ◌∷◌, ◌++◌, length, slice_get, Option, Some, None, IfSome, refl, sym, subst, arith, true, false, length-append}
 use Rattle.std.specs.Prelude.{nat_le}
 use Rattle.mav_names.specs.declared.names.Name.{Name}
 use Rattle.mav_names.specs.declared.names.Stream.{Stream}
@@ -23,8 +23,11 @@ use Rattle.param_proto.specs.Client.{Task, Reads, Sets_to, All_listed, Operation
 use Rattle.param_proto.specs.Params.{same_id}
 use Rattle.mav_nodes.specs.News.{NodeEvent}
 use Rattle.drone_sim.specs.Sim.{sim_tick}
-use Rattle.mav_nodes.specs.Services.{sent_of, DroneServices, StationServices, ready_of, drone_serves, station_served, station_serves, station_waits, command_of, asks_command, asks_params, command_events, params_events, reached_messages, reached_events, captured_events, sim_step, drone_flies}
+use Rattle.mav_nodes.specs.declared.news.FileEnd.{FileEnd}
+use Rattle.mav_nodes.specs.FileServices.{TransferStep, files_step, transfer_heard, transfer_waits}
+use Rattle.mav_nodes.specs.Services.{sent_of, DroneServices, StationServices, ready_of, drone_serves, station_served, station_serves, station_waits, command_of, asks_command, asks_params, command_events, params_events, file_events, reached_messages, reached_events, captured_events, sim_step, drone_flies}
 use Rattle.fleet_world.specs.Steps.{packets_in}
+use Rattle.fleet_invariants.proofs.Files.{SaysOfFiles, Says_nothing, Says_one, drone_says, station_says, tick_says}
 use Rattle.fleet_safety.specs.Actions.{speaks_all}
 use Rattle.fleet_safety.proofs.Reports.{seen_by}
 
@@ -42,6 +45,10 @@ others_on (m ∷ ms) ns h k = (h.0, others_on ms ns h.1 k)
 one_other : (o : Option Message) → IfSome o IsOther → AllOther (sent_of o)
 one_other None h = tt
 one_other (Some m) h = (h, tt)
+
+files_other : (ms : List Message) → SaysOfFiles ms → AllOther ms
+files_other ms (Says_nothing e) = subst AllOther (sym e) tt
+files_other ms (Says_one to payload e) = subst AllOther (sym e) (refl, tt)
 
 -- ---- a drone's
 
@@ -91,7 +98,11 @@ server_sends s me _ = tt
 pub drone_others : (drone : DroneState) (v : DroneServices) (from : Stream) (m : Message) → AllOther (drone_serves drone v from m).answers
 drone_others drone v from m =
     let e = executor_step v.executor from m (ready_of drone v) in
-    others_on (sent_of e.answer) (server_step v.server v.executor.me m).waiting (one_other e.answer (executes v.executor from m (ready_of drone v))) (server_sends v.server v.executor.me m)
+    let waiting = (server_step v.server v.executor.me m).waiting in
+    let replies = (files_step v.files v.executor.me from m).answers in
+    others_on (sent_of e.answer ++ waiting) replies
+    (others_on (sent_of e.answer) waiting (one_other e.answer (executes v.executor from m (ready_of drone v))) (server_sends v.server v.executor.me m))
+    (files_other replies (drone_says v.files v.executor.me from m))
 
 reached_other : (reached : Option ℕ) → AllOther (reached_messages reached)
 reached_other None = tt
@@ -151,14 +162,19 @@ client_waits : (c : ClientState) (o : Option Operation) → Asks (operation_tick
 client_waits c None = tt
 client_waits c (Some o) = by_test Asks (nat_lt (o.idle + 1) client_limit) _ _ (λ _. requested o.drone o.task c.values) (λ _. tt)
 
-served : (c : CommanderStep) (p : ClientStep) → Gives c → Asks p → AllOther (station_served c p).answers
-served c p h k = others_on (sent_of c.answer) (sent_of p.answer) (one_other c.answer h) (one_other p.answer k)
+served : (c : CommanderStep) (p : ClientStep) (f : TransferStep) → Gives c → Asks p → SaysOfFiles f.answers → AllOther (station_served c p f).answers
+served c p f h k says =
+    others_on (sent_of c.answer ++ sent_of p.answer) f.answers (others_on (sent_of c.answer) (sent_of p.answer) (one_other c.answer h) (one_other p.answer k)) (files_other f.answers says)
 
 pub station_others : (v : StationServices) (from : Stream) (m : Message) → AllOther (station_serves v from m).answers
-station_others v from m = served (commander_step v.commander from m) (client_step v.client from m) (commander_hears v.commander from m) (client_hears v.client from m)
+station_others v from m =
+    served (commander_step v.commander from m) (client_step v.client from m) (transfer_heard v.files from m)
+    (commander_hears v.commander from m) (client_hears v.client from m) (station_says v.files from m)
 
 pub waiting_others : (v : StationServices) → AllOther (station_waits v).answers
-waiting_others v = served (commander_tick v.commander) (client_tick v.client) (commander_waits v.commander v.commander.issue) (client_waits v.client v.client.operation)
+waiting_others v =
+    served (commander_tick v.commander) (client_tick v.client) (transfer_waits v.files)
+    (commander_waits v.commander v.commander.issue) (client_waits v.client v.client.operation) (tick_says v.files)
 
 pub command_others : (v : StationServices) (drone : Stream) (number word : ℕ) → AllOther (asks_command v (commands v.commander drone (command_of number word))).answers
 command_others v drone number word = (refl, tt)
@@ -177,18 +193,22 @@ pub record IsAside (es : List NodeEvent) : Type 0 where
 pub aside_nothing : IsAside []
 aside_nothing = record { none = refl; unseen = λ name before. refl; unspoken = λ wait me. refl }
 
-params_aside : (end : Option ParamsEnd) → IsAside (params_events end)
-params_aside None = aside_nothing
-params_aside (Some (One_value param)) = record { none = refl; unseen = λ name before. refl; unspoken = λ wait me. refl }
-params_aside (Some (All_values values)) = record { none = refl; unseen = λ name before. refl; unspoken = λ wait me. refl }
-params_aside (Some No_params_answer) = record { none = refl; unseen = λ name before. refl; unspoken = λ wait me. refl }
+file_aside : (end : Option FileEnd) → IsAside (file_events end)
+file_aside None = aside_nothing
+file_aside (Some end) = record { none = refl; unseen = λ name before. refl; unspoken = λ wait me. refl }
 
-pub ends_aside : (c : CommanderStep) (p : ClientStep) → IsAside (station_served c p).last
-ends_aside c p = both c.end (params_events p.end) (params_aside p.end)
+params_aside : (end : Option ParamsEnd) (es : List NodeEvent) → IsAside es → IsAside (params_events end ++ es)
+params_aside None es h = h
+params_aside (Some (One_value param)) es h = record { none = h.none; unseen = h.unseen; unspoken = h.unspoken }
+params_aside (Some (All_values values)) es h = record { none = h.none; unseen = h.unseen; unspoken = h.unspoken }
+params_aside (Some No_params_answer) es h = record { none = h.none; unseen = h.unseen; unspoken = h.unspoken }
+
+pub ends_aside : (c : CommanderStep) (p : ClientStep) (f : TransferStep) → IsAside (station_served c p f).last
+ends_aside c p f = all c.end p.end (file_events f.end) (file_aside f.end)
   where
-    both : (end : Option CommandEnd) (es : List NodeEvent) → IsAside es → IsAside (command_events end ++ es)
-    both None es h = h
-    both (Some result) es h = record { none = h.none; unseen = h.unseen; unspoken = h.unspoken }
+    all : (command : Option CommandEnd) (params : Option ParamsEnd) (es : List NodeEvent) → IsAside es → IsAside ((command_events command ++ params_events params) ++ es)
+    all None params es h = params_aside params es h
+    all (Some result) params es h = let k = params_aside params es h in record { none = k.none; unseen = k.unseen; unspoken = k.unspoken }
 
 captured_aside : (captured : Bool) (total : ℕ) → IsAside (captured_events captured total)
 captured_aside true total = record { none = refl; unseen = λ name before. refl; unspoken = λ wait me. refl }
@@ -211,8 +231,11 @@ few_flown drone v = both (sim_tick v.sim drone.plans.mission (sim_step v.server)
     both None = omega arith
     both (Some number) = omega arith
 
-pub few_sent : (c : CommanderStep) (p : ClientStep) → length (station_served c p).answers ≤ 2
-few_sent c p = both c.answer p.answer
+pub few_sent : (c : CommanderStep) (p : ClientStep) (f : TransferStep) → length (station_served c p f).answers ≤ 2 + length f.answers
+few_sent c p f =
+    let all = length-append (sent_of c.answer ++ sent_of p.answer) f.answers in
+    let few = both c.answer p.answer in
+    omega (arith, all, few)
   where
     both : (a b : Option Message) → length (sent_of a ++ sent_of b) ≤ 2
     both None None = omega arith

@@ -13,7 +13,7 @@ use Rattle.plan_safety.proofs.Keys.{by_test}
 use Rattle.mav_messages.specs.declared.messages.Message.{Message}
 use Rattle.mav_messages.specs.Plans.{plan_of, message_of_plan}
 use Rattle.mav_sign.specs.History.{next_in, greatest_stamp}
-use Rattle.mav_nodes.specs.News.{NodeEvent, Sends, Installs, Empties, Drops, Ends, Ends_command, Gives_param, Ends_params, Reaches, Captures}
+use Rattle.mav_nodes.specs.News.{NodeEvent, Sends, Installs, Empties, Drops, Ends, Ends_command, Gives_param, Ends_params, Reaches, Captures, Ends_file}
 use Rattle.mav_nodes.specs.Links.{Link, Done, Outcome, done, behind, and_then, sends_all, sent_at}
 use Rattle.mav_nodes.specs.Steps.{Side, with_core, answers}
 use Rattle.fleet_world.specs.WorldState.{Node, node_name}
@@ -47,6 +47,7 @@ spoken_on wait me (Gives_param param ∷ es) fs = spoken_on wait me es fs
 spoken_on wait me (Ends_params values ∷ es) fs = spoken_on wait me es fs
 spoken_on wait me (Reaches number ∷ es) fs = spoken_on wait me es fs
 spoken_on wait me (Captures total ∷ es) fs = spoken_on wait me es fs
+spoken_on wait me (Ends_file end ∷ es) fs = spoken_on wait me es fs
 
 -- a message of the mission protocol isn't
 pub plan_unspoken : (wait : ℕ → world.Event) (me : Stream) (packet : Packet) (m : PlanMsg) → speaks wait me packet (plan_of (message_of_plan m)) ≡ []

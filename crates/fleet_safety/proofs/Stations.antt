@@ -38,6 +38,7 @@ use Rattle.mav_nodes.specs.News.{NodeEvent, Sends, Drops}
 use Rattle.mav_nodes.specs.Links.{Link, Done, Outcome, done, behind, and_then, sends, sends_all}
 use Rattle.mav_nodes.specs.Links as links
 use Rattle.mav_nodes.specs.Payloads.{plan_in, service_in}
+use Rattle.mav_nodes.specs.FileServices.{transfer_heard, transfer_waits}
 use Rattle.mav_nodes.specs.Services.{ServiceStep, StationServices, station_serves, station_waits, command_of, asks_command, asks_params}
 use Rattle.mav_nodes.specs.Steps.{answers, with_core, steps, serves, takes, admits, hears}
 use Rattle.mav_nodes.specs.Nodes.{StationSide, told_events, station_does, station_core, station_rules, services_tick, station_ticks, station_heartbeat, station_beats, station_begins, station_cancels, station_clears, station_gets, station_commands, station_lists_params}
@@ -372,7 +373,7 @@ module _ (n : Nodes) (sound : Distinct n) (clock : ℕ) (nodes : List Node) (sen
     served : (m : Message) → Goes (serves clock b.link b.core (station_serves b.services from m)) [] []
     served m =
         serves_lead speaker b.link.history time (station_serves b.services from m) (station_others b.services from m)
-        (ends_aside (commander_step b.services.commander from m) (client_step b.services.client from m))
+        (ends_aside (commander_step b.services.commander from m) (client_step b.services.client from m) (transfer_heard b.services.files from m))
 
     -- with a message of the protocol
     module _ (m : PlanMsg) (carries : plan_in p.id p.payload ≡ Some m) where
@@ -537,7 +538,7 @@ module _ (n : Nodes) (distinct : Distinct n) (clock : ℕ) (nodes : List Node) (
           let v : World = final n w (moves clock (Station a) (ticks (Station a))) in
           serves_say n distinct clock (slice_set nodes k (Station d.node)) (sent ++ packets_in d.events) v l.fits k d.node here
           (speaker n distinct clock k) d.node.link.history (l.fits.stands k (Station d.node) here).1 (station_waits d.node.services) (waiting_others d.node.services)
-          (ends_aside (commander_tick d.node.services.commander) (client_tick d.node.services.client))
+          (ends_aside (commander_tick d.node.services.commander) (client_tick d.node.services.client) (transfer_waits d.node.services.files))
 
   -- orders to its services
   in_time : KeepsTime clock a.link.history (w.station a.link.me).last (w.station a.link.me).next

@@ -1,5 +1,5 @@
 -- What nodes say in a call, as events without waits: whose they are, and how many.
-use Rattle.std.proofs.Common.{true, ◌≡◌, ℕ, suc, ◌≤◌, inl, inr, nat_lt, List, [], ◌∷◌, ◌++◌, length, Option, Some, None, refl, sym, ap, subst, arith, ◌∙◌, length-append}
+use Rattle.std.proofs.Common.{true, ◌≡◌, ℕ, suc, ◌≤◌, inl, inr, nat_lt, List, [], ◌∷◌, ◌++◌, length, Option, Some, None, IfSome, refl, sym, ap, subst, arith, ◌∙◌, length-append}
 use Rattle.mav_names.specs.declared.names.Stream.{Stream}
 use Rattle.mav_frame.specs.Packet.{Packet, SignatureBlock}
 use Rattle.plan_items.specs.declared.messages.PlanMsg.{PlanMsg}
@@ -16,15 +16,17 @@ use Rattle.mav_sign.specs.declared.admission.Admit.TheVariants.{Admitted, Unsign
 use Rattle.mav_sign.specs.History.{next_in, answer_to, stream_of, greatest_stamp}
 use Rattle.command_proto.specs.Commander.{commands, commander_tick}
 use Rattle.param_proto.specs.Client.{lists, client_tick}
-use Rattle.mav_nodes.specs.News.{NodeEvent, Sends, Installs, Empties, Drops, Ends, Ends_command, Gives_param, Ends_params, Reaches, Captures}
-use Rattle.mav_nodes.specs.Links.{Link, Outcome, behind, and_then, tries, sends, sends_all, sent_at}
+use Rattle.mav_nodes.specs.News.{NodeEvent, Sends, Installs, Empties, Drops, Ends, Ends_command, Gives_param, Ends_params, Reaches, Captures, Ends_file}
+use Rattle.mav_nodes.specs.Links.{Link, Done, Outcome, behind, and_then, tries, sends, sends_all, sent_at}
 use Rattle.mav_nodes.specs.Payloads.{plan_in, service_in}
-use Rattle.mav_nodes.specs.Services.{station_waits, command_of, asks_command, asks_params}
-use Rattle.mav_nodes.specs.Steps.{Side, Rules, CoreStep, with_core, steps, takes, admits, hears}
+use Rattle.mav_nodes.specs.FileServices.{TransferStep, transfer_waits}
+use Rattle.mav_nodes.specs.Services.{StationServices, station_waits, command_of, asks_command, asks_params}
+use Rattle.mav_nodes.specs.Steps.{Side, Rules, CoreStep, answers, with_core, steps, takes, admits, hears}
 use Rattle.mav_nodes.specs.Nodes.{DroneSide, StationSide, told_events, station_does, drone_rules, station_rules, drone_ticks, services_tick, station_ticks, station_commands, station_lists_params, tick_answer}
 use Rattle.fleet_world.specs.WorldState.{Node, Drone, Station}
 use Rattle.fleet_world.specs.Steps.{as_drone, as_station, node_ticks}
 use Rattle.fleet_invariants.specs.Sound.{link_of}
+use Rattle.fleet_invariants.proofs.Files.{says_few, tick_says, waits_idly}
 use Rattle.fleet_safety.specs.Actions.{waits, speaks, speaks_all, spoken, spoken_in, node_hears}
 use Rattle.fleet_safety.specs.Causes.{without_waits, AtMostOne, EachEvent, Talks}
 use Rattle.fleet_safety.proofs.Services.{ends_aside, few_sent}
@@ -86,6 +88,7 @@ spoken_talks a me h (Gives_param param ∷ es) = spoken_talks a me h es
 spoken_talks a me h (Ends_params values ∷ es) = spoken_talks a me h es
 spoken_talks a me h (Reaches number ∷ es) = spoken_talks a me h es
 spoken_talks a me h (Captures total ∷ es) = spoken_talks a me h es
+spoken_talks a me h (Ends_file end ∷ es) = spoken_talks a me h es
 
 pub outcome_talks : (a : Node) (me : Stream) → (link_of a).me ≡ me → (o : Outcome Node) → EachEvent (Talks me) (without_waits (spoken_in a o))
 outcome_talks a me h None = tt
@@ -197,11 +200,13 @@ pub station_few : (a : StationSide) (o : Outcome StationSide) (most : ℕ) → F
 station_few a None most h = h
 station_few a (Some d) most h = h
 
--- a station's tick
-pub station_ticks_few : (clock : ℕ) (a : StationSide) → length (without_waits (spoken_in (Station a) (node_ticks clock (Station a)))) ≤ 2
-station_ticks_few clock a =
-    station_few a (station_ticks clock a) 2
-    (first (steps clock a.link a.services (station_does t)) (answers_unsaid wait me clock [] (told_events t.station.outcome) (untold t.station) a.services t.answer a.link refl (told_unspoken wait me t.station.outcome)))
+-- at a station's tick its services send no more than they do in a state of that kind
+ticks_at_most : (Kind : StationServices → Type 0) (most : ℕ) → ((v : StationServices) → Kind v → length (station_waits v).answers ≤ most) → (clock : ℕ) (a : StationSide) → Kind a.services
+    → length (without_waits (spoken_in (Station a) (node_ticks clock (Station a)))) ≤ most
+ticks_at_most Kind most few clock a kind =
+    station_few a (station_ticks clock a) most
+    (first (steps clock a.link a.services (station_does t)) (answers_unsaid wait me clock [] (told_events t.station.outcome) (untold t.station) a.services t.answer a.link refl (told_unspoken wait me t.station.outcome))
+    (same (answers clock t.answer a.link)))
   where
     me : Stream
     me = a.link.me
@@ -212,20 +217,45 @@ station_ticks_few clock a =
     t : StationStep
     t = station_tick a.core
 
-    then_few : (es : List NodeEvent) → speaks_all (Station_waits a.link.me) a.link.me es ≡ [] → (o : Outcome StationSide) → Few (Station_waits a.link.me) a.link.me 2 o → Few (Station_waits a.link.me) a.link.me 2 (behind es o)
+    -- the core's step leaves the services
+    same : (o : Outcome Link) → IfSome (behind [] (with_core (untold t.station) a.services (told_events t.station.outcome) o)) (λ (d : Done StationSide). Kind d.node.services)
+    same None = tt
+    same (Some d) = kind
+
+    then_few : (es : List NodeEvent) → speaks_all (Station_waits a.link.me) a.link.me es ≡ [] → (o : Outcome StationSide) → Few (Station_waits a.link.me) a.link.me most o → Few (Station_waits a.link.me) a.link.me most (behind es o)
     then_few es h None k = omega arith
     then_few es h (Some d) k =
-        subst (λ fs. length (without_waits fs) ≤ 2) (sym (spoken_on (Station_waits a.link.me) a.link.me es d.events ∙ ap (λ r. r ++ speaks_all (Station_waits a.link.me) a.link.me d.events) h)) k
+        subst (λ fs. length (without_waits fs) ≤ most) (sym (spoken_on (Station_waits a.link.me) a.link.me es d.events ∙ ap (λ r. r ++ speaks_all (Station_waits a.link.me) a.link.me d.events) h)) k
 
-    first : (o : Outcome StationSide) → Unsaid (Station_waits a.link.me) a.link.me o → Few (Station_waits a.link.me) a.link.me 2 (and_then o (services_tick clock))
-    first None h = omega arith
-    first (Some d) h =
-        let c = commander_tick d.node.services.commander in
-        let p = client_tick d.node.services.client in
-        let step = station_waits d.node.services in
-        let most = all_few (Station_waits a.link.me) a.link.me (station_wait a.link.me) d.node.core step.services step.last ((ends_aside c p).unspoken (Station_waits a.link.me) a.link.me) clock step.answers d.node.link in
-        let few = few_sent c p in
-        then_few d.events h (services_tick clock d.node) (omega (arith, most, few))
+    first : (o : Outcome StationSide) → Unsaid (Station_waits a.link.me) a.link.me o → IfSome o (λ (d : Done StationSide). Kind d.node.services) → Few (Station_waits a.link.me) a.link.me most (and_then o (services_tick clock))
+    first None h k = omega arith
+    first (Some d) h k =
+        let v = d.node.services in
+        let step = station_waits v in
+        let unspoken = (ends_aside (commander_tick v.commander) (client_tick v.client) (transfer_waits v.files)).unspoken (Station_waits a.link.me) a.link.me in
+        let all = all_few (Station_waits a.link.me) a.link.me (station_wait a.link.me) d.node.core step.services step.last unspoken clock step.answers d.node.link in
+        let sent = few v k in
+        then_few d.events h (services_tick clock d.node) (omega (arith, all, sent))
+
+-- each service sends one message at most
+pub station_ticks_few : (clock : ℕ) (a : StationSide) → length (without_waits (spoken_in (Station a) (node_ticks clock (Station a)))) ≤ 3
+station_ticks_few clock a = ticks_at_most (λ v. Unit {0}) 3 three clock a tt
+  where
+    three : (v : StationServices) → Unit {0} → length (station_waits v).answers ≤ 3
+    three v h =
+        let sent = few_sent (commander_tick v.commander) (client_tick v.client) (transfer_waits v.files) in
+        let one = says_few (transfer_waits v.files).answers (tick_says v.files) in
+        omega (arith, sent, one)
+
+-- and nothing of files, if none is transferred
+pub idle_ticks_few : (clock : ℕ) (a : StationSide) → a.services.files.transfer.operation ≡ None → length (without_waits (spoken_in (Station a) (node_ticks clock (Station a)))) ≤ 2
+idle_ticks_few clock a = ticks_at_most (λ v. v.files.transfer.operation ≡ None) 2 two clock a
+  where
+    two : (v : StationServices) → v.files.transfer.operation ≡ None → length (station_waits v).answers ≤ 2
+    two v idle =
+        let sent = few_sent (commander_tick v.commander) (client_tick v.client) (transfer_waits v.files) in
+        let none = ap (λ (f : TransferStep). length f.answers) (waits_idly v.files idle) in
+        omega (arith, sent, none)
 
 -- a station's orders to its services
 pub commands_few : (clock : ℕ) (drone : Stream) (which word : ℕ) (a : StationSide) → Few (Station_waits a.link.me) a.link.me 1 (station_commands clock drone which word a)

@@ -30,7 +30,7 @@ use Rattle.mav_nodes.specs.LowBounds.{stored_low}
 use Rattle.mav_nodes.specs.Restarts.{restarted_drone}
 use Rattle.mav_nodes.specs.Payloads.{plan_in}
 use Rattle.mav_nodes.specs.Steps.{hears}
-use Rattle.mav_nodes.specs.News.{NodeEvent, Sends, Installs, Empties, Drops, Ends, Ends_command, Gives_param, Ends_params, Reaches, Captures}
+use Rattle.mav_nodes.specs.News.{NodeEvent, Sends, Installs, Empties, Drops, Ends, Ends_command, Gives_param, Ends_params, Reaches, Captures, Ends_file}
 use Rattle.mav_nodes.specs.Nodes.{DroneSide, StationSide, drone_rules, station_rules, station_cancels, station_clears, station_gets, station_commands, station_lists_params}
 use Rattle.scenario_lines.specs.declared.lines.Line.{Line}
 use Rattle.scenario_lines.specs.declared.lines.Line.TheVariants as line
@@ -109,6 +109,7 @@ speaks_all wait me (Gives_param param ∷ es) = speaks_all wait me es
 speaks_all wait me (Ends_params values ∷ es) = speaks_all wait me es
 speaks_all wait me (Reaches number ∷ es) = speaks_all wait me es
 speaks_all wait me (Captures total ∷ es) = speaks_all wait me es
+speaks_all wait me (Ends_file end ∷ es) = speaks_all wait me es
 
 -- the messages of other services that a node sends in a call, if it is done
 abbrev pub spoken : Node → List NodeEvent → List world.Event

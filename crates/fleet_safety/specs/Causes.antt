@@ -57,14 +57,18 @@ Hears me e = Gives me e ⊎ Talks me e
 abbrev pub HearsOne : Name → List Event → Type 0
 HearsOne name es = AtMostOne (Of name Gives) es ⊎ EachEvent (Of name Talks) es
 
--- a drone of this name ticks; or a station ticks, and then sends at most two messages of other services
-pub record TicksOnce (name : Name) (es : List Event) : Type 0 where
+-- a drone of this name ticks; or a station ticks, and then sends at most so many messages of other services
+pub record TicksOnce (most : ℕ) (name : Name) (es : List Event) : Type 0 where
   pub stream : Stream
   pub name_is : node_of stream ≡ name
   pub later : List Event
   pub is : (es ≡ Drone_ticks stream ∷ []) ⊎ (es ≡ Station_ticks stream ∷ later)
   pub talks : EachEvent (Talks stream) later
-  pub few : length later ≤ 2
+  pub few : length later ≤ most
+
+-- a tick, or nothing if no node has this name
+abbrev pub TicksAtMost : ℕ → Name → List Event → Type 0
+TicksAtMost most name es = (es ≡ []) ⊎ TicksOnce most name es
 
 -- a drone of this name starts again, and the new node sends HEARTBEAT
 pub record StartsAgain (name : Name) (es : List Event) : Type 0 where
@@ -90,8 +94,8 @@ Causes s (line.Get station drone kind) es = AtMostOne (Of station (λ me e. e �
 -- an order to its services: one message of theirs
 Causes s (line.Command station drone number word) es = AtMostOne (Of station Talks) es
 Causes s (line.Params station drone) es = AtMostOne (Of station Talks) es
--- one tick, and one HEARTBEAT
-Causes s (line.Tick node) es = (es ≡ []) ⊎ TicksOnce node es
+-- one tick, at which each service of a station sends one message at most, and one HEARTBEAT
+Causes s (line.Tick node) es = TicksAtMost 3 node es
 Causes s (line.Heartbeat node) es = AtMostOne (Of node Talks) es
 -- sent frames come to the node, and in a flow to any nodes, and their services reply
 Causes s (line.Deliver number node) es = EachEvent (Of node Hears) es

@@ -14,5 +14,5 @@ mod scenarios;
 
 pub use meanings::every_line_reported;
 pub use scenarios::{
-    every_cause, every_delivery, every_quiet_scenario, every_report, every_scenario,
+    every_cause, every_delivery, every_quiet_scenario, every_report, every_scenario, every_tick,
 };

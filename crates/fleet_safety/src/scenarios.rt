@@ -2,7 +2,7 @@
 ghost use Rattle.std.specs.Prelude.{ℕ, ◌≡◌, Bool, List};
 ghost use Rattle.mav_names.specs.declared.names.Name.{Name};
 ghost use Rattle.scenario_lines.specs.declared.lines.Line.{Line};
-ghost use Rattle.scenario_lines.specs.declared.lines.Line.TheVariants.{Deliver};
+ghost use Rattle.scenario_lines.specs.declared.lines.Line.TheVariants.{Deliver, Tick};
 ghost use Rattle.fleet_world.specs.WorldState.{WorldState};
 ghost use Rattle.fleet_world.specs.Scenario.{played};
 ghost use Rattle.fleet_world.specs.Authentic.{Authentic};
@@ -10,7 +10,7 @@ ghost use Rattle.fleet_invariants.specs.Laws.{IsQuiet};
 ghost use Rattle.fleet_invariants.specs.Sound.{Sound};
 ghost use Rattle.fleet_safety.specs.Reporting.{seen, plan_lines, steps_reported};
 ghost use Rattle.fleet_safety.specs.Actions.{calls_of, actions_of};
-ghost use Rattle.fleet_safety.specs.Causes.{without_waits, HearsOne, Causes};
+ghost use Rattle.fleet_safety.specs.Causes.{without_waits, HearsOne, TicksAtMost, Causes};
 ghost use Rattle.fleet_safety.specs.Safe.{nodes_of, events_of, history_of, Safe};
 
 /// For all bytes of an authentic scenario under any key, whether its input ended after them or not.
@@ -40,4 +40,10 @@ pub fn every_cause()
 /// messages of other services that the node sends, or nothing.
 pub fn every_delivery()
     ensures { (number : ℕ) → (s : WorldState) → Sound s → (which : ℕ) → (node : Name) → HearsOne node (without_waits (events_of (calls_of number s (Deliver which node)))) }
+{}
+
+/// In the states of authentic scenarios no station transfers a file, so that a station sends at most two messages of
+/// other services at a `tick` line: one of commands and one of parameters.
+pub fn every_tick()
+    ensures { (number : ℕ) → (s : WorldState) → Sound s → (node : Name) → TicksAtMost 2 node (without_waits (events_of (calls_of number s (Tick node)))) }
 {}

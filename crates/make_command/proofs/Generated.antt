@@ -167,7 +167,7 @@ idle_at (n ∷ ns) h zero a e = subst IsIdle (some_is e) h.0
 idle_at (n ∷ ns) h (suc k) a e = idle_at ns h.1 k a e
 
 first_idle : AllIdle first_played.state.nodes
-first_idle = (tt, (tt, (tt, (tt, ((refl, refl), ((refl, refl), ((refl, refl), ((refl, refl), tt))))))))
+first_idle = (tt, (tt, (tt, (tt, ((refl, refl, refl), ((refl, refl, refl), ((refl, refl, refl), ((refl, refl, refl), tt))))))))
 
 first_sound : Sound first_played.state
 first_sound =

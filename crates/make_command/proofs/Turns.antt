@@ -23,10 +23,11 @@ use Rattle.mav_sign.specs.declared.admission.Admit.{Admit}
 use Rattle.mav_sign.specs.declared.admission.Admit.TheVariants.{Admitted, Unsigned, BadSignature, BelowFloor, NotLater, TooOld, TooManyStreams}
 use Rattle.mav_sign.specs.Endpoints.{frames_of}
 use Rattle.mav_sign.specs.History.{answer_to, stream_of, next_in, greatest_stamp}
-use Rattle.mav_nodes.specs.News.{NodeEvent, Sends, Installs, Empties, Drops, Ends, Ends_command, Gives_param, Ends_params, Reaches, Captures}
+use Rattle.mav_nodes.specs.News.{NodeEvent, Sends, Installs, Empties, Drops, Ends, Ends_command, Gives_param, Ends_params, Reaches, Captures, Ends_file}
 use Rattle.mav_nodes.specs.Payloads.{plan_in, service_in}
 use Rattle.command_proto.specs.Commander.{issue_ticks, waits_on}
 use Rattle.param_proto.specs.Client.{operation_ticks}
+use Rattle.mav_nodes.specs.FileServices.{transfer_waits}
 use Rattle.mav_nodes.specs.Services.{DroneServices, StationServices, drone_notes, station_served, station_waits}
 use Rattle.mav_nodes.specs.Signed.{signed_packet}
 use Rattle.mav_nodes.specs.Links.{Link, Done, Outcome, done, behind, and_then, tries}
@@ -35,6 +36,7 @@ use Rattle.mav_nodes.specs.Nodes.{DroneSide, StationSide, drone_core, drone_rule
 use Rattle.fleet_world.specs.WorldState.{Node, Drone, Station}
 use Rattle.fleet_world.specs.Steps.{packets_in, as_drone, as_station, node_receives, node_ticks}
 use Rattle.fleet_invariants.specs.Kept.{Reads, AllRead}
+use Rattle.fleet_invariants.proofs.Files.{waits_idly}
 use Rattle.fleet_invariants.proofs.Tests.{by_test}
 use Rattle.make_command.proofs.Weights.{cost, weigh, weight, AllCarry, opens, opens_in, cost_few, opens_few, carried_weight, carried_some}
 use Rattle.make_command.proofs.StationReplies.{one_if, station_fits}
@@ -54,6 +56,7 @@ packets_append (Gives_param param ∷ es) fs = packets_append es fs
 packets_append (Ends_params values ∷ es) fs = packets_append es fs
 packets_append (Reaches number ∷ es) fs = packets_append es fs
 packets_append (Captures total ∷ es) fs = packets_append es fs
+packets_append (Ends_file end ∷ es) fs = packets_append es fs
 
 read_after : (es : List NodeEvent) (e : NodeEvent) (fs : List NodeEvent) → AllRead (es ++ e ∷ fs) → Reads e
 read_after [] e fs h = h.0
@@ -115,9 +118,12 @@ module _ {Core Services : Type 0} (clock : ℕ) (services : Services) where
 -- ---- a call of a node
 
 -- a station's services ask for nothing
+abbrev pub AskNothing : StationServices → Type 0
+AskNothing v = (v.commander.issue ≡ None) × (v.client.operation ≡ None) × (v.files.transfer.operation ≡ None)
+
 abbrev pub IsIdle : Node → Type 0
 IsIdle (Drone n) = Unit {0}
-IsIdle (Station n) = (n.services.commander.issue ≡ None) × (n.services.client.operation ≡ None)
+IsIdle (Station n) = AskNothing n.services
 
 -- what is left counts for `c` more at most
 pub record Within (a : Node) (c : ℕ) (d : Done Node) : Type 0 where
@@ -142,7 +148,7 @@ station_turn n core answer c (Some d) idle h few =
     record {
       weighs = omega (arith, f.0, now, few);
       carry = f.1;
-      idle = subst (λ (v : StationServices). (v.commander.issue ≡ None) × (v.client.operation ≡ None)) (sym h.services_is) idle;
+      idle = subst AskNothing (sym h.services_is) idle;
     }
 
 -- any step of a station, whatever it is, counts for 8 at most
@@ -156,13 +162,14 @@ any_step clock n idle r =
 -- ---- a tick
 
 -- what the services of a station do that ask for nothing
-no_answers : (v : StationServices) → v.commander.issue ≡ None → v.client.operation ≡ None → station_waits v ≡ record { services = v; answers = []; last = [] }
-no_answers v command params =
-    ap (λ i. station_served (issue_ticks v.commander i) (operation_ticks v.client v.client.operation)) command
-    ∙ ap (λ o. station_served (waits_on v.commander) (operation_ticks v.client o)) params
+no_answers : (v : StationServices) → AskNothing v → station_waits v ≡ record { services = v; answers = []; last = [] }
+no_answers v idle =
+    ap (λ i. station_served (issue_ticks v.commander i) (operation_ticks v.client v.client.operation) (transfer_waits v.files)) idle.0
+    ∙ ap (λ o. station_served (waits_on v.commander) (operation_ticks v.client o) (transfer_waits v.files)) idle.1
+    ∙ ap (λ f. station_served (waits_on v.commander) (operation_ticks v.client None) f) (waits_idly v.files idle.2)
 
 services_rest : (clock : ℕ) (n : StationSide) → IsIdle (Station n) → services_tick clock n ≡ done n []
-services_rest clock n idle = ap (serves clock n.link n.core) (no_answers n.services idle.0 idle.1)
+services_rest clock n idle = ap (serves clock n.link n.core) (no_answers n.services idle)
 
 then_rest : (clock : ℕ) (o : Outcome StationSide) → IfSome o (λ d. IsIdle (Station d.node)) → and_then o (services_tick clock) ≡ o
 then_rest clock None idle = refl
@@ -170,7 +177,7 @@ then_rest clock (Some d) idle = ap (behind d.events) (services_rest clock d.node
 
 left_idle : (n : StationSide) (core : StationState) (answer : Option PlanMsg) (o : Outcome StationSide) → IsIdle (Station n) → IfSome o (Steps core n.services answer) → IfSome o (λ d. IsIdle (Station d.node))
 left_idle n core answer None idle h = tt
-left_idle n core answer (Some d) idle h = subst (λ (v : StationServices). (v.commander.issue ≡ None) × (v.client.operation ≡ None)) (sym h.services_is) idle
+left_idle n core answer (Some d) idle h = subst AskNothing (sym h.services_is) idle
 
 pub ticks_turn : (clock : ℕ) (a : Node) → IsIdle a → Turn a 8 (node_ticks clock a)
 ticks_turn clock (Drone n) idle =
