@@ -3,10 +3,9 @@ use Rattle.std.proofs.Common.{◌≡◌, ◌∙◌, ℕ, Bool, true, false, List
 use Rattle.std.proofs.lemmas.Bool.{and_parts, and_from}
 use Rattle.command_line.specs.declared.operations.Operation.{Operation}
 use Rattle.command_line.specs.declared.operations.Task.{Task}
-use Rattle.command_line.specs.Built.{is_operation_built}
 use Rattle.command_line.specs.Numbers.{number_in}
 use Rattle.command_line.specs.Operations.{DroneWords, StationWords, operation_words}
-use Rattle.command_line.specs.OperationTexts.{operation_in, is_upload}
+use Rattle.command_line.specs.OperationTexts.{operation_in, needs_file}
 use Rattle.command_line.specs.Nodes.{is_node, agree, task_of, task_in, is_drone, is_station}
 use Rattle.command_line.specs.PortTexts.{is_port}
 use Rattle.command_line.proofs.Numerals.{some_found, number_is, number_form, form_number, number_found}
@@ -38,29 +37,29 @@ pub record TaskParts (file_given : Bool) (comp drone : Option ℕ) (operation : 
   pub comp_is : comp ≡ Some task.component
   pub drone_is : drone ≡ Some task.drone
   pub operation_is : operation ≡ Some task.operation
-  pub file : file_given ≡ is_upload task.operation
+  pub file : file_given ≡ needs_file task.operation
 
 task_parts : (file_given : Bool) (comp drone : Option ℕ) (operation : Option Operation) (task : Task) → task_of file_given comp drone operation ≡ Some task → TaskParts file_given comp drone operation task
 task_parts file_given None drone operation task never = absurd (cc never)
 task_parts file_given (Some c) None operation task never = absurd (cc never)
 task_parts file_given (Some c) (Some d) None task never = absurd (cc never)
 task_parts file_given (Some c) (Some d) (Some o) task e =
-    let (agrees, same) = if_some (agree file_given (is_upload o)) (record { component = c; drone = d; operation = o }) task e in
+    let (agrees, same) = if_some (agree file_given (needs_file o)) (record { component = c; drone = d; operation = o }) task e in
     record {
       comp_is = ap (λ (t : Task). Some t.component) same;
       drone_is = ap (λ (t : Task). Some t.drone) same;
       operation_is = ap (λ (t : Task). Some t.operation) same;
-      file = agree_same file_given (is_upload o) agrees ∙ ap (λ (t : Task). is_upload t.operation) same;
+      file = agree_same file_given (needs_file o) agrees ∙ ap (λ (t : Task). needs_file t.operation) same;
     }
 
 pub task_found : (file_given : Bool) (comp drone : List ℕ) (op : List (List ℕ)) (task : Task) → task_in file_given comp drone op ≡ Some task → TaskParts file_given (number_in 1 255 comp) (number_in 1 255 drone) (operation_in op) task
 task_found file_given comp drone op task e = task_parts file_given (number_in 1 255 comp) (number_in 1 255 drone) (operation_in op) task e
 
-task_there : (file_given : Bool) (c d : ℕ) (o : Operation) → file_given ≡ is_upload o → is_some (task_of file_given (Some c) (Some d) (Some o)) ≡ true
+task_there : (file_given : Bool) (c d : ℕ) (o : Operation) → file_given ≡ needs_file o → is_some (task_of file_given (Some c) (Some d) (Some o)) ≡ true
 task_there file_given c d o same =
     ap (λ (b : Bool). is_some (if b then Some (let t : Task = record { component = c; drone = d; operation = o } in t) else None)) (ap (agree file_given) (sym same) ∙ same_agree file_given)
 
-pub station_form : (file_given : Bool) (plain : List (List ℕ)) → is_station file_given plain ≡ true → StationWords is_operation_built file_given plain
+pub station_form : (file_given : Bool) (plain : List (List ℕ)) → is_station file_given plain ≡ true → StationWords file_given plain
 station_form file_given [] never = absurd (cc never)
 station_form file_given (sys ∷ []) never = absurd (cc never)
 station_form file_given (sys ∷ comp ∷ []) never = absurd (cc never)
@@ -82,16 +81,15 @@ station_form file_given (sys ∷ comp ∷ drone ∷ port ∷ op) e =
       is_drone = let (is, least, most) = number_is 1 255 task.drone drone parts.drone_is in (task.drone, is, least, most);
       is_port = port_form port is;
       is_operation = form.is_form;
-      operation_built = form.built;
       file = parts.file ∙ sym form.file;
       plain_is = ap (λ (words : List (List ℕ)). sys ∷ comp ∷ drone ∷ port ∷ words) form.words_are;
     }
 
-pub form_station : (file_given : Bool) (plain : List (List ℕ)) → StationWords is_operation_built file_given plain → is_station file_given plain ≡ true
+pub form_station : (file_given : Bool) (plain : List (List ℕ)) → StationWords file_given plain → is_station file_given plain ≡ true
 form_station file_given plain w =
     let (c, comp) = number_found 1 255 w.comp (omega arith) w.is_comp in
     let (d, drone) = number_found 1 255 w.drone (omega arith) w.is_drone in
-    let read = read_as w.operation w.is_operation w.operation_built in
+    let read = read_as w.operation w.is_operation in
     let op = operation_words w.operation in
     ap (is_station file_given) w.plain_is
     ∙ and_from (is_node w.sys) _ (form_number 1 255 w.sys (omega arith) w.is_sys)

@@ -5,12 +5,14 @@ use Rattle.std.proofs.lemmas.Grind.{common_steps}
 use Rattle.std.specs.Fmt.{decimal}
 use Rattle.std.specs.declared.alloc.Global.{Global}
 use Rattle.command_line.specs.declared.commands.Command.TheVariants.{Drone, Station}
+use Rattle.command_line.specs.declared.operations.Operation.{Operation}
 use Rattle.command_line.specs.declared.operations.Task.{Task}
 use Rattle.command_line.specs.declared.ports.Port.{Port}
 use Rattle.command_line.specs.Lines.{Says, is_number_and_file, NumberRead}
 use Rattle.command_line.specs.Names.{port_words}
 use Rattle.command_line.specs.Nodes.{is_node, task_in, is_drone, is_station, OnePort, DroneSays, StationSays}
 use Rattle.command_line.specs.Numbers.{number_in}
+use Rattle.command_line.specs.OperationTexts.{operation_in}
 use Rattle.command_line.specs.PortTexts.{is_some_text, is_port, port_text}
 use Rattle.command_line.proofs.Numerals.{number_is}
 use Rattle.command_line.proofs.NodeWords.{task_found}
@@ -35,6 +37,16 @@ no_number most [] never = refl
 no_number most (x ∷ []) never = refl
 no_number most (x ∷ y ∷ []) never = absurd (never (lit≤ tt) (lit≤ tt))
 no_number most (x ∷ y ∷ z ∷ zs) never = refl
+
+-- words that are too few or too many for an operation, or between
+pub no_operation : (xs : List (String Global)) → (2 ≤ length xs → length xs < 3 → ⊥) → (3 ≤ length xs → length xs < 4 → ⊥) → (5 ≤ length xs → length xs < 6 → ⊥) → ◌≡◌ {A = Option Operation} None (operation_in (map string_bytes xs))
+no_operation [] two three five = refl
+no_operation (a ∷ []) two three five = refl
+no_operation (a ∷ b ∷ []) two three five = absurd (two (lit≤ tt) (lit≤ tt))
+no_operation (a ∷ b ∷ c ∷ []) two three five = absurd (three (lit≤ tt) (lit≤ tt))
+no_operation (a ∷ b ∷ c ∷ d ∷ []) two three five = refl
+no_operation (a ∷ b ∷ c ∷ d ∷ e ∷ []) two three five = absurd (five (lit≤ tt) (lit≤ tt))
+no_operation (a ∷ b ∷ c ∷ d ∷ e ∷ f ∷ xs) two three five = refl
 
 -- a number and a file, by how the number is read
 pub no_file : (most : ℕ) (words : List (List ℕ)) (v w : List ℕ) → words ≡ v ∷ w ∷ [] → is_some_text w ≡ false → is_number_and_file most words ≡ false

@@ -1,4 +1,4 @@
--- Words are read as an operation exactly if they are one that is built.
+-- Words are read as an operation exactly if they are one.
 use Rattle.std.proofs.Common.{◌≡◌, ◌∙◌, ◌&&◌, ◌||◌, ◌==◌, nat_le, ℕ, Bool, true, false, List, [], ◌∷◌, refl, sym, ap, subst, arith, length, codes, Option, Some, None, if◌then◌else◌, inl, inr}
 use Rattle.std.specs.Option.{option_map}
 use Rattle.std.proofs.lemmas.Bool.{cases_Bool, cond-true, cond-false, cond_both, and_parts, and_from, leb-true, le-leb, eqb-true}
@@ -11,11 +11,10 @@ use Rattle.std.specs.Fmt.{decimal}
 use Rattle.command_line.specs.declared.operations.PlanWord.{PlanWord}
 use Rattle.command_line.specs.declared.operations.PlanWord.TheVariants.{Mission, Fence, Rally}
 use Rattle.command_line.specs.declared.operations.Operation.{Operation}
-use Rattle.command_line.specs.declared.operations.Operation.TheVariants.{Upload, Get, Clear, Command, ParamList, ParamRead, ParamSet}
-use Rattle.command_line.specs.Built.{is_operation_built}
+use Rattle.command_line.specs.declared.operations.Operation.TheVariants.{Upload, Get, Clear, Command, ParamList, ParamRead, ParamSet, FileList, FileGet, FilePut, FileRemove}
 use Rattle.command_line.specs.Numbers.{number_in, is_digit, is_visible, IsWire, IsParameter}
 use Rattle.command_line.specs.Operations.{is_kind, OperationWords, Upload as Upload_words, Download, Clear as Clear_words, Order, List_parameters, Read_parameter, Set_parameter, List_files, Get_file, Put_file, Remove_file, operation_words, IsOperation, takes_file}
-use Rattle.command_line.specs.OperationTexts.{plan_word, all_plans, plan_named, cleared_word, cleared_named, is_wire, wire_in, padded, is_parameter, parameter_in, order_of, setting_of, two_words, three_words, five_words, operation_in, is_upload, OperationSays}
+use Rattle.command_line.specs.OperationTexts.{plan_word, all_plans, plan_named, cleared_word, cleared_named, is_wire, wire_in, padded, is_parameter, parameter_in, order_of, setting_of, file_named, two_words, three_words, five_words, operation_in, needs_file, OperationSays}
 use Rattle.command_line.proofs.Numerals.{number_is, number_found}
 use Rattle.command_line.proofs.Sorts.{found_passes}
 
@@ -108,8 +107,11 @@ two_said a b =
     cond_both (bytes_eq a (codes "clear")) _ _ (Said (a ∷ b ∷ [])) (λ is. clear_said a b (cleared_named b) (text_of a (codes "clear") is) refl) (λ no_clear.
     cond_both (bytes_eq a (codes "param") && bytes_eq b (codes "list")) _ _ (Said (a ∷ b ∷ []))
     (λ both. let (one, other) = and_parts (bytes_eq a (codes "param")) (bytes_eq b (codes "list")) both in
-    ap (λ w. w ∷ b ∷ []) (text_of a (codes "param") one) ∙ ap (λ w. codes "param" ∷ w ∷ []) (text_of b (codes "list") other))
-    (λ none. tt))))
+    ap (λ w. w ∷ b ∷ []) (text_of a (codes "param") one) ∙ ap (λ w. codes "param" ∷ w ∷ []) (text_of b (codes "list") other)) (λ no_parameters.
+    cond_both (bytes_eq a (codes "file") && bytes_eq b (codes "list")) _ _ (Said (a ∷ b ∷ []))
+    (λ both. let (one, other) = and_parts (bytes_eq a (codes "file")) (bytes_eq b (codes "list")) both in
+    ap (λ w. w ∷ b ∷ []) (text_of a (codes "file") one) ∙ ap (λ w. codes "file" ∷ w ∷ []) (text_of b (codes "list") other))
+    (λ none. tt)))))
 
 order_said : (a b c : List ℕ) (number word : Option ℕ) → a ≡ codes "command" → number_in 0 65535 b ≡ number → wire_in c ≡ word → Said (a ∷ b ∷ c ∷ []) (order_of number word)
 order_said a b c None word is e f = tt
@@ -131,14 +133,25 @@ read_said a b c (Some id) is way e =
     let (name, value) = parameter_of c id e in
     record { name = c; words_are = ap (λ x. x ∷ b ∷ c ∷ []) is ∙ ap (λ x. codes "param" ∷ x ∷ c ∷ []) way; is_name = name; id_is = value }
 
+-- three words of which the first two are these
+two_known : (a b c : List ℕ) (way : List ℕ) → a ≡ codes "file" → bytes_eq b way ≡ true → ◌≡◌ {A = List (List ℕ)} (a ∷ b ∷ c ∷ []) (codes "file" ∷ way ∷ c ∷ [])
+two_known a b c way is e = ap (λ w. w ∷ b ∷ c ∷ []) is ∙ ap (λ w. codes "file" ∷ w ∷ c ∷ []) (text_of b way e)
+
+file_said : (a b c : List ℕ) → a ≡ codes "file" → Said (a ∷ b ∷ c ∷ []) (file_named b c)
+file_said a b c is =
+    cond_both (bytes_eq b (codes "get")) _ _ (Said (a ∷ b ∷ c ∷ [])) (λ e. two_known a b c (codes "get") is e) (λ no_get.
+    cond_both (bytes_eq b (codes "put")) _ _ (Said (a ∷ b ∷ c ∷ [])) (λ e. two_known a b c (codes "put") is e) (λ no_put.
+    cond_both (bytes_eq b (codes "remove")) _ _ (Said (a ∷ b ∷ c ∷ [])) (λ e. two_known a b c (codes "remove") is e) (λ none. tt)))
+
 three_said : (a b c : List ℕ) → Said (a ∷ b ∷ c ∷ []) (three_words a b c)
 three_said a b c =
     cond_both (bytes_eq a (codes "command")) _ _ (Said (a ∷ b ∷ c ∷ []))
     (λ is. order_said a b c (number_in 0 65535 b) (wire_in c) (text_of a (codes "command") is) refl refl) (λ no_command.
     cond_both (bytes_eq a (codes "param") && bytes_eq b (codes "read")) _ _ (Said (a ∷ b ∷ c ∷ []))
     (λ both. let (one, other) = and_parts (bytes_eq a (codes "param")) (bytes_eq b (codes "read")) both in
-    read_said a b c (parameter_in c) (text_of a (codes "param") one) (text_of b (codes "read") other) refl)
-    (λ none. tt))
+    read_said a b c (parameter_in c) (text_of a (codes "param") one) (text_of b (codes "read") other) refl) (λ no_read.
+    cond_both (bytes_eq a (codes "file")) _ _ (Said (a ∷ b ∷ c ∷ [])) (λ is. file_said a b c (text_of a (codes "file") is))
+    (λ none. tt)))
 
 set_said : (a b c d e : List ℕ) (id : Option (List ℕ)) (kind word : Option ℕ) → a ≡ codes "param" → b ≡ codes "set" → parameter_in c ≡ id → number_in 0 255 d ≡ kind → wire_in e ≡ word
     → Said (a ∷ b ∷ c ∷ d ∷ e ∷ []) (setting_of id kind word)
@@ -184,8 +197,7 @@ pub record FormOf (operation : Operation) (words : List (List ℕ)) : Type 0 whe
   pub form : OperationWords
   pub words_are : words ≡ operation_words form
   pub is_form : IsOperation form
-  pub built : is_operation_built form ≡ true
-  pub file : takes_file form ≡ is_upload operation
+  pub file : takes_file form ≡ needs_file operation
 
 kind_is : (kind : PlanWord) → is_kind (plan_word kind) ≡ true
 kind_is Mission = refl
@@ -199,37 +211,41 @@ cleared_is (Some Fence) = refl
 cleared_is (Some Rally) = refl
 
 pub form_of : (operation : Operation) (words : List (List ℕ)) → OperationSays operation words → FormOf operation words
-form_of (Upload kind) words e = record { form = Upload_words (plan_word kind); words_are = e; is_form = kind_is kind; built = refl; file = refl }
-form_of (Get kind) words e = record { form = Download (plan_word kind); words_are = e; is_form = kind_is kind; built = refl; file = refl }
-form_of (Clear kind) words e = record { form = Clear_words (cleared_word kind); words_are = e; is_form = cleared_is kind; built = refl; file = refl }
-form_of (Command number word) words s = record { form = Order (decimal number) s.digits; words_are = s.words_are; is_form = ((number, refl, omega arith, s.most), s.is_wire); built = refl; file = refl }
-form_of ParamList words e = record { form = List_parameters; words_are = e; is_form = tt; built = refl; file = refl }
-form_of (ParamRead id) words s = record { form = Read_parameter s.name; words_are = s.words_are; is_form = s.is_name; built = refl; file = refl }
-form_of (ParamSet id kind word) words s = record { form = Set_parameter s.name (decimal kind) s.digits; words_are = s.words_are; is_form = (s.is_name, (kind, refl, omega arith, s.most), s.is_wire); built = refl; file = refl }
+form_of (Upload kind) words e = record { form = Upload_words (plan_word kind); words_are = e; is_form = kind_is kind; file = refl }
+form_of (Get kind) words e = record { form = Download (plan_word kind); words_are = e; is_form = kind_is kind; file = refl }
+form_of (Clear kind) words e = record { form = Clear_words (cleared_word kind); words_are = e; is_form = cleared_is kind; file = refl }
+form_of (Command number word) words s = record { form = Order (decimal number) s.digits; words_are = s.words_are; is_form = ((number, refl, omega arith, s.most), s.is_wire); file = refl }
+form_of ParamList words e = record { form = List_parameters; words_are = e; is_form = tt; file = refl }
+form_of (ParamRead id) words s = record { form = Read_parameter s.name; words_are = s.words_are; is_form = s.is_name; file = refl }
+form_of (ParamSet id kind word) words s = record { form = Set_parameter s.name (decimal kind) s.digits; words_are = s.words_are; is_form = (s.is_name, (kind, refl, omega arith, s.most), s.is_wire); file = refl }
+form_of FileList words e = record { form = List_files; words_are = e; is_form = tt; file = refl }
+form_of (FileGet name) words e = record { form = Get_file name; words_are = e; is_form = tt; file = refl }
+form_of (FilePut name) words e = record { form = Put_file name; words_are = e; is_form = tt; file = refl }
+form_of (FileRemove name) words e = record { form = Remove_file name; words_are = e; is_form = tt; file = refl }
 
--- and an operation of the grammar that is built is read
+-- and an operation of the grammar is read
 pub record ReadAs (form : OperationWords) : Type 0 where
   pub operation : Operation
   pub found : operation_in (operation_words form) ≡ Some operation
-  pub file : takes_file form ≡ is_upload operation
+  pub file : takes_file form ≡ needs_file operation
 
-pub read_as : (form : OperationWords) → IsOperation form → is_operation_built form ≡ true → ReadAs form
-read_as (Upload_words kind) is built = let (k, found) = plan_found kind is in record { operation = Upload k; found = ap (option_map Upload) found; file = refl }
-read_as (Download kind) is built = let (k, found) = plan_found kind is in record { operation = Get k; found = ap (option_map Get) found; file = refl }
-read_as (Clear_words kind) is built = let (k, found) = cleared_found kind is in record { operation = Clear k; found = ap (option_map Clear) found; file = refl }
-read_as (Order number word) (is_number, is_wire) built =
+pub read_as : (form : OperationWords) → IsOperation form → ReadAs form
+read_as (Upload_words kind) is = let (k, found) = plan_found kind is in record { operation = Upload k; found = ap (option_map Upload) found; file = refl }
+read_as (Download kind) is = let (k, found) = plan_found kind is in record { operation = Get k; found = ap (option_map Get) found; file = refl }
+read_as (Clear_words kind) is = let (k, found) = cleared_found kind is in record { operation = Clear k; found = ap (option_map Clear) found; file = refl }
+read_as (Order number word) (is_number, is_wire) =
     let (n, found) = number_found 0 65535 number (omega arith) is_number in
     record { operation = Command n (digits_value 16 word); found = ap (λ o. order_of o (wire_in word)) found ∙ ap (order_of (Some n)) (wire_found word is_wire); file = refl }
-read_as List_parameters is built = record { operation = ParamList; found = refl; file = refl }
-read_as (Read_parameter id) is built = record { operation = ParamRead (padded id); found = ap (option_map ParamRead) (parameter_found id is); file = refl }
-read_as (Set_parameter id kind word) (is_id, is_kind, is_wire) built =
+read_as List_parameters is = record { operation = ParamList; found = refl; file = refl }
+read_as (Read_parameter id) is = record { operation = ParamRead (padded id); found = ap (option_map ParamRead) (parameter_found id is); file = refl }
+read_as (Set_parameter id kind word) (is_id, is_kind, is_wire) =
     let (n, found) = number_found 0 255 kind (omega arith) is_kind in
     record {
       operation = ParamSet (padded id) n (to_be_bytes w32 (digits_value 16 word));
       found = ap (λ o. setting_of o (number_in 0 255 kind) (wire_in word)) (parameter_found id is_id) ∙ ap (λ o. setting_of (Some (padded id)) o (wire_in word)) found ∙ ap (setting_of (Some (padded id)) (Some n)) (wire_found word is_wire);
       file = refl;
     }
-read_as List_files is never = absurd (cc never)
-read_as (Get_file name) is never = absurd (cc never)
-read_as (Put_file name) is never = absurd (cc never)
-read_as (Remove_file name) is never = absurd (cc never)
+read_as List_files is = record { operation = FileList; found = refl; file = refl }
+read_as (Get_file name) is = record { operation = FileGet name; found = refl; file = refl }
+read_as (Put_file name) is = record { operation = FilePut name; found = refl; file = refl }
+read_as (Remove_file name) is = record { operation = FileRemove name; found = refl; file = refl }

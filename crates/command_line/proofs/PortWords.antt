@@ -1,5 +1,5 @@
 -- A word is a PORT exactly if it is one colon by colon.
-use Rattle.std.proofs.Common.{◌≡◌, ◌≢◌, ◌∙◌, inl, inr, ◌+◌, ◌&&◌, not, ℕ, Bool, true, false, List, [], ◌∷◌, ◌++◌, refl, sym, ap, subst, arith, length, take, drop, get_or, codes, Option, Some, None, IfOk, string_bytes, Result}
+use Rattle.std.proofs.Common.{◌≡◌, ◌≢◌, ◌∙◌, inl, inr, ◌+◌, ◌&&◌, not, ℕ, Bool, true, false, List, [], ◌∷◌, ◌++◌, refl, sym, ap, subst, arith, length, take, drop, get_or, codes, Option, Some, None, is_some, IfOk, string_bytes, Result}
 use Rattle.std.proofs.Math.Seq.{take-append_seam, drop-append-add}
 use Rattle.std.proofs.lemmas.List.{length-append}
 use Rattle.std.proofs.lemmas.Bool.{cases_Bool, cond-true, cond-false, and_parts, and_from, and_right, or_parts, ltb-true, lt-ltb, eqb-true}
@@ -10,11 +10,13 @@ use Rattle.std.specs.Fmt.{decimal}
 use Rattle.std.specs.Str.{bytes_eq}
 use Rattle.command_line.specs.declared.ports.SocketKind.{SocketKind}
 use Rattle.command_line.specs.declared.ports.SocketKind.TheVariants.{Tcp, Listen, Udp, UdpListen}
+use Rattle.command_line.specs.declared.ports.FilesKind.{FilesKind}
+use Rattle.command_line.specs.declared.ports.FilesKind.TheVariants.{File, Replay}
 use Rattle.command_line.specs.declared.ports.Target.{Target}
 use Rattle.command_line.specs.declared.ports.Target.TheVariants.{Socket as SocketTarget, Files as FilesTarget}
 use Rattle.command_line.specs.declared.ports.Port.{Port}
-use Rattle.command_line.specs.Ports.{is_colon, IsPart, kind_word, IsSocket, IsFiles, IsPort, open_word, IsRouterPort}
-use Rattle.command_line.specs.PortTexts.{IsRead, has_colon, before_colon, after_colon, is_some_text, is_part, all_kinds, kind_named, is_end, is_rest, is_port, is_marked, is_router_port, target_text, port_text}
+use Rattle.command_line.specs.Ports.{is_colon, IsPart, kind_word, files_word, IsSocket, IsFiles, IsPort, open_word, IsRouterPort}
+use Rattle.command_line.specs.PortTexts.{IsRead, has_colon, before_colon, after_colon, is_some_text, is_part, all_kinds, kind_named, all_files_kinds, files_named, is_end, is_rest, is_port, is_marked, is_router_port, target_text, port_text}
 use Rattle.command_line.proofs.Numerals.{number_form, form_number}
 use Rattle.command_line.proofs.Sorts.{found_passes}
 
@@ -89,6 +91,33 @@ no_colon Listen = refl
 no_colon Udp = refl
 no_colon UdpListen = refl
 
+-- kinds of files
+pub files_word_of : (word : List ℕ) (k : FilesKind) → files_named word ≡ Some k → word ≡ files_word k
+files_word_of word k e = (bytes_eq-Decides word (files_word k)).0 (found_passes (λ l. bytes_eq word (files_word l)) all_files_kinds k e)
+
+files_of_word : (k : FilesKind) → files_named (files_word k) ≡ Some k
+files_of_word File = refl
+files_of_word Replay = refl
+
+no_socket : (k : FilesKind) → kind_named (files_word k) ≡ None
+no_socket File = refl
+no_socket Replay = refl
+
+no_files_colon : (k : FilesKind) → list_any is_colon (files_word k) ≡ false
+no_files_colon File = refl
+no_files_colon Replay = refl
+
+files_form : (o : Option FilesKind) (kind begin end : List ℕ) → files_named kind ≡ o → is_some o ≡ true → is_part begin ≡ true → is_part end ≡ true → IsFiles (kind ++ 58 ∷ (begin ++ 58 ∷ end))
+files_form None kind begin end named never part is = absurd (cc never)
+files_form (Some k) kind begin end named some part is = record {
+  kind = k;
+  input = begin;
+  output = end;
+  is_input = part_form begin part;
+  is_output = part_form end is;
+  word_is = ap (λ w. w ++ 58 ∷ (begin ++ 58 ∷ end)) (files_word_of kind k named);
+}
+
 -- the ports of the test are those of the form
 end_form : (o : Option SocketKind) (kind begin end : List ℕ) → kind_named kind ≡ o → is_part begin ≡ true → is_end o kind end ≡ true → IsPort (kind ++ 58 ∷ (begin ++ 58 ∷ end))
 end_form (Some k) kind begin end named part ends = inl (record {
@@ -100,14 +129,8 @@ end_form (Some k) kind begin end named part ends = inl (record {
   word_is = ap (λ w. w ++ 58 ∷ (begin ++ 58 ∷ end)) (kind_word_of kind k named);
 })
 end_form None kind begin end named part ends =
-    let (file, is) = and_parts (bytes_eq kind (codes "file")) (is_part end) ends in
-    inr (record {
-      input = begin;
-      output = end;
-      is_input = part_form begin part;
-      is_output = part_form end is;
-      word_is = ap (λ w. w ++ 58 ∷ (begin ++ 58 ∷ end)) ((bytes_eq-Decides kind (codes "file")).0 file);
-    })
+    let (files, is) = and_parts (is_some (files_named kind)) (is_part end) ends in
+    inr (files_form (files_named kind) kind begin end refl files part is)
 
 rest_form : (kind rest : List ℕ) → is_rest kind rest ≡ true → IsPort (kind ++ 58 ∷ rest)
 rest_form kind rest e =
@@ -143,7 +166,10 @@ socket_port word s =
 files_port : (word : List ℕ) → IsFiles word → is_port word ≡ true
 files_port word f =
     ap is_port f.word_is
-    ∙ put_port (codes "file") (f.input ++ 58 ∷ f.output) refl (put_rest (codes "file") f.input f.output f.is_input (form_part f.output f.is_output))
+    ∙ put_port (files_word f.kind) (f.input ++ 58 ∷ f.output) (no_files_colon f.kind)
+    (put_rest (files_word f.kind) f.input f.output f.is_input
+    (ap (λ o. is_end o (files_word f.kind) f.output) (no_socket f.kind)
+    ∙ and_from (is_some (files_named (files_word f.kind))) (is_part f.output) (ap is_some (files_of_word f.kind)) (form_part f.output f.is_output)))
 
 pub form_port : (word : List ℕ) → IsPort word → is_port word ≡ true
 form_port word (inl s) = socket_port word s
@@ -161,9 +187,13 @@ not_open Listen = refl
 not_open Udp = refl
 not_open UdpListen = refl
 
+files_not_open : (k : FilesKind) → bytes_eq (files_word k) (codes "open") ≡ false
+files_not_open File = refl
+files_not_open Replay = refl
+
 port_unmarked : (word : List ℕ) → IsPort word → is_marked word ≡ false
 port_unmarked word (inl s) = ap is_marked s.word_is ∙ unmarked (kind_word s.kind) (s.host ++ 58 ∷ s.number) (no_colon s.kind) (not_open s.kind)
-port_unmarked word (inr f) = ap is_marked f.word_is ∙ unmarked (codes "file") (f.input ++ 58 ∷ f.output) refl refl
+port_unmarked word (inr f) = ap is_marked f.word_is ∙ unmarked (files_word f.kind) (f.input ++ 58 ∷ f.output) (no_files_colon f.kind) (files_not_open f.kind)
 
 -- the mark of a port as the program holds it
 text_marked : (is_open : Bool) (t : Target) → is_marked (open_word is_open (target_text t)) ≡ is_open
@@ -171,7 +201,7 @@ text_marked true t =
     let c = put_together (codes "open") (target_text t) refl in
     and_from (has_colon (open_word true (target_text t))) _ c.has (ap (λ k. bytes_eq k (codes "open")) c.before)
 text_marked false (SocketTarget s) = unmarked (kind_word s.kind) (string_bytes s.host ++ 58 ∷ decimal s.number) (no_colon s.kind) (not_open s.kind)
-text_marked false (FilesTarget f) = unmarked (codes "file") (string_bytes f.input ++ 58 ∷ string_bytes f.output) refl refl
+text_marked false (FilesTarget f) = unmarked (files_word f.kind) (string_bytes f.input ++ 58 ∷ string_bytes f.output) (no_files_colon f.kind) (files_not_open f.kind)
 
 pub mark_of : (p : Port) → is_marked (port_text p) ≡ p.is_open
 mark_of p = text_marked p.is_open p.target

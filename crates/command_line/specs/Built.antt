@@ -1,11 +1,10 @@
--- What is built of the commands, their options and the operations of a station. Later work changes these tables.
+-- What is built of the commands and their options. Later work changes these tables.
 use Rattle.std.specs.Prelude.{Bool, true, false}
 use Rattle.command_line.specs.declared.commands.Command.{Command}
 use Rattle.command_line.specs.declared.commands.Command.TheVariants.{Fleet, Dialect, Decode, Route, Drone, Station, LogShow, LogFilter, LogMake}
 use Rattle.command_line.specs.declared.commands.OptionName.{OptionName}
 use Rattle.command_line.specs.declared.commands.OptionName.TheVariants.{Frames, Key, Defs, One, Turns, Ticks, File, Store}
 use Rattle.command_line.specs.Forms.{Built}
-use Rattle.command_line.specs.Operations.{OperationWords, List_files, Get_file, Put_file, Remove_file}
 
 abbrev pub is_built : Command → Bool
 is_built _ = true
@@ -36,13 +35,5 @@ abbrev pub needs_now : Command → OptionName → Bool
 needs_now Route One = true
 needs_now _ _ = false
 
--- files can't be transferred yet
-abbrev pub is_operation_built : OperationWords → Bool
-is_operation_built List_files = false
-is_operation_built (Get_file name) = false
-is_operation_built (Put_file name) = false
-is_operation_built (Remove_file name) = false
-is_operation_built _ = true
-
 abbrev pub built : Built
-built = record { commands = is_built; options = is_option_built; needs = needs_now; operations = is_operation_built }
+built = record { commands = is_built; options = is_option_built; needs = needs_now }

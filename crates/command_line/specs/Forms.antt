@@ -9,19 +9,18 @@ use Rattle.command_line.specs.declared.commands.OptionName.TheVariants.{Frames, 
 use Rattle.command_line.specs.Commands.{option_word, has_option, needs_key}
 use Rattle.command_line.specs.Numbers.{IsNumber}
 use Rattle.command_line.specs.Ports.{IsRouterPort}
-use Rattle.command_line.specs.Operations.{OperationWords, DroneWords, StationWords, OneNumber, NumberAndFile}
+use Rattle.command_line.specs.Operations.{DroneWords, StationWords, OneNumber, NumberAndFile}
 
 -- an option of a line, and its value
 pub record Given : Type 0 where
   pub name : OptionName
   pub value : List ℕ
 
--- which commands, options and operations are built, and which options a command needs as it is built
+-- which commands and options are built, and which options a command needs as it is built
 pub record Built : Type 0 where
   pub commands : Command → Bool
   pub options : Command → OptionName → Bool
   pub needs : Command → OptionName → Bool
-  pub operations : OperationWords → Bool
 
 -- the most turns, ticks and steps that can be asked for
 abbrev pub most_turns : ℕ
@@ -111,7 +110,7 @@ ArePlain built Dialect settings plain = plain ≡ []
 ArePlain built Decode settings plain = IsFile plain  -- FILE
 ArePlain built Route settings plain = (1 ≤ length plain) × (length plain ≤ 8) × All IsRouterPort plain  -- PORT..
 ArePlain built Drone settings plain = DroneWords plain  -- SYS PORT
-ArePlain built Station settings plain = StationWords built.operations (has_given File settings) plain  -- SYS COMP DRONE PORT OP..
+ArePlain built Station settings plain = StationWords (has_given File settings) plain  -- SYS COMP DRONE PORT OP..
 ArePlain built Make settings plain = OneNumber 0 1000000 plain  -- N
 ArePlain built LogShow settings plain = IsFile plain  -- FILE
 ArePlain built LogFilter settings plain = NumberAndFile 0 255 plain  -- SYS FILE

@@ -8,7 +8,7 @@ use Rattle.command_line.specs.declared.operations.Task.{Task}
 use Rattle.command_line.specs.declared.ports.Port.{Port}
 use Rattle.command_line.specs.Numbers.{number_in}
 use Rattle.command_line.specs.PortTexts.{is_port, port_text}
-use Rattle.command_line.specs.OperationTexts.{operation_in, is_upload, OperationSays}
+use Rattle.command_line.specs.OperationTexts.{operation_in, needs_file, OperationSays}
 
 abbrev pub is_node : List ℕ → Bool
 is_node word = is_some (number_in 1 255 word)
@@ -24,7 +24,7 @@ task_of file_given None drone operation = None
 task_of file_given (Some component) None operation = None
 task_of file_given (Some component) (Some drone) None = None
 task_of file_given (Some component) (Some drone) (Some operation) =
-    if agree file_given (is_upload operation)
+    if agree file_given (needs_file operation)
     then Some (record { component = component; drone = drone; operation = operation }) else None
 
 abbrev pub task_in : Bool → (comp drone : List ℕ) → List (List ℕ) → Option Task

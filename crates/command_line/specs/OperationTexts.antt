@@ -9,7 +9,7 @@ use Rattle.std.specs.Str.Parse.{digits_value}
 use Rattle.command_line.specs.declared.operations.PlanWord.{PlanWord}
 use Rattle.command_line.specs.declared.operations.PlanWord.TheVariants.{Mission, Fence, Rally}
 use Rattle.command_line.specs.declared.operations.Operation.{Operation}
-use Rattle.command_line.specs.declared.operations.Operation.TheVariants.{Upload, Get, Clear, Command, ParamList, ParamRead, ParamSet}
+use Rattle.command_line.specs.declared.operations.Operation.TheVariants.{Upload, Get, Clear, Command, ParamList, ParamRead, ParamSet, FileList, FileGet, FilePut, FileRemove}
 use Rattle.command_line.specs.Numbers.{number_in, is_digit, is_visible, IsWire, IsParameter}
 
 -- the word of a kind of plan
@@ -61,6 +61,14 @@ setting_of (Some id) None word = None
 setting_of (Some id) (Some kind) None = None
 setting_of (Some id) (Some kind) (Some word) = Some (ParamSet id kind (to_be_bytes w32 word))
 
+-- what is done with the file of this name on the drone
+abbrev pub file_named : (way name : List ℕ) → Option Operation
+file_named way name =
+    if bytes_eq way (codes "get") then Some (FileGet name)
+    else if bytes_eq way (codes "put") then Some (FilePut name)
+    else if bytes_eq way (codes "remove") then Some (FileRemove name)
+    else None
+
 -- an operation in two words, in three and in five
 abbrev pub two_words : (name word : List ℕ) → Option Operation
 two_words name word =
@@ -68,12 +76,14 @@ two_words name word =
     else if bytes_eq name (codes "get") then option_map Get (plan_named word)
     else if bytes_eq name (codes "clear") then option_map Clear (cleared_named word)
     else if bytes_eq name (codes "param") && bytes_eq word (codes "list") then Some ParamList
+    else if bytes_eq name (codes "file") && bytes_eq word (codes "list") then Some FileList
     else None
 
 abbrev pub three_words : (name first second : List ℕ) → Option Operation
 three_words name first second =
     if bytes_eq name (codes "command") then order_of (number_in 0 65535 first) (wire_in second)
     else if bytes_eq name (codes "param") && bytes_eq first (codes "read") then option_map ParamRead (parameter_in second)
+    else if bytes_eq name (codes "file") then file_named first second
     else None
 
 abbrev pub five_words : (name way id kind word : List ℕ) → Option Operation
@@ -82,7 +92,7 @@ five_words name way id kind word =
     then setting_of (parameter_in id) (number_in 0 255 kind) (wire_in word)
     else None
 
--- the operation that words are, if they are one that is built
+-- the operation that words are, if they are one
 abbrev pub operation_in : List (List ℕ) → Option Operation
 operation_in [] = None
 operation_in (a ∷ []) = None
@@ -92,10 +102,19 @@ operation_in (a ∷ b ∷ c ∷ d ∷ []) = None
 operation_in (a ∷ b ∷ c ∷ d ∷ e ∷ []) = five_words a b c d e
 operation_in (a ∷ b ∷ c ∷ d ∷ e ∷ f ∷ more) = None
 
--- an upload takes a file of this machine
-abbrev pub is_upload : Operation → Bool
-is_upload (Upload kind) = true
-is_upload _ = false
+-- an upload and a file to put take a file of this machine
+abbrev pub needs_file : Operation → Bool
+needs_file (Upload kind) = true
+needs_file (FilePut name) = true
+needs_file _ = false
+
+-- the operations on the files of a drone
+abbrev pub is_on_files : Operation → Bool
+is_on_files FileList = true
+is_on_files (FileGet name) = true
+is_on_files (FilePut name) = true
+is_on_files (FileRemove name) = true
+is_on_files _ = false
 
 -- these words are the command of this number, with this word
 pub record CommandSays (number word : ℕ) (words : List (List ℕ)) : Type 0 where
@@ -132,3 +151,7 @@ OperationSays (Command number word) words = CommandSays number word words
 OperationSays ParamList words = words ≡ codes "param" ∷ codes "list" ∷ []
 OperationSays (ParamRead id) words = ReadSays id words
 OperationSays (ParamSet id kind word) words = SetSays id kind word words
+OperationSays FileList words = words ≡ codes "file" ∷ codes "list" ∷ []
+OperationSays (FileGet name) words = words ≡ codes "file" ∷ codes "get" ∷ name ∷ []
+OperationSays (FilePut name) words = words ≡ codes "file" ∷ codes "put" ∷ name ∷ []
+OperationSays (FileRemove name) words = words ≡ codes "file" ∷ codes "remove" ∷ name ∷ []

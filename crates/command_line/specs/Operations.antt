@@ -62,8 +62,8 @@ pub record DroneWords (plain : List (List ℕ)) : Type 0 where
   pub is_port : IsPort port
   pub plain_is : plain ≡ sys ∷ port ∷ []
 
--- SYS COMP DRONE PORT OP.., where OP is built; the file is given exactly if the operation takes one
-pub record StationWords (is_built : OperationWords → Bool) (file_given : Bool) (plain : List (List ℕ)) : Type 0 where
+-- SYS COMP DRONE PORT OP..; the file is given exactly if the operation takes one
+pub record StationWords (file_given : Bool) (plain : List (List ℕ)) : Type 0 where
   pub sys : List ℕ
   pub comp : List ℕ
   pub drone : List ℕ
@@ -74,7 +74,6 @@ pub record StationWords (is_built : OperationWords → Bool) (file_given : Bool)
   pub is_drone : IsNumber 1 255 drone
   pub is_port : IsPort port
   pub is_operation : IsOperation operation
-  pub operation_built : IsTrue (is_built operation)
   pub file : file_given ≡ takes_file operation
   pub plain_is : plain ≡ sys ∷ comp ∷ drone ∷ port ∷ operation_words operation
 

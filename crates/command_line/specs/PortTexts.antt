@@ -6,12 +6,14 @@ use Rattle.std.specs.Str.{bytes_eq}
 use Rattle.command_line.specs.declared.ports.SocketKind.{SocketKind}
 use Rattle.command_line.specs.declared.ports.SocketKind.TheVariants.{Tcp, Listen, Udp, UdpListen}
 use Rattle.command_line.specs.declared.ports.Socket.{Socket}
+use Rattle.command_line.specs.declared.ports.FilesKind.{FilesKind}
+use Rattle.command_line.specs.declared.ports.FilesKind.TheVariants.{File, Replay}
 use Rattle.command_line.specs.declared.ports.Files.{Files}
 use Rattle.command_line.specs.declared.ports.Target.{Target}
 use Rattle.command_line.specs.declared.ports.Target.TheVariants.{Socket as SocketTarget, Files as FilesTarget}
 use Rattle.command_line.specs.declared.ports.Port.{Port}
 use Rattle.command_line.specs.Numbers.{number_in}
-use Rattle.command_line.specs.Ports.{is_colon, kind_word, open_word}
+use Rattle.command_line.specs.Ports.{is_colon, kind_word, files_word, open_word}
 
 -- something that was read of a word has that text; nothing was read exactly if the word fails its test
 abbrev pub IsRead : {A W : Type 0} → (A → W) → Bool → W → Option A → Type 0
@@ -41,10 +43,16 @@ all_kinds = Tcp ∷ Listen ∷ Udp ∷ UdpListen ∷ []
 abbrev pub kind_named : List ℕ → Option SocketKind
 kind_named word = find (λ k. bytes_eq word (kind_word k)) all_kinds
 
+abbrev pub all_files_kinds : List FilesKind
+all_files_kinds = File ∷ Replay ∷ []
+
+abbrev pub files_named : List ℕ → Option FilesKind
+files_named word = find (λ k. bytes_eq word (files_word k)) all_files_kinds
+
 -- whether a word is a PORT
 abbrev pub is_end : Option SocketKind → (kind end : List ℕ) → Bool
 is_end (Some k) kind end = is_some (number_in 1 65535 end)
-is_end None kind end = bytes_eq kind (codes "file") && is_part end
+is_end None kind end = is_some (files_named kind) && is_part end
 
 abbrev pub is_rest : (kind rest : List ℕ) → Bool
 is_rest kind rest = has_colon rest && (is_part (before_colon rest) && is_end (kind_named kind) kind (after_colon rest))
@@ -64,7 +72,7 @@ abbrev pub socket_text : Socket → List ℕ
 socket_text s = kind_word s.kind ++ 58 ∷ (string_bytes s.host ++ 58 ∷ decimal s.number)
 
 abbrev pub files_text : Files → List ℕ
-files_text f = codes "file" ++ 58 ∷ (string_bytes f.input ++ 58 ∷ string_bytes f.output)
+files_text f = files_word f.kind ++ 58 ∷ (string_bytes f.input ++ 58 ∷ string_bytes f.output)
 
 abbrev pub target_text : Target → List ℕ
 target_text (SocketTarget s) = socket_text s

@@ -3,6 +3,8 @@ use Rattle.std.specs.Prelude.{◌≡◌, ◌≢◌, ◌==◌, ◌⊎◌, ℕ, Bo
 use Rattle.std.specs.List.{list_any}
 use Rattle.command_line.specs.declared.ports.SocketKind.{SocketKind}
 use Rattle.command_line.specs.declared.ports.SocketKind.TheVariants.{Tcp, Listen, Udp, UdpListen}
+use Rattle.command_line.specs.declared.ports.FilesKind.{FilesKind}
+use Rattle.command_line.specs.declared.ports.FilesKind.TheVariants.{File, Replay}
 use Rattle.command_line.specs.Numbers.{IsNumber}
 
 abbrev pub is_colon : ℕ → Bool
@@ -27,13 +29,18 @@ pub record IsSocket (word : List ℕ) : Type 0 where
   pub is_number : IsNumber 1 65535 number
   pub word_is : word ≡ kind_word kind ++ 58 ∷ (host ++ 58 ∷ number)
 
--- file:IN:OUT
+abbrev pub files_word : FilesKind → List ℕ
+files_word File = codes "file"
+files_word Replay = codes "replay"
+
+-- file:IN:OUT, or replay:IN:OUT, where IN is a telemetry log
 pub record IsFiles (word : List ℕ) : Type 0 where
+  pub kind : FilesKind
   pub input : List ℕ
   pub output : List ℕ
   pub is_input : IsPart input
   pub is_output : IsPart output
-  pub word_is : word ≡ codes "file" ++ 58 ∷ (input ++ 58 ∷ output)
+  pub word_is : word ≡ files_word kind ++ 58 ∷ (input ++ 58 ∷ output)
 
 abbrev pub IsPort : List ℕ → Type 0
 IsPort word = IsSocket word ⊎ IsFiles word

@@ -26,5 +26,5 @@ pub use faults::WantedFault;
 pub use laws::at_most_one_line;
 pub use lines::{Line, Setting};
 pub use operations::{Operation, PlanWord, Task};
-pub use ports::{Files, Port, Socket, SocketKind, Target};
+pub use ports::{Files, FilesKind, Port, Socket, SocketKind, Target};
 pub use reading::read;

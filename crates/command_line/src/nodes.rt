@@ -21,20 +21,32 @@ fn node(word: &str) -> Option<u8>
 }
 
 // COMP DRONE OP..
-fn read_task(file_given: bool, component: &str, drone: &str, words: &[String]) -> Option<Task>
-    ensures { result ≡ task_in file_given component.now drone.now (map string_bytes words.now) }
+fn read_task(
+    alloc: Global,
+    file_given: bool,
+    component: &str,
+    drone: &str,
+    words: &[String],
+) -> Result<Option<Task>, AllocError>
+    ensures { IfOk result (λ task. task ≡ task_in file_given component.now drone.now (map string_bytes words.now)) }
 {
-    let component = node(component)?;
-    let drone = node(drone)?;
-    let operation = read_operation(words)?;
-    if file_given == operation.is_upload() {
-        Some(Task {
+    let Some(component) = node(component) else {
+        return Ok(None);
+    };
+    let Some(drone) = node(drone) else {
+        return Ok(None);
+    };
+    let Some(operation) = read_operation(alloc, words)? else {
+        return Ok(None);
+    };
+    if file_given == operation.needs_file() {
+        Ok(Some(Task {
             component,
             drone,
             operation,
-        })
+        }))
     } else {
-        None
+        Ok(None)
     }
 }
 
@@ -86,7 +98,14 @@ pub(crate) fn read_station(
     let Some(system) = node(system.as_str()) else {
         return Ok(None);
     };
-    let Some(task) = read_task(file_given, component.as_str(), drone.as_str(), operation) else {
+    let Some(task) = read_task(
+        alloc,
+        file_given,
+        component.as_str(),
+        drone.as_str(),
+        operation,
+    )?
+    else {
         return Ok(None);
     };
     let Some(ports) = one_port(alloc, port.as_str())? else {

@@ -1,13 +1,15 @@
 // What a station does, and how its words are read.
-ghost use Rattle.std.specs.Prelude.{◌≡◌, ◌≤◌, ◌++◌, map, length, drop, string_bytes};
+ghost use Rattle.std.specs.Prelude.{◌≡◌, ◌≤◌, ◌++◌, map, length, drop, string_bytes, option_map, IfOk};
 ghost use Rattle.std.specs.List.{list_all};
 ghost use Rattle.std.specs.Str.{bytes_eq};
 ghost use Rattle.command_line.specs.Numbers.{number_in, is_digit, is_visible};
 ghost use Rattle.command_line.specs.OperationTexts.{plan_word, plan_named, cleared_named, is_wire, wire_in};
-ghost use Rattle.command_line.specs.OperationTexts.{padded, is_parameter, parameter_in, order_of, setting_of};
-ghost use Rattle.command_line.specs.OperationTexts.{two_words, three_words, five_words, operation_in, is_upload};
+ghost use Rattle.command_line.specs.OperationTexts.{padded, is_parameter, parameter_in, order_of, setting_of, file_named};
+ghost use Rattle.command_line.specs.OperationTexts.{two_words, three_words, five_words, operation_in, needs_file, is_on_files};
 
 use crate::numbers::number;
+use field_layout::Label;
+use std::alloc::{AllocError, Global};
 
 /// A kind of plan.
 #[derive(Clone, Copy)]
@@ -18,7 +20,7 @@ pub enum PlanWord {
 }
 
 /// What a station does with its drone.
-#[derive(Clone, Copy)]
+#[derive(Drop)]
 pub enum Operation {
     Upload(PlanWord),
     Get(PlanWord),
@@ -40,10 +42,15 @@ pub enum Operation {
         kind: u8,
         word: [u8; 4],
     },
+    FileList,
+    /// The file of this name on the drone, which is any word.
+    FileGet(Label),
+    FilePut(Label),
+    FileRemove(Label),
 }
 
 /// What a station is told beside its system and its port.
-#[derive(Clone, Copy)]
+#[derive(Drop)]
 pub struct Task {
     pub component: u8,
     /// The system of its drone.
@@ -67,10 +74,23 @@ impl PlanWord {
 
 impl Operation {
     /// Whether it takes a file of this machine.
-    pub(crate) fn is_upload(&self) -> bool
-        ensures { result ≡ is_upload self.now }
+    pub(crate) fn needs_file(&self) -> bool
+        ensures { result ≡ needs_file self.now }
     {
-        matches!(self, Operation::Upload(_))
+        matches!(self, Operation::Upload(_) | Operation::FilePut(_))
+    }
+
+    /// Whether it is one on the files of a drone.
+    pub fn is_on_files(&self) -> bool
+        ensures { result ≡ is_on_files self.now }
+    {
+        matches!(
+            self,
+            Operation::FileList
+                | Operation::FileGet(_)
+                | Operation::FilePut(_)
+                | Operation::FileRemove(_)
+        )
     }
 }
 
@@ -212,21 +232,58 @@ fn two_words(name: &str, word: &str) -> Option<Operation>
     if name == "param" && word == "list" {
         return Some(Operation::ParamList);
     }
+    if name == "file" && word == "list" {
+        return Some(Operation::FileList);
+    }
     None
 }
 
-fn three_words(name: &str, first: &str, second: &str) -> Option<Operation>
-    ensures { result ≡ three_words name.now first.now second.now }
+fn label(alloc: Global, word: &str) -> Result<Label, AllocError>
+    ensures { IfOk result (λ label. label ≡ word.now) }
+{
+    Ok(Label::new(word.as_bytes().to_vec(alloc)?))
+}
+
+// What is done with the file of a name on the drone.
+fn file_named(alloc: Global, way: &str, name: &str) -> Result<Option<Operation>, AllocError>
+    ensures { IfOk result (λ operation. operation ≡ file_named way.now name.now) }
+{
+    if way == "get" {
+        return Ok(Some(Operation::FileGet(label(alloc, name)?)));
+    }
+    if way == "put" {
+        return Ok(Some(Operation::FilePut(label(alloc, name)?)));
+    }
+    if way == "remove" {
+        return Ok(Some(Operation::FileRemove(label(alloc, name)?)));
+    }
+    Ok(None)
+}
+
+fn reading(id: &str) -> Option<Operation>
+    ensures { result ≡ option_map Operation.ParamRead (parameter_in id.now) }
+{
+    Some(Operation::ParamRead { id: parameter(id)? })
+}
+
+fn three_words(
+    alloc: Global,
+    name: &str,
+    first: &str,
+    second: &str,
+) -> Result<Option<Operation>, AllocError>
+    ensures { IfOk result (λ operation. operation ≡ three_words name.now first.now second.now) }
 {
     if name == "command" {
-        return order(first, second);
+        return Ok(order(first, second));
     }
     if name == "param" && first == "read" {
-        return Some(Operation::ParamRead {
-            id: parameter(second)?,
-        });
+        return Ok(reading(second));
     }
-    None
+    if name == "file" {
+        return file_named(alloc, first, second);
+    }
+    Ok(None)
 }
 
 fn five_words(name: &str, way: &str, id: &str, kind: &str, word: &str) -> Option<Operation>
@@ -238,20 +295,25 @@ fn five_words(name: &str, way: &str, id: &str, kind: &str, word: &str) -> Option
     None
 }
 
-/// The operation that words are, if they are one that is built.
-pub(crate) fn read_operation(words: &[String]) -> Option<Operation>
-    ensures { result ≡ operation_in (map string_bytes words.now) }
+/// The operation that words are, if they are one.
+pub(crate) fn read_operation(
+    alloc: Global,
+    words: &[String],
+) -> Result<Option<Operation>, AllocError>
+    ensures { IfOk result (λ operation. operation ≡ operation_in (map string_bytes words.now)) }
 {
     match words {
-        [name, word] => two_words(name.as_str(), word.as_str()),
-        [name, first, second] => three_words(name.as_str(), first.as_str(), second.as_str()),
-        [name, way, id, kind, word] => five_words(
+        [name, word] => Ok(two_words(name.as_str(), word.as_str())),
+        [name, first, second] => {
+            three_words(alloc, name.as_str(), first.as_str(), second.as_str())
+        }
+        [name, way, id, kind, word] => Ok(five_words(
             name.as_str(),
             way.as_str(),
             id.as_str(),
             kind.as_str(),
             word.as_str(),
-        ),
-        _ => None,
+        )),
+        _ => Ok(None),
     }
 }

@@ -1,10 +1,10 @@
 // The ports of a line.
-ghost use Rattle.std.specs.Prelude.{◌≡◌, ◌∷◌, ◌++◌, ℕ, Bool, List, true, false, map, string_bytes, codes, is_some, IfOk, IfSome};
+ghost use Rattle.std.specs.Prelude.{◌≡◌, ◌∷◌, ◌++◌, ℕ, Bool, List, true, false, map, string_bytes, is_some, None, IfOk, IfSome};
 ghost use Rattle.std.specs.List.{list_all, list_any};
 ghost use Rattle.std.specs.Option.{MatchOption};
 ghost use Rattle.command_line.specs.Numbers.{number_in};
-ghost use Rattle.command_line.specs.Ports.{is_colon, kind_word, open_word};
-ghost use Rattle.command_line.specs.PortTexts.{IsRead, has_colon, before_colon, after_colon, is_part, kind_named};
+ghost use Rattle.command_line.specs.Ports.{is_colon, kind_word, files_word, open_word};
+ghost use Rattle.command_line.specs.PortTexts.{IsRead, has_colon, before_colon, after_colon, is_part, kind_named, files_named};
 ghost use Rattle.command_line.specs.PortTexts.{is_end, is_rest, is_port, is_marked, is_router_port, target_text, port_text};
 
 use crate::forms::is_some_text;
@@ -32,9 +32,19 @@ pub struct Socket {
     pub number: u16,
 }
 
+/// What a file that is read holds.
+#[derive(Clone, Copy, Debug)]
+pub enum FilesKind {
+    /// The bytes of a link.
+    File,
+    /// A telemetry log, whose frames are played.
+    Replay,
+}
+
 /// The names of a file that is read and of one that is written.
 #[derive(Debug, Drop)]
 pub struct Files {
+    pub kind: FilesKind,
     pub input: String,
     pub output: String,
 }
@@ -79,6 +89,25 @@ fn kind_named(word: &str) -> Option<SocketKind>
     KINDS.iter().copied().find(|kind| word == kind.word())
 }
 
+const FILES_KINDS: [FilesKind; 2] = [FilesKind::File, FilesKind::Replay];
+
+impl FilesKind {
+    fn word(self) -> &'static str
+        ensures { result.now ≡ files_word self }
+    {
+        match self {
+            FilesKind::File => "file",
+            FilesKind::Replay => "replay",
+        }
+    }
+}
+
+fn files_named(word: &str) -> Option<FilesKind>
+    ensures { result ≡ files_named word.now }
+{
+    FILES_KINDS.iter().copied().find(|kind| word == kind.word())
+}
+
 // What comes before the first colon, and after it.
 fn split_colon(word: &str) -> Option<(&str, &str)>
     ensures { MatchOption result (has_colon word.now ≡ false)
@@ -120,17 +149,39 @@ fn read_socket(
     })))
 }
 
-fn read_files(alloc: Global, input: &str, output: &str) -> Result<Option<Target>, AllocError>
+fn read_files(
+    alloc: Global,
+    kind: FilesKind,
+    input: &str,
+    output: &str,
+) -> Result<Option<Target>, AllocError>
     ensures { IfOk result (IsRead target_text (is_part output.now)
-        (codes "file" ++ 58 ∷ (input.now ++ 58 ∷ output.now))) }
+        (files_word kind ++ 58 ∷ (input.now ++ 58 ∷ output.now))) }
 {
     if !is_part(output) {
         return Ok(None);
     }
     Ok(Some(Target::Files(Files {
+        kind,
         input: String::from_str(alloc, input)?,
         output: String::from_str(alloc, output)?,
     })))
+}
+
+// A kind of files, and what is between two colons and after them.
+fn read_named_files(
+    alloc: Global,
+    kind: &str,
+    begin: &str,
+    end: &str,
+) -> Result<Option<Target>, AllocError>
+    ensures { IfOk result (IsRead target_text (is_end None kind.now end.now)
+        (kind.now ++ 58 ∷ (begin.now ++ 58 ∷ end.now))) }
+{
+    match files_named(kind) {
+        Some(kind) => read_files(alloc, kind, begin, end),
+        None => Ok(None),
+    }
 }
 
 // A kind, and what is between two colons and after them.
@@ -145,8 +196,7 @@ fn read_parts(
 {
     match kind_named(kind) {
         Some(kind) => read_socket(alloc, kind, begin, end),
-        None if kind == "file" => read_files(alloc, begin, end),
-        None => Ok(None),
+        None => read_named_files(alloc, kind, begin, end),
     }
 }
 
