@@ -11,9 +11,10 @@ mod ports;
 
 use mav_links::Link;
 use mav_ports::{StdClock, StdSink, StdSource};
-use plan_store::{FailKeeper, FileKeeper};
-use ports::{file_link, tcp_link, udp_link, wait_of};
-use station_cli::{Inputs, SocketKind, Store, Target, Wanted, WantedFault, run, wanted};
+use plan_store::FailKeeper;
+use ports::{file_link, replay_link, tcp_link, udp_link, wait_of};
+use slot_store::FileStore;
+use station_cli::{FilesKind, Inputs, SocketKind, Store, Target, Wanted, WantedFault, run, wanted};
 use std::alloc::AllocError;
 use std::fs::File;
 use std::io::{ErrorKind, Read, Stdin};
@@ -108,9 +109,14 @@ fn run_ports(
     let mut ports: Vec<Box<dyn Link>> = Vec::new(rt.alloc());
     for port in &wanted.ports {
         match &port.target {
-            Target::Files(files) => {
-                ports.push(Box::new(rt.alloc(), file_link(rt, files)?)?)?;
-            }
+            Target::Files(files) => match files.kind {
+                FilesKind::File => {
+                    ports.push(Box::new(rt.alloc(), file_link(rt, files)?)?)?;
+                }
+                FilesKind::Replay => {
+                    ports.push(Box::new(rt.alloc(), replay_link(rt, files)?)?)?;
+                }
+            },
             Target::Socket(socket) => match socket.kind {
                 SocketKind::Tcp | SocketKind::Listen => {
                     ports.push(Box::new(rt.alloc(), tcp_link(rt, socket, wait)?)?)?;
@@ -142,7 +148,7 @@ fn run_stores(
             Ok(run_over(rt, words, inputs, ports, &mut stores))
         }
         Some(name) => {
-            let keeper = FileKeeper::new(*rt, rt.alloc(), name.as_str())?;
+            let keeper = FileStore::open(rt, name.as_str())?;
             stores.push(Box::new(rt.alloc(), keeper)?)?;
             Ok(run_over(rt, words, inputs, ports, &mut stores))
         }

@@ -1,5 +1,7 @@
 // The ports that the words name. One that can't be opened fails at each call.
+use log_replay::Replay;
 use mav_links::{ClosingStream, FileLink, TcpLink, UdpLink};
+use mav_profile::profile_extras;
 use station_cli::{Files, Socket, SocketKind};
 use std::alloc::AllocError;
 use std::fs::File;
@@ -37,6 +39,15 @@ pub fn file_link(rt: &HostRuntime, files: &Files) -> Result<FileLink<File, File>
     let input = made(fs::open(rt, files.input.as_str()))?;
     let output = made(fs::create(rt, files.output.as_str()))?;
     Ok(FileLink::new(input, output))
+}
+
+/// The link that plays the telemetry log in the file that is read, with the messages of the profile.
+pub fn replay_link(
+    rt: &HostRuntime,
+    files: &Files,
+) -> Result<Replay<FileLink<File, File>>, AllocError> {
+    let link = file_link(rt, files)?;
+    Ok(Replay::new(link, profile_extras(rt.alloc())?))
 }
 
 // Small writes are sent at once.

@@ -20,3 +20,4 @@ pub mod TurnEnds
 pub mod Ordering
 pub mod Watching
 pub mod StationRuns
+pub mod Giving

@@ -7,12 +7,13 @@ use Rattle.plan_upload.specs.declared.faults.OpFault.TheVariants.{Busy, EmptyPla
 use Rattle.plan_upload.specs.Station.{StationState}
 use Rattle.plan_upload.specs.Refusals.{first_of, refusal}
 use Rattle.mav_nodes.specs.declared.orders.Order.{Order}
-use Rattle.mav_nodes.specs.declared.orders.Order.TheVariants.{Begin as BeginOrder, Cancel, Clear, Get, Command as CommandOrder, ParamRead, ParamSet, ParamList}
+use Rattle.mav_nodes.specs.declared.orders.Order.TheVariants.{Begin as BeginOrder, Cancel, Clear, Get, Command as CommandOrder, ParamRead, ParamSet, ParamList, File as FileOrder}
 use Rattle.mav_nodes.specs.declared.faults.NodeFault.{NodeFault}
 use Rattle.mav_nodes.specs.declared.faults.NodeFault.TheVariants.{StampsSpent as NoStamp, Store, NoMemory as NoNodeMemory}
 use Rattle.mav_nodes.specs.declared.faults.OrderFault.{OrderFault}
-use Rattle.mav_nodes.specs.declared.faults.OrderFault.TheVariants.{Begin, Op, Command, Param, Node as NodeFails}
-use Rattle.mav_nodes.specs.Nodes.{StationSide, StationView, IsStation, IsAccepted, order_refusal, order_fault, command_refusal, params_refusal}
+use Rattle.mav_nodes.specs.declared.faults.OrderFault.TheVariants.{Begin, Op, Command, Param, File, Node as NodeFails}
+use Rattle.mav_ftp.specs.declared.client.faults.FtpFault.{FtpFault}
+use Rattle.mav_nodes.specs.Nodes.{StationSide, StationView, IsStation, IsAccepted, order_refusal, order_fault, command_refusal, params_refusal, file_refusal}
 use Rattle.mav_nodes.specs.Promises.{OrderFails}
 use Rattle.fleet_world.specs.WorldState.{Node, Drone, Station}
 use Rattle.fleet_world.specs.Steps.{as_station}
@@ -35,11 +36,12 @@ use Rattle.mav_nodes.proofs.StoreCalls.{serves_same}
 
 -- ---- refusals
 
-none_of : (x : Option OpFault) (y : Option ℕ) (z : Bool) → x ≡ None → y ≡ None → z ≡ false → (is_some x || (is_some y || z)) ≡ false
-none_of None None false e f h = refl
-none_of (Some fault) y z e f h = cc
-none_of None (Some number) z e f h = cc
-none_of None None true e f h = cc
+none_of : (x : Option OpFault) (y : Option ℕ) (z : Bool) (w : Option FtpFault) → x ≡ None → y ≡ None → z ≡ false → w ≡ None → (is_some x || (is_some y || (z || is_some w))) ≡ false
+none_of None None false None e f h i = refl
+none_of (Some fault) y z w e f h i = cc
+none_of None (Some number) z w e f h i = cc
+none_of None None true w e f h i = cc
+none_of None None false (Some fault) e f h i = cc
 
 by_core : (x : Option OpFault) (fault : OpFault) (more : Bool) → x ≡ Some fault → (is_some x || more) ≡ true
 by_core None fault more e = cc
@@ -50,17 +52,26 @@ by_command true y number z e = refl
 by_command false None number z e = cc
 by_command false (Some other) number z e = refl
 
-by_params : (x y z : Bool) → z ≡ true → (x || (y || z)) ≡ true
-by_params true y z e = refl
-by_params false true z e = refl
-by_params false false z e = e
+by_params : (x y z w : Bool) → z ≡ true → (x || (y || (z || w))) ≡ true
+by_params true y z w e = refl
+by_params false true z w e = refl
+by_params false false true w e = refl
+by_params false false false w e = cc
+
+by_file : (x y z : Bool) (w : Option FtpFault) (fault : FtpFault) → w ≡ Some fault → (x || (y || (z || is_some w))) ≡ true
+by_file true y z w fault e = refl
+by_file false true z w fault e = refl
+by_file false false true w fault e = refl
+by_file false false false None fault e = cc
+by_file false false false (Some other) fault e = refl
 
 accepts : (order : Order) (view : StationView) (n : StationSide) → IsStation n view → IsAccepted view order → station_refuses n order ≡ false
 accepts order view n is a =
-    none_of (order_refusal n.core order) (command_refusal n.services order) (params_refusal n.services order)
+    none_of (order_refusal n.core order) (command_refusal n.services order) (params_refusal n.services order) (file_refusal n.services order)
     (ap (λ s. order_refusal s order) (sym is.station) ∙ a.plan)
     (ap (λ v. command_refusal v order) (sym is.services) ∙ a.command)
     (ap (λ v. params_refusal v order) (sym is.services) ∙ a.params)
+    (ap (λ v. file_refusal v order) (sym is.services) ∙ a.file)
 
 -- a station follows it
 pub station_accepts : (order : Order) (view : StationView) (self : LiveNode) → self ≡ LiveStation view → IsAccepted view order → (node : Node) → IsLive node self → node_refuses node order ≡ false
@@ -126,6 +137,7 @@ core_refuses (CommandOrder drone number word) s fault e end = never_fails fault 
 core_refuses (ParamRead drone id) s fault e end = never_fails fault _ e
 core_refuses (ParamSet drone param) s fault e end = never_fails fault _ e
 core_refuses (ParamList drone) s fault e end = never_fails fault _ e
+core_refuses (FileOrder drone op) s fault e end = never_fails fault _ e
 
 fails : (clock : ℕ) (order : Order) (view : StationView) (fault : OrderFault) → OrderFails clock order view fault → (n : StationSide) → IsStation n view → OrderFailsAt clock order (Station n) fault
 fails clock order view (Begin f) h n is = record {
@@ -141,7 +153,11 @@ fails clock order view (Command busy) h n is = record {
   spent = λ e. absurd (refused_not_stamps e);
 }
 fails clock order view (Param busy) h n is = record {
-  refused = λ e. by_params (is_some (order_refusal n.core order)) (is_some (command_refusal n.services order)) (params_refusal n.services order) (ap (λ v. params_refusal v order) (sym is.services) ∙ h);
+  refused = λ e. by_params (is_some (order_refusal n.core order)) (is_some (command_refusal n.services order)) (params_refusal n.services order) (is_some (file_refusal n.services order)) (ap (λ v. params_refusal v order) (sym is.services) ∙ h);
+  spent = λ e. absurd (refused_not_stamps e);
+}
+fails clock order view (File fault) h n is = record {
+  refused = λ e. by_file (is_some (order_refusal n.core order)) (is_some (command_refusal n.services order)) (params_refusal n.services order) (file_refusal n.services order) fault (ap (λ v. file_refusal v order) (sym is.services) ∙ h);
   spent = λ e. absurd (refused_not_stamps e);
 }
 fails clock order view (NodeFails NoStamp) h n is = record {
@@ -169,6 +185,7 @@ order_not_store clock order view (Begin f) h e = op_not_store f.why e
 order_not_store clock order view (Op f) h e = op_not_store f e
 order_not_store clock order view (Command busy) h e = refused_not_store e
 order_not_store clock order view (Param busy) h e = refused_not_store e
+order_not_store clock order view (File fault) h e = refused_not_store e
 order_not_store clock order view (NodeFails NoStamp) h e = cc
 order_not_store clock order view (NodeFails Store) h e = h.1
 order_not_store clock order view (NodeFails NoNodeMemory) h e = cc
@@ -187,6 +204,7 @@ order_ends (Begin f) h = op_ends f.why
 order_ends (Op f) h = op_ends f
 order_ends (Command busy) h = tt
 order_ends (Param busy) h = tt
+order_ends (File fault) h = tt
 order_ends (NodeFails NoStamp) h = tt
 order_ends (NodeFails Store) h = absurd (h refl)
 order_ends (NodeFails NoNodeMemory) h = tt
@@ -213,6 +231,7 @@ order_counts (Begin f) port out = op_counts f.why port out
 order_counts (Op f) port out = op_counts f port out
 order_counts (Command busy) port out = (refl, refl)
 order_counts (Param busy) port out = (refl, refl)
+order_counts (File fault) port out = (refl, refl)
 order_counts (NodeFails NoStamp) port out = (refl, refl)
 order_counts (NodeFails Store) port out = (refl, refl)
 order_counts (NodeFails NoNodeMemory) port out = refl

@@ -34,7 +34,7 @@ use Rattle.live_node.specs.Runs.{Outside, outside, Stores, MayRest, IsWhole}
 use Rattle.live_node.specs.Drones.{mem_stores}
 use Rattle.live_node.specs.Orders.{node_refuses, refused_end}
 use Rattle.live_node.specs.Progress.{Output, Between, CallStopped, Opened}
-use Rattle.live_node.specs.Stations.{verdict, judged, Awaited, HasEnded, StationEnds, IsOrderEnd, IsWaitedEnd, IsStationEnd, StationLived, StationRan, stream_asked}
+use Rattle.live_node.specs.Stations.{verdict, judged, Awaited, HasEnded, StationEnds, IsOrderEnd, IsWaitedEnd, IsStationEnd, StationLived, StationRan, Gives, stream_asked}
 use Rattle.live_node.specs.Waiting.{OrderStopped, WatchDone, WatchStopped, Outlasted, OutlastStopped, WaitedFor}
 use Rattle.live_node.proofs.Openings.{cut_off}
 use Rattle.live_node.proofs.Runs.{run_over, still_self, stopped_in_opening}
@@ -47,47 +47,47 @@ may_rest allowed [] h = tt
 may_rest allowed (r ∷ rests) h = h
 
 -- a wait of which no call is left
-wait_over : {S : Type 0} (stores : Stores S) (before now : S) (plan : StationPlan) (start : Node) (opening : List LiveCall) (end : Option RunEnd) (turns : List Turn) (rests : List Rest) (live : LiveNode) (t : Teller) (first last : Outside) → (end ≡ Some (Stopped StampsSpent) → ⊥) → (end ≡ Some (Live StoreFault) → ⊥) → IsWhole end [] → StationEnds plan end turns (verdict plan.ticks t.ticks t.ending) → MayRest (HasEnded last.link) rests → Awaited plan.ticks start opening turns rests → Between stores before now start opening turns rests live t first last → WaitedFor stores before now plan start opening end first last
-wait_over stores before now plan start opening end turns rests live t first last stamps store whole ends rested awaited b =
+wait_over : {S : Type 0} (stores : Stores S) (before now : S) (plan : StationPlan) (start : Node) (opening : List LiveCall) (ended : Result (List ℕ) RunEnd) (turns : List Turn) (rests : List Rest) (live : LiveNode) (t : Teller) (first last : Outside) → (result_err ended ≡ Some (Stopped StampsSpent) → ⊥) → (result_err ended ≡ Some (Live StoreFault) → ⊥) → IsWhole (result_err ended) [] → StationEnds plan ended turns (verdict plan.ticks t.ticks t.ending) → MayRest (HasEnded last.link) rests → Awaited plan.ticks start opening turns rests → Between stores before now start opening turns rests live t first last → WaitedFor stores before now plan start opening ended first last
+wait_over stores before now plan start opening ended turns rests live t first last stamps store whole ends rested awaited b =
     let o = b.output in
     record {
       turns = turns;
       rests = rests;
       rested = rested;
-      at = run_over stores before now start end opening turns rests live t first last last stamps store (still_self last) b;
+      at = run_over stores before now start (result_err ended) opening turns rests live t first last last stamps store (still_self last) b;
       whole = whole;
       ends =
-          subst (λ (n : ℕ). StationEnds plan end turns (verdict plan.ticks n (ending_over None o.events))) o.ticks
-          (subst (λ (e : Option Ending). StationEnds plan end turns (verdict plan.ticks t.ticks e)) o.ending ends);
+          subst (λ (n : ℕ). StationEnds plan ended turns (verdict plan.ticks n (ending_over None o.events))) o.ticks
+          (subst (λ (e : Option Ending). StationEnds plan ended turns (verdict plan.ticks t.ticks e)) o.ending ends);
       awaited = awaited;
     }
 
 -- by the verdict
-waited : {S : Type 0} (stores : Stores S) (before now : S) (plan : StationPlan) (start : Node) (opening : List LiveCall) (turns : List Turn) (rests : List Rest) (live : LiveNode) (t : Teller) (first last : Outside) → (verdict plan.ticks t.ticks t.ending ≡ None → length turns ≡ plan.turns) → MayRest (HasEnded last.link) rests → Awaited plan.ticks start opening turns rests → Between stores before now start opening turns rests live t first last → WaitedFor stores before now plan start opening (result_err (judged plan (verdict plan.ticks t.ticks t.ending))) first last
+waited : {S : Type 0} (stores : Stores S) (before now : S) (plan : StationPlan) (start : Node) (opening : List LiveCall) (turns : List Turn) (rests : List Rest) (live : LiveNode) (t : Teller) (first last : Outside) → (verdict plan.ticks t.ticks t.ending ≡ None → length turns ≡ plan.turns) → MayRest (HasEnded last.link) rests → Awaited plan.ticks start opening turns rests → Between stores before now start opening turns rests live t first last → WaitedFor stores before now plan start opening (judged plan (verdict plan.ticks t.ticks t.ending)) first last
 waited stores before now plan start opening turns rests live t first last number rested awaited b = by_ending t.ending refl
   where
-    over : (end : Option RunEnd) → (end ≡ Some (Stopped StampsSpent) → ⊥) → (end ≡ Some (Live StoreFault) → ⊥) → IsWhole end [] → StationEnds plan end turns (verdict plan.ticks t.ticks t.ending) → WaitedFor stores before now plan start opening end first last
-    over end stamps store whole ends = wait_over stores before now plan start opening end turns rests live t first last stamps store whole ends rested awaited b
+    over : (ended : Result (List ℕ) RunEnd) → (result_err ended ≡ Some (Stopped StampsSpent) → ⊥) → (result_err ended ≡ Some (Live StoreFault) → ⊥) → IsWhole (result_err ended) [] → StationEnds plan ended turns (verdict plan.ticks t.ticks t.ending) → WaitedFor stores before now plan start opening ended first last
+    over ended stamps store whole ends = wait_over stores before now plan start opening ended turns rests live t first last stamps store whole ends rested awaited b
 
-    Goal : Option (Result (Unit {0}) RunEnd) → Type 0
-    Goal said = WaitedFor stores before now plan start opening (result_err (judged plan said)) first last
+    Goal : Option (Result (List ℕ) RunEnd) → Type 0
+    Goal said = WaitedFor stores before now plan start opening (judged plan said) first last
 
     turned : verdict plan.ticks t.ticks t.ending ≡ None → Goal None
-    turned e = over (Some (Live (PortTurns plan.turns))) (λ f. cc) (λ f. cc) refl (e, refl, number e)
+    turned e = over (Err (Live (PortTurns plan.turns))) (λ f. cc) (λ f. cc) refl (e, refl, number e)
 
-    none : verdict plan.ticks t.ticks t.ending ≡ Some (Ok tt) → Goal (Some (Ok tt))
-    none e = over None (λ f. cc) (λ f. cc) refl e
+    none : (bytes : List ℕ) → verdict plan.ticks t.ticks t.ending ≡ Some (Ok bytes) → Goal (Some (Ok bytes))
+    none bytes e = over (Ok bytes) (λ f. cc) (λ f. cc) refl e
 
     refused : (code : ℕ) → verdict plan.ticks t.ticks t.ending ≡ Some (Err (Live (RefusedWith code))) → Goal (Some (Err (Live (RefusedWith code))))
-    refused code e = over (Some (Live (RefusedWith code))) (λ f. cc) (λ f. cc) refl e
+    refused code e = over (Err (Live (RefusedWith code))) (λ f. cc) (λ f. cc) refl e
 
     unanswered : (n : ℕ) → verdict plan.ticks t.ticks t.ending ≡ Some (Err (Live (NoAnswer n))) → Goal (Some (Err (Live (NoAnswer n))))
-    unanswered n e = over (Some (Live (NoAnswer n))) (λ f. cc) (λ f. cc) refl e
+    unanswered n e = over (Err (Live (NoAnswer n))) (λ f. cc) (λ f. cc) refl e
 
     said : (ending : Option Ending) → t.ending ≡ ending → verdict plan.ticks t.ticks t.ending ≡ verdict plan.ticks t.ticks ending
     said ending e = ap (λ (x : Option Ending). verdict plan.ticks t.ticks x) e
 
-    to : (one : Option (Result (Unit {0}) RunEnd)) → verdict plan.ticks t.ticks t.ending ≡ one → Goal one → Goal (verdict plan.ticks t.ticks t.ending)
+    to : (one : Option (Result (List ℕ) RunEnd)) → verdict plan.ticks t.ticks t.ending ≡ one → Goal one → Goal (verdict plan.ticks t.ticks t.ending)
     to one e h = subst Goal (sym e) h
 
     by_test : t.ending ≡ None → (few : Bool) → nat_lt t.ticks plan.ticks ≡ few → Goal (verdict plan.ticks t.ticks t.ending)
@@ -95,21 +95,21 @@ waited stores before now plan start opening turns rests live t first last number
     by_test e false f = let v : verdict plan.ticks t.ticks t.ending ≡ Some (Err (Live (NoAnswer plan.ticks))) = said None e ∙ rw f refl in to (Some (Err (Live (NoAnswer plan.ticks)))) v (unanswered plan.ticks v)
 
     by_ending : (ending : Option Ending) → t.ending ≡ ending → Goal (verdict plan.ticks t.ticks t.ending)
-    by_ending (Some Done) e = to (Some (Ok tt)) (said (Some Done) e) (none (said (Some Done) e))
+    by_ending (Some (Done bytes)) e = to (Some (Ok bytes)) (said (Some (Done bytes)) e) (none bytes (said (Some (Done bytes)) e))
     by_ending (Some (Refused code)) e = to (Some (Err (Live (RefusedWith code)))) (said (Some (Refused code)) e) (refused code (said (Some (Refused code)) e))
     by_ending (Some Unanswered) e = to (Some (Err (Live (NoAnswer 5)))) (said (Some Unanswered) e) (unanswered 5 (said (Some Unanswered) e))
     by_ending None e = by_test e (nat_lt t.ticks plan.ticks) refl
 
 -- the port hadn't ended
-pub waited_turns : {S : Type 0} {stores : Stores S} {before now : S} {plan : StationPlan} {start : Node} {opening : List LiveCall} {live : LiveNode} {t : Teller} {first last : Outside} → WatchDone stores before now plan start opening live t first last → WaitedFor stores before now plan start opening (result_err (judged plan (verdict plan.ticks t.ticks t.ending))) first last
+pub waited_turns : {S : Type 0} {stores : Stores S} {before now : S} {plan : StationPlan} {start : Node} {opening : List LiveCall} {live : LiveNode} {t : Teller} {first last : Outside} → WatchDone stores before now plan start opening live t first last → WaitedFor stores before now plan start opening (judged plan (verdict plan.ticks t.ticks t.ending)) first last
 waited_turns {S} {stores} {before} {now} {plan} {start} {opening} {live} {t} {first} {last} w = waited stores before now plan start opening w.turns [] live t first last w.number tt w.awaited w.between
 
 -- it had
-pub waited_rests : {S : Type 0} {stores : Stores S} {before now : S} {plan : StationPlan} {start : Node} {opening : List LiveCall} {turns : List Turn} {live : LiveNode} {t : Teller} {first last : Outside} → Outlasted stores before now plan.ticks start opening turns live t first last → WaitedFor stores before now plan start opening (result_err (judged plan (verdict plan.ticks t.ticks t.ending))) first last
+pub waited_rests : {S : Type 0} {stores : Stores S} {before now : S} {plan : StationPlan} {start : Node} {opening : List LiveCall} {turns : List Turn} {live : LiveNode} {t : Teller} {first last : Outside} → Outlasted stores before now plan.ticks start opening turns live t first last → WaitedFor stores before now plan start opening (judged plan (verdict plan.ticks t.ticks t.ending)) first last
 waited_rests {S} {stores} {before} {now} {plan} {start} {opening} {turns} {live} {t} {first} {last} w =
     waited stores before now plan start opening turns w.rests live t first last (λ e. absurd (w.over e)) (may_rest (HasEnded last.link) w.rests (w.ended.ended, w.ended.spent)) w.awaited w.ended.between
 
-station_cut_off : (plan : StationPlan) (end : RunEnd) (turns : List Turn) (said : Option (Result (Unit {0}) RunEnd)) → IsRunEnd end → StationEnds plan (Some end) turns said
+station_cut_off : (plan : StationPlan) (end : RunEnd) (turns : List Turn) (said : Option (Result (List ℕ) RunEnd)) → IsRunEnd end → StationEnds plan (Err end) turns said
 station_cut_off plan Usage turns said h = absurd h
 station_cut_off plan (Stopped error) turns said h = tt
 station_cut_off plan ReadFault turns said h = absurd h
@@ -123,7 +123,7 @@ station_cut_off plan (Live (PortTurns most)) turns said h = absurd h
 station_cut_off plan (Live PortFault) turns said h = tt
 
 -- the run stopped in the wait
-pub watch_cut : {S : Type 0} {stores : Stores S} {before now : S} {end : RunEnd} {plan : StationPlan} {start : Node} {opening : List LiveCall} {first last : Outside} → IsRunEnd end → WatchStopped stores before now end plan start opening first last → WaitedFor stores before now plan start opening (Some end) first last
+pub watch_cut : {S : Type 0} {stores : Stores S} {before now : S} {end : RunEnd} {plan : StationPlan} {start : Node} {opening : List LiveCall} {first last : Outside} → IsRunEnd end → WatchStopped stores before now end plan start opening first last → WaitedFor stores before now plan start opening (Err end) first last
 watch_cut {S} {stores} {before} {now} {end} {plan} {start} {opening} {first} {last} is w = record {
   turns = w.turns;
   rests = [];
@@ -134,7 +134,7 @@ watch_cut {S} {stores} {before} {now} {end} {plan} {start} {opening} {first} {la
   awaited = w.awaited;
 }
 
-pub outlast_cut : {S : Type 0} {stores : Stores S} {before now : S} {end : RunEnd} {plan : StationPlan} {start : Node} {opening : List LiveCall} {turns : List Turn} {first last : Outside} → IsRunEnd end → OutlastStopped stores before now end plan.ticks start opening turns first last → WaitedFor stores before now plan start opening (Some end) first last
+pub outlast_cut : {S : Type 0} {stores : Stores S} {before now : S} {end : RunEnd} {plan : StationPlan} {start : Node} {opening : List LiveCall} {turns : List Turn} {first last : Outside} → IsRunEnd end → OutlastStopped stores before now end plan.ticks start opening turns first last → WaitedFor stores before now plan start opening (Err end) first last
 outlast_cut {S} {stores} {before} {now} {end} {plan} {start} {opening} {turns} {first} {last} is w = record {
   turns = turns;
   rests = w.rests;
@@ -163,7 +163,7 @@ run_waited_end (Live (PortTurns turns)) h = absurd h
 run_waited_end (Live PortFault) h = tt
 
 judged_end : (plan : StationPlan) (most passed : ℕ) (ending : Option Ending) → IfErr (judged plan (verdict most passed ending)) IsWaitedEnd
-judged_end plan most passed (Some Done) = tt
+judged_end plan most passed (Some (Done bytes)) = tt
 judged_end plan most passed (Some (Refused code)) = tt
 judged_end plan most passed (Some Unanswered) = tt
 judged_end plan most passed None = by_test (nat_lt passed most) refl
@@ -172,8 +172,8 @@ judged_end plan most passed None = by_test (nat_lt passed most) refl
     by_test true e = rw e tt
     by_test false e = rw e tt
 
-pub judge_end : (plan : StationPlan) (t : Teller) (said : Result (Unit {0}) RunEnd) → said ≡ judged plan (verdict plan.ticks t.ticks t.ending) → IfErr said IsWaitedEnd
-judge_end plan t said e = subst (λ (r : Result (Unit {0}) RunEnd). IfErr r IsWaitedEnd) (sym e) (judged_end plan plan.ticks t.ticks t.ending)
+pub judge_end : (plan : StationPlan) (t : Teller) (said : Result (List ℕ) RunEnd) → said ≡ judged plan (verdict plan.ticks t.ticks t.ending) → IfErr said IsWaitedEnd
+judge_end plan t said e = subst (λ (r : Result (List ℕ) RunEnd). IfErr r IsWaitedEnd) (sym e) (judged_end plan plan.ticks t.ticks t.ending)
 
 -- only a fault of the store can't end a station's run
 pub live_end : (end : RunEnd) → IsWaitedEnd end → (end ≡ Live StoreFault) ⊎ IsStationEnd end
@@ -198,8 +198,8 @@ waited_not_refused end (inr (why, e, h)) f = subst IsWaitedEnd (some_is (sym e �
     some_is : {a b : RunEnd} → ◌≡◌ {A = Option RunEnd} (Some a) (Some b) → a ≡ b
     some_is e = cc
 
-either_end : (r : Result (Unit {0}) RunEnd) → IfErr r IsWaitedEnd → (result_err r ≡ None) ⊎ ((why : RunEnd) × (result_err r ≡ Some why) × IsWaitedEnd why)
-either_end (Ok done) h = inl refl
+either_end : (r : Result (List ℕ) RunEnd) → IfErr r IsWaitedEnd → (result_err r ≡ None) ⊎ ((why : RunEnd) × (result_err r ≡ Some why) × IsWaitedEnd why)
+either_end (Ok bytes) h = inl refl
 either_end (Err end) h = inr (end, refl, h)
 
 -- ---- a heartbeat changes no refusal
@@ -234,7 +234,7 @@ one_call (x ∷ []) rest call e h = omega (arith, h)
 one_call (x ∷ y ∷ more) rest call e h = cc
 
 -- it stopped in its heartbeat
-pub stopped_in_beat : {S : Type 0} (stores : Stores S) (before now : S) (end : RunEnd) (plan : StationPlan) (order : Order) (start : Node) (first last : Outside) → IsRunEnd end → SameRead first.link last.link → CallStopped stores before now end start [] Beats first last → StationLived stores before now plan order start (Some end) first last
+pub stopped_in_beat : {S : Type 0} (stores : Stores S) (before now : S) (end : RunEnd) (plan : StationPlan) (order : Order) (start : Node) (first last : Outside) → IsRunEnd end → SameRead first.link last.link → CallStopped stores before now end start [] Beats first last → StationLived stores before now plan order start (Err end) first last
 stopped_in_beat stores before now end plan order start first last is read c =
     let s = more_to_come stores before now end start [] (Beats c.at ∷ []) (Obeys order c.at ∷ []) first last c.stopped in
     record {
@@ -269,7 +269,7 @@ order_cut_off (Live StoreFault) rest h = tt
 order_cut_off (Live (PortTurns turns)) rest h = absurd h
 order_cut_off (Live PortFault) rest h = tt
 
-order_ends_so : (plan : StationPlan) (end : RunEnd) (turns : List Turn) (said : Option (Result (Unit {0}) RunEnd)) → IsOrderEnd end → StationEnds plan (Some end) turns said
+order_ends_so : (plan : StationPlan) (end : RunEnd) (turns : List Turn) (said : Option (Result (List ℕ) RunEnd)) → IsOrderEnd end → StationEnds plan (Err end) turns said
 order_ends_so plan Usage turns said h = absurd h
 order_ends_so plan (Stopped error) turns said h = tt
 order_ends_so plan ReadFault turns said h = absurd h
@@ -282,7 +282,7 @@ order_ends_so plan (Live StoreFault) turns said h = tt
 order_ends_so plan (Live (PortTurns most)) turns said h = absurd h
 order_ends_so plan (Live PortFault) turns said h = tt
 
-pub stopped_in_order : {S : Type 0} (stores : Stores S) (before middle now : S) (end : RunEnd) (plan : StationPlan) (order : Order) (start : Node) (beat : ℕ) (live : LiveNode) (t : Teller) (first then last : Outside) → IsOrderEnd end → SameRead first.link last.link → IsTime first.time beat → (o : Output stores before middle start (Beats beat ∷ []) live t first then) → OrderStopped stores before now end start (Beats beat ∷ []) o.node order first last → StationLived stores before now plan order start (Some end) first last
+pub stopped_in_order : {S : Type 0} (stores : Stores S) (before middle now : S) (end : RunEnd) (plan : StationPlan) (order : Order) (start : Node) (beat : ℕ) (live : LiveNode) (t : Teller) (first then last : Outside) → IsOrderEnd end → SameRead first.link last.link → IsTime first.time beat → (o : Output stores before middle start (Beats beat ∷ []) live t first then) → OrderStopped stores before now end start (Beats beat ∷ []) o.node order first last → StationLived stores before now plan order start (Err end) first last
 stopped_in_order stores before middle now end plan order start beat live t first then last is read timed o c =
     let s = made_before stores before now end start [] (Beats beat ∷ []) (Obeys order c.at ∷ []) first last c.stopped in
     let keeps = beat_keeps order beat start o.node o.events o.run in
@@ -311,7 +311,7 @@ stopped_in_order stores before middle now end plan order start beat live t first
     less more h = omega (arith, h)
 
 -- it waited
-pub lived : {S : Type 0} (stores : Stores S) (before now : S) (plan : StationPlan) (order : Order) (start was : Node) (events : List NodeEvent) (beat at : ℕ) (r : Result (Unit {0}) RunEnd) (first last : Outside) → calls_do (Beats beat ∷ []) start ≡ done was events → node_refuses was order ≡ false → IfErr r IsWaitedEnd → WaitedFor stores before now plan start (Beats beat ∷ Obeys order at ∷ []) (result_err r) first last → StationLived stores before now plan order start (result_err r) first last
+pub lived : {S : Type 0} (stores : Stores S) (before now : S) (plan : StationPlan) (order : Order) (start was : Node) (events : List NodeEvent) (beat at : ℕ) (r : Result (List ℕ) RunEnd) (first last : Outside) → calls_do (Beats beat ∷ []) start ≡ done was events → node_refuses was order ≡ false → IfErr r IsWaitedEnd → WaitedFor stores before now plan start (Beats beat ∷ Obeys order at ∷ []) r first last → StationLived stores before now plan order start r first last
 lived stores before now plan order start was events beat at r first last run accepted is w = record {
   run = record {
     opening = Beats beat ∷ Obeys order at ∷ [];
@@ -354,21 +354,29 @@ opened_station stores before now key me boot view t link text time serves is str
   same = is.link.end.extras;
 }
 
+from_nothing : (contents fails : List ℕ) (before : MemStore) → contents ≡ [] → fails ≡ [] → before ≡ store_from_start contents fails → before ≡ store_from_start [] []
+from_nothing contents fails before empty sure start = start ∙ (ap (λ (c : List ℕ). store_from_start c fails) empty ∙ ap (store_from_start []) sure)
+
 -- over an empty store in memory, which never fails
-pub ran_station : (key : List ℕ) (plan : StationPlan) (order : Order) (boot : ℕ) (contents fails : List ℕ) (before after : MemStore) (end : Option RunEnd) (link : LinkState) (text : Option (List ℕ)) (asked time : Option ℕ) (last : Outside) → contents ≡ [] → fails ≡ [] → before ≡ store_from_start contents fails → asked ≡ time → IsTime time boot → StationLived mem_stores before after plan order (Station (new_station key (stream_asked plan) boot)) end (outside link text asked) last → StationRan key plan order end (outside link text time) last
-ran_station key plan order boot contents fails before after end link text asked time last empty sure start stays timed run =
-    let is : before ≡ store_from_start [] [] = start ∙ (ap (λ (c : List ℕ). store_from_start c fails) empty ∙ ap (store_from_start []) sure) in
+pub ran_station : (key : List ℕ) (plan : StationPlan) (order : Order) (boot : ℕ) (contents fails : List ℕ) (before after : MemStore) (ended : Result (List ℕ) RunEnd) (end : Option RunEnd) (link : LinkState) (text : Option (List ℕ)) (asked time : Option ℕ) (told last : Outside) → contents ≡ [] → fails ≡ [] → before ≡ store_from_start contents fails → asked ≡ time → IsTime time boot → StationLived mem_stores before after plan order (Station (new_station key (stream_asked plan) boot)) ended (outside link text asked) told → Gives ended end told last → StationRan key plan order end (outside link text time) last
+ran_station key plan order boot contents fails before after ended end link text asked time told last empty sure start stays timed run gives =
+    let is : before ≡ store_from_start [] [] = from_nothing contents fails before empty sure start in
     record {
       boot = boot;
       timed = timed;
       after = after;
+      ended = ended;
+      told = told;
       lived =
-          subst (λ (x : Option ℕ). StationLived mem_stores (store_from_start [] []) after plan order (Station (new_station key (stream_asked plan) boot)) end (outside link text x) last) stays
-          (subst (λ (s : MemStore). StationLived mem_stores s after plan order (Station (new_station key (stream_asked plan) boot)) end (outside link text asked) last) is run);
+          subst (λ (x : Option ℕ). StationLived mem_stores (store_from_start [] []) after plan order (Station (new_station key (stream_asked plan) boot)) ended (outside link text x) told) stays
+          (subst (λ (s : MemStore). StationLived mem_stores s after plan order (Station (new_station key (stream_asked plan) boot)) ended (outside link text asked) told) is run);
+      gives = gives;
     }
 
 -- so no fault of it ends the run
-pub station_ends : (r : Result (Unit {0}) RunEnd) (key : List ℕ) (plan : StationPlan) (order : Order) (first last : Outside) → StationRan key plan order (result_err r) first last → IfErr r (λ end. (end ≡ Live StoreFault) ⊎ IsStationEnd end) → IfErr r IsStationEnd
-station_ends (Ok done) key plan order first last ran h = tt
-station_ends (Err end) key plan order first last ran (inr is) = is
-station_ends (Err end) key plan order first last ran (inl e) = absurd ((ran.lived.run.at.written.store (ap Some e)).fallible refl)
+pub station_ends : (contents fails : List ℕ) (before after : MemStore) (plan : StationPlan) (order : Order) (start : Node) (ended : Result (List ℕ) RunEnd) (first last : Outside) → contents ≡ [] → fails ≡ [] → before ≡ store_from_start contents fails → StationLived mem_stores before after plan order start ended first last → IfErr ended (λ end. (end ≡ Live StoreFault) ⊎ IsStationEnd end) → IfErr ended IsStationEnd
+station_ends contents fails before after plan order start (Ok bytes) first last empty sure from lived h = tt
+station_ends contents fails before after plan order start (Err end) first last empty sure from lived (inr is) = is
+station_ends contents fails before after plan order start (Err end) first last empty sure from lived (inl e) =
+    let of_nothing = subst (λ (s : MemStore). StationLived mem_stores s after plan order start (Err end) first last) (from_nothing contents fails before empty sure from) lived in
+    absurd ((of_nothing.run.at.written.store (ap Some e)).fallible refl)

@@ -134,12 +134,12 @@ rest_ticks (r ∷ rests) before =
     omega (arith, more)
 
 -- after as many times as a station waits for there is a verdict
-few_left : (passed most : ℕ) (few : Bool) → nat_lt passed most ≡ few → ◌≡◌ {A = Option (Result (Unit {0}) RunEnd)} (if few then None else Some (Err (Live (NoAnswer most)))) None → most ≤ passed → ⊥
+few_left : (passed most : ℕ) (few : Bool) → nat_lt passed most ≡ few → ◌≡◌ {A = Option (Result (List ℕ) RunEnd)} (if few then None else Some (Err (Live (NoAnswer most)))) None → most ≤ passed → ⊥
 few_left passed most true e f h = let less = ltb-true passed most e in omega (arith, less, h)
 few_left passed most false e f h = cc
 
 no_time_left : (ending : Option Ending) (passed most : ℕ) → verdict most passed ending ≡ None → most ≤ passed → ⊥
-no_time_left (Some Done) passed most e h = cc
+no_time_left (Some (Done bytes)) passed most e h = cc
 no_time_left (Some (Refused code)) passed most e h = cc
 no_time_left (Some Unanswered) passed most e h = cc
 no_time_left None passed most e h = few_left passed most (nat_lt passed most) refl e h

@@ -4,8 +4,8 @@ use Rattle.plan_upload.specs.declared.faults.OpFault.{OpFault}
 use Rattle.plan_upload.specs.declared.faults.OpFault.TheVariants.{Busy, EmptyPlan, PingsSpent, NotFit, NoMemory as NoBuffer}
 use Rattle.mav_nodes.specs.declared.orders.Order.{Order}
 use Rattle.mav_nodes.specs.declared.faults.OrderFault.{OrderFault}
-use Rattle.mav_nodes.specs.declared.faults.OrderFault.TheVariants.{Begin, Op, Command, Param, Node as NodeFails}
-use Rattle.mav_nodes.specs.Nodes.{StationSide, order_refusal, command_refusal, params_refusal}
+use Rattle.mav_nodes.specs.declared.faults.OrderFault.TheVariants.{Begin, Op, Command, Param, File, Node as NodeFails}
+use Rattle.mav_nodes.specs.Nodes.{StationSide, order_refusal, command_refusal, params_refusal, file_refusal}
 use Rattle.fleet_world.specs.WorldState.{Node, Drone, Station}
 use Rattle.run_status.specs.declared.input_errors.Place.TheVariants.{Operation}
 use Rattle.run_status.specs.declared.input_errors.Reason.TheVariants.{Refused}
@@ -15,10 +15,12 @@ use Rattle.run_status.specs.declared.run_ends.RunEnd.TheVariants.{Stopped, NoMem
 use Rattle.live_node.specs.Calls.{node_obeys}
 use Rattle.live_node.specs.Ports.{end_by}
 
--- a station refuses an order: its core does, or a command or a question about parameters is open
+-- a station refuses an order: its core does, or a command or a question about parameters is open, or what it asks of files is
+-- refused
 abbrev pub station_refuses : StationSide → Order → Bool
 station_refuses n order =
-    is_some (order_refusal n.core order) || (is_some (command_refusal n.services order) || params_refusal n.services order)
+    is_some (order_refusal n.core order)
+    || (is_some (command_refusal n.services order) || (params_refusal n.services order || is_some (file_refusal n.services order)))
 
 abbrev pub node_refuses : Node → Order → Bool
 node_refuses (Drone n) order = false
@@ -41,6 +43,7 @@ order_end (Begin fault) = op_end fault.why
 order_end (Op fault) = op_end fault
 order_end (Command busy) = refused_end
 order_end (Param busy) = refused_end
+order_end (File fault) = refused_end
 order_end (NodeFails fault) = end_by fault
 
 -- an order isn't followed: it is refused, or no timestamp is left for its message, or there is no memory

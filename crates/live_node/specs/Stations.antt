@@ -1,6 +1,7 @@
 -- The run of a station on a port: one order, until it has its end or no more time is left for it.
 use Rattle.std.specs.Prelude.{ℕ, ◌≡◌, ◌≤◌, ◌⊎◌, nat_lt, if◌then◌else◌, true, false, List, [], ◌∷◌, ◌++◌, length, Option, Some, None, Ok, Err}
 use Rattle.std.specs.declared.result.Result.{Result}
+use Rattle.std.specs.Result.{result_err}
 use Rattle.mav_names.specs.declared.names.Stream.{Stream}
 use Rattle.mav_ports.specs.Gets.{IsSpent}
 use Rattle.mav_links.specs.Links.{LinkState}
@@ -22,19 +23,20 @@ use Rattle.live_node.specs.declared.tellers.Ending.TheVariants.{Done, Refused, U
 use Rattle.live_node.specs.Calls.{LiveCall, Beats, Obeys, calls_do, ticks_over, IsTime}
 use Rattle.live_node.specs.Turns.{Turn, Rest, calls_of, last_calls}
 use Rattle.live_node.specs.Texts.{ending_over}
+use Rattle.live_node.specs.Ports.{PrintedBy}
 use Rattle.live_node.specs.Runs.{Outside, Stores, LiveRun}
 use Rattle.live_node.specs.Drones.{mem_stores}
 use Rattle.live_node.specs.Orders.{node_refuses, refused_end}
 
--- how a run ends, if it does: by the end of its operation, or after so many ticks without one
-abbrev pub verdict : (most passed : ℕ) → Option Ending → Option (Result (Unit {0}) RunEnd)
-verdict most passed (Some Done) = Some (Ok tt)
+-- how a run ends, if it does: by the end of its operation, with the bytes that this gave, or after so many ticks without one
+abbrev pub verdict : (most passed : ℕ) → Option Ending → Option (Result (List ℕ) RunEnd)
+verdict most passed (Some (Done bytes)) = Some (Ok bytes)
 verdict most passed (Some (Refused code)) = Some (Err (Live (RefusedWith code)))
 verdict most passed (Some Unanswered) = Some (Err (Live (NoAnswer 5)))
 verdict most passed None = if nat_lt passed most then None else Some (Err (Live (NoAnswer most)))
 
 -- without one, all turns were taken
-abbrev pub judged : StationPlan → Option (Result (Unit {0}) RunEnd) → Result (Unit {0}) RunEnd
+abbrev pub judged : StationPlan → Option (Result (List ℕ) RunEnd) → Result (List ℕ) RunEnd
 judged plan None = Err (Live (PortTurns plan.turns))
 judged plan (Some said) = said
 
@@ -67,11 +69,11 @@ abbrev pub HasEnded : LinkState → Type 0
 HasEnded link = (link.ended ≡ true) × IsSpent link.left
 
 -- why a run ends: 0, 8 and 9 by the verdict, and 11 without one after so many reads
-abbrev pub StationEnds : StationPlan → Option RunEnd → List Turn → Option (Result (Unit {0}) RunEnd) → Type 0
-StationEnds plan None turns said = said ≡ Some (Ok tt)
-StationEnds plan (Some (Live (RefusedWith code))) turns said = said ≡ Some (Err (Live (RefusedWith code)))
-StationEnds plan (Some (Live (NoAnswer ticks))) turns said = said ≡ Some (Err (Live (NoAnswer ticks)))
-StationEnds plan (Some (Live (PortTurns most))) turns said = (said ≡ None) × (most ≡ plan.turns) × (length turns ≡ most)
+abbrev pub StationEnds : StationPlan → Result (List ℕ) RunEnd → List Turn → Option (Result (List ℕ) RunEnd) → Type 0
+StationEnds plan (Ok bytes) turns said = said ≡ Some (Ok bytes)
+StationEnds plan (Err (Live (RefusedWith code))) turns said = said ≡ Some (Err (Live (RefusedWith code)))
+StationEnds plan (Err (Live (NoAnswer ticks))) turns said = said ≡ Some (Err (Live (NoAnswer ticks)))
+StationEnds plan (Err (Live (PortTurns most))) turns said = (said ≡ None) × (most ≡ plan.turns) × (length turns ≡ most)
 StationEnds plan other turns said = Unit {0}
 
 -- and no other end comes
@@ -108,23 +110,44 @@ pub record OrderJudged (start : Node) (order : Order) (end : Option RunEnd) (mad
   pub refused : end ≡ Some refused_end → (node_refuses start order ≡ true) × (length made ≡ 1)
   pub accepted : 2 ≤ length made → node_refuses start order ≡ false
 
--- the run of a station that has started
-pub record StationLived {S : Type 0} (stores : Stores S) (before after : S) (plan : StationPlan) (order : Order) (start : Node) (end : Option RunEnd) (first last : Outside) : Type 0 where
-  pub run : LiveRun stores before after (IsOrdered order) HasEnded start end first last
-  pub ends : StationEnds plan end run.turns (verdict plan.ticks (ticks_over 0 run.at.made) (ending_over None run.at.written.events))
+-- the run of a station that has started, up to the bytes that its operation gave
+pub record StationLived {S : Type 0} (stores : Stores S) (before after : S) (plan : StationPlan) (order : Order) (start : Node) (ended : Result (List ℕ) RunEnd) (first last : Outside) : Type 0 where
+  pub run : LiveRun stores before after (IsOrdered order) HasEnded start (result_err ended) first last
+  pub ends : StationEnds plan ended run.turns (verdict plan.ticks (ticks_over 0 run.at.made) (ending_over None run.at.written.events))
   pub awaited : Awaited plan.ticks start run.opening run.turns run.rests
-  pub judged : OrderJudged start order end run.at.made
+  pub judged : OrderJudged start order (result_err ended) run.at.made
+
+-- the bytes of an operation are written behind all lines, and then the run is done; or the output failed, with a prefix of them
+abbrev pub IsGivingEnd : Option RunEnd → Type 0
+IsGivingEnd None = Unit {0}
+IsGivingEnd (Some WriteFault) = Unit {0}
+IsGivingEnd other = ⊥
+
+pub record GivesBytes (bytes : List ℕ) (end : Option RunEnd) (told last : Outside) : Type 0 where
+  pub is_end : IsGivingEnd end
+  pub printed : PrintedBy end told.text last.text bytes
+  pub link : last.link ≡ told.link
+  pub time : last.time ≡ told.time
+
+-- a run that has ended otherwise writes nothing more
+abbrev pub Gives : Result (List ℕ) RunEnd → Option RunEnd → (told last : Outside) → Type 0
+Gives (Ok bytes) end told last = GivesBytes bytes end told last
+Gives (Err other) end told last = (end ≡ Some other) × (last ≡ told)
 
 -- its stream
 abbrev pub stream_asked : StationPlan → Stream
 stream_asked plan = record { sys = plan.sys; comp = plan.comp; link = 0 }
 
--- a station started with a boot time by the clock, and ran; it stores nothing
+-- a station started with a boot time by the clock, and ran; it stores nothing. After its lines come the bytes that its operation
+-- gave
 pub record StationRan (key : List ℕ) (plan : StationPlan) (order : Order) (end : Option RunEnd) (first last : Outside) : Type 0 where
   pub boot : ℕ
   pub timed : IsTime first.time boot
   pub after : MemStore
-  pub lived : StationLived mem_stores (store_from_start [] []) after plan order (Station (new_station key (stream_asked plan) boot)) end first last
+  pub ended : Result (List ℕ) RunEnd
+  pub told : Outside
+  pub lived : StationLived mem_stores (store_from_start [] []) after plan order (Station (new_station key (stream_asked plan) boot)) ended first told
+  pub gives : Gives ended end told last
 
 -- or there was no memory for it: nothing was read or written
 pub record StationUnstarted (end : Option RunEnd) (first last : Outside) : Type 0 where

@@ -4,7 +4,9 @@ use Rattle.std.specs.List.{flat_map}
 use Rattle.mav_names.specs.declared.names.Name.{Name}
 use Rattle.mav_frame.specs.Encoding.{encoding}
 use Rattle.plan_upload.specs.Station.{Told, Told_installed, Told_not_installed, Told_unknown, Told_cleared, Told_got, Told_ended}
-use Rattle.mav_nodes.specs.News.{NodeEvent, Sends, Ends, Ends_command, Gives_param, Ends_params, Shown, Shows_sent}
+use Rattle.mav_nodes.specs.declared.news.FileEnd.{FileEnd}
+use Rattle.mav_nodes.specs.declared.news.FileEnd.TheVariants.{Done as Gives, Refused as Was_refused, NoAnswer}
+use Rattle.mav_nodes.specs.News.{NodeEvent, Sends, Ends, Ends_command, Gives_param, Ends_params, Ends_file, Shown, Shows_sent}
 use Rattle.fleet_report.specs.Events.{events_text}
 use Rattle.fleet_world.specs.Steps.{reported_by}
 use Rattle.live_node.specs.declared.tellers.Ending.{Ending}
@@ -35,29 +37,36 @@ lines_of name before [] = []
 lines_of name before (event ∷ events) =
     events_text false (reported_by name (min before (2 ^ 64 - 2)) (event ∷ [])) ++ lines_of name (count_with before event) events
 
--- how an operation of a station ends: an upload of unknown fate is one that the drone refused with 1
+-- how an operation of a station ends, and which bytes it gives: an upload of unknown fate is one that the drone refused with 1
 abbrev pub ending_told : Told → Ending
-ending_told Told_installed = Done
+ending_told Told_installed = Done []
 ending_told (Told_not_installed code) = Refused code
 ending_told Told_unknown = Refused 1
-ending_told Told_cleared = Done
-ending_told (Told_got items) = Done
+ending_told Told_cleared = Done []
+ending_told (Told_got items) = Done []
 ending_told (Told_ended code) = Refused code
 
 abbrev pub ending_by_result : Option ℕ → Ending
 ending_by_result None = Unanswered
-ending_by_result (Some zero) = Done
+ending_by_result (Some zero) = Done []
 ending_by_result (Some (suc code)) = Refused (suc code)
 
 abbrev pub ending_by_values : {A : Type 0} → Option A → Ending
 ending_by_values None = Unanswered
-ending_by_values (Some values) = Done
+ending_by_values (Some values) = Done []
+
+-- one on files alone gives bytes: those of a file, or the entries of a list
+abbrev pub ending_by_file : FileEnd → Ending
+ending_by_file (Gives bytes) = Done bytes
+ending_by_file (Was_refused code) = Refused code
+ending_by_file NoAnswer = Unanswered
 
 abbrev pub ending_in : NodeEvent → Option Ending
 ending_in (Ends told) = Some (ending_told told)
 ending_in (Ends_command result) = Some (ending_by_result result)
-ending_in (Gives_param param) = Some Done
+ending_in (Gives_param param) = Some (Done [])
 ending_in (Ends_params values) = Some (ending_by_values values)
+ending_in (Ends_file end) = Some (ending_by_file end)
 ending_in other = None
 
 -- the first of them

@@ -1,5 +1,7 @@
 -- How far the run of a station is: its order, and its wait for the order's end.
-use Rattle.std.specs.Prelude.{ℕ, ◌≡◌, ◌≤◌, Bool, true, false, List, [], ◌∷◌, ◌++◌, length, Option, Some, None}
+use Rattle.std.specs.Prelude.{ℕ, ◌≡◌, ◌≤◌, Bool, true, false, List, [], ◌∷◌, ◌++◌, length, Some, None}
+use Rattle.std.specs.declared.result.Result.{Result}
+use Rattle.std.specs.Result.{result_err}
 use Rattle.mav_nodes.specs.declared.orders.Order.{Order}
 use Rattle.fleet_world.specs.WorldState.{Node}
 use Rattle.run_status.specs.declared.run_ends.RunEnd.{RunEnd}
@@ -67,11 +69,11 @@ pub record OutlastStopped {S : Type 0} (stores : Stores S) (before now : S) (end
   pub awaited : Awaited most start opening turns rests
 
 -- the wait is over
-pub record WaitedFor {S : Type 0} (stores : Stores S) (before now : S) (plan : StationPlan) (start : Node) (opening : List LiveCall) (end : Option RunEnd) (first last : Outside) : Type 0 where
+pub record WaitedFor {S : Type 0} (stores : Stores S) (before now : S) (plan : StationPlan) (start : Node) (opening : List LiveCall) (ended : Result (List ℕ) RunEnd) (first last : Outside) : Type 0 where
   pub turns : List Turn
   pub rests : List Rest
   pub rested : MayRest (HasEnded last.link) rests
-  pub at : RunAt stores before now start end opening turns rests first last
-  pub whole : IsWhole end at.rest
-  pub ends : StationEnds plan end turns (verdict plan.ticks (ticks_over 0 at.made) (ending_over None at.written.events))
+  pub at : RunAt stores before now start (result_err ended) opening turns rests first last
+  pub whole : IsWhole (result_err ended) at.rest
+  pub ends : StationEnds plan ended turns (verdict plan.ticks (ticks_over 0 at.made) (ending_over None at.written.events))
   pub awaited : Awaited plan.ticks start opening turns rests

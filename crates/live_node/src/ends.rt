@@ -37,7 +37,7 @@ pub(crate) fn order_end(fault: OrderFault) -> RunEnd
     match fault {
         OrderFault::Begin(fault) => op_end(fault.why),
         OrderFault::Op(fault) => op_end(fault),
-        OrderFault::Command(_) | OrderFault::Param(_) => REFUSED,
+        OrderFault::Command(_) | OrderFault::Param(_) | OrderFault::File(_) => REFUSED,
         OrderFault::Node(fault) => end_by(fault),
     }
 }

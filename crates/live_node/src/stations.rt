@@ -1,25 +1,28 @@
 // A station on a link.
-ghost use Rattle.std.specs.Prelude.{◌≡◌, ◌⊎◌, List, [], None, IfOk, IfErr, OnOk};
+ghost use Rattle.std.specs.Prelude.{◌≡◌, ◌⊎◌, ℕ, List, [], None, IfOk, IfErr, OnOk};
+ghost use Rattle.std.specs.declared.option.Option.{Option};
 ghost use Rattle.std.specs.Result.{result_err};
+ghost use Rattle.mav_links.specs.Links.{LinkState};
 ghost use Rattle.mav_sign.specs.Streams.{reader_of};
 ghost use Rattle.fleet_world.specs.WorldState.{Node};
 ghost use Rattle.live_node.specs.Nodes.{end_of};
 ghost use Rattle.live_node.specs.Calls.{LiveCall};
 ghost use Rattle.live_node.specs.Turns.{Turn};
-ghost use Rattle.live_node.specs.Ports.{FaultsBy, SameRead, IsRunEnd};
+ghost use Rattle.live_node.specs.Ports.{PrintedBy, PrintFaults, FaultsBy, SameRead, IsRunEnd};
 ghost use Rattle.live_node.specs.Runs.{Outside, outside, stores_of};
 ghost use Rattle.live_node.specs.Progress.{Output, Between, PortEnded, Opened};
 ghost use Rattle.live_node.specs.Waiting.{OrderDone, OrderStopped, Watched, WatchStopped, Outlasted, OutlastStopped, WaitedFor};
-ghost use Rattle.live_node.specs.Stations.{StationLived, StationRuns, IsOrderEnd, IsWaitedEnd, IsStationEnd, Awaited, verdict, judged};
+ghost use Rattle.live_node.specs.Stations.{StationLived, StationRuns, IsOrderEnd, IsWaitedEnd, IsStationEnd, Awaited, Gives, verdict, judged};
 
 use crate::ends::order_end;
 use crate::nodes::{Due, LiveNode};
 use crate::tellers::Teller;
 use crate::turns::{PIECE_BYTES, call, turn, wait};
+use field_layout::Label;
 use mav_links::Link;
 use mav_names::{Name, Stream};
 use mav_nodes::{Order, StationNode};
-use mav_ports::{Clock, Sink};
+use mav_ports::{Clock, Sink, write_all};
 use mav_sign::Key;
 use plan_store::{Keeper, MemKeeper};
 use run_status::{LiveEnd, RunEnd};
@@ -82,7 +85,7 @@ fn watch<L: Link, K: Sink, C: Clock, S: Keeper>(
 {
     let mut buf = [0u8; PIECE_BYTES];
     'turns: for _at in 0..plan.turns {
-        if teller.verdict(plan.ticks).is_some() {
+        if teller.is_over(plan.ticks) {
             return Ok(true);
         }
         match turn(live, teller, &mut buf, link, out, clock, keeper) {
@@ -112,7 +115,7 @@ fn outlast<L: Link, K: Sink, C: Clock, S: Keeper>(
     ensures faults { FaultsBy (result_err result) (L.state link.old).faults (L.state link.new).faults (K.faults out.old) (K.faults out.new) }
 {
     'ticks: for _at in 0..most {
-        if teller.verdict(most).is_some() {
+        if teller.is_over(most) {
             return Ok(());
         }
         match wait(live, teller, link, out, clock, keeper) {
@@ -124,8 +127,8 @@ fn outlast<L: Link, K: Sink, C: Clock, S: Keeper>(
 }
 
 // The verdict; without one all turns were taken.
-fn judge(teller: &Teller, plan: StationPlan) -> Result<(), RunEnd>
-    ensures { result ≡ judged plan (verdict plan.ticks teller.now.ticks teller.now.ending) }
+fn judge(teller: &mut Teller, plan: StationPlan) -> Result<Label, RunEnd>
+    ensures { result ≡ judged plan (verdict plan.ticks teller.old.ticks teller.old.ending) }
 {
     match teller.verdict(plan.ticks) {
         Some(said) => said,
@@ -133,7 +136,7 @@ fn judge(teller: &Teller, plan: StationPlan) -> Result<(), RunEnd>
     }
 }
 
-// Waits for the end of the order.
+// Waits for the end of the order, and returns the bytes that it gave.
 fn wait_for<L: Link, K: Sink, C: Clock, S: Keeper>(
     live: &mut LiveNode,
     teller: &mut Teller,
@@ -142,9 +145,9 @@ fn wait_for<L: Link, K: Sink, C: Clock, S: Keeper>(
     out: &mut K,
     clock: &mut C,
     keeper: &mut S,
-) -> Result<(), RunEnd>
+) -> Result<Label, RunEnd>
     ensures waited { (before : S) (start : Node) (opening : List LiveCall) (first : Outside) → Between (stores_of S.faults S.is_infallible S.contents) before keeper.old start opening [] [] live.old teller.old first (outside (L.state link.old) (K.sent out.old) (C.always clock.old))
-        → WaitedFor (stores_of S.faults S.is_infallible S.contents) before keeper.new plan start opening (result_err result) first (outside (L.state link.new) (K.sent out.new) (C.always clock.new)) }
+        → WaitedFor (stores_of S.faults S.is_infallible S.contents) before keeper.new plan start opening result first (outside (L.state link.new) (K.sent out.new) (C.always clock.new)) }
     ensures end { IfErr result IsWaitedEnd }
     ensures faults { FaultsBy (result_err result) (L.state link.old).faults (L.state link.new).faults (K.faults out.old) (K.faults out.new) }
 {
@@ -168,9 +171,9 @@ fn run_live<L: Link, K: Sink, C: Clock, S: Keeper>(
     out: &mut K,
     clock: &mut C,
     keeper: &mut S,
-) -> Result<(), RunEnd>
+) -> Result<Label, RunEnd>
     ensures ran { (before : S) (start : Node) → Opened (stores_of S.faults S.is_infallible S.contents) before keeper.old start live.old teller.old (outside (L.state link.old) (K.sent out.old) (C.always clock.old))
-        → StationLived (stores_of S.faults S.is_infallible S.contents) before keeper.new plan order start (result_err result) (outside (L.state link.old) (K.sent out.old) (C.always clock.old)) (outside (L.state link.new) (K.sent out.new) (C.always clock.new)) }
+        → StationLived (stores_of S.faults S.is_infallible S.contents) before keeper.new plan order start result (outside (L.state link.old) (K.sent out.old) (C.always clock.old)) (outside (L.state link.new) (K.sent out.new) (C.always clock.new)) }
     ensures end { IfErr result (λ end. (end ≡ RunEnd.Live LiveEnd.StoreFault) ⊎ IsStationEnd end) }
     ensures faults { FaultsBy (result_err result) (L.state link.old).faults (L.state link.new).faults (K.faults out.old) (K.faults out.new) }
 {
@@ -184,8 +187,31 @@ fn run_live<L: Link, K: Sink, C: Clock, S: Keeper>(
     }
 }
 
+fn write_given<K: Sink>(bytes: &Label, out: &mut K) -> Result<(), RunEnd>
+    ensures printed { PrintedBy (result_err result) (K.sent out.old) (K.sent out.new) bytes.now }
+    ensures faults { PrintFaults (result_err result) (K.faults out.old) (K.faults out.new) }
+    ensures end { IfErr result (λ end. end ≡ RunEnd.WriteFault) }
+{
+    write_all(out, bytes.bytes())?;
+    Ok(())
+}
+
+// Writes the bytes that an operation gave.
+fn give<K: Sink>(ended: Result<Label, RunEnd>, out: &mut K) -> Result<(), RunEnd>
+    ensures gives { (link : LinkState) (time : Option ℕ)
+        → Gives ended (result_err result) (outside link (K.sent out.old) time) (outside link (K.sent out.new) time) }
+    ensures end { IfErr ended IsStationEnd → IfErr result IsStationEnd }
+    ensures faults { (port_before port_after before : ℕ) → FaultsBy (result_err ended) port_before port_after before (K.faults out.old)
+        → FaultsBy (result_err result) port_before port_after before (K.faults out.new) }
+{
+    match ended {
+        Ok(bytes) => write_given(&bytes, out),
+        Err(end) => Err(end),
+    }
+}
+
 /// Runs a station on a link: it sends a heartbeat, gives its order, and takes turns until this has an end. After the link's
-/// end only time passes. It stores nothing.
+/// end only time passes. The bytes that the order gave are written behind all lines. It stores nothing.
 pub fn run_station<L: Link, K: Sink, C: Clock>(
     alloc: Global,
     key: Key,
@@ -212,7 +238,7 @@ pub fn run_station<L: Link, K: Sink, C: Clock>(
     let mut live = LiveNode::Station(StationNode::new(alloc, key, me, boot)?);
     let mut teller = Teller::new(alloc, name);
     let mut keeper = MemKeeper::new(alloc, Vec::new(alloc), Vec::new(alloc));
-    run_live(
+    let ended = run_live(
         &mut live,
         &mut teller,
         plan,
@@ -221,5 +247,6 @@ pub fn run_station<L: Link, K: Sink, C: Clock>(
         out,
         clock,
         &mut keeper,
-    )
+    );
+    give(ended, out)
 }

@@ -1,17 +1,19 @@
 // What a live node has told so far.
-ghost use Rattle.std.specs.Prelude.{◌≡◌, ℕ, None};
+ghost use Rattle.std.specs.Prelude.{◌≡◌, ℕ, None, is_some};
 ghost use Rattle.live_node.specs.Progress.{due_call, counted};
 ghost use Rattle.live_node.specs.Stations.{verdict};
 
 use crate::nodes::Due;
+use field_layout::Label;
 use mav_names::Name;
 use run_status::{LiveEnd, RunEnd};
 use std::alloc::Global;
 
 /// How the operation of a station has ended.
-#[derive(Clone, Copy, Debug, PartialEq, Eq)]
+#[derive(Drop)]
 pub enum Ending {
-    Done,
+    /// It is done, and gave these bytes: those of a file, or the entries of a list of files; none for another operation.
+    Done(Label),
     /// The drone refused it, with this code or result.
     Refused(u8),
     /// The drone didn't answer at five ticks in a row.
@@ -20,7 +22,7 @@ pub enum Ending {
 
 /// The name of a node, how many frames it has sent and how many ticks have passed (the counts stand still at 2^64 - 1), and
 /// how its operation has ended, if it has.
-#[derive(Clone, Copy)]
+#[derive(Drop)]
 pub struct Teller {
     pub(crate) alloc: Global,
     pub(crate) name: Name,
@@ -56,12 +58,22 @@ impl Teller {
         }
     }
 
-    /// How a run ends now that waits for so many ticks, if it does.
-    pub(crate) fn verdict(&self, most: u64) -> Option<Result<(), RunEnd>>
-        ensures { result ≡ verdict most self.now.ticks self.now.ending }
+    /// Whether a run ends now that waits for so many ticks.
+    pub(crate) fn is_over(&self, most: u64) -> bool
+        ensures { result ≡ is_some (verdict most self.now.ticks self.now.ending) }
     {
-        match self.ending {
-            Some(Ending::Done) => Some(Ok(())),
+        match &self.ending {
+            Some(_) => true,
+            None => self.ticks >= most,
+        }
+    }
+
+    /// How it ends, if it does, with the bytes that its operation gave, moved out.
+    pub(crate) fn verdict(&mut self, most: u64) -> Option<Result<Label, RunEnd>>
+        ensures { result ≡ verdict most self.old.ticks self.old.ending }
+    {
+        match self.ending.take() {
+            Some(Ending::Done(bytes)) => Some(Ok(bytes)),
             Some(Ending::Refused(code)) => Some(Err(RunEnd::Live(LiveEnd::RefusedWith(code)))),
             Some(Ending::Unanswered) => Some(Err(RunEnd::Live(LiveEnd::NoAnswer(5)))),
             None if self.ticks < most => None,

@@ -4,44 +4,66 @@ ghost use Rattle.std.specs.Result.{result_err};
 ghost use Rattle.mav_nodes.specs.News.{NodeEvent, shown, said_by, events_of};
 ghost use Rattle.fleet_world.specs.ParamLists.{HaveValues};
 ghost use Rattle.plan_upload.specs.Outcomes.{told_of};
-ghost use Rattle.live_node.specs.Texts.{count_with, ending_in, ending_told};
+ghost use Rattle.live_node.specs.declared.tellers.Ending.TheVariants.{Done};
+ghost use Rattle.live_node.specs.Texts.{count_with, ending_in, ending_told, ending_by_file, first_of};
 ghost use Rattle.live_node.specs.Ports.{FaultsBy, PrintFaults, SameRead, IsTellingEnd};
 ghost use Rattle.live_node.specs.Progress.{Said, Tells, TellsAll, Prints};
 
 use crate::NoMemory;
 use crate::sending::send_news;
 use crate::tellers::{Ending, Teller};
+use field_layout::Label;
 use fleet_report::Report;
 use fleet_world::report_piece;
 use mav_links::Link;
-use mav_nodes::News;
+use mav_nodes::{FileEnd, News};
 use mav_ports::{Sink, write_all};
 use param_proto::Param;
 use plan_upload::Outcome;
 use run_status::{LiveEnd, RunEnd};
+use std::alloc::Global;
+
+// It is done, and gave no bytes.
+fn done(alloc: Global) -> Ending
+    ensures { result ≡ Done [] }
+{
+    Ending::Done(Label::new(Vec::new(alloc)))
+}
 
 // How the operation of a station has ended with an outcome.
-fn ending_of(outcome: &Outcome) -> Ending
+fn ending_of(alloc: Global, outcome: &Outcome) -> Ending
     ensures { result ≡ ending_told (told_of outcome.now) }
 {
     match outcome {
-        Outcome::Installed | Outcome::Cleared | Outcome::Got(_) => Ending::Done,
+        Outcome::Installed | Outcome::Cleared | Outcome::Got(_) => done(alloc),
         Outcome::NotInstalled(code) | Outcome::Ended(code) => Ending::Refused(*code),
         Outcome::Unknown => Ending::Refused(1),
     }
 }
 
+// How one on files has ended, with a copy of the bytes that it gave.
+fn ending_by_file(alloc: Global, end: &FileEnd) -> Result<Ending, NoMemory>
+    ensures { IfOk result (λ ending. ending ≡ ending_by_file end.now) }
+{
+    match end {
+        FileEnd::Done(bytes) => Ok(Ending::Done(Label::new(bytes.bytes().to_vec(alloc)?))),
+        FileEnd::Refused(code) => Ok(Ending::Refused(*code)),
+        FileEnd::NoAnswer => Ok(Ending::Unanswered),
+    }
+}
+
 // How it has ended with a piece of news, if it has.
-fn ending_in(piece: &News) -> Option<Ending>
-    ensures { (event : NodeEvent) → said_by piece.now ≡ shown event → result ≡ ending_in event }
+fn ending_in(alloc: Global, piece: &News) -> Result<Option<Ending>, NoMemory>
+    ensures { IfOk result (λ ending. (event : NodeEvent) → said_by piece.now ≡ shown event → ending ≡ ending_in event) }
 {
     match piece {
-        News::Outcome(outcome) => Some(ending_of(outcome)),
-        News::Command(Some(0)) => Some(Ending::Done),
-        News::Command(Some(code)) => Some(Ending::Refused(*code)),
-        News::Command(None) | News::Params(None) => Some(Ending::Unanswered),
-        News::Param(_) | News::Params(Some(_)) => Some(Ending::Done),
-        _ => None,
+        News::Outcome(outcome) => Ok(Some(ending_of(alloc, outcome))),
+        News::Command(Some(0)) => Ok(Some(done(alloc))),
+        News::Command(Some(code)) => Ok(Some(Ending::Refused(*code))),
+        News::Command(None) | News::Params(None) => Ok(Some(Ending::Unanswered)),
+        News::Param(_) | News::Params(Some(_)) => Ok(Some(done(alloc))),
+        News::File(end) => Ok(Some(ending_by_file(alloc, end)?)),
+        _ => Ok(None),
     }
 }
 
@@ -56,6 +78,17 @@ fn count_with(sent: usize, piece: &News) -> usize
 }
 
 impl Teller {
+    // Keeps how the operation has ended with a piece of news, if it hadn't before.
+    fn keep_ending(&mut self, piece: &News) -> Result<(), NoMemory>
+        ensures { OnOk result ((event : NodeEvent) → said_by piece.now ≡ shown event
+            → self.new ≡ record self.old { ending = first_of self.old.ending (ending_in event) }) }
+    {
+        if self.ending.is_none() {
+            self.ending = ending_in(self.alloc, piece)?;
+        }
+        Ok(())
+    }
+
     // Adds the line of a piece of news.
     fn tell_one(
         &mut self,
@@ -69,8 +102,7 @@ impl Teller {
         let sent = self.sent;
         report_piece(report, self.name, values, sent.saturating_add(1), piece)?;
         self.sent = count_with(sent, piece);
-        self.ending = self.ending.or(ending_in(piece));
-        Ok(())
+        self.keep_ending(piece)
     }
 
     // Adds the lines of news.

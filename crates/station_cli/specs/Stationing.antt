@@ -1,13 +1,17 @@
 -- The station that a line of `station` asks for, what is read of its file, and what its run does at its port.
-use Rattle.std.specs.Prelude.{◌≡◌, ◌≤◌, ◌⊎◌, ℕ, Bool, true, false, List, [], ◌∷◌, Option, IfSome}
+use Rattle.std.specs.Prelude.{◌≡◌, ◌≤◌, ◌⊎◌, ℕ, Bool, true, false, List, [], ◌∷◌, get_or, codes, Option, IfSome}
 use Rattle.std.specs.Fmt.{decimal}
+use Rattle.std.specs.Str.{bytes_eq}
 use Rattle.mav_names.specs.declared.names.Stream.{Stream}
-use Rattle.plan_items.specs.declared.items.Item.{Item}
 use Rattle.plan_file.specs.Spec.{plan_spec, HoldsItems}
+use Rattle.key_file.specs.Spec.{TookAtMost}
+use Rattle.put_file.specs.Spec.{put_spec, HoldsFile}
 use Rattle.mav_nodes.specs.declared.orders.Order.{Order}
 use Rattle.run_status.specs.declared.run_ends.RunEnd.{RunEnd}
 use Rattle.run_status.specs.Runs.{CommandSpec}
+use Rattle.command_line.specs.declared.commands.OptionName.TheVariants.{File}
 use Rattle.command_line.specs.declared.operations.Task.{Task}
+use Rattle.command_line.specs.Forms.{has_given}
 use Rattle.command_line.specs.Grammar.{Asked}
 use Rattle.command_line.specs.Names.{ticks_asked}
 use Rattle.command_line.specs.OperationTexts.{OperationSays}
@@ -16,7 +20,7 @@ use Rattle.live_node.specs.Ports.{FaultsBy}
 use Rattle.live_node.specs.Runs.{outside}
 use Rattle.live_node.specs.Stations.{IsStationEnd, StationRuns}
 use Rattle.station_cli.specs.Flying.{Alone, Devices}
-use Rattle.station_cli.specs.Ordering.{OrdersFor}
+use Rattle.station_cli.specs.Ordering.{Contents, OrdersFor}
 use Rattle.station_cli.specs.Routing.{WithGivenKey}
 use Rattle.station_cli.specs.Seen.{Input, Output}
 
@@ -36,13 +40,13 @@ pub record StationOf (asked : Asked) (plan : StationPlan) (task : Task) : Type 0
 abbrev pub drone_stream : ℕ → Stream
 drone_stream sys = record { sys = sys; comp = 1; link = 0 }
 
--- it ran under a key with the items of its file, at the only port, and ended so
-pub record Stationed {A B : Type 0} (d : Devices A B) (asked : Asked) (out : Output) (end : Option RunEnd) (key : List ℕ) (items : List Item) : Type 0 where
+-- it ran under a key with the contents of its file, at the only port, and ended so
+pub record Stationed {A B : Type 0} (d : Devices A B) (asked : Asked) (out : Output) (end : Option RunEnd) (key : List ℕ) (contents : Contents) : Type 0 where
   pub plan : StationPlan
   pub task : Task
   pub is : StationOf asked plan task
   pub order : Order
-  pub orders : OrdersFor task.operation (drone_stream task.drone) items order
+  pub orders : OrdersFor task.operation (drone_stream task.drone) contents order
   pub first : A
   pub last : A
   pub alone : Alone d.ports_before d.ports_after first last
@@ -50,19 +54,43 @@ pub record Stationed {A B : Type 0} (d : Devices A B) (asked : Asked) (out : Out
   pub why : IfSome end IsStationEnd
   pub faults : FaultsBy end (d.state first).faults (d.state last).faults out.refusals_before out.refusals_after
 
--- the file is read if it is named: the run halts at it and leaves the ports as they were, or it goes on with its items
-abbrev pub WithFile : (named : Bool) → (CommandSpec → Input → Type 0) → (halted unmoved : Type 0) → Input → (List Item → Type 0) → Type 0
-WithFile false runs halted unmoved file next = file.unread × next []
-WithFile true runs halted unmoved file next =
-    (runs plan_spec file × halted × unmoved)
-    ⊎ ((items : List Item) × HoldsItems file.spent file.left_before file.left_after items × next items)
+-- no file, one of items, or one of bytes
+pub data FileSort : Type 0 where
+  No_file : FileSort
+  Of_items : FileSort
+  Of_bytes : FileSort
 
--- what a file gives, if it is named
-abbrev pub PlanIs : Bool → Input → List Item → Type 0
-PlanIs false file items = (items ≡ []) × file.unread
-PlanIs true file items = HoldsItems file.spent file.left_before file.left_after items
+-- `--file` names one of bytes for an operation on files, and else one of items
+abbrev pub sort_of : (named on_files : Bool) → FileSort
+sort_of false on_files = No_file
+sort_of true false = Of_items
+sort_of true true = Of_bytes
+
+-- OP is one on files
+abbrev pub asks_files : List (List ℕ) → Bool
+asks_files plain = bytes_eq (get_or plain 4 []) (codes "file")
+
+abbrev pub file_asked : Asked → FileSort
+file_asked asked = sort_of (has_given File asked.settings) (asks_files asked.plain)
+
+-- the run halts at the file; of bytes no more are taken than make it too long
+abbrev pub HaltsAt : FileSort → (CommandSpec → Input → Type 0) → Input → Type 0
+HaltsAt No_file runs file = ⊥
+HaltsAt Of_items runs file = runs plan_spec file
+HaltsAt Of_bytes runs file = runs put_spec file × TookAtMost 1048577 file.left_before file.left_after
+
+-- what the file holds; one that isn't named isn't read
+abbrev pub ContentsAre : FileSort → Input → Contents → Type 0
+ContentsAre No_file file contents = (contents ≡ record { items = []; bytes = [] }) × file.unread
+ContentsAre Of_items file contents = (contents.bytes ≡ []) × HoldsItems file.spent file.left_before file.left_after contents.items
+ContentsAre Of_bytes file contents = (contents.items ≡ []) × HoldsFile file.spent file.left_before file.left_after contents.bytes
+
+-- the file is read if it is named: the run halts at it and leaves the ports as they were, or it goes on with its contents
+abbrev pub WithFile : FileSort → (CommandSpec → Input → Type 0) → (halted unmoved : Type 0) → Input → (Contents → Type 0) → Type 0
+WithFile sort runs halted unmoved file next =
+    (HaltsAt sort runs file × halted × unmoved) ⊎ ((contents : Contents) × ContentsAre sort file contents × next contents)
 
 -- the key is read first, and then the file
-abbrev pub Stationing : (CommandSpec → Input → Type 0) → (halted unmoved : Type 0) → (named : Bool) → (key file : Input) → (List ℕ → List Item → Type 0) → Type 0
-Stationing runs halted unmoved named key file next =
-    WithGivenKey runs halted (file.unread × unmoved) key (λ bytes. WithFile named runs halted unmoved file (λ items. next bytes items))
+abbrev pub Stationing : (CommandSpec → Input → Type 0) → (halted unmoved : Type 0) → FileSort → (key file : Input) → (List ℕ → Contents → Type 0) → Type 0
+Stationing runs halted unmoved sort key file next =
+    WithGivenKey runs halted (file.unread × unmoved) key (λ bytes. WithFile sort runs halted unmoved file (λ contents. next bytes contents))

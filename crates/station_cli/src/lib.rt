@@ -19,7 +19,7 @@ mod stationing;
 mod wants;
 mod words;
 
-pub use command_line::{Files, Port, Socket, SocketKind, Target, WantedFault};
+pub use command_line::{Files, FilesKind, Port, Socket, SocketKind, Target, WantedFault};
 pub use runs::run;
 pub use wants::{Inputs, Store, Wanted};
 pub use words::wanted;

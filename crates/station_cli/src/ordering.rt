@@ -1,13 +1,19 @@
 // The order of an operation.
 ghost use Rattle.std.specs.Prelude.{◌≡◌};
-ghost use Rattle.plan_items.specs.Plans.{items_of};
-ghost use Rattle.station_cli.specs.Ordering.{kind_of, OrdersFor};
+ghost use Rattle.station_cli.specs.Ordering.{kind_of, contents_of, OrdersFor};
 
 use command_line::{Operation, PlanWord};
 use mav_names::Stream;
-use mav_nodes::Order;
+use mav_nodes::{FileOp, Order};
 use param_proto::Param;
 use plan_items::{Plan, PlanKind};
+
+/// The contents of the file that an operation takes: the plan of an upload, or the bytes of a file to store.
+#[derive(Drop)]
+pub(crate) struct Contents {
+    pub(crate) plan: Plan,
+    pub(crate) bytes: Vec<u8>,
+}
 
 fn kind_of(word: PlanWord) -> PlanKind
     ensures { result ≡ kind_of word }
@@ -19,15 +25,15 @@ fn kind_of(word: PlanWord) -> PlanKind
     }
 }
 
-/// The order of an operation with a drone. The plan is that of an upload; another operation has no use for it.
-pub(crate) fn order_of(operation: Operation, drone: Stream, plan: Plan) -> Order
-    ensures { OrdersFor operation drone (items_of plan) result }
+/// The order of an operation with a drone. The contents are those of its file; an operation without one has no use for them.
+pub(crate) fn order_of(operation: Operation, drone: Stream, contents: Contents) -> Order
+    ensures { OrdersFor operation drone (contents_of contents) result }
 {
     match operation {
         Operation::Upload(kind) => Order::Begin {
             drone,
             kind: kind_of(kind),
-            plan,
+            plan: contents.plan,
         },
         Operation::Get(kind) => Order::Get {
             drone,
@@ -52,6 +58,22 @@ pub(crate) fn order_of(operation: Operation, drone: Stream, plan: Plan) -> Order
                 ty: kind,
                 word: u32::from_le_bytes(word),
             },
+        },
+        Operation::FileList => Order::File {
+            drone,
+            op: FileOp::List,
+        },
+        Operation::FileGet(name) => Order::File {
+            drone,
+            op: FileOp::Fetch(name),
+        },
+        Operation::FilePut(name) => Order::File {
+            drone,
+            op: FileOp::Store(name, contents.bytes),
+        },
+        Operation::FileRemove(name) => Order::File {
+            drone,
+            op: FileOp::Remove(name),
         },
     }
 }

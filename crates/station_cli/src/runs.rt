@@ -8,7 +8,8 @@ ghost use Rattle.command_line.specs.Built.{built};
 ghost use Rattle.command_line.specs.Commands.{is_on_logs};
 ghost use Rattle.command_line.specs.Forms.{Fits, has_given, reads_file};
 ghost use Rattle.command_line.specs.Grammar.{Asked, Asks, AskNothing};
-ghost use Rattle.command_line.specs.Lines.{given_of, asked_by, LineSays, LineNodeSays};
+ghost use Rattle.command_line.specs.Lines.{given_of, asked_by, LineSays};
+ghost use Rattle.command_line.specs.Nodes.{NodeSays};
 ghost use Rattle.dialect_command.specs.Spec.{dialect_spec, profile_spec};
 ghost use Rattle.station_cli.specs.Decoding.{Decodes};
 ghost use Rattle.fence_command.specs.Spec.{fence_spec};
@@ -22,7 +23,7 @@ ghost use Rattle.route_command.specs.Routes.{RoutesBeforeStatus};
 ghost use Rattle.live_node.specs.Runs.{stores_of};
 ghost use Rattle.station_cli.specs.Flying.{Flown, devices};
 ghost use Rattle.station_cli.specs.Reported.{Reported};
-ghost use Rattle.station_cli.specs.Stationing.{Stationed, Stationing};
+ghost use Rattle.station_cli.specs.Stationing.{Stationed, Stationing, file_asked};
 ghost use Rattle.station_cli.specs.Wants.{keepers_asked};
 ghost use Rattle.station_cli.specs.Routing.{Routing, WithGivenKey, AllEnded, AreAsked, router_of};
 ghost use Rattle.station_cli.specs.Seen.{input_of, output_of, before_status_over, promised_over};
@@ -36,7 +37,7 @@ use crate::making::run_make;
 use crate::routing::run_route;
 use crate::stationing::run_station;
 use crate::wants::{Inputs, Store};
-use command_line::{Command, Line, OptionName, WantedFault, read};
+use command_line::{Command, Line, OptionName, Task, WantedFault, read};
 use dialect_command::{dialect, profile};
 use fence_command::fence;
 use mav_links::Link;
@@ -74,6 +75,7 @@ fn run_dialect<S: Source, K: Sink>(
 fn run_line<S: Source, K: Sink, C: Clock>(
     alloc: Global,
     line: &Line,
+    task: Option<Task>,
     inputs: &mut Inputs<S>,
     ports: &mut Vec<Box<dyn Link>>,
     keepers: &mut Vec<Store>,
@@ -83,7 +85,7 @@ fn run_line<S: Source, K: Sink, C: Clock>(
     requires fits { Fits built line.now.command (map given_of line.now.settings.items)
         (map string_bytes line.now.words.items) }
     requires says { LineSays line.now }
-    requires node { LineNodeSays line.now }
+    requires node { NodeSays line.now.command (map string_bytes line.now.words.items) line.now.ports.items line.now.system task }
     requires links { AreAsked (length ports.old.items) (asked_by line.now) }
     requires stores { length keepers.old.items ≡ keepers_asked (asked_by line.now) }
     ensures fleet { line.now.command ≡ Command.Fleet → Fleets
@@ -128,11 +130,11 @@ fn run_line<S: Source, K: Sink, C: Clock>(
     ensures station { line.now.command ≡ Command.Station → Stationing
         (before_status_over (output_of K.faults K.sent out.old out.new) (result_err result)) (IsErr result)
         ((ports.new ≡ ports.old) × (keepers.new ≡ keepers.old) × (clock.new ≡ clock.old))
-        (has_given OptionName.File (map given_of line.now.settings.items))
+        (file_asked (asked_by line.now))
         (input_of S.has_ended S.faults S.idles S.left inputs.old.key inputs.new.key)
         (input_of S.has_ended S.faults S.idles S.left inputs.old.main inputs.new.main)
-        (λ bytes items. Stationed (devices state (stores_of ⟦<Store as Keeper>⟧.faults ⟦<Store as Keeper>⟧.is_infallible ⟦<Store as Keeper>⟧.contents) C.always ports.old.items ports.new.items keepers.old.items keepers.new.items clock.old clock.new) (asked_by line.now)
-        (output_of K.faults K.sent out.old out.new) (result_err result) bytes items) }
+        (λ bytes contents. Stationed (devices state (stores_of ⟦<Store as Keeper>⟧.faults ⟦<Store as Keeper>⟧.is_infallible ⟦<Store as Keeper>⟧.contents) C.always ports.old.items ports.new.items keepers.old.items keepers.new.items clock.old clock.new) (asked_by line.now)
+        (output_of K.faults K.sent out.old out.new) (result_err result) bytes contents) }
     ensures make { line.now.command ≡ Command.Make → Makes (map string_bytes line.now.words.items)
         (λ number. RunBeforeStatus (make_spec number)
         (port_outcome ⊤ 0 0 0 0 (K.faults out.old) (K.faults out.new))
@@ -168,7 +170,7 @@ fn run_line<S: Source, K: Sink, C: Clock>(
             run_log(alloc, line, inputs, out)
         }
         Command::Drone => run_drone(alloc, line, &mut inputs.key, ports, keepers, out, clock),
-        Command::Station => match line.task {
+        Command::Station => match task {
             Some(task) => run_station(alloc, line, task, inputs, ports, keepers, out, clock),
             None => unreachable!("a station has a task"),
         },
@@ -231,11 +233,11 @@ fn run_words<S: Source, K: Sink, C: Clock>(
         → asked.command ≡ Command.Station → Stationing
         (before_status_over (output_of K.faults K.sent out.old out.new) (result_err result)) (IsErr result)
         ((ports.new ≡ ports.old) × (keepers.new ≡ keepers.old) × (clock.new ≡ clock.old))
-        (has_given OptionName.File asked.settings)
+        (file_asked asked)
         (input_of S.has_ended S.faults S.idles S.left inputs.old.key inputs.new.key)
         (input_of S.has_ended S.faults S.idles S.left inputs.old.main inputs.new.main)
-        (λ bytes items. Stationed (devices state (stores_of ⟦<Store as Keeper>⟧.faults ⟦<Store as Keeper>⟧.is_infallible ⟦<Store as Keeper>⟧.contents) C.always ports.old.items ports.new.items keepers.old.items keepers.new.items clock.old clock.new) asked
-        (output_of K.faults K.sent out.old out.new) (result_err result) bytes items) }
+        (λ bytes contents. Stationed (devices state (stores_of ⟦<Store as Keeper>⟧.faults ⟦<Store as Keeper>⟧.is_infallible ⟦<Store as Keeper>⟧.contents) C.always ports.old.items ports.new.items keepers.old.items keepers.new.items clock.old clock.new) asked
+        (output_of K.faults K.sent out.old out.new) (result_err result) bytes contents) }
     ensures make { (asked : Asked) → Asks built (map string_bytes words.now) asked
         → asked.command ≡ Command.Make → Makes asked.plain
         (λ number. RunBeforeStatus (make_spec number)
@@ -272,12 +274,13 @@ fn run_words<S: Source, K: Sink, C: Clock>(
     ensures unread_key { (asked : Asked) → Asks built (map string_bytes words.now) asked
         → has_given OptionName.Key asked.settings ≡ false → inputs.new.key ≡ inputs.old.key }
 {
-    let line = match read(alloc, words) {
+    let mut line = match read(alloc, words) {
         Ok(line) => line,
         Err(WantedFault::Usage) => return Err(RunEnd::Usage),
         Err(WantedFault::NoMemory) => return Err(RunEnd::NoMemory),
     };
-    run_line(alloc, &line, inputs, ports, keepers, out, clock)
+    let task = line.task.take();
+    run_line(alloc, &line, task, inputs, ports, keepers, out, clock)
 }
 
 /// Runs the command that the words name, and returns its exit status. The words are those after
@@ -374,15 +377,16 @@ pub fn run<S: Source, K: Sink, C: Clock>(
         (λ bytes. Reported (λ written end. Flown (devices state (stores_of ⟦<Store as Keeper>⟧.faults ⟦<Store as Keeper>⟧.is_infallible ⟦<Store as Keeper>⟧.contents) C.always ports.old.items ports.new.items keepers.old.items keepers.new.items clock.old clock.new) asked written end bytes)
         (output_of K.faults K.sent out.old out.new) result) }
     // `station --key F [--ticks N] [--file F] SYS COMP DRONE PORT OP..`: the run halts at the key or at the file, and the port
-    // and the clock are as they were; or both are read, and the station runs at the port with its one operation
+    // and the clock are as they were; or both are read, and the station runs at the port with its one operation. The bytes that
+    // an operation on files gives come behind all its lines
     ensures station { (asked : Asked) → Asks built (map string_bytes words.now) asked
         → asked.command ≡ Command.Station → Stationing
         (promised_over (output_of K.faults K.sent out.old out.new) result) (result ≢ 0)
         ((ports.new ≡ ports.old) × (keepers.new ≡ keepers.old) × (clock.new ≡ clock.old))
-        (has_given OptionName.File asked.settings)
+        (file_asked asked)
         (input_of S.has_ended S.faults S.idles S.left inputs.old.key inputs.new.key)
         (input_of S.has_ended S.faults S.idles S.left inputs.old.main inputs.new.main)
-        (λ bytes items. Reported (λ written end. Stationed (devices state (stores_of ⟦<Store as Keeper>⟧.faults ⟦<Store as Keeper>⟧.is_infallible ⟦<Store as Keeper>⟧.contents) C.always ports.old.items ports.new.items keepers.old.items keepers.new.items clock.old clock.new) asked written end bytes items)
+        (λ bytes contents. Reported (λ written end. Stationed (devices state (stores_of ⟦<Store as Keeper>⟧.faults ⟦<Store as Keeper>⟧.is_infallible ⟦<Store as Keeper>⟧.contents) C.always ports.old.items ports.new.items keepers.old.items keepers.new.items clock.old clock.new) asked written end bytes contents)
         (output_of K.faults K.sent out.old out.new) result) }
     // `make N`, over no input
     ensures make { (asked : Asked) → Asks built (map string_bytes words.now) asked

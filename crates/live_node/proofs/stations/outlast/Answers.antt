@@ -1,19 +1,18 @@
-use Rattle.std.proofs.Common.{rules, [], ap, sym, ◌∙◌, refl, arith}
-use Rattle.std.specs.Prelude.{is_some}
+use Rattle.std.proofs.Common.{rules, [], sym, ◌∙◌, refl, arith}
 use Rattle.live_node.specs.Turns.{calls_of}
 use Rattle.live_node.proofs.Resting.{rest_done, rest_of}
 use Rattle.live_node.proofs.Watching.{outlast_more, outlast_stopped, outlasted, no_verdict, a_verdict}
 use Rattle.live_node.proofs.stations.outlast.Goals as goal
 
-pub returns-then-is_some-clause-done : goal.returns-then-is_some-clause-done
-returns-then-is_some-clause-done g c = λ before start opening turns first p awaited.
+pub returns-then-is_over-clause-done : goal.returns-then-is_over-clause-done
+returns-then-is_over-clause-done g c = λ before start opening turns first p awaited.
     let w = c.ticks.invariant.taken before start opening turns first p awaited in
-    record { rests = w.rests; ended = w.ended; awaited = w.awaited; over = λ none. a_verdict _ (ap is_some (sym c.verdict.ensures) ∙ (sym c.is_some.ensures ∙ c.if-is_some.true)) none }
+    record { rests = w.rests; ended = w.ended; awaited = w.awaited; over = λ none. a_verdict _ (sym c.is_over.ensures ∙ c.if-is_over.true) none }
 
 pub returns-in-Err-clause-stopped : goal.returns-in-Err-clause-stopped
 returns-in-Err-clause-stopped g c = λ before start opening turns first p awaited.
     let w = c.ticks.invariant.taken before start opening turns first p awaited in
-    outlast_stopped w (no_verdict _ (ap is_some (sym c.verdict.ensures) ∙ (sym c.is_some.ensures ∙ c.if-is_some.false))) c.wait.ensures.unread (c.in-Err.ensures.stopped before start (calls_of opening turns w.rests) first w.ended.between.output)
+    outlast_stopped w (no_verdict _ (sym c.is_over.ensures ∙ c.if-is_over.false)) c.wait.ensures.unread (c.in-Err.ensures.stopped before start (calls_of opening turns w.rests) first w.ended.between.output)
 
 pub ticks-init : goal.ticks-init
 ticks-init g c = record {
@@ -26,7 +25,7 @@ ticks-preserved g c = record {
   taken = λ before start opening turns first p awaited.
       let w = c.ticks.invariant.taken before start opening turns first p awaited in
       let d = c.in-Ok.ensures.done before start (calls_of opening turns w.rests) first w.ended.between.output in
-      outlast_more w (no_verdict _ (ap is_some (sym c.verdict.ensures) ∙ (sym c.is_some.ensures ∙ c.if-is_some.false))) (rest_of d) (rest_done w.ended c.wait.ensures.unread c.wait.ensures.reader d);
+      outlast_more w (no_verdict _ (sym c.is_over.ensures ∙ c.if-is_over.false)) (rest_of d) (rest_done w.ended c.wait.ensures.unread c.wait.ensures.reader d);
   faults = search rules;
 }
 

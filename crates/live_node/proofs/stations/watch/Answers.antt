@@ -1,12 +1,11 @@
-use Rattle.std.proofs.Common.{rules, arith, ap, sym, ◌∙◌}
-use Rattle.std.specs.Prelude.{is_some}
+use Rattle.std.proofs.Common.{rules, arith, sym, ◌∙◌}
 use Rattle.live_node.proofs.Watching.{watch_more, watch_stopped, no_verdict, a_verdict}
 use Rattle.live_node.proofs.stations.watch.Goals as goal
 
-pub returns-then-is_some-clause-done : goal.returns-then-is_some-clause-done
-returns-then-is_some-clause-done g c = λ before start opening first b.
+pub returns-then-is_over-clause-done : goal.returns-then-is_over-clause-done
+returns-then-is_over-clause-done g c = λ before start opening first b.
     let w = c.turns.invariant.taken before start opening first b in
-    record { turns = w.turns; between = w.between; awaited = w.awaited; number = λ none. a_verdict _ (ap is_some (sym c.verdict.ensures) ∙ (sym c.is_some.ensures ∙ c.if-is_some.true)) none }
+    record { turns = w.turns; between = w.between; awaited = w.awaited; number = λ none. a_verdict _ (sym c.is_over.ensures ∙ c.if-is_over.true) none }
 
 pub returns-in-Ok-false-clause-done : goal.returns-in-Ok-false-clause-done
 returns-in-Ok-false-clause-done g c = λ before start opening first b.
@@ -16,13 +15,13 @@ returns-in-Ok-false-clause-done g c = λ before start opening first b.
 pub returns-in-Err-clause-stopped : goal.returns-in-Err-clause-stopped
 returns-in-Err-clause-stopped g c = λ before start opening first b.
     let w = c.turns.invariant.taken before start opening first b in
-    watch_stopped w (no_verdict _ (ap is_some (sym c.verdict.ensures) ∙ (sym c.is_some.ensures ∙ c.if-is_some.false))) (c.in-Err.ensures.stopped before start opening w.turns first w.between)
+    watch_stopped w (no_verdict _ (sym c.is_over.ensures ∙ c.if-is_over.false)) (c.in-Err.ensures.stopped before start opening w.turns first w.between)
 
 pub turns-preserved : goal.turns-preserved
 turns-preserved g c = record {
   taken = λ before start opening first b.
       let w = c.turns.invariant.taken before start opening first b in
-      watch_more w (no_verdict _ (ap is_some (sym c.verdict.ensures) ∙ (sym c.is_some.ensures ∙ c.if-is_some.false))) ((rw c.in-Ok-true.field-0-test at c.in-Ok-true.ensures.done) before start opening w.turns first w.between);
+      watch_more w (no_verdict _ (sym c.is_over.ensures ∙ c.if-is_over.false)) ((rw c.in-Ok-true.field-0-test at c.in-Ok-true.ensures.done) before start opening w.turns first w.between);
   stays = c.turn.ensures.stays ∙ c.turns.invariant.stays;
   faults = search rules;
 }

@@ -5,4 +5,8 @@ use Rattle.station_cli.proofs.ordering.order_of.Goals as goal
 
 pub returns-in-Upload : goal.returns-in-Upload
 returns-in-Upload c =
-    rw c.in-Upload.is (record { plan = c.args.plan; order_is = ap (λ (k : PlanKind). Begin c.args.drone k c.args.plan) c.kind_of.ensures; has = refl })
+    let plan = c.args.contents.plan in
+    rw c.in-Upload.is (record { plan = plan; order_is = ap (λ (k : PlanKind). Begin c.args.drone k plan) c.kind_of.ensures; has = refl })
+
+pub returns-in-FilePut : goal.returns-in-FilePut
+returns-in-FilePut c = rw c.in-FilePut.is (record { file = c.args.contents.bytes; order_is = refl; has = refl })

@@ -129,7 +129,7 @@ pub run_line-requires-clause-says : goal.run_line-requires-clause-says
 run_line-requires-clause-says g c = c.in-Ok.ensures.says
 
 pub run_line-requires-clause-node : goal.run_line-requires-clause-node
-run_line-requires-clause-node g c = c.in-Ok.ensures.node
+run_line-requires-clause-node g c = rw c.take-task.ensures.value c.in-Ok.ensures.node
 
 pub run_line-requires-clause-links : goal.run_line-requires-clause-links
 run_line-requires-clause-links g c = (c.requires _ c.in-Ok.ensures.asks).0
