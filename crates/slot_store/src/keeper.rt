@@ -134,11 +134,21 @@ impl<D: Disk + Send> Keeper for SlotKeeper<D> {
 
     ghost is_infallible = { λ s. ⊥ };
 
-    fn load(&mut self) -> Result<Vec<u8>, KeepFault> {
+    fn load(&mut self) -> Result<Vec<u8>, KeepFault>
+        ensures loaded { D.is_observable → IfOk result (λ bytes. MayHold (D.may_leave self.old.disk) bytes.items × Holds (D.may_leave self.new.disk) bytes.items) }
+        ensures any_moment { D.is_observable → LeavesOnly D.moment D.left_since self.old.disk self.new.disk (HoldsAsBefore (D.may_leave self.old.disk)) }
+        ensures faults { CountsStoreFault result (D.faults self.old.disk) (D.faults self.new.disk) }
+    {
         SlotKeeper::load(self)
     }
 
-    fn save(&mut self, bytes: &[u8]) -> Result<(), KeepFault> {
+    fn save(&mut self, bytes: &[u8]) -> Result<(), KeepFault>
+        requires { length bytes.now ≤ MAX_SAVED_BYTES }
+        ensures saved { D.is_observable → OnOk result (Holds (D.may_leave self.new.disk) bytes.now) }
+        ensures any_moment { D.is_observable → LeavesOnly D.moment D.left_since self.old.disk self.new.disk (HoldsAsBeforeOr bytes.now (D.may_leave self.old.disk)) }
+        ensures memory { result ≡ Err KeepFault.NoMemory → ⊥ }
+        ensures faults { CountsStoreFault result (D.faults self.old.disk) (D.faults self.new.disk) }
+    {
         SlotKeeper::save(self, bytes)
     }
 }
