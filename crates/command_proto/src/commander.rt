@@ -4,11 +4,10 @@ ghost use Rattle.std.specs.Option.{option_map};
 ghost use Rattle.command_proto.specs.Commander.{new_commander, commands, open_command, command_message, counts, commander_step, commander_tick, idle_limit, Result};
 ghost use Rattle.command_proto.specs.Answers.{given_in, end_in, ticks_in};
 
-use crate::addresses::{is_same_name, is_same_stream};
 use crate::commands::{Command, Issue};
 use crate::{CommandBusy, CommandTick};
 use mav_messages::{CommandAck, CommandLong, MavResult, Message};
-use mav_names::{Name, Stream};
+use mav_names::{Name, Stream, is_same_name, is_same_stream};
 use std::marker::Model;
 
 // A command ends at the fifth tick in a row without an acknowledgement.

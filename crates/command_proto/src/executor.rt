@@ -4,12 +4,11 @@ ghost use Rattle.command_proto.specs.Executor.{new_executor, executor_step, comm
 ghost use Rattle.command_proto.specs.Answers.{message_in, action_in};
 
 use crate::NoMemory;
-use crate::addresses::is_for;
 use crate::commands::{Command, LastCommand};
 use crate::last_commands::LastCommands;
 use crate::verdicts::judge;
 use mav_messages::{CommandAck, CommandLong, MavResult, Message};
-use mav_names::{Name, Stream};
+use mav_names::{Name, Stream, is_for};
 use plan_items::Action;
 use std::alloc::Global;
 use std::marker::Model;

@@ -4,9 +4,8 @@ ghost use Rattle.mav_names.specs.Addresses.{same_stream};
 ghost use Rattle.command_proto.specs.Executor.{last_in, with_last, has_no_room, most_streams};
 
 use crate::NoMemory;
-use crate::addresses::is_same_stream;
 use crate::commands::LastCommand;
-use mav_names::Stream;
+use mav_names::{Stream, is_same_stream};
 use std::alloc::Global;
 use std::marker::Model;
 

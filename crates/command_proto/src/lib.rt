@@ -4,7 +4,6 @@
 //! `Executor::new` allocates. Nothing here flies a drone: whoever calls `step` does the action that it returns.
 #![tactic(auto)]
 
-mod addresses;
 mod commander;
 pub mod commands;
 mod executor;

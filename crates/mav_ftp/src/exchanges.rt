@@ -3,8 +3,7 @@ ghost use Rattle.std.specs.Prelude.{◌≡◌, ◌<◌, [], length, IsFalse, IfO
 ghost use Rattle.mav_ftp.specs.Exchanges.{exchange_at, kept_reply, is_full_for, with_exchange};
 
 use crate::NoMemory;
-use crate::addresses::is_same_stream;
-use mav_names::Stream;
+use mav_names::{Stream, is_same_stream};
 use std::alloc::Global;
 use std::marker::Model;
 

@@ -5,7 +5,6 @@
 //! changes nothing.
 #![tactic(auto)]
 
-mod addresses;
 mod client;
 mod client_laws;
 mod exchanges;

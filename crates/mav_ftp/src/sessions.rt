@@ -6,10 +6,9 @@ ghost use Rattle.mav_ftp.specs.Sessions.{overwritten};
 ghost use Rattle.mav_ftp.specs.Steps.{write_error, with_bytes};
 
 use crate::NoMemory;
-use crate::addresses::is_same_stream;
 use crate::names::FileName;
 use crate::payload::{FtpError, FtpFields, MAX_FILE_BYTES};
-use mav_names::Stream;
+use mav_names::{Stream, is_same_stream};
 use std::alloc::Global;
 use std::marker::Model;
 

@@ -1,6 +1,8 @@
-//! Names of MAVLink nodes, and of the streams of signed packets that they send. Plain numbers, with no behaviour.
+//! Names of MAVLink nodes, and of the streams of signed packets that they send, and who a message is for.
 #![tactic(auto)]
 
+mod addresses;
 mod names;
 
+pub use addresses::{is_for, is_same_name, is_same_stream};
 pub use names::{Name, Stream};

@@ -4,14 +4,13 @@ ghost use Rattle.param_proto.specs.Client.{new_client, begun, reads, sets, lists
 ghost use Rattle.param_proto.specs.Views.{task_view, operation_view};
 ghost use Rattle.param_proto.specs.Ends.{end_told, tick_told};
 
-use crate::addresses::is_same_stream;
 use crate::messages::{NO_ID, list_of, param_in, read_of, set_of};
 use crate::operations::{OpenOperation, Task};
 use crate::types::is_same_id;
 use crate::values::Values;
 use crate::{NoMemory, Param, ParamBusy, ParamEnd, ParamTick};
 use mav_messages::{Message, ParamValue};
-use mav_names::{Name, Stream};
+use mav_names::{Name, Stream, is_same_stream};
 use std::alloc::Global;
 use std::marker::Model;
 

@@ -4,7 +4,6 @@
 //! (`server_step`, `client_step`, `client_tick`), and no call but the constructors allocates.
 #![tactic(auto)]
 
-mod addresses;
 mod client;
 mod ends;
 mod faults;

@@ -1,17 +1,17 @@
 // The drone's side of the parameter protocol.
 ghost use Rattle.std.specs.Prelude.{◌≡◌, ◌<◌, [], length, map, position, Some, None, IfOk, IfErr, IfSome, OnOk};
+ghost use Rattle.mav_names.specs.Addresses.{is_for_node};
 ghost use Rattle.param_proto.specs.Params.{normal};
 ghost use Rattle.param_proto.specs.Server.{untyped, new_server, server_step, taken_from, next_answer, word_in, place_of, params_set, value_at, values_from, asked_for, value_set, serves, with_word};
 ghost use Rattle.param_proto.specs.Faults.{shape_fault, fault_of, IsFault};
 ghost use Rattle.param_proto.specs.Places.{IsIndex};
 
-use crate::addresses::is_for;
 use crate::messages::value_of;
 use crate::places::{Places, index_ids};
 use crate::types::{clean, is_type, narrow, normalise};
 use crate::{Param, ParamFault};
 use mav_messages::{Message, ParamRequestRead, ParamSet};
-use mav_names::Name;
+use mav_names::{Name, is_for};
 use std::alloc::Global;
 use std::marker::Model;
 
@@ -45,6 +45,13 @@ fn first_untyped(params: &[Param]) -> Option<usize>
     ensures { result ≡ position untyped params.now }
 {
     params.iter().position(|param| !is_type(param.ty))
+}
+
+// Whether a message with these target fields is for this node.
+fn is_for_me(me: Name, sys: u8, comp: u8) -> bool
+    ensures { result ≡ is_for_node me (record { sys = sys; comp = comp }) }
+{
+    is_for(me, Name { sys, comp })
 }
 
 // Too many, or the first whose type is none.
@@ -197,13 +204,15 @@ impl ParamServer {
         ensures { self.new ≡ server_step self.old me msg.now }
     {
         match msg {
-            Message::ParamRequestRead(m) if is_for(me, m.target_system, m.target_component) => {
+            Message::ParamRequestRead(m) if is_for_me(me, m.target_system, m.target_component) => {
                 self.read(m)
             }
-            Message::ParamRequestList(m) if is_for(me, m.target_system, m.target_component) => {
+            Message::ParamRequestList(m) if is_for_me(me, m.target_system, m.target_component) => {
                 self.answer_all()
             }
-            Message::ParamSet(m) if is_for(me, m.target_system, m.target_component) => self.set(m),
+            Message::ParamSet(m) if is_for_me(me, m.target_system, m.target_component) => self.set(
+                m,
+            ),
             _ => self.answer_none(),
         }
     }

@@ -1,6 +1,6 @@
 // Who a plan message comes from and whom it is for.
 ghost use Rattle.std.specs.Prelude.{◌≡◌};
-ghost use Rattle.plan_upload.specs.Addresses.{same_stream, same_name, node_of, everyone, is_for_drone};
+ghost use Rattle.plan_upload.specs.Addresses.{node_of, everyone, is_for_drone};
 ghost use Rattle.plan_upload.specs.Drone.{ack, ask};
 ghost use Rattle.plan_upload.specs.Keeping.{carried};
 ghost use Rattle.plan_upload.specs.Station.{addressee};
@@ -10,18 +10,6 @@ use plan_items::{Item, PlanMsg};
 
 // A drone is this component of its system (MAVLink common messages, MAV_COMP_ID_AUTOPILOT1).
 pub const AUTOPILOT: u8 = 1;
-
-pub fn is_same_stream(a: Stream, b: Stream) -> bool
-    ensures { result ≡ same_stream a b }
-{
-    a.sys == b.sys && (a.comp == b.comp && a.link == b.link)
-}
-
-pub fn is_same_name(a: Name, b: Name) -> bool
-    ensures { result ≡ same_name a b }
-{
-    a.sys == b.sys && a.comp == b.comp
-}
 
 pub fn node(stream: Stream) -> Name
     ensures { result ≡ node_of stream }

@@ -6,10 +6,10 @@ ghost use Rattle.plan_upload.specs.Drone.{is_downloading, download_without, copy
 ghost use Rattle.plan_upload.specs.Copying.{item_in, download_after, given_of};
 
 use crate::NoMemory;
-use crate::addresses::{acknowledge, is_same_stream, node};
+use crate::addresses::{acknowledge, node};
 use crate::buffers::Buffer;
 use crate::uploads::LAST_IDLE_TICK;
-use mav_names::Stream;
+use mav_names::{Stream, is_same_stream};
 use plan_items::{Item, MissionResult, Plan, PlanKind, PlanMsg};
 use std::alloc::Global;
 use std::marker::Model;

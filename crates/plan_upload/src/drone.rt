@@ -11,13 +11,13 @@ mod keeping;
 mod transfers;
 
 use crate::NoMemory;
-use crate::addresses::{broadcast, is_for_autopilot, is_same_name, node, receiver};
+use crate::addresses::{broadcast, is_for_autopilot, node, receiver};
 use crate::downloads::DownloadSlot;
 use crate::held::HeldPlans;
 use crate::results::Results;
 use crate::uploads::UploadSlot;
 use crate::verdicts::Verdict;
-use mav_names::Stream;
+use mav_names::{Stream, is_same_name};
 use plan_items::{Plan, PlanKind, PlanMsg};
 use std::alloc::Global;
 use std::marker::Model;

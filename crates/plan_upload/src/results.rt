@@ -5,8 +5,7 @@ ghost use Rattle.plan_upload.specs.Drone.{result_of, with_result};
 ghost use Rattle.plan_upload.specs.Room.{has_place};
 
 use crate::NoMemory;
-use crate::addresses::is_same_stream;
-use mav_names::Stream;
+use mav_names::{Stream, is_same_stream};
 use std::alloc::Global;
 use std::marker::Model;
 

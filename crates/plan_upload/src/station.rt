@@ -16,12 +16,12 @@ mod listing;
 mod pinging;
 mod sending;
 
-use crate::addresses::{broadcast, is_same_name, is_same_stream, node, receiver};
+use crate::addresses::{broadcast, node, receiver};
 use crate::buffers::Buffer;
 use crate::operations::{GetTask, OpenOperation, Stage, Task, UploadTask, kind_number};
 use crate::synced::SyncedDrones;
 use crate::{BeginFault, NoMemory, OpFault, Outcome};
-use mav_names::{Name, Stream};
+use mav_names::{Name, Stream, is_same_name, is_same_stream};
 use plan_items::{Plan, PlanKind, PlanMsg};
 use std::alloc::Global;
 use std::marker::Model;

@@ -5,8 +5,7 @@ ghost use Rattle.plan_upload.specs.Addresses.{same_stream};
 ghost use Rattle.plan_upload.specs.Station.{is_synced, synced_too};
 
 use crate::NoMemory;
-use crate::addresses::is_same_stream;
-use mav_names::Stream;
+use mav_names::{Stream, is_same_stream};
 use std::alloc::Global;
 use std::marker::Model;
 

@@ -8,11 +8,11 @@ ghost use Rattle.plan_upload.specs.Keeping.{HasKind, gathered_in, IsValidIn};
 ghost use Rattle.plan_upload.specs.Gathering.{last_verdict, verdict_of, asked_of, acked_of, with_item, plans_with, can_gather, is_sound_with, stream_of, kind_in, upload_after, sent_at_tick};
 
 use crate::NoMemory;
-use crate::addresses::{acknowledge, is_same_stream, request};
+use crate::addresses::{acknowledge, request};
 use crate::buffers::Buffer;
 use crate::held::HeldPlans;
 use crate::verdicts::Verdict;
-use mav_names::Stream;
+use mav_names::{Stream, is_same_stream};
 use plan_image::PlanItems;
 use plan_items::{
     Item, MissionResult, Plan, PlanKind, PlanMsg, check_item, check_whole_with, code,
