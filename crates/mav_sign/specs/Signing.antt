@@ -1,5 +1,6 @@
 -- The signature of a frame (MAVLink guide, Message Signing: Signature; FIPS 180-4).
-use Rattle.std.specs.Prelude.{ℕ, ◌≡◌, List, ◌∷◌, ◌++◌, take, Option, Some, None}
+use Rattle.std.specs.Prelude.{ℕ, ◌≡◌, Bool, false, List, ◌∷◌, ◌++◌, take, Option, Some, None}
+use Rattle.std.specs.Str.{bytes_eq}
 use Rattle.sha2.specs.Sha256.{sha256}
 use Rattle.mav_frame.specs.Numbers.{little_endian}
 use Rattle.mav_frame.specs.Packet.{Packet, SignatureBlock}
@@ -17,3 +18,8 @@ signature_of key packet link stamp = take 6 (sha256 (key ++ through_checksum pac
 abbrev pub Verifies : List ℕ → Packet → Option SignatureBlock → Type 0
 Verifies key packet None = ⊥
 Verifies key packet (Some block) = block.sig ≡ signature_of key packet block.link block.stamp
+
+-- the same as a test: whether a frame has a signature block, and that has the signature under the key
+abbrev pub verified : List ℕ → Packet → Option SignatureBlock → Bool
+verified key packet None = false
+verified key packet (Some block) = bytes_eq block.sig (signature_of key packet block.link block.stamp)

@@ -1,7 +1,7 @@
 // Signatures of frames.
 ghost use Rattle.std.specs.Prelude.{◌≡◌, ◌^◌, ◌<◌, ◌↔◌, IsTrue, IsSome, Some, take};
 ghost use Rattle.std.specs.Str.{bytes_eq};
-ghost use Rattle.mav_sign.specs.Signing.{signature_of, through_checksum, Verifies};
+ghost use Rattle.mav_sign.specs.Signing.{signature_of, through_checksum, Verifies, verified};
 
 use crate::Key;
 use mav_frame::{Block, Frame, bytes_6, encode};
@@ -43,7 +43,8 @@ pub(crate) fn is_right(key: &Key, frame: &Frame, block: &Block) -> bool
 /// Whether the frame has a signature block whose six bytes are those of the key (MAVLink guide, Message Signing:
 /// Signature).
 pub fn verifies(key: &Key, frame: &Frame) -> bool
-    ensures { IsTrue result ↔ Verifies key.now frame.now frame.now.block }
+    ensures verifies { IsTrue result ↔ Verifies key.now frame.now frame.now.block }
+    ensures test { result ≡ verified key.now frame.now frame.now.block }
 {
     match &frame.block {
         Some(block) => is_right(key, frame, block),

@@ -1,9 +1,10 @@
 // What a verifier keeps: the timestamps that it admitted and sent.
 ghost use Rattle.std.specs.Prelude.{◌≡◌, ◌+◌, ◌<◌, ◌^◌, ◌++◌, ◌∷◌, [], List, max, false, Some, IfOk, OnErr};
+ghost use Rattle.mav_sign.specs.Signing.{verified};
 ghost use Rattle.mav_sign.specs.History.{Entry, tried, sent, started, stream_of as stream_in, stamp_answer, answer_to, is_admitted, last_of, local_of, next_in, stamp_given};
 ghost use Rattle.mav_sign.specs.Kept.{IsStream, Represents, KeptAfter, stream_number, stamp_at, local_kept, kept_answer, kept_answer_to, kept_next};
 
-use crate::signing::is_right;
+use crate::signing::{is_right, verifies};
 use crate::table::{STREAM_LIMIT, Table};
 use crate::{Admit, Key, NoMemory, StampsSpent};
 use mav_frame::{Block, Frame};
@@ -163,10 +164,25 @@ impl Stamps {
         ensures history { (history : List Entry) → Represents self.old history
             → Represents self.new (history ++ tried frame.now result ∷ []) }
     {
+        self.admit_judged(key, frame, verifies(key, frame))
+    }
+
+    /// What `admit` does, for a frame of which it is already known whether it verifies. No timestamp changes that, so it
+    /// may be found before.
+    pub fn admit_judged(&mut self, key: &Key, frame: &Frame, verifies: bool) -> Admit
+        requires { verifies ≡ verified key.now frame.now frame.now.block }
+        ensures kept { result ≡ kept_answer_to key.now self.old frame.now }
+        ensures unchanged { is_admitted result ≡ false → self.new ≡ self.old }
+        ensures answer { (history : List Entry) → Represents self.old history
+            → result ≡ answer_to key.now history frame.now }
+        ensures history { (history : List Entry) → Represents self.old history
+            → Represents self.new (history ++ tried frame.now result ∷ []) }
+    {
+        let _ = key;
         let Some(block) = &frame.block else {
             return Admit::Unsigned;
         };
-        if !is_right(key, frame, block) {
+        if !verifies {
             return Admit::BadSignature;
         }
         self.admit_stamp(stream_of(frame, block), block.stamp)

@@ -12,8 +12,8 @@ returns-then-frame-clause-text c =
 
 pub returns-then-verifies-clause-text : goal.returns-then-verifies-clause-text
 returns-then-verifies-clause-text c =
-    good_line c.args.key.now c.in-Some.key _ c.frame_at.result c.in-Some.is c.frame_at.ensures (c.verifies.ensures.0 c.if-verifies.true)
+    good_line c.args.key.now c.in-Some.key _ c.frame_at.result c.in-Some.is c.frame_at.ensures (c.verifies.ensures.verifies.0 c.if-verifies.true)
 
 pub returns-else-verifies-clause-text : goal.returns-else-verifies-clause-text
 returns-else-verifies-clause-text c =
-    bad_line c.args.key.now c.in-Some.key c.args.frame.now c.frame_at.result c.in-Some.is c.if-frame.false c.if-frame-eq0.false c.frame_at.ensures (λ e. absurd (cc (sym c.if-verifies.false ∙ c.verifies.ensures.1 e)))
+    bad_line c.args.key.now c.in-Some.key c.args.frame.now c.frame_at.result c.in-Some.is c.if-frame.false c.if-frame-eq0.false c.frame_at.ensures (λ e. absurd (cc (sym c.if-verifies.false ∙ c.verifies.ensures.verifies.1 e)))

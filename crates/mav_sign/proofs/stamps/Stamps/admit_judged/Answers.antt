@@ -5,13 +5,13 @@ use Rattle.mav_sign.specs.History.{stream_of}
 use Rattle.mav_sign.specs.Kept.{IsStream, KeptAfter, kept_answer}
 use Rattle.mav_sign.specs.declared.admission.Admit.TheVariants.{Unsigned, BadSignature}
 use Rattle.mav_sign.proofs.Keeping.{after_refused, after_tried}
-use Rattle.mav_sign.proofs.stamps.Stamps.admit.Goals as goal
+use Rattle.mav_sign.proofs.stamps.Stamps.admit_judged.Goals as goal
 
 pub returns-in_default-clause-history : goal.returns-in_default-clause-history
 returns-in_default-clause-history c = λ history of. after_refused c.args.self.now history c.args.frame.now Unsigned refl of
 
-pub returns-then-not-is_right-clause-history : goal.returns-then-not-is_right-clause-history
-returns-then-not-is_right-clause-history c =
+pub returns-then-not-verifies-clause-history : goal.returns-then-not-verifies-clause-history
+returns-then-not-verifies-clause-history c =
     λ history of. after_refused c.args.self.now history c.args.frame.now BadSignature refl of
 
 pub returns-clause-history : goal.returns-clause-history
