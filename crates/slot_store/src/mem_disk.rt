@@ -1,9 +1,9 @@
 // A disk in memory.
-ghost use Rattle.std.specs.Prelude.{◌≡◌, ◌⊎◌, ◌<◌, ◌≤◌, ◌+◌, ◌^◌, ⊤, ℕ, List, [], ◌∷◌, ◌++◌, Some, None, ◌%◌, if◌then◌else◌, length, drop, IfOk, OnOk, OnErr};
+ghost use Rattle.std.specs.Prelude.{◌≡◌, ◌⊎◌, ◌<◌, ◌≤◌, ◌+◌, ◌^◌, ⊤, ℕ, List, [], ◌∷◌, ◌++◌, Some, None, ◌%◌, if◌then◌else◌, false, length, drop, IfOk, OnOk, OnErr};
 ghost use Rattle.std.proofs.Common.{inl, refl};
 ghost use Rattle.mav_ports.specs.Calls.{call_after};
 ghost use Rattle.mav_ports.specs.Counts.{next_count};
-ghost use Rattle.slot_store.specs.Disks.{SameOutside, Writes, Tears, CountsDiskFault};
+ghost use Rattle.slot_store.specs.Disks.{bytes_at, SameOutside, Writes, Tears, LeavesNoMore, LeavesAlone, Elapses, CountsDiskFault};
 ghost use Rattle.slot_store.specs.MemDisks.{IsImage, HadBeen, IsRecorded, drawn, drawn_byte, next_state, only_image, own_image, fails_at};
 
 use crate::unsynced::{Moment, Range, is_covered};
@@ -224,7 +224,21 @@ impl Disk for MemDisk {
         self.bytes.len() as u64
     }
 
-    fn read(&mut self, at: u64, out: &mut [u8]) -> Result<(), DiskFault> {
+    fn read(&mut self, at: u64, out: &mut [u8]) -> Result<(), DiskFault>
+        requires { at + length out.old ≤ length self.old.bytes.items }
+        ensures bytes { OnOk result (out.new ≡ bytes_at at (length out.old) self.old.bytes.items) }
+        ensures seen { self.new.bytes.items ≡ self.old.bytes.items }
+        ensures crash { LeavesNoMore (IsImage self.old.bytes.items self.old.ranges.items) (IsImage self.new.bytes.items self.new.ranges.items) }
+        ensures time { Elapses (length self.old.past.items) (length self.new.past.items)
+            (λ t c. IsImage self.old.bytes.items self.old.ranges.items c ⊎ HadBeen (drop t self.old.past.items) c)
+            (λ t c. IsImage self.new.bytes.items self.new.ranges.items c ⊎ HadBeen (drop t self.new.past.items) c)
+            (IsImage self.new.bytes.items self.new.ranges.items) }
+        ensures extent { length self.new.bytes.items ≡ length self.old.bytes.items }
+        ensures faults { CountsDiskFault result self.old.faults self.new.faults }
+        ensures call { self.new.call ≡ call_after self.old.call }
+        ensures listed { OnOk result (fails_at self.old.fails.items self.old.stop self.old.call ≡ false) }
+        ensures stays { (self.new.fails ≡ self.old.fails) × (self.new.stop ≡ self.old.stop) }
+    {
         if self.begin()? {
             return Err(self.fault());
         }
@@ -233,7 +247,21 @@ impl Disk for MemDisk {
         Ok(())
     }
 
-    fn write(&mut self, at: u64, bytes: &[u8]) -> Result<(), DiskFault> {
+    fn write(&mut self, at: u64, bytes: &[u8]) -> Result<(), DiskFault>
+        requires { at + length bytes.now ≤ length self.old.bytes.items }
+        ensures written { OnOk result (Writes at bytes.now self.old.bytes.items self.new.bytes.items) }
+        ensures unwritten { OnErr result (self.new.bytes.items ≡ self.old.bytes.items) }
+        ensures crash { Tears at (length bytes.now) (IsImage self.old.bytes.items self.old.ranges.items) (IsImage self.new.bytes.items self.new.ranges.items) }
+        ensures time { Elapses (length self.old.past.items) (length self.new.past.items)
+            (λ t c. IsImage self.old.bytes.items self.old.ranges.items c ⊎ HadBeen (drop t self.old.past.items) c)
+            (λ t c. IsImage self.new.bytes.items self.new.ranges.items c ⊎ HadBeen (drop t self.new.past.items) c)
+            (IsImage self.new.bytes.items self.new.ranges.items) }
+        ensures extent { length self.new.bytes.items ≡ length self.old.bytes.items }
+        ensures faults { CountsDiskFault result self.old.faults self.new.faults }
+        ensures call { self.new.call ≡ call_after self.old.call }
+        ensures listed { OnOk result (fails_at self.old.fails.items self.old.stop self.old.call ≡ false) }
+        ensures stays { (self.new.fails ≡ self.old.fails) × (self.new.stop ≡ self.old.stop) }
+    {
         let fails = self.begin()?;
         match mark(&mut self.ranges, at, bytes.len() as u64) {
             Ok(()) if !fails => {
@@ -244,7 +272,20 @@ impl Disk for MemDisk {
         }
     }
 
-    fn sync(&mut self) -> Result<(), DiskFault> {
+    fn sync(&mut self) -> Result<(), DiskFault>
+        ensures durable { OnOk result (LeavesAlone self.new.bytes.items (IsImage self.new.bytes.items self.new.ranges.items)) }
+        ensures seen { OnOk result (self.new.bytes.items ≡ self.old.bytes.items) }
+        ensures crash { LeavesNoMore (IsImage self.old.bytes.items self.old.ranges.items) (IsImage self.new.bytes.items self.new.ranges.items) }
+        ensures time { Elapses (length self.old.past.items) (length self.new.past.items)
+            (λ t c. IsImage self.old.bytes.items self.old.ranges.items c ⊎ HadBeen (drop t self.old.past.items) c)
+            (λ t c. IsImage self.new.bytes.items self.new.ranges.items c ⊎ HadBeen (drop t self.new.past.items) c)
+            (IsImage self.new.bytes.items self.new.ranges.items) }
+        ensures extent { length self.new.bytes.items ≡ length self.old.bytes.items }
+        ensures faults { CountsDiskFault result self.old.faults self.new.faults }
+        ensures call { self.new.call ≡ call_after self.old.call }
+        ensures listed { OnOk result (fails_at self.old.fails.items self.old.stop self.old.call ≡ false) }
+        ensures stays { (self.new.fails ≡ self.old.fails) × (self.new.stop ≡ self.old.stop) }
+    {
         if self.begin()? {
             return Err(self.fault());
         }
