@@ -9,9 +9,10 @@ use Rattle.run_status.specs.declared.input_errors.InputError.{InputError}
 use Rattle.run_status.specs.declared.run_ends.RunEnd.{RunEnd}
 use Rattle.run_status.specs.declared.run_ends.RunEnd.TheVariants.{Stopped, WriteFault, NoMemory}
 use Rattle.run_status.specs.Runs.{PortOutcome, port_outcome, end_of, RunBeforeStatus}
-use Rattle.fence_command.specs.FenceFile.{FileState, Read, file_read}
+use Rattle.line_input.specs.Takers.{Read}
+use Rattle.fence_command.specs.FenceFile.{FileState}
 use Rattle.fence_command.specs.FenceText.{fence_text}
-use Rattle.fence_command.specs.Spec.{stop_of, plans_stop, fence_spec, HoldsState}
+use Rattle.fence_command.specs.Spec.{fence_read, stop_of, plans_stop, fence_spec, HoldsState}
 
 -- ---- a plan isn't sound
 
@@ -35,8 +36,8 @@ abbrev Finished : Type 0 → ℕ → ℕ → ℕ → ℕ → ℕ → ℕ → (lb
 Finished spent fb fa ib ia rb ra lb la sb sa end = RunBeforeStatus fence_spec (port_outcome spent fb fa ib ia rb ra) lb la sb sa end
 
 module _ (spent : Type 0) (fb fa ib ia rb ra : ℕ) (lb la sb sa : Option (List ℕ)) (file : FileState) (held : HoldsState spent lb la file) where
-  the_text : fence_text file ≡ fence_text (file_read true held.taken).file
-  the_text = ap (λ (r : Read). fence_text r.file) (sym held.gives)
+  the_text : fence_text file ≡ fence_text (fence_read true held.taken).state
+  the_text = ap (λ (r : Read FileState). fence_text r.state) (sym held.gives)
 
   ended_by : (run_end : RunEnd) → (run_end ≡ WriteFault) ⊎ (run_end ≡ NoMemory) → (run_end ≡ WriteFault → Rose rb ra × SentPrefix sb sa (fence_text file)) → (run_end ≡ NoMemory → sa ≡ sb)
       → Finished spent fb fa ib ia rb ra lb la sb sa (Some run_end)
@@ -51,7 +52,7 @@ module _ (spent : Type 0) (fb fa ib ia rb ra : ℕ) (lb la sb sa : Option (List 
         took = held.took;
         at_end = λ _. held.at_end;
         cause = tt;
-        wrote = subst (λ (known : Option (List ℕ)). SentPrefix sb known (fence_text (file_read true held.taken).file)) (sym (unsent e)) (fence_text (file_read true held.taken).file, sent_start sb (fence_text (file_read true held.taken).file));
+        wrote = subst (λ (known : Option (List ℕ)). SentPrefix sb known (fence_text (fence_read true held.taken).state)) (sym (unsent e)) (fence_text (fence_read true held.taken).state, sent_start sb (fence_text (fence_read true held.taken).state));
       })
 
   pub finished : (result : Result (Unit {0}) RunEnd) → None ≡ end_of (plans_stop file)

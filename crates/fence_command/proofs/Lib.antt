@@ -1,5 +1,3 @@
-pub mod ByteLines
-pub mod Steps
 pub mod Stays
 pub mod Endings
 pub mod WholeText

@@ -1,4 +1,4 @@
--- A file that says a fence, a mission and a flight, line by line.
+-- What the lines of a file say of a fence, a mission and a flight.
 use Rattle.std.specs.Prelude.{ℕ, ◌+◌, ◌==◌, nat_lt, Bool, true, false, not, if◌then◌else◌, List, [], ◌∷◌, ◌++◌, length, codes, pos, Option, Some, None, Ok, Err}
 use Rattle.std.specs.declared.result.Result.{Result}
 use Rattle.std.specs.Str.{bytes_eq}
@@ -7,14 +7,11 @@ use Rattle.drone_sim.specs.declared.points.Point.{Point}
 use Rattle.scenario_lines.specs.declared.faults.Reason.{Reason}
 use Rattle.scenario_lines.specs.declared.faults.Reason.TheVariants.{Long, Word, Later, Count, Number, Node, Kind, Hex, Twice, Range, Draft, Clock}
 use Rattle.scenario_lines.specs.Words.{words_of, word_at}
-use Rattle.scenario_lines.specs.Grammar.{line_of, most_line_bytes}
+use Rattle.scenario_lines.specs.Grammar.{line_of}
 use Rattle.scenario_lines.specs.Readings.{and_then, whole, signed}
 use Rattle.scenario_lines.specs.Reasons.{item_reason_against}
-use Rattle.plan_file.specs.FileLines.{whole_lines, unfinished, without_cr, most_lines}
-use Rattle.plan_file.specs.Spec.{bad_line, items_in}
-use Rattle.run_status.specs.declared.input_errors.Bound.TheVariants.{Lines}
-use Rattle.run_status.specs.declared.input_errors.InputError.{InputError}
-use Rattle.run_status.specs.declared.input_errors.InputError.TheVariants.{AtLimit}
+use Rattle.line_input.specs.Takers.{Says}
+use Rattle.plan_file.specs.Spec.{items_in}
 
 -- where the flight starts, the most units of a tick, how many ticks it has, both lists of items, and whether item lines
 -- join the fence
@@ -94,68 +91,5 @@ words_say f text words =
     else if bytes_eq (word_at words 0) (codes "mission") then list_says f false words
     else items_say f text
 
-abbrev pub line_says : FileState → List ℕ → Result FileState Reason
+abbrev pub line_says : Says FileState
 line_says f text = words_say f text (words_of text)
-
--- ---- the bytes of a file as lines
-
--- the file so far, and why it stops, if it does
-pub record Read : Type 0 where
-  pub file : FileState
-  pub stop : Option InputError
-
--- nothing stopped the file
-abbrev pub going : FileState → Read
-going file = record { file = file; stop = None }
-
-abbrev pub stopped : Read → InputError → Read
-stopped r stop = record r { stop = Some stop }
-
-abbrev pub unless_stopped : Option InputError → Read → Read → Read
-unless_stopped None r next = next
-unless_stopped (Some stop) r next = r
-
--- line `number`, after what it says
-abbrev pub judged : Read → ℕ → Result FileState Reason → Read
-judged r number (Ok file) = going file
-judged r number (Err reason) = stopped r (bad_line number reason)
-
-abbrev pub text_read : Read → ℕ → List ℕ → Read
-text_read r number text = judged r number (line_says r.file text)
-
--- line `number`, with its CR, which is no part of what it says
-abbrev pub line_read : Read → ℕ → List ℕ → Read
-line_read r number raw =
-    if nat_lt most_lines number then stopped r (AtLimit Lines)
-    else if nat_lt most_line_bytes (length raw) then stopped r (bad_line number Long)
-    else text_read r number (without_cr raw)
-
--- the lines from `number` on, up to the first at which the file stops
-abbrev pub lines_read : Read → ℕ → List (List ℕ) → Read
-lines_read r number [] = r
-lines_read r number (raw ∷ more) = unless_stopped r.stop r (lines_read (line_read r number raw) (number + 1) more)
-
--- a last line without LF keeps its CR, and counts if it isn't empty
-abbrev pub last_read : Read → ℕ → List ℕ → Read
-last_read r number [] = r
-last_read r number (b ∷ bs) =
-    if nat_lt most_lines number then stopped r (AtLimit Lines)
-    else if nat_lt most_line_bytes (length (b ∷ bs)) then stopped r (bad_line number Long)
-    else text_read r number (b ∷ bs)
-
--- an unfinished line stops the file as soon as it is too long
-abbrev pub part_read : Read → ℕ → List ℕ → Read
-part_read r number part =
-    if nat_lt most_line_bytes (length part)
-    then (if nat_lt most_lines number then stopped r (AtLimit Lines) else stopped r (bad_line number Long))
-    else r
-
-abbrev pub rest_read : Bool → Read → ℕ → List ℕ → Read
-rest_read true r number rest = last_read r number rest
-rest_read false r number rest = part_read r number rest
-
--- what the bytes that were taken give; `ended` says whether the input ended after them
-abbrev pub file_read : Bool → List ℕ → Read
-file_read ended bytes =
-    let lines = lines_read (going empty_file) 1 (whole_lines bytes) in
-    unless_stopped lines.stop lines (rest_read ended lines (length (whole_lines bytes) + 1) (unfinished bytes))

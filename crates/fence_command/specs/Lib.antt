@@ -1,6 +1,6 @@
 pub mod FenceFile
 pub mod Files
 pub mod FenceText
-pub mod ByteByByte
+pub mod Saying
 pub mod Spec
 pub mod Examples

@@ -10,7 +10,6 @@ mod commands;
 mod files;
 mod lines;
 mod plans;
-mod reader;
 mod reading;
 mod reports;
 mod texts;

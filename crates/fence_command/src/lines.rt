@@ -3,16 +3,16 @@ ghost use Rattle.std.specs.Prelude.{◌≡◌, length, true, false, Ok, Err, Som
 ghost use Rattle.std.specs.declared.result.Result.{Result};
 ghost use Rattle.scenario_lines.specs.Faults.{IfBad};
 ghost use Rattle.scenario_lines.specs.Readings.{and_then, whole, signed};
-ghost use Rattle.fence_command.specs.FenceFile.{home_says, step_says, ticks_says, list_says, items_say, line_says, file_reason, text_read, going};
+ghost use Rattle.fence_command.specs.FenceFile.{home_says, step_says, ticks_says, list_says, items_say, line_says, file_reason};
 ghost use Rattle.scenario_lines.specs.declared.faults.Reason.{Reason};
 ghost use Rattle.fence_command.specs.FenceFile.{FileState};
 ghost use Rattle.fence_command.specs.Files.{state_of};
-ghost use Rattle.fence_command.specs.ByteByByte.{Leads, Says, FaultSays, renamed};
+ghost use Rattle.line_input.specs.Takers.{FaultSays};
+ghost use Rattle.fence_command.specs.Saying.{Says, renamed};
 
 use crate::FenceFile;
 use drone_sim::Point;
-use plan_file::{add_line, bad_line};
-use run_status::RunEnd;
+use plan_file::add_line;
 use scenario_lines::{LineFault, Reason, Words, is_word};
 use std::alloc::Global;
 
@@ -101,7 +101,8 @@ fn faulted(read: Result<(), Reason>) -> Result<(), LineFault>
     Ok(read?)
 }
 
-fn read_text(alloc: Global, file: &mut FenceFile, text: &[u8]) -> Result<(), LineFault>
+/// Does what a line says, or says what is wrong with it.
+pub(crate) fn read_text(alloc: Global, file: &mut FenceFile, text: &[u8]) -> Result<(), LineFault>
     ensures { FaultSays result (line_says (state_of file.old) text.now) (state_of file.new) }
 {
     let words = Words::of(alloc, text)?;
@@ -112,21 +113,5 @@ fn read_text(alloc: Global, file: &mut FenceFile, text: &[u8]) -> Result<(), Lin
         first if is_word(first, "fence") => faulted(read_list(file, true, &words)),
         first if is_word(first, "mission") => faulted(read_list(file, false, &words)),
         _ => read_items(alloc, file, text),
-    }
-}
-
-/// Does what line `number` says, or says what is wrong with it.
-pub(crate) fn read_line(
-    alloc: Global,
-    file: &mut FenceFile,
-    number: usize,
-    text: &[u8],
-) -> Result<(), RunEnd>
-    ensures { Leads result (text_read (going (state_of file.old)) number text.now) (state_of file.new) }
-{
-    match read_text(alloc, file, text) {
-        Ok(()) => Ok(()),
-        Err(LineFault::Bad(reason)) => Err(bad_line(number, reason)),
-        Err(LineFault::NoMemory) => Err(RunEnd::NoMemory),
     }
 }

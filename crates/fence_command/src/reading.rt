@@ -1,20 +1,61 @@
 // A file as an input gives it.
-ghost use Rattle.std.specs.Prelude.{◌≡◌, ◌<◌, ℕ, List, [], length, Some, IfOk, IfErr};
+ghost use Rattle.std.specs.Prelude.{◌≡◌, ℕ, List, Some, IfOk, IfErr};
 ghost use Rattle.std.specs.declared.option.Option.{Option};
 ghost use Rattle.mav_ports.specs.Gets.{IsSpent};
 ghost use Rattle.run_status.specs.Runs.{RunBeforeStatus, port_outcome};
+ghost use Rattle.fence_command.specs.FenceFile.{empty_file};
 ghost use Rattle.fence_command.specs.Files.{state_of};
-ghost use Rattle.fence_command.specs.Spec.{HoldsFile, HoldsState, fence_spec};
-ghost use Rattle.fence_command.specs.ByteByByte.{Reading};
+ghost use Rattle.fence_command.specs.Spec.{HoldsFile, fence_spec};
 
 use crate::FenceFile;
-use crate::reader::FenceReader;
-use mav_ports::{Got, Source};
-use run_status::{RunEnd, read_on};
+use crate::lines::read_text;
+use line_input::{LineTaker, read_lines};
+use mav_ports::Source;
+use run_status::RunEnd;
+use scenario_lines::LineFault;
 use std::alloc::Global;
+use std::marker::Model;
 
-// How much is read at once.
-const PIECE_BYTES: usize = 65_536;
+// What the lines taken so far say.
+#[derive(Drop)]
+struct FenceLines {
+    file: FenceFile,
+}
+
+impl Model for FenceLines {
+    ghost use Rattle.fence_command.specs.FenceFile.{FileState};
+    ghost use Rattle.fence_command.specs.Files.{state_of};
+
+    ghost Value = { FileState };
+
+    ghost view = { λ lines. state_of lines.file };
+}
+
+impl LineTaker for FenceLines {
+    ghost use Rattle.fence_command.specs.FenceFile.{line_says};
+
+    ghost says = { line_says };
+
+    fn take_line(&mut self, alloc: Global, text: &[u8]) -> Result<(), LineFault> {
+        read_text(alloc, &mut self.file, text)
+    }
+}
+
+impl FenceLines {
+    fn new(alloc: Global) -> FenceLines
+        ensures { result ≡ empty_file }
+    {
+        FenceLines {
+            file: FenceFile::new(alloc),
+        }
+    }
+
+    fn into_file(self) -> FenceFile
+        ensures { state_of result ≡ self }
+    {
+        self.file
+    }
+}
 
 /// Reads an input to its end, and returns what its lines say.
 pub(crate) fn read_file<S: Source>(alloc: Global, input: &mut S) -> Result<FenceFile, RunEnd>
@@ -25,33 +66,7 @@ pub(crate) fn read_file<S: Source>(alloc: Global, input: &mut S) -> Result<Fence
         (S.faults input.old) (S.faults input.new) (S.idles input.old) (S.idles input.new)
         refusals refusals) (S.left input.old) (S.left input.new) sent sent (Some run_end)) }
 {
-    let mut reader = FenceReader::new(alloc)?;
-    let mut buf = vec![in alloc; 0u8; PIECE_BYTES]?;
-    read_all(&mut reader, input, &mut buf)?;
-    Ok(reader.into_file())
-}
-
-// Reads on until a line is bad or the input gives no more.
-fn read_all<S: Source>(
-    reader: &mut FenceReader,
-    input: &mut S,
-    buf: &mut [u8],
-) -> Result<(), RunEnd>
-    requires room { 0 < length buf.old }
-    requires start { Reading [] (state_of reader.old.file) reader.old.number reader.old.line.items }
-    ensures holds { IfOk result (λ _. HoldsState (S.has_ended input.new × IsSpent (S.left input.new))
-        (S.left input.old) (S.left input.new) (state_of reader.new.file)) }
-    ensures halts { IfErr result (λ run_end. (refusals : ℕ) (sent : Option (List ℕ))
-        → RunBeforeStatus fence_spec (port_outcome (S.has_ended input.new × IsSpent (S.left input.new))
-        (S.faults input.old) (S.faults input.new) (S.idles input.old) (S.idles input.new)
-        refusals refusals) (S.left input.old) (S.left input.new) sent sent (Some run_end)) }
-{
-    loop {
-        match read_on(input, buf) {
-            Got::Bytes(count) => reader.feed(&buf[..count])?,
-            Got::Idle => return Err(RunEnd::TurnsSpent),
-            Got::End => return reader.finish(),
-            Got::Failed => return Err(RunEnd::ReadFault),
-        }
-    }
+    let mut lines = FenceLines::new(alloc);
+    read_lines(alloc, input, &mut lines)?;
+    Ok(lines.into_file())
 }

@@ -17,13 +17,16 @@ use Rattle.fleet_world.specs.declared.faults.WorldFault.{WorldFault}
 use Rattle.fleet_world.specs.declared.faults.WorldFault.TheVariants.{Limit, Node, NoMemory as NoWorldMemory}
 use Rattle.fleet_world.specs.Promises.{IsStep, IsStepError}
 use Rattle.fleet_world.specs.Steps.{Step, StepError, At_limit, Stamps_spent, after_line, closing_text}
-use Rattle.fleet_world.specs.Scenario.{Played, ScenarioError, Bad, Too_many_lines, Not_done, most_lines, stopped, goes_on, judged, without_cr, line_played, last_played, unless_stopped, at_start, played, report_of, whole_report}
+use Rattle.fleet_world.specs.Scenario.{Played, ScenarioError, Bad, Too_many_lines, Not_done, most_lines, stopped, goes_on, judged, without_cr, line_played, last_played, at_start, played, report_of, whole_report}
 use Rattle.run_status.specs.declared.run_ends.RunEnd.{RunEnd}
 use Rattle.run_status.specs.declared.run_ends.RunEnd.TheVariants.{Usage, Stopped, ReadFault, WriteFault, NoMemory, TurnsSpent, Live}
 use Rattle.run_status.specs.declared.input_errors.InputError.{InputError}
 use Rattle.fleet_command.specs.Spec.{reported_error}
-use Rattle.fleet_command.specs.Plays.{plays, long_line_end, Holds, Reading, StoppedBy, HaltedAt, Finished, Leads, FailsAs}
-use Rattle.fleet_command.proofs.Lines.{part_short, part_long, too_long, played_plays}
+use Rattle.fleet_command.specs.Plays.{scenario_rules, plays, long_line_end, Holds, Reading, StoppedBy, HaltedAt, Finished, Leads, FailsAs}
+use Rattle.line_input.specs.LineRules.{unless_stopped}
+use Rattle.line_input.proofs.Lines.{part_short, too_long}
+use Rattle.line_input.proofs.Steps.{reads_held, reads_long}
+use Rattle.fleet_command.proofs.Lines.{scenario_stops, played_plays}
 use Rattle.fleet_command.proofs.Grows.{Grows, events_text-append, grows_judged, grows_plays, grows_unless, front_grown, front_whole}
 
 -- what a world's lines are read against is what its state's are
@@ -119,45 +122,9 @@ module _ (key : List ℕ) (frames : Bool) where
       subst (λ h. HaltedAt frames h (this p number text) (report_of frames (this p number text)) before now) (sym is)
       (line_no_memory p world number text before now holds)
 
-  -- a whole line that isn't too long is judged by what it says
-  pub line_fits : (p : Played) (number : ℕ) (raw : List ℕ) → number ≤ 100000 → length raw ≤ 4096 → line_played p number raw ≡ this p number (without_cr raw)
-  line_fits p number raw few short = rw (le-ltb 100000 number few, le-ltb 4096 (length raw) short) refl
-
-  pub line_many : (p : Played) (number : ℕ) (raw : List ℕ) → 100000 < number → line_played p number raw ≡ stopped p Too_many_lines
-  line_many p number raw many = rw (lt-ltb 100000 number many) refl
-
-  -- the last line keeps its CR
-  pub last_fits : (p : Played) (number : ℕ) (part : List ℕ) → 0 < length part → number ≤ 100000 → length part ≤ 4096 → last_played p number part ≡ this p number part
-  last_fits p number [] some few short = absurd (omega arith)
-  last_fits p number (b ∷ bs) some few short = rw (le-ltb 100000 number few, le-ltb 4096 (length (b ∷ bs)) short) refl
-
-  pub last_many : (p : Played) (number : ℕ) (part : List ℕ) → 0 < length part → 100000 < number → last_played p number part ≡ stopped p Too_many_lines
-  last_many p number [] some many = absurd (omega arith)
-  last_many p number (b ∷ bs) some many = rw (lt-ltb 100000 number many) refl
-
-  pub last_none : (p : Played) (number : ℕ) (part : List ℕ) → length part ≡ 0 → last_played p number part ≡ p
-  last_none p number [] none = refl
-  last_none p number (b ∷ bs) none = absurd (omega arith)
-
-  pub leads_to : {T : Type 0} (r : Result T RunEnd) (q other : Played) (world : WorldView) (before now : Option (List ℕ)) → other ≡ q → Leads frames r q world before now → Leads frames r other world before now
-  leads_to r q other world before now same leads = subst (λ p. Leads frames r p world before now) (sym same) leads
-
-  pub stopped_at : (p : Played) (stop : ScenarioError) (world : WorldView) (before now : Option (List ℕ)) → Holds frames p world before now → StoppedBy frames (reported_error stop) (stopped p stop) before now
-  stopped_at p stop world before now holds = (refl, holds.sent)
-
   -- one byte further
   onwards_at : (taken part : List ℕ) (p : Played) (number b : ℕ) (ended : Bool) (rest : List ℕ) → ((e : Bool) (bytes : List ℕ) → played key e (taken ++ bytes) ≡ plays e p number part bytes) → played key ended ((taken ++ b ∷ []) ++ rest) ≡ plays ended p number part (b ∷ rest)
   onwards_at taken part p number b ended rest onwards = ap (played key ended) (append_assoc taken (b ∷ []) rest) ∙ onwards ended (b ∷ rest)
-
-  plays_end : (ended : Bool) (p : Played) (number : ℕ) (part rest : List ℕ) → plays ended p number part (10 ∷ rest) ≡ unless_stopped (line_played p number part).stop (line_played p number part) (plays ended (line_played p number part) (number + 1) [] rest)
-  plays_end ended p number part rest = refl
-
-  plays_long : (ended : Bool) (p : Played) (number b : ℕ) (part rest : List ℕ) → (b ≡ 10 → ⊥) → 4096 < length part + 1 → plays ended p number part (b ∷ rest) ≡ too_long p number
-  plays_long ended p number b part rest other long =
-      rw (ne_eqb b 10 other, lt-ltb 4096 (length part + 1) long) (part_long p number (part ++ b ∷ []) (omega (arith, length-append part (b ∷ []))))
-
-  plays_held : (ended : Bool) (p : Played) (number b : ℕ) (part rest : List ℕ) → (b ≡ 10 → ⊥) → length part + 1 ≤ 4096 → plays ended p number part (b ∷ rest) ≡ plays ended p number (part ++ b ∷ []) rest
-  plays_held ended p number b part rest other fits = rw (ne_eqb b 10 other, le-ltb 4096 (length part + 1) fits) refl
 
   -- the line ends and was done, and the next one begins
   pub reading_next : (taken : List ℕ) (old_world world : WorldView) (number b : ℕ) (part : List ℕ) (before old now : Option (List ℕ)) (r : Reading key frames taken old_world number part before old) → b ≡ 10 → Holds frames (line_played r.soFar number part) world before now → Reading key frames (taken ++ b ∷ []) world (number + 1) [] before now
@@ -202,10 +169,10 @@ module _ (key : List ℕ) (frames : Bool) where
   reading_held taken world number b part before now r other fits = record {
     soFar = r.soFar;
     holds = r.holds;
-    onwards = λ ended rest. onwards_at taken part r.soFar number b ended rest r.onwards ∙ plays_held ended r.soFar number b part rest other fits;
+    onwards = λ ended rest. onwards_at taken part r.soFar number b ended rest r.onwards ∙ reads_held scenario_rules ended r.soFar number b part rest other fits;
   }
 
-  halted_long : (p : Played) (number : ℕ) (before now : Option (List ℕ)) → p.stop ≡ None → now ≡ append_known before (report_of frames p) → HaltedAt frames (long_line_end number) (too_long p number) (report_of frames (too_long p number)) before now
+  halted_long : (p : Played) (number : ℕ) (before now : Option (List ℕ)) → p.stop ≡ None → now ≡ append_known before (report_of frames p) → HaltedAt frames (long_line_end number) (too_long scenario_rules scenario_stops p number) (report_of frames (too_long scenario_rules scenario_stops p number)) before now
   halted_long p number before now going sent =
       elim (cases_Bool (ltb most_lines number)) [
         | inl many ↦ rw many (refl, sent)
@@ -215,7 +182,7 @@ module _ (key : List ℕ) (frames : Bool) where
   -- a line that is held is too long
   pub reading_long : (taken : List ℕ) (world : WorldView) (number b : ℕ) (part : List ℕ) (before now : Option (List ℕ)) → Reading key frames taken world number part before now → (b ≡ 10 → ⊥) → 4096 < length part + 1 → (ended : Bool) (rest : List ℕ) → HaltedBy (long_line_end number) ended (taken ++ b ∷ rest) before now
   reading_long taken world number b part before now r other long ended rest =
-      subst (λ p. HaltedAt frames (long_line_end number) p (report_of frames p) before now) (sym (r.onwards ended (b ∷ rest) ∙ plays_long ended r.soFar number b part rest other long))
+      subst (λ p. HaltedAt frames (long_line_end number) p (report_of frames p) before now) (sym (r.onwards ended (b ∷ rest) ∙ reads_long scenario_rules scenario_stops ended r.soFar number b part rest other long))
       (halted_long r.soFar number before now r.holds.going r.holds.sent)
 
   -- the report so far is a prefix of that of the bytes, whatever follows
@@ -233,7 +200,7 @@ module _ (key : List ℕ) (frames : Bool) where
   reading_end taken world number part before now r = ap (played key true) (sym (append-nil taken)) ∙ r.onwards true []
 
   pub reading_cut : (taken : List ℕ) (world : WorldView) (number : ℕ) (part : List ℕ) (before now : Option (List ℕ)) (r : Reading key frames taken world number part before now) → length part ≤ 4096 → played key false taken ≡ r.soFar
-  reading_cut taken world number part before now r short = ap (played key false) (sym (append-nil taken)) ∙ r.onwards false [] ∙ part_short r.soFar number part short
+  reading_cut taken world number part before now r short = ap (played key false) (sym (append-nil taken)) ∙ r.onwards false [] ∙ part_short scenario_rules scenario_stops r.soFar number part short
 
   -- the closing plans are written after the last line
   pub finished_by : (q : Played) (world : WorldView) (plans : List ℕ) (before old now : Option (List ℕ)) → Holds frames q world before old → Closes world plans → now ≡ append_known old plans → (q.stop ≡ None) × (now ≡ append_known before (whole_report frames q))
@@ -298,13 +265,6 @@ module _ (key : List ℕ) (frames : Bool) where
   pub if_err_leads : {T : Type 0} (r : Result T RunEnd) (q : Played) (world : WorldView) (before now : Option (List ℕ)) (P : RunEnd → Type 0) → Leads frames r q world before now → ((run_end : RunEnd) → HaltedAt frames run_end q (report_of frames q) before now → P run_end) → IfErr r P
   if_err_leads (Ok x) q world before now P leads follows = tt
   if_err_leads (Err run_end) q world before now P leads follows = follows run_end leads
-
-  -- a piece from the byte at an index on
-  pub piece_from : (taken piece : List ℕ) (i : ℕ) → i < length piece → (taken ++ take i piece) ++ get_or piece i 0 ∷ drop (suc i) piece ≡ taken ++ piece
-  piece_from taken piece i below =
-      ap (λ rest. (taken ++ take i piece) ++ rest) (sym (drop-cons piece i 0 below))
-      ∙ append_assoc taken (take i piece) (drop i piece)
-      ∙ ap (λ bytes. taken ++ bytes) (take-append-drop i piece)
 
   pub reading_new : (world : WorldView) (number : ℕ) (part : List ℕ) (sent : Option (List ℕ)) → IsState (empty_state key) frames world → number ≡ 1 → part ≡ [] → Reading key frames [] world number part sent sent
   reading_new world number part sent here f h =

@@ -1,12 +1,15 @@
 -- A scenario that is played byte by byte: what the bytes to come do, after a line that is held unfinished.
-use Rattle.std.specs.Prelude.{◌≡◌, ℕ, ◌+◌, ◌-◌, ◌*◌, ◌==◌, nat_lt, Bool, if◌then◌else◌, List, [], ◌∷◌, ◌++◌, length, Option, Some, None, Ok, Err, option_map}
+use Rattle.std.specs.Prelude.{◌≡◌, ℕ, ◌+◌, ◌-◌, ◌*◌, nat_lt, Bool, if◌then◌else◌, List, ◌++◌, length, Option, Some, None, Ok, Err, option_map}
 use Rattle.std.specs.declared.result.Result.{Result}
 use Rattle.std.specs.Io.KnownBytes.{append_known}
 use Rattle.mav_ports.specs.Puts.{SentPrefix}
 use Rattle.fleet_world.specs.WorldView.{WorldView, IsState}
-use Rattle.scenario_lines.specs.Grammar.{most_line_bytes}
 use Rattle.scenario_lines.specs.declared.faults.Reason.TheVariants.{Long}
-use Rattle.fleet_world.specs.Scenario.{most_lines, whole_report, Played, Bad, Too_many_lines, played, report_of, line_played, part_played, rest_played, unless_stopped}
+use Rattle.scenario_lines.specs.Reasons.{reason_against}
+use Rattle.fleet_world.specs.WorldState.{context_of}
+use Rattle.fleet_world.specs.Scenario.{most_lines, whole_report, Played, ScenarioError, Bad, Too_many_lines, stopped, judged, played, report_of}
+use Rattle.line_input.specs.LineRules.{LineRules}
+use Rattle.line_input.specs.ByteByByte.{reads}
 use Rattle.run_status.specs.declared.run_ends.RunEnd.{RunEnd}
 use Rattle.run_status.specs.declared.run_ends.RunEnd.TheVariants.{Usage, Stopped, ReadFault, WriteFault, NoMemory, TurnsSpent, Live}
 use Rattle.run_status.specs.declared.input_errors.InputError.{InputError}
@@ -16,13 +19,18 @@ use Rattle.fleet_world.specs.declared.faults.WorldFault.TheVariants.{Limit, Node
 use Rattle.fleet_world.specs.Steps.{At_limit, Stamps_spent}
 use Rattle.fleet_command.specs.Spec.{reported_step_error, reported_error}
 
+-- what the lines of a scenario do
+abbrev pub scenario_rules : LineRules Played ScenarioError
+scenario_rules = record {
+  stop = λ p. p.stop;
+  text = λ p number text. judged p number text (reason_against (context_of p.state) text);
+  long = λ p number. stopped p (Bad number Long);
+  many = λ p. stopped p Too_many_lines;
+}
+
 -- line `number` is held unfinished, and these bytes follow; `ended` says whether the input ended after them
 abbrev pub plays : Bool → Played → ℕ → List ℕ → List ℕ → Played
-plays ended p number part [] = rest_played ended p number part
-plays ended p number part (b ∷ bs) =
-    if b == 10 then unless_stopped (line_played p number part).stop (line_played p number part) (plays ended (line_played p number part) (number + 1) [] bs)
-    else if nat_lt most_line_bytes (length part + 1) then part_played p number (part ++ b ∷ [])
-    else plays ended p number (part ++ b ∷ []) bs
+plays ended p number part bytes = reads scenario_rules ended p number part bytes
 
 -- a scenario goes on in this world, and its report was written after what was sent before; `frames` says whether it
 -- prints frames whole

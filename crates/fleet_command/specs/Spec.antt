@@ -1,34 +1,15 @@
 -- What `fleet` does with the bytes of a scenario.
 use Rattle.std.specs.Prelude.{ℕ, Bool, true, List, option_map}
-use Rattle.scenario_lines.specs.declared.faults.Reason.{Reason}
-use Rattle.scenario_lines.specs.declared.faults.Reason.TheVariants.{Long, Word, Later, Count, Number, Node, Kind, Hex, Twice, Range, Draft, Clock}
 use Rattle.fleet_world.specs.declared.faults.Bound.{Bound}
 use Rattle.fleet_world.specs.declared.faults.Bound.TheVariants.{Frames as MostFrames, Drones as MostDrones, Stations as MostStations, Restarts as MostRestarts}
 use Rattle.fleet_world.specs.Steps.{StepError, At_limit, Stamps_spent, closing_text}
 use Rattle.fleet_world.specs.Scenario.{ScenarioError, Bad as BadLine, Too_many_lines, Not_done, played, report_of}
-use Rattle.run_status.specs.declared.input_errors.Place.TheVariants.{Line}
-use Rattle.run_status.specs.declared.input_errors.Reason.{Reason as StatusReason}
-use Rattle.run_status.specs.declared.input_errors.Reason.TheVariants.{Long as IsLong, Word as IsWord, Later as IsLater, Count as IsCount, Number as IsNumber, Node as IsNode, Kind as IsKind, Hex as IsHex, Twice as IsTwice, Range as IsRange, Draft as IsDraft, Clock as IsClock}
 use Rattle.run_status.specs.declared.input_errors.Bound.{Bound as StatusBound}
 use Rattle.run_status.specs.declared.input_errors.Bound.TheVariants.{Lines, Frames, Drones, Stations, Restarts}
 use Rattle.run_status.specs.declared.input_errors.InputError.{InputError}
-use Rattle.run_status.specs.declared.input_errors.InputError.TheVariants.{Bad, AtLimit, StampsSpent}
+use Rattle.run_status.specs.declared.input_errors.InputError.TheVariants.{AtLimit, StampsSpent}
 use Rattle.run_status.specs.Runs.{CommandSpec}
-
--- a reason against a line, as a run's status has it
-abbrev pub reported_reason : Reason → StatusReason
-reported_reason Long = IsLong
-reported_reason Word = IsWord
-reported_reason Later = IsLater
-reported_reason Count = IsCount
-reported_reason Number = IsNumber
-reported_reason Node = IsNode
-reported_reason Kind = IsKind
-reported_reason Hex = IsHex
-reported_reason Twice = IsTwice
-reported_reason Range = IsRange
-reported_reason Draft = IsDraft
-reported_reason Clock = IsClock
+use Rattle.line_input.specs.Takers.{bad_line}
 
 -- a bound of the world, as a run's status has it
 abbrev pub reported_bound : Bound → StatusBound
@@ -44,7 +25,7 @@ reported_step_error Stamps_spent = StampsSpent
 
 -- why a scenario stops
 abbrev pub reported_error : ScenarioError → InputError
-reported_error (BadLine line reason) = Bad (Line line) (reported_reason reason)
+reported_error (BadLine line reason) = bad_line line reason
 reported_error Too_many_lines = AtLimit Lines
 reported_error (Not_done run_end) = reported_step_error run_end
 

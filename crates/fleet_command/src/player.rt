@@ -8,15 +8,16 @@ ghost use Rattle.fleet_world.specs.WorldState.{empty_state, context_of};
 ghost use Rattle.fleet_world.specs.WorldView.{IsState};
 ghost use Rattle.scenario_lines.specs.Reasons.{reason_against};
 ghost use Rattle.fleet_world.specs.Scenario.{Played, judged, line_played, last_played, played};
-ghost use Rattle.fleet_world.specs.Scenario.{Bad, report_of, whole_report, without_cr};
-ghost use Rattle.fleet_command.specs.Spec.{reported_reason, reported_bound, reported_error};
+ghost use Rattle.fleet_world.specs.Scenario.{report_of, whole_report};
+ghost use Rattle.fleet_command.specs.Spec.{reported_bound};
 ghost use Rattle.fleet_command.specs.Plays.{Holds, Reading, HaltedAt, Finished, Leads, FailsAs, budget, long_line_end};
 
 use fleet_world::{Bound, World, WorldFault};
+use line_input::{bad_line, without_cr};
 use mav_nodes::NodeFault;
 use mav_ports::{NoMemory, Sink, write_all};
 use mav_sign::Key;
-use run_status::{Bound as StatusBound, InputError, Place, Reason as StatusReason, RunEnd};
+use run_status::{Bound as StatusBound, InputError, RunEnd};
 use scenario_lines::{LineFault, Reason};
 use std::alloc::Global;
 
@@ -197,35 +198,6 @@ fn play_line<K: Sink>(
     }
 }
 
-// What a whole line says: a CR before its LF is no part of that.
-fn without_cr(line: &[u8]) -> &[u8]
-    ensures { result.now ≡ without_cr line.now }
-{
-    match line {
-        [text @ .., b'\r'] => text,
-        _ => line,
-    }
-}
-
-fn reported_reason(reason: Reason) -> StatusReason
-    ensures { result ≡ reported_reason reason }
-{
-    match reason {
-        Reason::Long => StatusReason::Long,
-        Reason::Word => StatusReason::Word,
-        Reason::Later => StatusReason::Later,
-        Reason::Count => StatusReason::Count,
-        Reason::Number => StatusReason::Number,
-        Reason::Node => StatusReason::Node,
-        Reason::Kind => StatusReason::Kind,
-        Reason::Hex => StatusReason::Hex,
-        Reason::Twice => StatusReason::Twice,
-        Reason::Range => StatusReason::Range,
-        Reason::Draft => StatusReason::Draft,
-        Reason::Clock => StatusReason::Clock,
-    }
-}
-
 fn reported_bound(limit: Bound) -> StatusBound
     ensures { result ≡ reported_bound limit }
 {
@@ -235,13 +207,6 @@ fn reported_bound(limit: Bound) -> StatusBound
         Bound::Stations => StatusBound::Stations,
         Bound::Restarts => StatusBound::Restarts,
     }
-}
-
-// There is a reason against this line.
-fn bad_line(line: usize, reason: Reason) -> RunEnd
-    ensures { result ≡ RunEnd.Stopped (reported_error (Bad line reason)) }
-{
-    RunEnd::Stopped(InputError::Bad(Place::Line(line), reported_reason(reason)))
 }
 
 // The line isn't done.

@@ -1,54 +1,34 @@
--- How the reading of a file comes to its end.
-use Rattle.std.proofs.Common.{◌≡◌, ◌∙◌, ◌≤◌, ℕ, Bool, true, false, List, refl, sym, subst, length, Option, Some, Result, Ok, Err, IsTrue, IfOk, IfErr}
-use Rattle.std.specs.Io.KnownBytes.{prepend_known}
-use Rattle.mav_ports.proofs.Known.{append_known_nil, sent_start}
+-- How a run ends that reads a plan.
+use Rattle.std.proofs.Common.{◌≡◌, ◌∙◌, ℕ, List, [], ◌++◌, length, refl, sym, subst, ap, Option, Some, None, Result, Ok, Err, OnOk, IfErr}
 use Rattle.plan_items.specs.declared.items.Item.{Item}
+use Rattle.scenario_lines.specs.declared.faults.LineFault.{LineFault}
+use Rattle.scenario_lines.specs.declared.faults.LineFault.TheVariants.{Bad, NoMemory}
+use Rattle.scenario_lines.specs.Faults.{IfBad}
+use Rattle.scenario_lines.specs.Grammar.{line_of}
+use Rattle.scenario_lines.specs.Reasons.{item_reason_against}
 use Rattle.run_status.specs.declared.run_ends.RunEnd.{RunEnd}
-use Rattle.run_status.specs.declared.run_ends.RunEnd.TheVariants.{Usage, Stopped, ReadFault, WriteFault, NoMemory, TurnsSpent, Live}
-use Rattle.run_status.specs.Runs.{PortOutcome, text_so_far, RunBeforeStatus}
-use Rattle.plan_file.specs.Spec.{Read, going, last_read, file_read, plan_spec, HoldsItems}
-use Rattle.plan_file.specs.ByteByByte.{Reading, HaltedAt, Leads}
-use Rattle.plan_file.proofs.Steps.{reading_cut, reading_end}
-use Rattle.plan_file.proofs.Few.{file_few}
+use Rattle.run_status.specs.Runs.{port_outcome, RunBeforeStatus, Steady}
+use Rattle.line_input.specs.Takers.{FaultSays, HaltsLines, HoldsLines}
+use Rattle.line_input.proofs.Endings.{Follows, halts_before_status}
+use Rattle.line_input.proofs.Stays.{lines_steady}
+use Rattle.plan_file.specs.Spec.{items_in, items_said, items_say, plan_spec, HoldsItems}
 
-module _ (o : PortOutcome) (lb la sent : Option (List ℕ)) (taken : List ℕ) (took : lb ≡ prepend_known taken la) where
-  not_ended : IsTrue false → o.spent
-  not_ended never = absurd (cc never)
+-- a line that was added is what it says
+pub line_said : (result : Result (Unit {0}) LineFault) (old new : List Item) (text : List ℕ) → OnOk result ((item_reason_against (length old) text ≡ None) × (new ≡ old ++ items_in (line_of text)))
+    → IfErr result (λ e. IfBad e (λ r. item_reason_against (length old) text ≡ Some r)) → FaultSays result (items_say old text) new
+line_said (Ok done) old new text (good, added) bad = ap (items_said old text) good ∙ ap Ok (sym added)
+line_said (Err (Bad reason)) old new text good bad = ap (items_said old text) bad
+line_said (Err NoMemory) old new text good bad = tt
 
-  -- the file stopped, or there was no memory
-  pub before_status_halt : (ended : Bool) (run_end : RunEnd) → (IsTrue ended → o.spent) → HaltedAt run_end (file_read ended taken) → RunBeforeStatus plan_spec o lb la sent sent (Some run_end)
-  before_status_halt ended Usage at_end never = absurd never
-  before_status_halt ended (Stopped stop) at_end h = record { taken = taken; ended = ended; took = took; at_end = at_end; cause = h; wrote = append_known_nil sent }
-  before_status_halt ended ReadFault at_end never = absurd never
-  before_status_halt ended WriteFault at_end never = absurd never
-  before_status_halt ended NoMemory at_end h = record { taken = taken; ended = ended; took = took; at_end = at_end; cause = tt; wrote = (text_so_far plan_spec ended taken, sent_start sent (text_so_far plan_spec ended taken)) }
-  before_status_halt ended TurnsSpent at_end never = absurd never
-  before_status_halt ended (Live end) at_end never = absurd never
+pub holds_items : (start items : List Item) (spent : Type 0) (lb la : Option (List ℕ)) → start ≡ [] → HoldsLines items_say start spent lb la items → HoldsItems spent lb la items
+holds_items start items spent lb la none h = subst (λ (first : List Item). HoldsLines items_say first spent lb la items) none h
 
-  -- that within a piece
-  pub before_status_piece : (run_end : RunEnd) → HaltedAt run_end (file_read false taken) → RunBeforeStatus plan_spec o lb la sent sent (Some run_end)
-  before_status_piece run_end h = before_status_halt false run_end not_ended h
+pub plan_halts : (start : List Item) (spent : Type 0) (fb fa ib ia refusals : ℕ) (lb la sent : Option (List ℕ)) (run_end : RunEnd) → start ≡ [] → HaltsLines items_say start (port_outcome spent fb fa ib ia 0 0) lb la run_end
+    → RunBeforeStatus plan_spec (port_outcome spent fb fa ib ia refusals refusals) lb la sent sent (Some run_end)
+plan_halts start spent fb fa ib ia refusals lb la sent run_end none h =
+    let follows : Follows plan_spec items_say [] = record { stops = λ ended taken stop e. e; goes_on = λ taken e. e; silent = λ ended taken. refl } in
+    halts_before_status plan_spec items_say [] follows spent fb fa ib ia refusals lb la sent run_end
+    (subst (λ (first : List Item). HaltsLines items_say first (port_outcome spent fb fa ib ia 0 0) lb la run_end) none h)
 
-  -- a read failed, or the input was idle for too long
-  pub before_status_fault : (part : List ℕ) (items : List Item) (number : ℕ) → Reading taken items number part → length part ≤ 4096 → o.failed → RunBeforeStatus plan_spec o lb la sent sent (Some ReadFault)
-  before_status_fault part items number r short failed =
-      record { taken = taken; ended = false; took = took; at_end = not_ended; cause = (failed, refl, reading_cut taken part items number r short); wrote = append_known_nil sent }
-
-  pub before_status_idle : (part : List ℕ) (items : List Item) (number : ℕ) → Reading taken items number part → length part ≤ 4096 → o.idled → RunBeforeStatus plan_spec o lb la sent sent (Some TurnsSpent)
-  before_status_idle part items number r short idled =
-      record { taken = taken; ended = false; took = took; at_end = not_ended; cause = (idled, refl, reading_cut taken part items number r short); wrote = append_known_nil sent }
-
--- the last line was read
-module _ (spent : Type 0) (lb la : Option (List ℕ)) (taken : List ℕ) (took : lb ≡ prepend_known taken la) where
-  pub holds_end : {T : Type 0} (result : Result T RunEnd) (part : List ℕ) (items more : List Item) (number : ℕ) → Reading taken items number part → spent → Leads result (last_read (going items) number part) more → IfOk result (λ _. HoldsItems spent lb la more)
-  holds_end (Ok x) part items more number r at_end led = record { taken = taken; took = took; at_end = at_end; gives = reading_end taken part items number r ∙ led }
-  holds_end (Err run_end) part items more number r at_end led = tt
-
-pub halts_end : {T : Type 0} (o : ℕ → PortOutcome) (lb la : Option (List ℕ)) (taken : List ℕ) → lb ≡ prepend_known taken la → (result : Result T RunEnd) (part : List ℕ) (items more : List Item) (number : ℕ) → Reading taken items number part → ((n : ℕ) → (o n).spent) → Leads result (last_read (going items) number part) more → IfErr result (λ run_end. (n : ℕ) (sent : Option (List ℕ)) → RunBeforeStatus plan_spec (o n) lb la sent sent (Some run_end))
-halts_end o lb la taken took (Ok x) part items more number r spent led = tt
-halts_end o lb la taken took (Err run_end) part items more number r spent led = λ n sent.
-    before_status_halt (o n) lb la sent taken took true run_end (λ e. spent n) (subst (HaltedAt run_end) (sym (reading_end taken part items number r)) led)
-
--- a plan of a file has few items
-pub holds_few : (spent : Type 0) (lb la : Option (List ℕ)) (items : List Item) → HoldsItems spent lb la items → length items ≤ 2000
-holds_few spent lb la items h = subst (λ (r : Read). length r.items ≤ 2000) h.gives (file_few true h.taken)
+pub plan_steady : Steady plan_spec
+plan_steady = lines_steady items_say []

@@ -1,6 +1,6 @@
 -- A file of items gives at most 2,000.
-use Rattle.std.proofs.Common.{◌≡◌, ℕ, zero, suc, ◌+◌, ◌≤◌, Bool, true, false, List, [], ◌∷◌, ◌++◌, if◌then◌else◌, refl, sym, ap, subst, arith, length, length-append, Some, None, Option, cond, ltb, eqb, nat_lt}
-use Rattle.std.proofs.lemmas.Bool.{cond_both, ltb-false}
+use Rattle.std.proofs.Common.{◌≡◌, ℕ, zero, suc, ◌+◌, ◌≤◌, Bool, true, false, List, [], ◌∷◌, ◌++◌, if◌then◌else◌, refl, ap, subst, arith, length, length-append, Some, None, Option, nat_lt}
+use Rattle.std.proofs.lemmas.Bool.{ltb-false}
 use Rattle.scenario_lines.specs.declared.faults.Reason.{Reason}
 use Rattle.scenario_lines.specs.declared.faults.Reason.TheVariants.{Long, Word, Range, Draft}
 use Rattle.scenario_lines.specs.declared.lines.Line.{Line}
@@ -12,14 +12,9 @@ use Rattle.scenario_lines.specs.Reasons.{is_item_word, words_reason, item_reason
 use Rattle.scenario_lines.specs.Permits.{IsPermitted}
 use Rattle.scenario_lines.proofs.Permitted.{read_is_permitted}
 use Rattle.plan_items.specs.declared.items.Item.{Item}
-use Rattle.plan_file.specs.FileLines.{items_from}
-use Rattle.plan_file.specs.FileLines.{most_lines, without_cr}
-use Rattle.run_status.specs.declared.input_errors.Bound.TheVariants.{Lines}
-use Rattle.run_status.specs.declared.input_errors.InputError.{InputError}
-use Rattle.run_status.specs.declared.input_errors.InputError.TheVariants.{AtLimit}
-use Rattle.plan_file.specs.Spec.{Read, going, stopped, unless_stopped, bad_line, items_in, judged, text_read, line_read, last_read, part_read, rest_read, file_read}
-use Rattle.plan_file.specs.ByteByByte.{reads}
-use Rattle.plan_file.proofs.Lines.{file_read_reads, too_long}
+use Rattle.line_input.specs.Takers.{Read, going, judged, rules_of, file_read}
+use Rattle.line_input.proofs.Keeps.{bytes_keep}
+use Rattle.plan_file.specs.Spec.{items_from, items_in, items_said, items_say, HoldsItems}
 
 -- ---- a line of a file is one of scenarios
 
@@ -94,56 +89,23 @@ adds_few items (WhereIs drone) few h = omega (arith, few, length-append items []
 
 -- ---- and a file
 
-abbrev Few : Read → Type 0
-Few r = length r.items ≤ 2000
+abbrev Few : Read (List Item) → Type 0
+Few r = length r.state ≤ 2000
 
-judged_few : (r : Read) (number : ℕ) (text : List ℕ) (reason : Option Reason) → item_reason_against (length r.items) text ≡ reason → Few r → Few (judged r number text reason)
-judged_few r number text (Some reason) is few = few
-judged_few r number text None is few = adds_few r.items (line_of text) few (items_permitted (length r.items) text is)
+said_few : (r : Read (List Item)) (number : ℕ) (text : List ℕ) (reason : Option Reason) → item_reason_against (length r.state) text ≡ reason → Few r → Few (judged r number (items_said r.state text reason))
+said_few r number text (Some reason) is few = few
+said_few r number text None is few = adds_few r.state (line_of text) few (items_permitted (length r.state) text is)
 
-text_few : (r : Read) (number : ℕ) (text : List ℕ) → Few r → Few (text_read r number text)
-text_few r number text few = judged_few r number text (item_reason_against (length r.items) text) refl few
+file_few : (ended : Bool) (bytes : List ℕ) → length (file_read items_say [] ended bytes).state ≤ 2000
+file_few ended bytes =
+    bytes_keep (rules_of items_say) Few
+    (record {
+      text = λ r number text few. said_few r number text (item_reason_against (length r.state) text) refl few;
+      long = λ r number few. few;
+      many = λ r few. few;
+    })
+    (going []) ended bytes (omega arith)
 
-line_few : (r : Read) (number : ℕ) (raw : List ℕ) → Few r → Few (line_read r number raw)
-line_few r number raw few =
-    let done = text_read r number (without_cr raw) in
-    let fits = cond (ltb most_line_bytes (length raw)) (stopped r (bad_line number Long)) done in
-    cond_both (ltb most_lines number) (stopped r (AtLimit Lines)) fits Few (λ e. few)
-    (λ e. cond_both (ltb most_line_bytes (length raw)) (stopped r (bad_line number Long)) done Few (λ f. few) (λ f. text_few r number (without_cr raw) few))
-
-last_few : (r : Read) (number : ℕ) (part : List ℕ) → Few r → Few (last_read r number part)
-last_few r number [] few = few
-last_few r number (b ∷ bs) few =
-    let text = b ∷ bs in
-    let done = text_read r number text in
-    let fits = cond (ltb most_line_bytes (length text)) (stopped r (bad_line number Long)) done in
-    cond_both (ltb most_lines number) (stopped r (AtLimit Lines)) fits Few (λ e. few)
-    (λ e. cond_both (ltb most_line_bytes (length text)) (stopped r (bad_line number Long)) done Few (λ f. few) (λ f. text_few r number text few))
-
-part_few : (r : Read) (number : ℕ) (part : List ℕ) → Few r → Few (part_read r number part)
-part_few r number part few =
-    cond_both (ltb most_line_bytes (length part)) (too_long r number) r Few
-    (λ e. cond_both (ltb most_lines number) (stopped r (AtLimit Lines)) (stopped r (bad_line number Long)) Few (λ f. few) (λ f. few)) (λ e. few)
-
-rest_few : (ended : Bool) (r : Read) (number : ℕ) (part : List ℕ) → Few r → Few (rest_read ended r number part)
-rest_few true r number part few = last_few r number part few
-rest_few false r number part few = part_few r number part few
-
-unless_few : (r next : Read) (stop : Option InputError) → Few r → Few next → Few (unless_stopped stop r next)
-unless_few r next None few more = more
-unless_few r next (Some stop) few more = few
-
-reads_few : (ended : Bool) (r : Read) (number : ℕ) (part bytes : List ℕ) → Few r → Few (reads ended r number part bytes)
-reads_few ended r number part [] few = rest_few ended r number part few
-reads_few ended r number part (b ∷ bs) few =
-    let q = line_read r number part in
-    let held = part ++ b ∷ [] in
-    let onwards = reads ended q (number + 1) [] bs in
-    let longer = cond (ltb most_line_bytes (length part + 1)) (part_read r number held) (reads ended r number held bs) in
-    cond_both (eqb b 10) (unless_stopped q.stop q onwards) longer Few
-    (λ e. unless_few q onwards q.stop (line_few r number part few) (reads_few ended q (number + 1) [] bs (line_few r number part few)))
-    (λ e. cond_both (ltb most_line_bytes (length part + 1)) (part_read r number held) (reads ended r number held bs) Few
-    (λ f. part_few r number held few) (λ f. reads_few ended r number held bs few))
-
-pub file_few : (ended : Bool) (bytes : List ℕ) → length (file_read ended bytes).items ≤ 2000
-file_few ended bytes = subst Few (sym (file_read_reads ended bytes)) (reads_few ended (going []) 1 [] bytes (omega arith))
+-- a plan of a file has few items
+pub holds_few : (spent : Type 0) (lb la : Option (List ℕ)) (items : List Item) → HoldsItems spent lb la items → length items ≤ 2000
+holds_few spent lb la items h = subst (λ (r : Read (List Item)). length r.state ≤ 2000) h.gives (file_few true h.taken)

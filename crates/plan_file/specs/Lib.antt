@@ -1,3 +1,1 @@
-pub mod FileLines
 pub mod Spec
-pub mod ByteByByte

@@ -7,31 +7,11 @@ ghost use Rattle.scenario_lines.specs.Permits.{IsPermitted};
 ghost use Rattle.scenario_lines.specs.Faults.{IfBad};
 ghost use Rattle.scenario_lines.specs.Grammar.{line_of};
 ghost use Rattle.scenario_lines.specs.Reasons.{leaves_range, item_reason_against};
-ghost use Rattle.plan_file.specs.FileLines.{without_cr};
-ghost use Rattle.plan_file.specs.FileLines.{items_from};
-ghost use Rattle.plan_file.specs.Spec.{reported_reason, bad_line, items_in, going, text_read};
-ghost use Rattle.plan_file.specs.ByteByByte.{Leads};
+ghost use Rattle.plan_file.specs.Spec.{items_from, items_in};
 
 use plan_items::{Item, NoMemory, Plan};
-use run_status::{InputError, Place, Reason as StatusReason, RunEnd};
-use scenario_lines::{Line, LineFault, Reason, read_item_line};
+use scenario_lines::{Line, LineFault, read_item_line};
 use std::alloc::Global;
-
-// Adds what line `number` says, or says what is wrong with it.
-pub(crate) fn read_line(
-    alloc: Global,
-    plan: &mut Plan,
-    number: usize,
-    text: &[u8],
-) -> Result<(), RunEnd>
-    ensures { Leads result (text_read (going (items_of plan.old)) number text.now) (items_of plan.new) }
-{
-    match add_line(alloc, plan, text) {
-        Ok(()) => Ok(()),
-        Err(LineFault::Bad(reason)) => Err(bad_line(number, reason)),
-        Err(LineFault::NoMemory) => Err(RunEnd::NoMemory),
-    }
-}
 
 /// Adds the items of a line, which may be blank, or says what is wrong with it. A plan has at most 2,000 items.
 pub fn add_line(alloc: Global, plan: &mut Plan, text: &[u8]) -> Result<(), LineFault>
@@ -81,40 +61,4 @@ fn moved(item: Item, by: u64) -> Item
     let mut moved = item;
     moved.x += by as i32;
     moved
-}
-
-/// What a whole line says: a CR before its LF is no part of that.
-pub fn without_cr(line: &[u8]) -> &[u8]
-    ensures { result.now ≡ without_cr line.now }
-{
-    match line {
-        [text @ .., b'\r'] => text,
-        _ => line,
-    }
-}
-
-fn reported_reason(reason: Reason) -> StatusReason
-    ensures { result ≡ reported_reason reason }
-{
-    match reason {
-        Reason::Long => StatusReason::Long,
-        Reason::Word => StatusReason::Word,
-        Reason::Later => StatusReason::Later,
-        Reason::Count => StatusReason::Count,
-        Reason::Number => StatusReason::Number,
-        Reason::Node => StatusReason::Node,
-        Reason::Kind => StatusReason::Kind,
-        Reason::Hex => StatusReason::Hex,
-        Reason::Twice => StatusReason::Twice,
-        Reason::Range => StatusReason::Range,
-        Reason::Draft => StatusReason::Draft,
-        Reason::Clock => StatusReason::Clock,
-    }
-}
-
-/// There is a reason against this line.
-pub fn bad_line(number: usize, reason: Reason) -> RunEnd
-    ensures { result ≡ RunEnd.Stopped (bad_line number reason) }
-{
-    RunEnd::Stopped(InputError::Bad(Place::Line(number), reported_reason(reason)))
 }

@@ -7,10 +7,9 @@
 #![tactic(auto)]
 
 mod item_lines;
-mod reader;
 mod reading;
 #[cfg(test)]
 mod tests;
 
-pub use item_lines::{add_line, bad_line, without_cr};
+pub use item_lines::add_line;
 pub use reading::read_plan;

@@ -1,20 +1,61 @@
 // A plan as an input gives it.
-ghost use Rattle.std.specs.Prelude.{◌≡◌, ◌<◌, ◌≤◌, ℕ, List, [], length, Some, IfOk, IfErr};
+ghost use Rattle.std.specs.Prelude.{◌≡◌, ◌≤◌, ℕ, List, [], length, Some, IfOk, IfErr};
 ghost use Rattle.std.specs.declared.option.Option.{Option};
 ghost use Rattle.mav_ports.specs.Gets.{IsSpent};
 ghost use Rattle.run_status.specs.Runs.{RunBeforeStatus, port_outcome};
 ghost use Rattle.plan_items.specs.Plans.{items_of};
-ghost use Rattle.plan_file.specs.Spec.{HoldsPlan, HoldsItems, plan_spec};
-ghost use Rattle.plan_file.specs.ByteByByte.{Reading};
+ghost use Rattle.plan_file.specs.Spec.{HoldsPlan, plan_spec};
 
-use crate::reader::PlanReader;
-use mav_ports::{Got, Source};
+use crate::add_line;
+use line_input::{LineTaker, read_lines};
+use mav_ports::Source;
 use plan_items::Plan;
-use run_status::{RunEnd, read_on};
+use run_status::RunEnd;
+use scenario_lines::LineFault;
 use std::alloc::Global;
+use std::marker::Model;
 
-// How much is read at once.
-const PIECE_BYTES: usize = 65_536;
+// The items of the lines taken so far.
+#[derive(Drop)]
+struct ItemLines {
+    plan: Plan,
+}
+
+impl Model for ItemLines {
+    ghost use Rattle.std.specs.Prelude.{List};
+    ghost use Rattle.plan_items.specs.declared.items.Item.{Item};
+    ghost use Rattle.plan_items.specs.Plans.{items_of};
+
+    ghost Value = { List Item };
+
+    ghost view = { λ lines. items_of lines.plan };
+}
+
+impl LineTaker for ItemLines {
+    ghost use Rattle.plan_file.specs.Spec.{items_say};
+
+    ghost says = { items_say };
+
+    fn take_line(&mut self, alloc: Global, text: &[u8]) -> Result<(), LineFault> {
+        add_line(alloc, &mut self.plan, text)
+    }
+}
+
+impl ItemLines {
+    fn new(alloc: Global) -> ItemLines
+        ensures { result ≡ [] }
+    {
+        ItemLines {
+            plan: Plan::new(alloc),
+        }
+    }
+
+    fn into_plan(self) -> Plan
+        ensures { items_of result ≡ self }
+    {
+        self.plan
+    }
+}
 
 /// Reads an input to its end as lines of items, and returns the plan that they give.
 pub fn read_plan<S: Source>(alloc: Global, input: &mut S) -> Result<Plan, RunEnd>
@@ -26,29 +67,7 @@ pub fn read_plan<S: Source>(alloc: Global, input: &mut S) -> Result<Plan, RunEnd
         (S.faults input.old) (S.faults input.new) (S.idles input.old) (S.idles input.new)
         refusals refusals) (S.left input.old) (S.left input.new) sent sent (Some run_end)) }
 {
-    let mut reader = PlanReader::new(alloc)?;
-    let mut buf = vec![in alloc; 0u8; PIECE_BYTES]?;
-    read_all(&mut reader, input, &mut buf)?;
-    Ok(reader.into_plan())
-}
-
-// Reads on until a line is bad or the input gives no more.
-fn read_all<S: Source>(reader: &mut PlanReader, input: &mut S, buf: &mut [u8]) -> Result<(), RunEnd>
-    requires room { 0 < length buf.old }
-    requires start { Reading [] (items_of reader.old.plan) reader.old.number reader.old.line.items }
-    ensures holds { IfOk result (λ _. HoldsItems (S.has_ended input.new × IsSpent (S.left input.new))
-        (S.left input.old) (S.left input.new) (items_of reader.new.plan)) }
-    ensures halts { IfErr result (λ run_end. (refusals : ℕ) (sent : Option (List ℕ))
-        → RunBeforeStatus plan_spec (port_outcome (S.has_ended input.new × IsSpent (S.left input.new))
-        (S.faults input.old) (S.faults input.new) (S.idles input.old) (S.idles input.new)
-        refusals refusals) (S.left input.old) (S.left input.new) sent sent (Some run_end)) }
-{
-    loop {
-        match read_on(input, buf) {
-            Got::Bytes(count) => reader.feed(&buf[..count])?,
-            Got::Idle => return Err(RunEnd::TurnsSpent),
-            Got::End => return reader.finish(),
-            Got::Failed => return Err(RunEnd::ReadFault),
-        }
-    }
+    let mut lines = ItemLines::new(alloc);
+    read_lines(alloc, input, &mut lines)?;
+    Ok(lines.into_plan())
 }

@@ -7,7 +7,7 @@ use Rattle.mav_ports.specs.Gets.{IsSpent}
 use Rattle.mav_links.specs.Links.{LinkState}
 use Rattle.std.specs.Str.{bytes_eq}
 use Rattle.plan_file.specs.Spec.{plan_spec}
-use Rattle.plan_file.proofs.Stays.{plan_steady}
+use Rattle.plan_file.proofs.Endings.{plan_steady}
 use Rattle.put_file.specs.Spec.{put_spec}
 use Rattle.put_file.proofs.Stays.{put_steady}
 use Rattle.mav_nodes.specs.declared.orders.Order.{Order}

@@ -1,7 +1,7 @@
 use Rattle.std.proofs.Common.{◌+◌, ◌-◌, ◌++◌, [], ◌∷◌, List, ap, ◌∙◌}
 use Rattle.plan_items.specs.declared.items.Item.{Item}
 use Rattle.plan_items.specs.Plans.{items_of}
-use Rattle.plan_file.specs.FileLines.{items_from}
+use Rattle.plan_file.specs.Spec.{items_from}
 use Rattle.plan_file.proofs.DraftItems.{items_from-one}
 use Rattle.plan_file.proofs.item_lines.put_items.Goals as goal
 

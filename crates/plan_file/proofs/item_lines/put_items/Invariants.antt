@@ -1,6 +1,6 @@
 use Rattle.std.proofs.Common.{◌≡◌, ◌++◌, ◌-◌}
 use Rattle.plan_items.specs.Plans.{items_of}
-use Rattle.plan_file.specs.FileLines.{items_from}
+use Rattle.plan_file.specs.Spec.{items_from}
 use Rattle.plan_file.proofs.item_lines.put_items.Given as goal
 
 abbrev pub invariant-loop-i : goal.invariant-loop-i

@@ -1,7 +1,24 @@
-use Rattle.std.proofs.Common.{List, length, ◌≤◌, sym, subst}
-use Rattle.plan_items.specs.declared.items.Item.{Item}
-use Rattle.plan_file.proofs.Endings.{holds_few}
+use Rattle.std.proofs.lemmas.Result.{err_from_is_err_and}
+use Rattle.mav_ports.specs.Gets.{IsSpent}
+use Rattle.plan_file.proofs.Endings.{holds_items, plan_halts}
+use Rattle.plan_file.proofs.Few.{holds_few}
 use Rattle.plan_file.proofs.reading.read_plan.Goals as goal
 
+pub returns-in_err-read_lines-clause-halts : goal.returns-in_err-read_lines-clause-halts
+returns-in_err-read_lines-clause-halts g c =
+    let e = err_from_is_err_and c.from_residual.result c.from_residual.ensures.1 in
+    rw (e.1, e.2)
+    (λ refusals sent.
+    plan_halts c.new-lines.result (g.S.Source.has_ended c.read_lines.new.input × IsSpent (g.S.Source.left c.read_lines.new.input)) (g.S.Source.faults c.args.input.now) (g.S.Source.faults c.read_lines.new.input) (g.S.Source.idles c.args.input.now) (g.S.Source.idles c.read_lines.new.input) refusals
+    (g.S.Source.left c.args.input.now) (g.S.Source.left c.read_lines.new.input) sent c.in_err-read_lines.field-0.0 c.new-lines.ensures c.in_err-read_lines.ensures)
+
+pub returns-clause-holds : goal.returns-clause-holds
+returns-clause-holds g c =
+    rw c.into_plan.ensures
+    (holds_items c.new-lines.result c.read_lines.new.taker (g.S.Source.has_ended c.read_lines.new.input × IsSpent (g.S.Source.left c.read_lines.new.input)) (g.S.Source.left c.args.input.now) (g.S.Source.left c.read_lines.new.input) c.new-lines.ensures c.in_ok-read_lines.ensures)
+
 pub returns-clause-few : goal.returns-clause-few
-returns-clause-few g c = subst (λ (items : List Item). length items ≤ 2000) (sym c.into_plan.ensures) (holds_few _ _ _ _ c.in_ok-read_all.ensures.holds)
+returns-clause-few g c =
+    rw c.into_plan.ensures
+    (holds_few (g.S.Source.has_ended c.read_lines.new.input × IsSpent (g.S.Source.left c.read_lines.new.input)) (g.S.Source.left c.args.input.now) (g.S.Source.left c.read_lines.new.input) c.read_lines.new.taker
+    (holds_items c.new-lines.result c.read_lines.new.taker (g.S.Source.has_ended c.read_lines.new.input × IsSpent (g.S.Source.left c.read_lines.new.input)) (g.S.Source.left c.args.input.now) (g.S.Source.left c.read_lines.new.input) c.new-lines.ensures c.in_ok-read_lines.ensures))

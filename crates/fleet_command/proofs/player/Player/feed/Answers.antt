@@ -5,7 +5,8 @@ use Rattle.std.proofs.lemmas.List.{take_more, take_all}
 use Rattle.mav_ports.specs.Counts.{Rose}
 use Rattle.std.proofs.lemmas.Result.{err_from_is_err_and}
 use Rattle.fleet_command.specs.Plays.{Reading, budget}
-use Rattle.fleet_command.proofs.Steps.{HaltedBy, piece_from}
+use Rattle.line_input.proofs.Steps.{piece_after}
+use Rattle.fleet_command.proofs.Steps.{HaltedBy}
 use Rattle.fleet_command.proofs.player.Player.feed.Goals as goal
 
 piece_next : (taken piece : List ℕ) (i : ℕ) → i < length piece → (taken ++ take i piece) ++ get_or piece i 0 ∷ [] ≡ taken ++ take (i + 1) piece
@@ -33,7 +34,7 @@ returns-in_err-take-clause-halted g c =
     let run_end = c.in_err-take.field-0.0 in
     let now = g.K.Sink.sent c.take.new.out in
     rw (e.1, e.2) (λ key frames taken before r ended.
-    subst (λ bytes. HaltedBy key frames run_end ended bytes before now) (piece_from key frames taken piece i c.loop-byte-test.true)
+    subst (λ bytes. HaltedBy key frames run_end ended bytes before now) (piece_after taken piece i c.loop-byte-test.true)
     (c.in_err-take.ensures.halted key frames (taken ++ take i piece) before (c.loop-byte.invariant.reading key frames taken before r) ended (drop (suc i) piece)))
 
 pub loop-byte-init : goal.loop-byte-init

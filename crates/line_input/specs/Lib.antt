@@ -1,0 +1,4 @@
+pub mod FileLines
+pub mod LineRules
+pub mod Takers
+pub mod ByteByByte
