@@ -3,10 +3,9 @@ ghost use Rattle.std.specs.Prelude.{◌≡◌, ◌++◌, OnOk};
 ghost use Rattle.mav_nodes.specs.FileServices.{file_message, target_of, files_step};
 
 use crate::NoMemory;
-use crate::addresses::is_for;
 use mav_ftp::FtpServer;
 use mav_messages::{FileTransferProtocol, Message};
-use mav_names::{Name, Stream};
+use mav_names::{Name, Stream, is_for};
 
 /// A payload for the node of a stream.
 pub(crate) fn file_message(to: Stream, payload: [u8; 251]) -> Message

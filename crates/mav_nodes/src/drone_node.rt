@@ -5,6 +5,7 @@ ghost use Rattle.mav_nodes.specs.Images.{StoreHolds};
 ghost use Rattle.mav_nodes.specs.Nodes.{DroneSide, IsDrone, new_drone, drone_receives, drone_receives_keeping, drone_ticks, drone_beats, drone_sims};
 ghost use Rattle.mav_nodes.specs.Promises.{DroneDid, DroneDidKeeping, Fails, FailsKeeping};
 ghost use Rattle.mav_nodes.specs.Restarts.{stored_drone};
+ghost use Rattle.mav_nodes.specs.Services.{new_drone_services};
 ghost use Rattle.mav_nodes.specs.Starts.{IsStarted, StartedFrom, StartFails};
 ghost use Rattle.mav_nodes.specs.Streams.{HasRead, DronePart, DronePartFails};
 ghost use Rattle.mav_frame.specs.declared.events.Event.{Event};
@@ -13,7 +14,7 @@ ghost use Rattle.mav_sign.specs.Streams.{reader_of};
 use crate::drone_services::DroneServices;
 use crate::heartbeats::drone_heartbeat;
 use crate::link::Link;
-use crate::{News, NoMemory, NodeFault, StartFault, node};
+use crate::{News, NodeFault, StartFault, node};
 use drone_sim::Point;
 use mav_names::Stream;
 use mav_sign::Key;
@@ -61,6 +62,9 @@ fn stream_of(sys: u8) -> Stream
     }
 }
 
+// Drops it where nothing else is owned.
+fn discard(_drone: Drone) {}
+
 impl DroneNode {
     /// The drone of this system, disarmed at that location, in units of 1e-7 degrees, with the plans that the store has
     /// and with its low bound of timestamps; with empty plans if the store is empty. It knows the messages of the
@@ -81,28 +85,42 @@ impl DroneNode {
         ensures fault { IfErr result (λ fault. StartFails fault sys (K.contents keeper.old) (HasFailed K.faults K.is_infallible keeper.old keeper.new)) }
     {
         let bytes = keeper.load()?;
+        DroneNode::loaded(alloc, key, sys, x, y, &bytes)
+    }
+
+    // A drone whose store has these bytes.
+    fn loaded(
+        alloc: Global,
+        key: Key,
+        sys: u8,
+        x: i32,
+        y: i32,
+        bytes: &[u8],
+    ) -> Result<DroneNode, StartFault>
+        ensures from { IfOk result (StartedFrom key sys (record { x = x; y = y }) bytes.now) }
+        ensures stream { IfOk result (λ node. HasRead [] [] node.link) }
+        ensures fault { IfErr result (λ fault. StartFails fault sys (Some bytes.now) ⊥) }
+    {
         if bytes.is_empty() {
-            return Ok(DroneNode::fresh(alloc, key, sys, x, y)?);
+            return DroneNode::fresh(alloc, key, sys, x, y);
         }
-        let kept = read_kept(alloc, sys, &bytes)?;
-        Ok(DroneNode::restored(alloc, key, sys, x, y, &kept)?)
+        let kept = read_kept(alloc, sys, bytes)?;
+        DroneNode::restored(alloc, key, sys, x, y, &kept)
     }
 
     // A drone that nothing was stored of.
-    fn fresh(alloc: Global, key: Key, sys: u8, x: i32, y: i32) -> Result<DroneNode, NoMemory>
+    fn fresh(alloc: Global, key: Key, sys: u8, x: i32, y: i32) -> Result<DroneNode, StartFault>
         ensures fresh { IfOk result (λ node. IsDrone (new_drone key sys (record { x = x; y = y })) node) }
         ensures stream { IfOk result (λ node. HasRead [] [] node.link) }
+        ensures fault { IfErr result (λ fault. fault ≡ StartFault.NoMemory) }
     {
         let link = Link::new(alloc, key, stream_of(sys))?;
-        let services = DroneServices::new(alloc, sys, x, y)?;
         match Drone::new(alloc, sys) {
-            Ok(drone) => Ok(DroneNode {
-                alloc,
-                link,
-                drone,
-                services,
-            }),
-            Err(refused) => Err(refused),
+            Ok(drone) => DroneNode::of(alloc, link, drone, sys, x, y),
+            Err(_) => {
+                link.discard();
+                Err(StartFault::NoMemory)
+            }
         }
     }
 
@@ -114,20 +132,45 @@ impl DroneNode {
         x: i32,
         y: i32,
         kept: &Kept,
-    ) -> Result<DroneNode, NoMemory>
+    ) -> Result<DroneNode, StartFault>
         ensures restored { IfOk result (λ node. IsDrone (stored_drone key sys (record { x = x; y = y }) kept.now.low kept.now.plans) node) }
         ensures stream { IfOk result (λ node. HasRead [] [] node.link) }
+        ensures fault { IfErr result (λ fault. fault ≡ StartFault.NoMemory) }
     {
         let link = Link::start(alloc, key, stream_of(sys), kept.floor)?;
-        let services = DroneServices::new(alloc, sys, x, y)?;
         match Drone::restore(alloc, sys, kept) {
-            Ok(drone) => Ok(DroneNode {
+            Ok(drone) => DroneNode::of(alloc, link, drone, sys, x, y),
+            Err(_) => {
+                link.discard();
+                Err(StartFault::NoMemory)
+            }
+        }
+    }
+
+    // A node of a new link and a new core.
+    fn of(
+        alloc: Global,
+        link: Link,
+        drone: Drone,
+        sys: u8,
+        x: i32,
+        y: i32,
+    ) -> Result<DroneNode, StartFault>
+        ensures made { IfOk result (λ node. node ≡ record { link = link; drone = drone; services = new_drone_services sys (record { x = x; y = y }) }) }
+        ensures fault { IfErr result (λ fault. fault ≡ StartFault.NoMemory) }
+    {
+        match DroneServices::new(alloc, sys, x, y) {
+            Ok(services) => Ok(DroneNode {
                 alloc,
                 link,
                 drone,
                 services,
             }),
-            Err(refused) => Err(refused),
+            Err(_) => {
+                link.discard();
+                discard(drone);
+                Err(StartFault::NoMemory)
+            }
         }
     }
 

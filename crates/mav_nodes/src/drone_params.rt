@@ -49,15 +49,18 @@ fn int_param(id: [u8; 16], number: i32) -> Param
 pub(crate) fn drone_params(alloc: Global, x: i32, y: i32) -> Result<Vec<Param>, NoMemory>
     ensures { IfOk result (λ params. params.items ≡ drone_params (record { x = x; y = y })) }
 {
-    let mut params = Vec::new(alloc);
-    params.push(int_param(STEP, 1_000))?;
-    params.push(int_param(HOME_X, x))?;
-    params.push(int_param(HOME_Y, y))?;
-    params.push(Param {
+    let name = Param {
         id: NAME,
         ty: MavParamType::UINT32,
         word: 0,
-    })?;
+    };
+    let first = [
+        int_param(STEP, 1_000),
+        int_param(HOME_X, x),
+        int_param(HOME_Y, y),
+        name,
+    ];
+    let mut params = Vec::from_array(alloc, first)?;
     push_users(&mut params)?;
     Ok(params)
 }

@@ -13,7 +13,6 @@
 //! fault, after which the node isn't used again.
 #![tactic(auto)]
 
-mod addresses;
 mod drone_core;
 mod drone_files;
 mod drone_flights;

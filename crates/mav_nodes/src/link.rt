@@ -192,6 +192,9 @@ impl Link {
         })
     }
 
+    /// Drops it where nothing else is owned.
+    pub(crate) fn discard(self) {}
+
     pub(crate) fn extras(&self) -> &Extras
         ensures { result.now ≡ self.now.endpoint.extras }
     {

@@ -5,12 +5,11 @@ ghost use Rattle.mav_nodes.specs.News.{events_of, shown};
 ghost use Rattle.mav_nodes.specs.FileServices.{new_station_files, file_order, begins, transfer_heard, transfer_waits, sent_of_step, end_of_step, sent_of_tick, end_of_tick};
 ghost use Rattle.mav_nodes.specs.Services.{file_events};
 
-use crate::addresses::{is_same_name, is_same_stream};
 use crate::drone_files::{file_message, target_of};
 use crate::{FileEnd, FileOp, News, NoMemory};
 use mav_ftp::{FtpClient, FtpFault, FtpStep, FtpTick};
 use mav_messages::Message;
-use mav_names::{Name, Stream};
+use mav_names::{Name, Stream, is_same_name, is_same_stream};
 use std::alloc::Global;
 use std::marker::Model;
 

@@ -150,14 +150,26 @@ impl StationNode {
             sys: me.sys,
             comp: me.comp,
         };
-        let services = StationServices::new(alloc, name)?;
-        let station = Station::new(alloc, me.sys, me.comp, boot, 0)?;
-        Ok(StationNode {
-            alloc,
-            link,
-            station,
-            services,
-        })
+        let services = match StationServices::new(alloc, name) {
+            Ok(services) => services,
+            Err(refused) => {
+                link.discard();
+                return Err(refused);
+            }
+        };
+        match Station::new(alloc, me.sys, me.comp, boot, 0) {
+            Ok(station) => Ok(StationNode {
+                alloc,
+                link,
+                station,
+                services,
+            }),
+            Err(refused) => {
+                link.discard();
+                services.discard();
+                Err(refused)
+            }
+        }
     }
 
     /// Takes a datagram as a whole input by itself: each of its frames in order, and each reply is sent before the next

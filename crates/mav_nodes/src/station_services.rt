@@ -123,6 +123,9 @@ impl StationServices {
         })
     }
 
+    /// Drops them where nothing else is owned.
+    pub(crate) fn discard(self) {}
+
     /// The values of the latest list of parameters, from index 0 up to the first that wasn't taken.
     pub(crate) fn params(&self) -> &[Param]
         ensures { result.now ≡ known_values self.now.client.values }
