@@ -4,3 +4,8 @@ pub mod PortSteps
 pub mod RunSteps
 pub mod PortEnds
 mod Deliveries
+pub mod Halts
+pub mod Seats
+pub mod PartSteps
+pub mod PartEnds
+pub mod Joined

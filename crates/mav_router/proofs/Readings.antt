@@ -34,7 +34,7 @@ grows_then port old middle new a b = record {
 pub grows_same : (port : ℕ) (old new : SwitchState) → new.rules ≡ old.rules → new.journal ≡ old.journal → ((other : ℕ) → given_to new other ≡ given_to old other) → Grows port old new
 grows_same port old new r j g = record { rules = r; others = λ other apart. ap (frames_from other) j; given = g }
 
-from_own : (port : ℕ) (packet : Packet) → (if port == port then Some packet else None) ≡ Some packet
+pub from_own : (port : ℕ) (packet : Packet) → (if port == port then Some packet else None) ≡ Some packet
 from_own port packet = let e : (port == port) ≡ true = grind (arith, common_steps) in ap (λ (b : Bool). if b then Some packet else None) e
 
 from_other : (port other : ℕ) (packet : Packet) → (other ≡ port → ⊥) → ◌≡◌ {A = Option Packet} (if port == other then Some packet else None) None
@@ -117,7 +117,7 @@ begins_by true rules port bytes [] at events held same live p =
 begins_by true rules port bytes (byte ∷ piece) at events held same live p = absurd (let wrong : ◌≡◌ {A = Bool} true false = live (omega arith) in cc)
 
 -- the switch didn't take a frame that was found
-pub stopped_at : (ended : Bool) (rules : Rules) (port : ℕ) (bytes piece : List ℕ) (at : ℕ) (before : Held) (held : Held) (skips : ℕ) (journal after : List Entry) (packet : Packet) → held.ended ≡ ended → (0 < length piece → ended ≡ false) → after ≡ journal → (r : Reading rules port (bytes ++ take at piece) before skips journal) → PortProgress rules port (bytes ++ take at piece) (r.events ++ Frame packet ∷ []) held → StopsReading ended rules port (bytes ++ piece) after
+pub stopped_at : (ended : Bool) (rules : Rules) (port : ℕ) (bytes piece : List ℕ) (at : ℕ) (before : Held) (held : Held) (skips : ℕ) (journal after : List Entry) (packet : Packet) → held.ended ≡ ended → (0 < length piece → ended ≡ false) → frames_from port after ≡ frames_from port journal → (r : Reading rules port (bytes ++ take at piece) before skips journal) → PortProgress rules port (bytes ++ take at piece) (r.events ++ Frame packet ∷ []) held → StopsReading ended rules port (bytes ++ piece) after
 stopped_at ended rules port bytes piece at before held skips journal after packet same live kept r progress =
     let begins = begins_by ended rules port bytes piece at (r.events ++ Frame packet ∷ []) held same live progress in
     record {
@@ -126,6 +126,6 @@ stopped_at ended rules port bytes piece at before held skips journal after packe
         events = r.events ++ Frame packet ∷ [];
         rest = begins.0;
         begins = begins.1;
-        entries = ap (λ (j : List Entry). frames_from port j ++ packet ∷ []) kept ∙ (ap (λ (l : List Packet). l ++ packet ∷ []) r.entries ∙ sym (filter_map_push frame_in r.events (Frame packet)));
+        entries = ap (λ (l : List Packet). l ++ packet ∷ []) kept ∙ (ap (λ (l : List Packet). l ++ packet ∷ []) r.entries ∙ sym (filter_map_push frame_in r.events (Frame packet)));
       };
     }

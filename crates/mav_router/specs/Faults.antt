@@ -1,9 +1,10 @@
 -- What holds when a run stops because its switch takes no more frames.
-use Rattle.std.specs.Prelude.{ℕ, ◌≡◌, ◌≤◌, ◌+◌, ◌==◌, Bool, true, if◌then◌else◌, List, [], ◌∷◌, ◌++◌, length, slice_get, Option, Some, None, ⊤}
+use Rattle.std.specs.Prelude.{ℕ, ◌≡◌, ◌≤◌, ◌+◌, ◌==◌, Bool, true, if◌then◌else◌, List, [], ◌∷◌, ◌++◌, length, slice_get, Option, Some, None, IsSome, ⊤}
 use Rattle.std.specs.Io.KnownBytes.{append_known, prepend_known}
 use Rattle.mav_ports.specs.Gets.{IsSpent}
 use Rattle.mav_links.specs.Links.{LinkState}
 use Rattle.mav_frame.specs.Packet.{Packet}
+use Rattle.mav_sign.specs.Streams.{listed}
 use Rattle.mav_router.specs.declared.entries.Entry.{Entry}
 use Rattle.mav_router.specs.declared.entries.SwitchFault.{SwitchFault}
 use Rattle.mav_router.specs.declared.entries.SwitchFault.TheVariants.{Full, NoMemory}
@@ -79,3 +80,15 @@ pub record RouteStopped {A : Type 0} (state : A → LinkState) (rules : Rules) (
   pub untaken : Option Untaken
   pub cause : CausedBy why untaken (length before) journal
   pub ports : (k : ℕ) (b c : A) → slice_get before k ≡ Some b → slice_get after k ≡ Some c → PartRun rules journal (k + 1) (beyond_at untaken (k + 1)) (state b) (state c)
+
+-- Full comes only if a frame was found at some port that would be one entry more than there may be
+abbrev pub HaltedBy : SwitchFault → (ℕ → Option Packet) → ℕ → List Entry → Type 0
+HaltedBy NoMemory untaken ports journal = ⊤
+HaltedBy (Full entries) untaken ports journal =
+    (entries ≡ 1000000) × (length journal ≡ 1000000) × ((port : ℕ) × (1 ≤ port) × (port ≤ ports) × IsSome (untaken port))
+
+-- a run stopped, with any number of threads: at each port there may be a frame that the switch didn't take
+pub record RouteHalted {A : Type 0} (state : A → LinkState) (rules : Rules) (why : SwitchFault) (journal : List Entry) (before after : List A) : Type 0 where
+  pub untaken : ℕ → Option Packet
+  pub cause : HaltedBy why untaken (length before) journal
+  pub ports : (k : ℕ) (b c : A) → slice_get before k ≡ Some b → slice_get after k ≡ Some c → PartRun rules journal (k + 1) (listed (untaken (k + 1))) (state b) (state c)

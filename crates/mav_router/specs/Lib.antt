@@ -4,3 +4,7 @@ pub mod Runs
 pub mod Ends
 pub mod Faults
 pub mod Delivery
+pub mod History
+pub mod Unheard
+pub mod Parts
+pub mod Crews

@@ -1,10 +1,11 @@
 // What waits for a port, put together to be written at once.
-ghost use Rattle.std.specs.Prelude.{◌≡◌, ◌≤◌, ◌<◌, ◌+◌, ◌++◌, ℕ, [], length, true, false, IfOk};
+ghost use Rattle.std.specs.Prelude.{◌≡◌, ◌≤◌, ◌<◌, ◌+◌, ◌++◌, ℕ, [], length, take, true, false, IfOk};
 ghost use Rattle.mav_frame.specs.Encoding.{encoding};
-ghost use Rattle.mav_router.specs.Journal.{frames_to, given_to};
-ghost use Rattle.mav_router.specs.Batches.{Gathered, Moves};
+ghost use Rattle.mav_router.specs.Journal.{frames_to};
+ghost use Rattle.mav_router.specs.Batches.{Gathered};
 
-use crate::{NoMemory, Switch};
+use crate::switch::next_index;
+use crate::{Entry, NoMemory};
 use mav_frame::{Frame, encode};
 use std::alloc::Global;
 use std::marker::Model;
@@ -70,23 +71,26 @@ impl Batch {
         self.bytes.extend_from_slice(&out[..size]).unwrap();
     }
 
-    /// Takes frames that wait for the port, as many as surely fit, in place of what it held, and returns whether no more
-    /// are waiting.
-    pub(crate) fn gather(&mut self, switch: &mut Switch<'_>, port: u8) -> bool
+    /// Takes frames that go out at the port, of the entries from `from` on, as many as surely fit, in place of what it held.
+    /// Moves `from` past the entries that were looked through, and returns whether these were all.
+    pub(crate) fn gather(&mut self, journal: &[Entry], port: u8, from: &mut usize) -> bool
         requires from { 1 ≤ port }
-        requires to { port ≤ switch.old.rules.ports }
-        ensures same { (switch.new.rules ≡ switch.old.rules) × (switch.new.journal ≡ switch.old.journal) }
-        ensures others { (other : ℕ) → 1 ≤ other → (other ≡ port → ⊥) → given_to switch.new other ≡ given_to switch.old other }
-        ensures gathered { Gathered (given_to switch.old port) (given_to switch.new port) self.new }
-        ensures all { result ≡ true → given_to switch.new port ≡ frames_to port switch.new.journal }
-        ensures moves { result ≡ false → Moves port switch.old switch.new }
+        requires to { port ≤ 8 }
+        requires within { from.old ≤ length journal.now }
+        ensures within { from.new ≤ length journal.now }
+        ensures gathered { Gathered (frames_to port (take from.old journal.now)) (frames_to port (take from.new journal.now)) self.new }
+        ensures all { result ≡ true → frames_to port (take from.new journal.now) ≡ frames_to port journal.now }
+        ensures moves { result ≡ false → from.old < from.new }
     {
         self.clear();
         while self.has_room() {
-            let Some(index) = switch.next(port) else {
+            let index = next_index(journal, *from, port);
+            if index == journal.len() {
+                *from = index;
                 return true;
-            };
-            self.push(switch.frame(index));
+            }
+            self.push(&journal[index].frame);
+            *from = index + 1;
         }
         false
     }

@@ -1,5 +1,5 @@
 // What a router keeps of a port.
-ghost use Rattle.std.specs.Prelude.{◌+◌, ◌^◌, ◌≡◌, ◌≤◌, ◌++◌, ◌<◌, ℕ, List, length, false, true, OnOk, OnErr, IfErr};
+ghost use Rattle.std.specs.Prelude.{◌+◌, ◌^◌, ◌≡◌, ◌≤◌, ◌++◌, ◌<◌, ℕ, List, length, take, false, true, OnOk, OnErr, IfErr, IfSome, IfNone};
 ghost use Rattle.mav_frame.specs.Packet.{Packet};
 ghost use Rattle.mav_links.specs.Links.{LinkState};
 ghost use Rattle.mav_router.specs.Journal.{Rules, Grows, given_to, frames_to};
@@ -7,6 +7,7 @@ ghost use Rattle.mav_router.specs.Batches.{Joins, Moves};
 ghost use Rattle.mav_router.specs.Runs.{Input, Output, HadTurns};
 ghost use Rattle.mav_router.specs.declared.entries.Entry.{Entry};
 ghost use Rattle.mav_router.specs.Faults.{IsSwitchFault, StopsInput};
+ghost use Rattle.mav_router.specs.Unheard.{Unheard};
 
 use crate::batch::Batch;
 use crate::hearing::hear;
@@ -14,6 +15,46 @@ use crate::lane::Lane;
 use crate::{Switch, SwitchFault};
 use mav_links::{Link, write_prefix};
 use mav_ports::Got;
+
+/// Reads a port once, and returns how many bytes came that its reader is to take: none at the end of its input. Returns
+/// nothing if there is nothing to do.
+pub(crate) fn read_lane<L: Link>(lane: &mut Lane, link: &mut L, buf: &mut [u8]) -> Option<usize>
+    requires live { lane.old.ended ≡ false }
+    requires fine { lane.old.failed ≡ false }
+    requires room { 0 < length buf.old }
+    requires most { length buf.old ≤ 4096 }
+    ensures within { IfSome result (λ count. count ≤ length buf.new) }
+    ensures some { IfSome result (λ count. (rules : Rules) (journal : List Entry) (port : ℕ) (first : LinkState)
+        → Input rules journal port first (L.state link.old) lane.old
+        → Unheard rules journal port (take count buf.new) first (L.state link.new) lane.new) }
+    ensures none { IfNone result ((rules : Rules) (journal : List Entry) (port : ℕ) (first : LinkState)
+        → Input rules journal port first (L.state link.old) lane.old
+        → Input rules journal port first (L.state link.new) lane.new) }
+    ensures output { (frames : List Packet) (first : LinkState)
+        → Output frames first (L.state link.old) lane.old → Output frames first (L.state link.new) lane.new }
+    ensures turned { (turns : ℕ) → turns + 1 < 2 ^ 64 → HadTurns lane.old turns → HadTurns lane.new (turns + 1) }
+{
+    match link.read(buf) {
+        Got::Bytes(count) => {
+            lane.turns = lane.turns.saturating_add(1);
+            lane.read = lane.read.saturating_add(count as u64);
+            Some(count)
+        }
+        Got::Idle => {
+            lane.turns = lane.turns.saturating_add(1);
+            None
+        }
+        Got::End => {
+            lane.ended = true;
+            lane.scanner.end();
+            Some(0)
+        }
+        Got::Failed => {
+            lane.failed = true;
+            None
+        }
+    }
+}
 
 /// Reads a port once, and admits the frames that are found.
 pub(crate) fn read_port<L: Link>(
@@ -42,36 +83,20 @@ pub(crate) fn read_port<L: Link>(
     if lane.failed || lane.ended {
         return Ok(());
     }
-    match link.read(buf) {
-        Got::Bytes(count) => {
-            lane.turns = lane.turns.saturating_add(1);
-            lane.read = lane.read.saturating_add(count as u64);
-            hear(
-                switch,
-                &mut lane.scanner,
-                &mut lane.skipped,
-                port,
-                &buf[..count],
-            )
-        }
-        Got::Idle => {
-            lane.turns = lane.turns.saturating_add(1);
-            Ok(())
-        }
-        Got::End => {
-            lane.ended = true;
-            lane.scanner.end();
-            hear(switch, &mut lane.scanner, &mut lane.skipped, port, &[])
-        }
-        Got::Failed => {
-            lane.failed = true;
-            Ok(())
-        }
-    }
+    let Some(count) = read_lane(lane, link, buf) else {
+        return Ok(());
+    };
+    hear(
+        switch,
+        &mut lane.scanner,
+        &mut lane.skipped,
+        port,
+        &buf[..count],
+    )
 }
 
-// Writes frames that were put together to a port that hasn't failed.
-fn write_batch<L: Link>(lane: &mut Lane, link: &mut L, bytes: &[u8])
+/// Writes frames that were put together to a port that hasn't failed.
+pub(crate) fn write_batch<L: Link>(lane: &mut Lane, link: &mut L, bytes: &[u8])
     requires { lane.old.failed ≡ false }
     ensures input { (rules : Rules) (journal : List Entry) (port : ℕ) (first : LinkState)
         → Input rules journal port first (L.state link.old) lane.old
@@ -111,7 +136,7 @@ fn write_some<L: Link>(
     ensures all { result ≡ true → given_to switch.new port ≡ frames_to port switch.new.journal }
     ensures moves { result ≡ false → Moves port switch.old switch.new }
 {
-    let all = batch.gather(switch, port);
+    let all = switch.gather(port, batch);
     write_batch(lane, link, batch.bytes());
     all
 }

@@ -19,11 +19,13 @@ use mav_sign::Key;
 use std::alloc::Global;
 
 // How many bytes one read takes at most.
-const PIECE: usize = 4096;
+pub(crate) const PIECE: usize = 4096;
 
-// Whether the port is still read.
-fn is_live(lane: &Lane) -> bool
-    ensures { result ≡ false → lane.now.ended ≡ false → lane.now.failed ≡ false → ⊥ }
+/// Whether the port is still read.
+pub(crate) fn is_live(lane: &Lane) -> bool
+    ensures over { result ≡ false → lane.now.ended ≡ false → lane.now.failed ≡ false → ⊥ }
+    ensures live { result ≡ true → lane.now.ended ≡ false }
+    ensures fine { result ≡ true → lane.now.failed ≡ false }
 {
     !lane.ended && !lane.failed
 }

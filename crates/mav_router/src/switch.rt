@@ -3,12 +3,16 @@ ghost use Rattle.std.specs.Prelude.{◌≡◌, ◌⊎◌, ◌+◌, ◌-◌, ◌<
 ghost use Rattle.mav_sign.specs.Streams.{listed};
 ghost use Rattle.mav_sign.specs.History.{Entry as Tried, is_admitted};
 ghost use Rattle.mav_sign.specs.Kept.{Represents};
+ghost use Rattle.mav_sign.specs.Signing.{verified};
 ghost use Rattle.link_table.specs.Routing.{Learned, has_port, ways_of};
 ghost use Rattle.link_table.specs.Table.{Represents as StandsFor};
 ghost use Rattle.mav_router.specs.Journal.{Rules, SwitchState, target_by, verdict_on, tried_as, is_unsigned, ways_by, learned_at, entry_after, admit_after, IsJournal, frames_to, frames_at, given_to};
+ghost use Rattle.mav_router.specs.Batches.{Gathered, Moves};
 ghost use Rattle.mav_router.specs.Faults.{IsSwitchFault};
 
-use crate::{Entry, NoMemory, SwitchFault};
+use crate::batch::Batch;
+use crate::judging::{Judgement, judge};
+use crate::{Entry, NoMemory, RouterRules, SwitchFault};
 use dialect::Dialect;
 use link_table::{LinkTable, Ways};
 use mav_frame::Frame;
@@ -24,10 +28,7 @@ const ENTRY_LIMIT: usize = 1_000_000;
 /// that go out there, in the order in which they came in.
 #[derive(Drop)]
 pub struct Switch<'a> {
-    key: Key,
-    known: &'a Dialect,
-    ports: u8,
-    plain: Ways,
+    rules: RouterRules<'a>,
     stamps: Stamps,
     table: LinkTable,
     journal: Vec<Entry>,
@@ -43,44 +44,29 @@ impl<'a> Model for Switch<'a> {
     ghost Value = { SwitchState };
 
     ghost view = { λ s. record {
-      rules = record { key = s.key; known = s.known.now; ports = s.ports; plain = s.plain };
+      rules = s.rules;
       journal = s.journal.items;
       seen = s.seen;
     } };
 
-    ghost invariant = { λ s. (1 ≤ s.ports) × (s.ports ≤ 8) × (s.table.ports ≡ s.ports)
+    ghost invariant = { λ s. (1 ≤ s.rules.ports) × (s.rules.ports ≤ 8) × (s.table.ports ≡ s.rules.ports)
         × Represents s.stamps (tried_in s.journal.items)
         × StandsFor s.table (learned_in s.journal.items)
-        × IsJournal (record { key = s.key; known = s.known.now; ports = s.ports; plain = s.plain }) [] s.journal.items
+        × IsJournal s.rules [] s.journal.items
         × ((k : ℕ) → slice_index s.seen k ≤ length s.journal.items)
         × (length s.journal.items ≤ 1000000) };
 }
 
-// The node that a frame is for.
-fn target(known: &Dialect, frame: &Frame) -> Name
-    ensures { (key : List ℕ) (ports : ℕ) (plain : _) → result ≡ target_by (record { key = key; known = known.now; ports = ports; plain = plain }) frame.now }
-{
-    let Some(layout) = known.get(frame.id) else {
-        return Name { sys: 0, comp: 0 };
-    };
-    let payload = frame.payload_bytes();
-    if frame.old {
-        let base = usize::from(layout.base_len()).min(payload.len());
-        layout.target(&payload[..base])
-    } else {
-        layout.target(payload)
-    }
-}
-
 // The verdict on a frame at a port that is open or not.
-fn verdict(stamps: &mut Stamps, key: &Key, is_open: bool, frame: &Frame) -> Admit
+fn verdict(stamps: &mut Stamps, key: &Key, is_open: bool, frame: &Frame, verifies: bool) -> Admit
+    requires { verifies ≡ verified key.now frame.now frame.now.block }
     ensures verdict { (history : List Tried) → Represents stamps.old history
         → result ≡ verdict_on key.now is_open history frame.now }
     ensures history { (history : List Tried) → Represents stamps.old history
         → Represents stamps.new (history ++ listed (tried_as frame.now result)) }
 {
     if frame.block.is_some() {
-        return stamps.admit(key, frame);
+        return stamps.admit_judged(key, frame, verifies);
     }
     if is_open {
         Admit::Admitted
@@ -152,7 +138,7 @@ fn keep(journal: &mut Vec<Entry>, entry: Entry)
 }
 
 // The index of the next entry that goes out at the port, or the number of entries.
-fn next_index(journal: &[Entry], from: usize, port: u8) -> usize
+pub(crate) fn next_index(journal: &[Entry], from: usize, port: u8) -> usize
     requires from { from ≤ length journal.now }
     requires port { 1 ≤ port }
     requires to { port ≤ 8 }
@@ -188,11 +174,14 @@ impl<'a> Switch<'a> {
     {
         let stamps = Stamps::new(alloc)?;
         let table = LinkTable::new(alloc, ports)?;
-        Ok(Switch {
+        let rules = RouterRules {
             key,
             known,
             ports,
             plain,
+        };
+        Ok(Switch {
+            rules,
             stamps,
             table,
             journal: Vec::new(alloc),
@@ -212,16 +201,40 @@ impl<'a> Switch<'a> {
         ensures full { length self.old.journal ≡ 1_000_000 → IsErrOf result (SwitchFault.Full 1000000) }
         ensures fault { IfErr result (λ fault. IsSwitchFault fault self.old.journal) }
     {
+        let judgement = judge(&self.rules, frame);
+        self.admit_judged(port, frame, judgement)
+    }
+
+    /// What `admit` does, for a frame that was judged by the switch's rules before.
+    pub(crate) fn admit_judged(
+        &mut self,
+        port: u8,
+        frame: &Frame,
+        judgement: Judgement,
+    ) -> Result<Admit, SwitchFault>
+        requires from { 1 ≤ port }
+        requires to { port ≤ self.old.rules.ports }
+        requires verifies { judgement.verifies ≡ verified self.old.rules.key frame.now frame.now.block }
+        requires target { judgement.target ≡ target_by self.old.rules frame.now }
+        ensures verdict { IfOk result (λ verdict. verdict ≡ admit_after self.old.rules self.old.journal port frame.now) }
+        ensures journal { OnOk result (self.new.journal ≡ self.old.journal ++ entry_after self.old.rules self.old.journal port frame.now ∷ []) }
+        ensures same { (self.new.rules ≡ self.old.rules) × (self.new.seen ≡ self.old.seen) }
+        ensures given { (other : ℕ) → given_to self.new other ≡ given_to self.old other }
+        ensures unchanged { OnErr result (self.new.journal ≡ self.old.journal) }
+        ensures full { length self.old.journal ≡ 1_000_000 → IsErrOf result (SwitchFault.Full 1000000) }
+        ensures fault { IfErr result (λ fault. IsSwitchFault fault self.old.journal) }
+    {
         if self.journal.len() >= ENTRY_LIMIT {
             return Err(SwitchFault::Full { entries: 1_000_000 });
         }
         let Ok(()) = self.journal.reserve(1) else {
             return Err(SwitchFault::NoMemory);
         };
-        let is_open = self.plain.has(port);
-        let admit = verdict(&mut self.stamps, &self.key, is_open, frame);
-        let target = target(self.known, frame);
-        let ways = route_by(&mut self.table, admit, self.plain, port, target, frame);
+        let plain = self.rules.plain();
+        let is_open = plain.has(port);
+        let key = self.rules.key();
+        let admit = verdict(&mut self.stamps, key, is_open, frame, judgement.verifies);
+        let ways = route_by(&mut self.table, admit, plain, port, judgement.target, frame);
         keep(&mut self.journal, entry_of(port, frame, admit, ways));
         Ok(admit)
     }
@@ -241,8 +254,8 @@ impl<'a> Switch<'a> {
         Some(*self.frame(index))
     }
 
-    /// The index of that frame's entry, so that the frame needn't be copied.
-    pub(crate) fn next(&mut self, port: u8) -> Option<usize>
+    // The index of that frame's entry.
+    fn next(&mut self, port: u8) -> Option<usize>
         requires from { 1 ≤ port }
         requires to { port ≤ self.old.rules.ports }
         ensures given { given_to self.new port ≡ given_to self.old port ++ frames_at self.old.journal result }
@@ -263,12 +276,38 @@ impl<'a> Switch<'a> {
         Some(index)
     }
 
-    /// The frame of an entry.
-    pub(crate) fn frame(&self, index: usize) -> &Frame
+    // The frame of an entry.
+    fn frame(&self, index: usize) -> &Frame
         requires { index < length self.now.journal }
         ensures { frames_at self.now.journal (Some index) ≡ result.now ∷ [] }
     {
         &self.journal[index].frame
+    }
+
+    /// Takes frames that wait for the port, as many as surely fit, in place of what the batch held, and returns whether no
+    /// more are waiting.
+    pub(crate) fn gather(&mut self, port: u8, batch: &mut Batch) -> bool
+        requires from { 1 ≤ port }
+        requires to { port ≤ self.old.rules.ports }
+        ensures same { (self.new.rules ≡ self.old.rules) × (self.new.journal ≡ self.old.journal) }
+        ensures others { (other : ℕ) → 1 ≤ other → (other ≡ port → ⊥) → given_to self.new other ≡ given_to self.old other }
+        ensures gathered { Gathered (given_to self.old port) (given_to self.new port) batch.new }
+        ensures all { result ≡ true → given_to self.new port ≡ frames_to port self.new.journal }
+        ensures moves { result ≡ false → Moves port self.old self.new }
+    {
+        let at = usize::from(port - 1);
+        let mut from = self.seen[at];
+        let all = batch.gather(&self.journal, port, &mut from);
+        self.seen[at] = from;
+        all
+    }
+
+    // How many entries there are.
+    pub(crate) fn count(&self) -> u64
+        ensures count { result ≡ length self.now.journal }
+        ensures few { result ≤ 1000000 }
+    {
+        self.journal.len() as u64
     }
 
     /// The entries so far.

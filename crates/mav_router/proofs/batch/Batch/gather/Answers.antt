@@ -1,36 +1,32 @@
-use Rattle.std.proofs.Common.{◌≡◌, ◌≤◌, ◌<◌, ◌-◌, ◌∙◌, ◌++◌, ◌∷◌, [], Some, ap, sym, subst, refl, ℕ, List, length, slice_index, arith}
-use Rattle.mav_router.specs.declared.entries.Entry.{Entry}
-use Rattle.mav_router.specs.Journal.{given_to, frames_at}
-use Rattle.mav_router.specs.Batches.{Gathered}
+use Rattle.std.proofs.Common.{rules, arith, ◌≡◌, ◌∙◌, ◌<◌, ◌+◌, ◌++◌, ◌∷◌, [], ap, sym, subst, true, List, length, take, get_or}
+use Rattle.std.proofs.lemmas.Option.{get_or_from_slice_get}
+use Rattle.link_table.specs.Routing.{has_port}
 use Rattle.mav_frame.specs.Packet.{Packet}
-use Rattle.mav_router.proofs.PortSteps.{gathered_more, nothing_gathered, none_longer}
+use Rattle.mav_router.specs.declared.entries.Entry.{Entry}
+use Rattle.mav_router.specs.Journal.{frames_to}
+use Rattle.mav_router.proofs.Journals.{element, taken_next}
+use Rattle.mav_router.proofs.PortSteps.{gathered_more}
 use Rattle.mav_router.proofs.batch.Batch.gather.Goals as goal
 
-pub loop-switch-init : goal.loop-switch-init
-loop-switch-init c = record {
-  rules = refl;
-  journal = refl;
-  others = λ other one apart. refl;
-  gathered = subst (λ (text : List ℕ). Gathered (given_to c.args.switch.now c.args.port) (given_to c.args.switch.now c.args.port) text) (sym c.clear.ensures) (nothing_gathered (given_to c.args.switch.now c.args.port));
-  from = omega arith;
-  moves = λ some. none_longer (subst (λ (text : List ℕ). 0 < length text) c.clear.ensures some);
-}
-
-pub loop-switch-preserved : goal.loop-switch-preserved
-loop-switch-preserved c =
-    let l = c.loop-switch in
-    let i = l.invariant in
-    let t = c.in-Some.ensures in
-    let given : given_to c.next.new.self c.args.port ≡ given_to l.switch c.args.port ++ c.frame.result.now ∷ [] =
-    t.given ∙ ap (λ (f : List Packet). given_to l.switch c.args.port ++ f) (ap (λ (j : List Entry). frames_at j (Some c.in-Some.index)) (sym t.same.1) ∙ c.frame.ensures) in
+pub loop-index-preserved : goal.loop-index-preserved
+loop-index-preserved c =
+    let l = c.loop-index in
+    let port = c.args.port in
+    let journal = c.args.journal.now in
+    let index = c.next_index-index.result in
+    let found = c.next_index-index.ensures in
+    let x = c.index-journal-index.result in
+    let y = get_or journal index x in
+    let within : index < length journal = search rules in
+    let entry = element journal index within in
+    let is_entry = get_or_from_slice_get journal index entry.0 x entry.1 in
+    let goes : has_port (get_or journal index x).ways port ≡ true = subst (λ (e : Entry). has_port e.ways port ≡ true) (sym is_entry) (found.goes entry.0 entry.1) in
+    let so_far = frames_to port (take l.from journal) in
+    let given : frames_to port (take (index + 1) journal) ≡ so_far ++ y.frame ∷ [] =
+    taken_next port index journal x within goes ∙ ap (λ (f : List Packet). f ++ y.frame ∷ []) found.none in
     record {
-      rules = t.same.0 ∙ i.rules;
-      journal = t.same.1 ∙ i.journal;
-      others = λ other one apart. t.others other one apart ∙ i.others other one apart;
-      gathered = gathered_more _ (given_to l.switch c.args.port) _ c.frame.result.now l.self _ given c.push.ensures.bytes c.push.ensures.short i.gathered;
-      from = omega (arith, i.from, t.moves.0);
-      moves = λ some. record {
-        more = omega (arith, i.from, t.moves.0);
-        within = subst (λ (j : List Entry). slice_index c.next.new.self.seen (c.args.port - 1) ≤ length j) (sym t.same.1) t.moves.1;
-      };
+      within = omega (arith, within);
+      from = omega (arith, l.invariant.from, found.from);
+      gathered = gathered_more _ so_far _ y.frame l.self _ given c.push.ensures.bytes c.push.ensures.short l.invariant.gathered;
+      moves = λ _. omega (arith, l.invariant.from, found.from);
     }

@@ -1,17 +1,15 @@
-use Rattle.std.proofs.Common.{◌≡◌, ◌≤◌, ◌<◌, ◌-◌, ℕ, length, slice_index}
-use Rattle.mav_router.specs.Journal.{given_to}
-use Rattle.mav_router.specs.Batches.{Gathered, Moves}
+use Rattle.std.proofs.Common.{◌≤◌, ◌<◌, ◌-◌, length, take}
+use Rattle.mav_router.specs.Journal.{frames_to}
+use Rattle.mav_router.specs.Batches.{Gathered}
 use Rattle.mav_router.proofs.batch.Batch.gather.Given as goal
 
-abbrev pub invariant-loop-switch : goal.invariant-loop-switch
-invariant-loop-switch l = record {
-  rules : l.switch.rules ≡ l.initial.switch.rules;
-  journal : l.switch.journal ≡ l.initial.switch.journal;
-  others : (other : ℕ) → 1 ≤ other → (other ≡ l.port → ⊥) → given_to l.switch other ≡ given_to l.initial.switch other;
-  gathered : Gathered (given_to l.initial.switch l.port) (given_to l.switch l.port) l.self;
-  from : slice_index l.initial.switch.seen (l.port - 1) ≤ slice_index l.switch.seen (l.port - 1);
-  moves : 0 < length l.self → Moves l.port l.initial.switch l.switch;
+abbrev pub invariant-loop-index : goal.invariant-loop-index
+invariant-loop-index l = record {
+  within : l.from ≤ length l.journal;
+  from : l.initial.from ≤ l.from;
+  gathered : Gathered (frames_to l.port (take l.initial.from l.journal)) (frames_to l.port (take l.from l.journal)) l.self;
+  moves : 0 < length l.self → l.initial.from < l.from;
 }
 
-abbrev pub decreases-loop-switch : goal.decreases-loop-switch
-decreases-loop-switch l = length l.switch.journal - slice_index l.switch.seen (l.port - 1)
+abbrev pub decreases-loop-index : goal.decreases-loop-index
+decreases-loop-index l = length l.journal - l.from

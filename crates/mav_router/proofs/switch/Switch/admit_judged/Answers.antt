@@ -2,27 +2,32 @@ use Rattle.std.proofs.Common.{arith, ℕ, List, Bool, ◌≡◌, ◌≤◌, leng
 use Rattle.mav_names.specs.declared.names.Name.{Name}
 use Rattle.mav_sign.specs.History.{Entry as Tried, is_admitted}
 use Rattle.mav_sign.specs.Kept.{Represents}
-use Rattle.link_table.specs.Routing.{Learned, ways_of}
+use Rattle.link_table.specs.Routing.{Learned, ways_of, has_port}
 use Rattle.link_table.specs.Table.{Represents as StandsFor}
 use Rattle.mav_router.specs.declared.entries.Entry.{Entry}
 use Rattle.mav_router.specs.Journal.{Rules, SwitchState, IsJournal, entry_after, admit_after, verdict_on, is_unsigned, ways_by, target_by, learned_by, learned_in, tried_by, tried_in}
 use Rattle.mav_router.proofs.Journals.{entry_is, journal_more, filter_map_push}
-use Rattle.mav_router.proofs.switch.Switch.admit.Goals as goal
+use Rattle.mav_router.proofs.switch.Switch.admit_judged.Goals as goal
 
 pub invariant_of-self-2 : goal.invariant_of-self-2
 invariant_of-self-2 c =
     let s = c.self.inside in
     let j : List Entry = s.journal.items in
     let inv = c.self.invariant in
-    let by : Rules = record { key = s.key; known = s.known.now; ports = s.ports; plain = s.plain } in
+    let by : Rules = s.rules in
+    let plain = c.plain-plain.result in
+    let plain_e = c.plain-plain.ensures in
     let packet = c.args.frame.now in
     let admit = c.verdict-admit.result in
     let entry : Entry = record { port = c.args.port; frame = packet; admit = admit; ways = c.route_by-ways.result } in
-    let admit_e : admit ≡ admit_after by j c.args.port packet =
-    c.verdict-admit.ensures.verdict (tried_in j) inv.3 ∙ ap (λ (b : Bool). verdict_on s.key b (tried_in j) packet) c.has-is_open.ensures in
-    let ways_of_admit = λ (ports : ℕ) (target : Name). ways_by (is_admitted admit) (is_unsigned packet) s.plain (ways_of ports (learned_in j) c.args.port target) in
-    let ways_e : c.route_by-ways.result ≡ ways_of_admit s.ports (target_by by packet) =
-    c.route_by-ways.ensures.ways (learned_in j) inv.4 ∙ (ap (λ (n : ℕ). ways_of_admit n c.target-target.result) inv.2 ∙ ap (ways_of_admit s.ports) (c.target-target.ensures s.key s.ports s.plain)) in
+    let is_open = c.has-is_open.ensures ∙ ap (λ (p : List Bool). has_port p c.args.port) c.plain-plain.ensures in
+    let verdict_is = c.verdict-admit.ensures.verdict (tried_in j) c.self.invariant.3
+    ∙ (ap (λ (b : Bool). verdict_on c.key-key.result.now b (tried_in j) packet) is_open ∙ ap (λ (k : List ℕ). verdict_on k (has_port s.rules.plain c.args.port) (tried_in j) packet) c.key-key.ensures) in
+    let target_is = c.requires.target ∙ ap (λ (v : SwitchState). target_by v.rules packet) (sym c.self.view_is) in
+    let admit_e : admit ≡ admit_after by j c.args.port packet = verdict_is in
+    let ways_of_admit = λ (ports : ℕ) (target : Name). ways_by (is_admitted admit) (is_unsigned packet) plain (ways_of ports (learned_in j) c.args.port target) in
+    let ways_e : c.route_by-ways.result ≡ ways_by (is_admitted admit) (is_unsigned packet) by.plain (ways_of by.ports (learned_in j) c.args.port (target_by by packet)) =
+    c.route_by-ways.ensures.ways (learned_in j) inv.4 ∙ (ap (λ (n : ℕ). ways_of_admit n c.args.judgement.target) inv.2 ∙ (ap (ways_of_admit by.ports) target_is ∙ ap (λ (p : List Bool). ways_by (is_admitted admit) (is_unsigned packet) p (ways_of by.ports (learned_in j) c.args.port (target_by by packet))) plain_e)) in
     let items : c.keep.new.journal.items ≡ j ++ entry ∷ [] = c.keep.ensures ∙ (ap (λ (x : Entry). c.reserve.new.self.items ++ x ∷ []) c.entry_of.ensures ∙ ap (λ (xs : List Entry). xs ++ entry ∷ []) c.reserve.ensures.items) in
     let e = entry_is by j c.args.port packet admit c.route_by-ways.result admit_e ways_e in (
       inv.0,
@@ -40,15 +45,20 @@ returns-clause-journal c =
     let s = c.self.inside in
     let j : List Entry = s.journal.items in
     let inv = c.self.invariant in
-    let by : Rules = record { key = s.key; known = s.known.now; ports = s.ports; plain = s.plain } in
+    let by : Rules = s.rules in
+    let plain = c.plain-plain.result in
+    let plain_e = c.plain-plain.ensures in
     let packet = c.args.frame.now in
     let admit = c.verdict-admit.result in
     let entry : Entry = record { port = c.args.port; frame = packet; admit = admit; ways = c.route_by-ways.result } in
-    let admit_e : admit ≡ admit_after by j c.args.port packet =
-    c.verdict-admit.ensures.verdict (tried_in j) inv.3 ∙ ap (λ (b : Bool). verdict_on s.key b (tried_in j) packet) c.has-is_open.ensures in
-    let ways_of_admit = λ (ports : ℕ) (target : Name). ways_by (is_admitted admit) (is_unsigned packet) s.plain (ways_of ports (learned_in j) c.args.port target) in
-    let ways_e : c.route_by-ways.result ≡ ways_of_admit s.ports (target_by by packet) =
-    c.route_by-ways.ensures.ways (learned_in j) inv.4 ∙ (ap (λ (n : ℕ). ways_of_admit n c.target-target.result) inv.2 ∙ ap (ways_of_admit s.ports) (c.target-target.ensures s.key s.ports s.plain)) in
+    let is_open = c.has-is_open.ensures ∙ ap (λ (p : List Bool). has_port p c.args.port) c.plain-plain.ensures in
+    let verdict_is = c.verdict-admit.ensures.verdict (tried_in j) c.self.invariant.3
+    ∙ (ap (λ (b : Bool). verdict_on c.key-key.result.now b (tried_in j) packet) is_open ∙ ap (λ (k : List ℕ). verdict_on k (has_port s.rules.plain c.args.port) (tried_in j) packet) c.key-key.ensures) in
+    let target_is = c.requires.target ∙ ap (λ (v : SwitchState). target_by v.rules packet) (sym c.self.view_is) in
+    let admit_e : admit ≡ admit_after by j c.args.port packet = verdict_is in
+    let ways_of_admit = λ (ports : ℕ) (target : Name). ways_by (is_admitted admit) (is_unsigned packet) plain (ways_of ports (learned_in j) c.args.port target) in
+    let ways_e : c.route_by-ways.result ≡ ways_by (is_admitted admit) (is_unsigned packet) by.plain (ways_of by.ports (learned_in j) c.args.port (target_by by packet)) =
+    c.route_by-ways.ensures.ways (learned_in j) inv.4 ∙ (ap (λ (n : ℕ). ways_of_admit n c.args.judgement.target) inv.2 ∙ (ap (ways_of_admit by.ports) target_is ∙ ap (λ (p : List Bool). ways_by (is_admitted admit) (is_unsigned packet) p (ways_of by.ports (learned_in j) c.args.port (target_by by packet))) plain_e)) in
     let items : c.keep.new.journal.items ≡ j ++ entry ∷ [] = c.keep.ensures ∙ (ap (λ (x : Entry). c.reserve.new.self.items ++ x ∷ []) c.entry_of.ensures ∙ ap (λ (xs : List Entry). xs ++ entry ∷ []) c.reserve.ensures.items) in
     let e = entry_is by j c.args.port packet admit c.route_by-ways.result admit_e ways_e in
     subst (λ (v : SwitchState). c.keep.new.journal.items ≡ v.journal ++ entry_after v.rules v.journal c.args.port packet ∷ []) c.self.view_is
@@ -60,5 +70,8 @@ returns-clause-verdict c =
     let j : List Entry = s.journal.items in
     let packet = c.args.frame.now in
     let admit = c.verdict-admit.result in
+    let is_open = c.has-is_open.ensures ∙ ap (λ (p : List Bool). has_port p c.args.port) c.plain-plain.ensures in
+    let verdict_is = c.verdict-admit.ensures.verdict (tried_in j) c.self.invariant.3
+    ∙ (ap (λ (b : Bool). verdict_on c.key-key.result.now b (tried_in j) packet) is_open ∙ ap (λ (k : List ℕ). verdict_on k (has_port s.rules.plain c.args.port) (tried_in j) packet) c.key-key.ensures) in
     subst (λ (v : SwitchState). admit ≡ admit_after v.rules v.journal c.args.port packet) c.self.view_is
-    (c.verdict-admit.ensures.verdict (tried_in j) c.self.invariant.3 ∙ ap (λ (b : Bool). verdict_on s.key b (tried_in j) packet) c.has-is_open.ensures)
+    verdict_is

@@ -1,0 +1,14 @@
+use Rattle.std.proofs.Common.{◌∙◌, ◌+◌, arith}
+use Rattle.mav_router.proofs.running.read_turns.Goals as goal
+
+pub loop-turned-preserved : goal.loop-turned-preserved
+loop-turned-preserved g c =
+    let i = c.loop-turned.invariant in
+    let r = c.read_part.ensures in
+    let w = c.write_part.ensures in
+    record {
+      ready = w.ready;
+      port = w.port ∙ (r.port ∙ i.port);
+      so_far = λ first p. w.so_far first (c.in_default.ensures.so_far first (i.so_far first p));
+      turned = w.turned (c.loop-turned.turned + 1) (r.turned c.loop-turned.turned (omega (arith, c.loop-turned-test.true, c.ranges.turns.fits)) i.turned);
+    }

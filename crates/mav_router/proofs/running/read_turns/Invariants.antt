@@ -1,0 +1,13 @@
+use Rattle.std.proofs.Common.{◌≡◌}
+use Rattle.mav_links.specs.Links.{LinkState}
+use Rattle.mav_router.specs.Runs.{HadTurns}
+use Rattle.mav_router.specs.Parts.{IsReady, PartSoFar}
+use Rattle.mav_router.proofs.running.read_turns.Given as goal
+
+abbrev pub invariant-loop-turned : goal.invariant-loop-turned
+invariant-loop-turned g l = record {
+  ready : IsReady l.turn l.rules l.part;
+  port : l.part.port ≡ l.initial.part.port;
+  so_far : (first : LinkState) → PartSoFar g.L.Link.state l.rules first l.initial.part → PartSoFar g.L.Link.state l.rules first l.part;
+  turned : HadTurns l.part.side.lane l.turned;
+}

@@ -1,0 +1,42 @@
+// The thread of a port as a job.
+use crate::jobs::Job;
+use crate::parts::Part;
+use crate::running::run_part;
+use crate::signals::Signals;
+use crate::{RouterRules, Switch};
+use mav_links::Link;
+use std::sync::Wait;
+use turnstile::Turn;
+
+type BoxedLink = Box<dyn Link>;
+
+/// A part with all that its thread shares with the others.
+pub(crate) struct PortJob<'a, 't> {
+    pub(crate) turn: &'t Turn<Switch<'a>>,
+    pub(crate) rules: &'t RouterRules<'a>,
+    pub(crate) signals: &'t Signals,
+    pub(crate) turns: u64,
+    pub(crate) part: Part<'a, BoxedLink>,
+}
+
+impl<'a, 't> Job for PortJob<'a, 't> {
+    ghost use Rattle.std.specs.Prelude.{◌≡◌};
+    ghost use Rattle.mav_router.specs.Runs.{HadTurns};
+    ghost use Rattle.mav_router.specs.Parts.{IsReady};
+    ghost use Rattle.mav_router.specs.Crews.{HasRun};
+
+    ghost ready = { λ job. IsReady job.turn.now job.rules.now job.part × HadTurns job.part.side.lane 0 };
+
+    ghost ran = { λ old new. HasRun (λ b. (Link-box b).state b.value) old.turn.now old.rules.now old.turns old.part new.part };
+
+    fn run<R: Wait>(&mut self, rt: &R) {
+        run_part(
+            rt,
+            self.turn,
+            self.rules,
+            self.signals,
+            &mut self.part,
+            self.turns,
+        );
+    }
+}

@@ -1,0 +1,249 @@
+// The thread of a port.
+ghost use Rattle.std.specs.Prelude.{◌≡◌, ◌≤◌, ◌<◌, ◌+◌, ◌++◌, ◌^◌, ℕ, List, length, false, OnOk, OnErr, IfErr};
+ghost use mathlib.Core.List.{IsPrefix};
+ghost use Rattle.mav_links.specs.Links.{LinkState};
+ghost use Rattle.mav_router.specs.Runs.{Reading, AllRead, HadTurns};
+ghost use Rattle.mav_router.specs.Faults.{IsSwitchFault, StopsReading};
+ghost use Rattle.mav_router.specs.History.{entries_in};
+ghost use Rattle.mav_router.specs.Parts.{IsSeated, IsReady, PartSoFar, PartStopped, PartEnds};
+
+use crate::hearing::next_frame;
+use crate::lanes::{read_lane, write_batch};
+use crate::parts::{Halt, Part};
+use crate::routing::{PIECE, is_live};
+use crate::signals::Signals;
+use crate::turns::{admit_frame, gather_waiting};
+use crate::{RouterRules, Switch, SwitchFault};
+use mav_links::Link;
+use mav_scan::Scanner;
+use std::sync::Wait;
+use turnstile::{Turn, TurnSeat};
+
+// Feeds a piece to the port's reader, has the switch admit each frame in a turn of its own, and counts the bytes that are
+// skipped.
+fn hear_in_turns<'a, R: Wait>(
+    rt: &R,
+    turn: &Turn<Switch<'a>>,
+    rules: &RouterRules<'_>,
+    seat: &mut TurnSeat<Switch<'a>>,
+    scanner: &mut Scanner,
+    skipped: &mut u64,
+    port: u8,
+    piece: &[u8],
+) -> Result<(), SwitchFault>
+    requires seated { IsSeated turn.now rules.now port seat.old }
+    requires from { 1 ≤ port }
+    requires to { port ≤ rules.now.ports }
+    ensures seated { IsSeated turn.now rules.now port seat.new }
+    ensures begins { IsPrefix (entries_in seat.old.seen) (entries_in seat.new.seen) }
+    ensures ended { scanner.new.ended ≡ scanner.old.ended }
+    ensures read { OnOk result ((bytes : List ℕ) → (0 < length piece.now → scanner.old.ended ≡ false)
+        → Reading rules.now port bytes scanner.old skipped.old (entries_in seat.old.own)
+        → AllRead rules.now port (bytes ++ piece.now) scanner.new skipped.new (entries_in seat.new.own)) }
+    ensures stopped { OnErr result ((bytes : List ℕ) → (0 < length piece.now → scanner.old.ended ≡ false)
+        → Reading rules.now port bytes scanner.old skipped.old (entries_in seat.old.own)
+        → StopsReading scanner.old.ended rules.now port (bytes ++ piece.now) (entries_in seat.new.own)) }
+    ensures fault { IfErr result (λ fault. IsSwitchFault fault (entries_in seat.new.seen)) }
+{
+    let mut taken = 0;
+    while let Some(frame) = next_frame(scanner, skipped, piece, &mut taken) {
+        if let Err(fault) = admit_frame(rt, turn, rules, seat, port, &frame) {
+            return Err(fault);
+        }
+    }
+    Ok(())
+}
+
+// Reads a port that is still read once, and has the switch admit the frames that are found.
+fn read_part<'a, R: Wait, L: Link>(
+    rt: &R,
+    turn: &Turn<Switch<'a>>,
+    rules: &RouterRules<'_>,
+    part: &mut Part<'a, L>,
+    buf: &mut [u8],
+) -> Result<(), SwitchFault>
+    requires ready { IsReady turn.now rules.now part.old }
+    requires live { part.old.side.lane.ended ≡ false }
+    requires fine { part.old.side.lane.failed ≡ false }
+    requires room { 0 < length buf.old }
+    requires most { length buf.old ≤ 4096 }
+    ensures ready { IsReady turn.now rules.now part.new }
+    ensures port { part.new.port ≡ part.old.port }
+    ensures so_far { OnOk result ((first : LinkState) → PartSoFar L.state rules.now first part.old → PartSoFar L.state rules.now first part.new) }
+    ensures stopped { OnErr result ((first : LinkState) → PartSoFar L.state rules.now first part.old → PartStopped L.state rules.now first part.new) }
+    ensures fault { IfErr result (λ fault. IsSwitchFault fault (entries_in part.new.seat.seen)) }
+    ensures turned { (turns : ℕ) → turns + 1 < 2 ^ 64 → HadTurns part.old.side.lane turns → HadTurns part.new.side.lane (turns + 1) }
+{
+    let side = &mut part.side;
+    let Some(count) = read_lane(&mut side.lane, &mut side.link, buf) else {
+        return Ok(());
+    };
+    hear_in_turns(
+        rt,
+        turn,
+        rules,
+        &mut part.seat,
+        &mut side.lane.scanner,
+        &mut side.lane.skipped,
+        part.port,
+        &buf[..count],
+    )
+}
+
+// Writes what waits for a port that hasn't failed, as much as is gathered in one turn, and returns whether that was all.
+fn write_some<'a, R: Wait, L: Link>(
+    rt: &R,
+    turn: &Turn<Switch<'a>>,
+    rules: &RouterRules<'_>,
+    part: &mut Part<'a, L>,
+) -> bool
+    requires ready { IsReady turn.now rules.now part.old }
+    requires fine { part.old.side.lane.failed ≡ false }
+    ensures ready { IsReady turn.now rules.now part.new }
+    ensures port { part.new.port ≡ part.old.port }
+    ensures so_far { (first : LinkState) → PartSoFar L.state rules.now first part.old → PartSoFar L.state rules.now first part.new }
+    ensures turned { (turns : ℕ) → HadTurns part.old.side.lane turns → HadTurns part.new.side.lane turns }
+{
+    let side = &mut part.side;
+    let all = gather_waiting(
+        rt,
+        turn,
+        rules,
+        &mut part.seat,
+        part.port,
+        &mut side.taken,
+        &mut side.batch,
+    );
+    write_batch(&mut side.lane, &mut side.link, side.batch.bytes());
+    all
+}
+
+// Writes until nothing waits for the port, unless it failed or fails.
+fn write_part<'a, R: Wait, L: Link>(
+    rt: &R,
+    turn: &Turn<Switch<'a>>,
+    rules: &RouterRules<'_>,
+    part: &mut Part<'a, L>,
+)
+    requires ready { IsReady turn.now rules.now part.old }
+    ensures ready { IsReady turn.now rules.now part.new }
+    ensures port { part.new.port ≡ part.old.port }
+    ensures so_far { (first : LinkState) → PartSoFar L.state rules.now first part.old → PartSoFar L.state rules.now first part.new }
+    ensures turned { (turns : ℕ) → HadTurns part.old.side.lane turns → HadTurns part.new.side.lane turns }
+{
+    for _ in rt.forever() {
+        if part.side.lane.failed {
+            return;
+        }
+        if write_some(rt, turn, rules, part) {
+            return;
+        }
+    }
+    unreachable!()
+}
+
+// Reads a port at most so many times, and writes after each read what waits for it.
+fn read_turns<'a, R: Wait, L: Link>(
+    rt: &R,
+    turn: &Turn<Switch<'a>>,
+    rules: &RouterRules<'_>,
+    signals: &Signals,
+    part: &mut Part<'a, L>,
+    turns: u64,
+) -> Halt
+    requires ready { IsReady turn.now rules.now part.old }
+    requires turned { HadTurns part.old.side.lane 0 }
+    ensures ready { IsReady turn.now rules.now part.new }
+    ensures port { part.new.port ≡ part.old.port }
+    ensures ends { (first : LinkState) → PartSoFar L.state rules.now first part.old → PartEnds result L.state rules.now turns first part.new }
+{
+    let mut buf = [0; PIECE];
+    for turned in 0..turns {
+        let _ = turned;
+        if !is_live(&part.side.lane) {
+            return Halt::Done;
+        }
+        if signals.is_stopped() {
+            return Halt::Stopped;
+        }
+        if let Err(fault) = read_part(rt, turn, rules, part, &mut buf) {
+            signals.stop();
+            return Halt::Fault(fault);
+        }
+        write_part(rt, turn, rules, part);
+    }
+    Halt::Done
+}
+
+// Goes on writing what the others send to the port, until no thread reads any more or one of them had a fault.
+fn write_on<'a, R: Wait, L: Link>(
+    rt: &R,
+    turn: &Turn<Switch<'a>>,
+    rules: &RouterRules<'_>,
+    signals: &Signals,
+    part: &mut Part<'a, L>,
+)
+    requires ready { IsReady turn.now rules.now part.old }
+    ensures ready { IsReady turn.now rules.now part.new }
+    ensures port { part.new.port ≡ part.old.port }
+    ensures so_far { (first : LinkState) → PartSoFar L.state rules.now first part.old → PartSoFar L.state rules.now first part.new }
+    ensures turned { (turns : ℕ) → HadTurns part.old.side.lane turns → HadTurns part.new.side.lane turns }
+{
+    let mut looks = 0;
+    for _ in rt.forever() {
+        let is_last = signals.is_over(looks);
+        if signals.is_stopped() || part.side.lane.failed {
+            return;
+        }
+        write_part(rt, turn, rules, part);
+        if is_last {
+            return;
+        }
+        signals.pause(rt);
+        looks = looks.saturating_add(1);
+    }
+    unreachable!()
+}
+
+// Reads and writes, and then only writes.
+fn serve<'a, R: Wait, L: Link>(
+    rt: &R,
+    turn: &Turn<Switch<'a>>,
+    rules: &RouterRules<'_>,
+    signals: &Signals,
+    part: &mut Part<'a, L>,
+    turns: u64,
+) -> Halt
+    requires ready { IsReady turn.now rules.now part.old }
+    requires turned { HadTurns part.old.side.lane 0 }
+    ensures ready { IsReady turn.now rules.now part.new }
+    ensures port { part.new.port ≡ part.old.port }
+    ensures ends { (first : LinkState) → PartSoFar L.state rules.now first part.old → PartEnds result L.state rules.now turns first part.new }
+{
+    signals.begin_reading();
+    let halt = read_turns(rt, turn, rules, signals, part, turns);
+    signals.end_reading();
+    let Halt::Done = halt else {
+        return halt;
+    };
+    write_on(rt, turn, rules, signals, part);
+    Halt::Done
+}
+
+/// Runs the thread of a port, and keeps how it ended.
+pub(crate) fn run_part<'a, R: Wait, L: Link>(
+    rt: &R,
+    turn: &Turn<Switch<'a>>,
+    rules: &RouterRules<'_>,
+    signals: &Signals,
+    part: &mut Part<'a, L>,
+    turns: u64,
+)
+    requires ready { IsReady turn.now rules.now part.old }
+    requires turned { HadTurns part.old.side.lane 0 }
+    ensures ready { IsReady turn.now rules.now part.new }
+    ensures port { part.new.port ≡ part.old.port }
+    ensures ends { (first : LinkState) → PartSoFar L.state rules.now first part.old → PartEnds part.new.side.halt L.state rules.now turns first part.new }
+{
+    part.side.halt = serve(rt, turn, rules, signals, part, turns);
+}
