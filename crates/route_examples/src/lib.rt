@@ -1,6 +1,9 @@
-//! Worked examples of a router's journal, by computation from the definitions alone, signatures included. Nothing here
-//! runs, and nothing depends on it.
+//! Worked examples of a router's journal, by computation from the definitions alone, signatures included, and tests of
+//! routers. Nothing depends on it.
 #![tactic(auto)]
+
+#[cfg(test)]
+mod failing;
 
 ghost use Rattle.route_examples.specs.Worked.{Worked};
 
