@@ -9,3 +9,5 @@ pub mod Seats
 pub mod PartSteps
 pub mod PartEnds
 pub mod Joined
+pub mod Moving
+pub mod Served

@@ -1,6 +1,5 @@
 -- How a part goes on.
-use Rattle.std.proofs.Common.{◌≡◌, ◌∙◌, ℕ, ◌≤◌, ◌+◌, List, [], ◌∷◌, ◌++◌, length, take, Ok, Err, OnOk, OnErr, refl, ap, sym, subst, arith, length-append}
-use Rattle.std.specs.declared.result.Result.{Result}
+use Rattle.std.proofs.Common.{◌∙◌, ℕ, ◌≤◌, List, length, take, ap, sym, subst, arith, length-append}
 use mathlib.Core.List.{IsPrefix}
 use Rattle.mav_frame.specs.Packet.{Packet}
 use Rattle.mav_links.specs.Links.{LinkState}

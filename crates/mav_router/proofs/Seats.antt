@@ -1,12 +1,12 @@
 -- How a seat goes on in its turn.
-use Rattle.std.proofs.Common.{◌⊎◌, inl, inr, ◌≡◌, ◌∙◌, ℕ, ◌==◌, ◌≤◌, arith, Bool, true, List, [], ◌∷◌, ◌++◌, length, map, take, drop, Ok, Err, OnOk, OnErr, Some, None, if◌then◌else◌, refl, ap, sym, subst, append_assoc, append-nil}
+use Rattle.std.proofs.Common.{inl, inr, ◌≡◌, ◌∙◌, ℕ, ◌==◌, ◌≤◌, arith, Bool, true, List, [], ◌∷◌, ◌++◌, length, map, take, drop, Ok, Err, OnOk, OnErr, Some, None, if◌then◌else◌, refl, ap, sym, subst, append_assoc, append-nil}
 use Rattle.std.proofs.lemmas.List.{map-append}
 use Rattle.std.proofs.lemmas.List.Elements.{filter_map-append}
 use Rattle.std.specs.declared.result.Result.{Result}
 use mathlib.Core.List.{IsPrefix}
 use Rattle.turnstile.specs.Journals.{AppendsAtMostOne}
 use Rattle.turnstile.specs.Labels.{EachPasses}
-use Rattle.turnstile.specs.Participants.{Lock, Participant, CanEnter, HasItsOwn, entered, left}
+use Rattle.turnstile.specs.Participants.{Lock, Participant, HasItsOwn, entered, left}
 use Rattle.turnstile.proofs.Preservation.{drop_all}
 use Rattle.mav_frame.specs.Packet.{Packet}
 use Rattle.mav_sign.specs.Streams.{listed}

@@ -1,9 +1,8 @@
 -- The parts of all ports.
-use Rattle.std.specs.Prelude.{ℕ, ◌≡◌, ◌+◌, List, slice_get, Some}
+use Rattle.std.specs.Prelude.{ℕ, ◌≡◌, List, slice_get, Some}
 use Rattle.mav_links.specs.Links.{LinkState}
-use Rattle.turnstile.specs.Participants.{Lock, Participant}
+use Rattle.turnstile.specs.Participants.{Lock}
 use Rattle.mav_router.specs.declared.history.SwitchEvent.{SwitchEvent}
-use Rattle.mav_router.specs.declared.lane.Lane.{Lane}
 use Rattle.mav_router.specs.declared.entries.SwitchFault.{SwitchFault}
 use Rattle.mav_router.specs.declared.parts.Halt.TheVariants.{Fault}
 use Rattle.mav_router.specs.declared.parts.Part.{Part}

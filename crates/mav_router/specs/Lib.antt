@@ -8,3 +8,4 @@ pub mod History
 pub mod Unheard
 pub mod Parts
 pub mod Crews
+pub mod Threads

@@ -1,13 +1,9 @@
 -- How far a thread is with its port.
-use Rattle.std.specs.Prelude.{ℕ, ◌≡◌, ◌==◌, ◌≤◌, List, [], ◌∷◌, length, take, slice_get, Some, ⊤}
-use mathlib.Core.List.{IsPrefix}
+use Rattle.std.specs.Prelude.{ℕ, ◌≡◌, ◌==◌, ◌≤◌, length, take}
 use Rattle.mav_links.specs.Links.{LinkState}
 use Rattle.turnstile.specs.Labels.{EachPasses}
 use Rattle.turnstile.specs.Participants.{Lock, Participant, CanEnter, HasItsOwn}
-use Rattle.mav_router.specs.declared.entries.Entry.{Entry}
-use Rattle.mav_router.specs.declared.entries.SwitchFault.{SwitchFault}
 use Rattle.mav_router.specs.declared.history.SwitchEvent.{SwitchEvent}
-use Rattle.mav_router.specs.declared.lane.Lane.{Lane}
 use Rattle.mav_router.specs.declared.parts.Halt.{Halt}
 use Rattle.mav_router.specs.declared.parts.Halt.TheVariants.{Done, Stopped, Fault}
 use Rattle.mav_router.specs.declared.parts.Part.{Part}

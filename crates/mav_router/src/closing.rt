@@ -1,5 +1,5 @@
 // The ports after all threads have ended.
-ghost use Rattle.std.specs.Prelude.{◌≡◌, ◌≤◌, ◌<◌, ◌⊎◌, ℕ, List, length, take, true, false, slice_get, Some, None, IfSome};
+ghost use Rattle.std.specs.Prelude.{◌≡◌, ◌≤◌, ◌<◌, ◌⊎◌, ◌+◌, ℕ, List, length, map, take, true, false, slice_get, Some, None, IfSome, vec_len, vec_capacity};
 ghost use Rattle.mav_links.specs.Links.{LinkState};
 ghost use Rattle.mav_router.specs.declared.entries.SwitchFault.TheVariants.{NoMemory};
 ghost use Rattle.mav_router.specs.declared.entries.Entry.{Entry};
@@ -7,10 +7,14 @@ ghost use Rattle.mav_router.specs.declared.parts.Halt.TheVariants.{Done, Fault};
 ghost use Rattle.mav_router.specs.Journal.{Rules, frames_to};
 ghost use Rattle.mav_router.specs.Runs.{Input, Output, HadTurns};
 ghost use Rattle.mav_router.specs.Crews.{HasFault};
+ghost use Rattle.mav_router.specs.Ends.{end_by};
+ghost use Rattle.mav_router.specs.Threads.{HasWrittenLeft};
 
 use crate::lanes::write_batch;
+use crate::moves::put_last;
 use crate::parts::{Halt, Side};
-use crate::{Entry, SwitchFault};
+use crate::routing::end_of;
+use crate::{Entry, PortEnd, SwitchFault};
 use mav_links::Link;
 
 // Writes what is left for a port that hasn't failed, as much as is gathered at once, and returns whether that was all.
@@ -50,6 +54,30 @@ pub(crate) fn write_left<L: Link>(journal: &[Entry], port: u8, side: &mut Side<L
         if write_some_left(journal, port, side) {
             return;
         }
+    }
+}
+
+/// Writes all that is left, in the order of the ports.
+pub(crate) fn write_each_left<L: Link>(journal: &[Entry], sides: &mut [Side<L>])
+    requires few { length sides.old ≤ 8 }
+    requires within { (k : ℕ) (side : _) → slice_get sides.old k ≡ Some side → side.taken ≤ length journal.now }
+    ensures length { length sides.new ≡ length sides.old }
+    ensures each { (k : ℕ) (b c : _) → slice_get sides.old k ≡ Some b → slice_get sides.new k ≡ Some c
+        → HasWrittenLeft L.state journal.now (k + 1) b c }
+{
+    for at in 0..sides.len() {
+        write_left(journal, at as u8 + 1, &mut sides[at]);
+    }
+}
+
+/// The ends of the ports, for which there is room.
+pub(crate) fn put_ends<L>(sides: &[Side<L>], turns: u64, ends: &mut Vec<PortEnd>)
+    requires new { vec_len ends.old ≡ 0 }
+    requires room { length sides.now ≤ vec_capacity ends.old }
+    ensures { ends.new.items ≡ map (λ side. end_by side.lane turns) sides.now }
+{
+    for at in 0..sides.len() {
+        put_last(ends, end_of(&sides[at].lane, turns));
     }
 }
 

@@ -8,18 +8,19 @@ use mav_links::Link;
 use std::sync::Wait;
 use turnstile::Turn;
 
-type BoxedLink = Box<dyn Link>;
+pub(crate) type BoxedLink = Box<dyn Link>;
 
 /// A part with all that its thread shares with the others.
-pub(crate) struct PortJob<'a, 't> {
+#[derive(Drop)]
+pub(crate) struct PortJob<'a, 't, L> {
     pub(crate) turn: &'t Turn<Switch<'a>>,
     pub(crate) rules: &'t RouterRules<'a>,
     pub(crate) signals: &'t Signals,
     pub(crate) turns: u64,
-    pub(crate) part: Part<'a, BoxedLink>,
+    pub(crate) part: Part<'a, L>,
 }
 
-impl<'a, 't> Job for PortJob<'a, 't> {
+impl<'a, 't> Job for PortJob<'a, 't, BoxedLink> {
     ghost use Rattle.std.specs.Prelude.{◌≡◌};
     ghost use Rattle.mav_router.specs.Runs.{HadTurns};
     ghost use Rattle.mav_router.specs.Parts.{IsReady};

@@ -19,9 +19,9 @@ pub(crate) trait Job: Send {
         ensures { ran self.old self.new };
 }
 
-/// Runs each job in a thread of its own, and returns when all have ended.
-pub(crate) fn run_jobs<R: Threads + Wait + Sync, J: Job>(rt: &R, jobs: &mut [J])
-    requires { All J.ready jobs.old }
+// Runs each job in a thread of its own, and returns when all have ended.
+fn run_jobs<R: Threads + Wait + Sync, J: Job>(rt: &R, jobs: &mut [J])
+    requires ready { All J.ready jobs.old }
     ensures length { length jobs.new ≡ length jobs.old }
     ensures each { (k : ℕ) (b c : _) → slice_get jobs.old k ≡ Some b → slice_get jobs.new k ≡ Some c → J.ran b c }
 {
@@ -37,4 +37,13 @@ pub(crate) fn run_jobs<R: Threads + Wait + Sync, J: Job>(rt: &R, jobs: &mut [J])
             job.run(rt)
         },
     );
+}
+
+/// Runs the jobs of a list, each in a thread of its own, and returns when all have ended.
+pub(crate) fn run_all<R: Threads + Wait + Sync, J: Job>(rt: &R, jobs: &mut Vec<J>)
+    requires ready { All J.ready jobs.old.items }
+    ensures length { length jobs.new.items ≡ length jobs.old.items }
+    ensures each { (k : ℕ) (b c : _) → slice_get jobs.old.items k ≡ Some b → slice_get jobs.new.items k ≡ Some c → J.ran b c }
+{
+    run_jobs(rt, jobs.as_mut_slice());
 }

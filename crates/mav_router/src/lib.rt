@@ -1,13 +1,13 @@
-//! A router of MAVLink packets between links, on one thread.
+//! A router of MAVLink packets between links, on one thread or with a thread for each port.
 //!
 //! A [`Switch`] admits the frames that come in at its ports, keeps an [`Entry`] of each in its journal, and gives each
-//! port the frames that go out there; all of it follows from the journal (MAVLink guide, Routing). [`route_one`] runs one
-//! over boxed links that may fail at any call, and returns the journal and what became of each port, or at a fault the
-//! journal so far. It never calls a port again that failed, never sends a packet back to its own port, and puts frames
-//! without a signature block through open ports alone.
+//! port the frames that go out there; all of it follows from the journal (MAVLink guide, Routing). [`route_one`] and
+//! [`route_all`] run one over boxed links that may fail at any call, and return the journal and what became of each port,
+//! or at a fault the journal so far. They never call a port again that failed, never send a packet back to its own port,
+//! and put frames without a signature block through open ports alone.
 //!
-//! The thread of a port (`running`) is here and proved, on what a switch tells of its history to a `turnstile`; no call
-//! starts one yet.
+//! With a thread for each port (`threads`) the switch is behind a `turnstile`: each thread reads its own port and writes
+//! to it (`running`), and has the switch admit a frame in a turn of its own.
 #![tactic(auto)]
 
 mod batch;
@@ -18,10 +18,12 @@ mod entries;
 mod hearing;
 mod history;
 mod jobs;
+mod joining;
 mod judging;
 mod lane;
 mod lanes;
 pub mod laws;
+mod moves;
 mod parts;
 mod rounds;
 mod routing;
@@ -29,6 +31,7 @@ mod rules;
 mod running;
 mod signals;
 mod switch;
+mod threads;
 mod together;
 mod turns;
 
@@ -39,7 +42,7 @@ pub use routing::{route_links, route_one};
 pub use rules::RouterRules;
 use std::alloc::AllocError;
 pub use switch::Switch;
-pub use together::{route_all, route_vec};
+pub use together::route_all;
 
 /// There was no memory.
 pub type NoMemory = AllocError;

@@ -80,8 +80,8 @@ fn run_rounds<L: Link>(
     Ok(())
 }
 
-// The end of a port.
-fn end_of(lane: &Lane, turns: u64) -> PortEnd
+/// The end of a port.
+pub(crate) fn end_of(lane: &Lane, turns: u64) -> PortEnd
     ensures { result ≡ end_by lane.now turns }
 {
     let how = if lane.failed {
@@ -127,7 +127,8 @@ fn new_lane(alloc: Global, known: &Dialect, old: bool) -> Result<Lane, NoMemory>
     })
 }
 
-fn new_lanes(
+/// The same of so many ports.
+pub(crate) fn new_lanes(
     alloc: Global,
     known: &Dialect,
     plain: Ways,

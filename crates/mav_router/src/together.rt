@@ -1,11 +1,14 @@
-// A run of a router that may start a thread for each port.
+// A run of a router on one thread or on many.
 ghost use Rattle.std.specs.Prelude.{◌≡◌, ◌≤◌, ◌+◌, ℕ, [], length, IfOk, IfErr, slice_get, Some};
 ghost use Rattle.mav_links.specs.Links.{LinkState};
 ghost use Rattle.mav_router.specs.Journal.{IsJournal};
 ghost use Rattle.mav_router.specs.Ends.{PortRun};
 ghost use Rattle.mav_router.specs.Faults.{RouteHalted};
+ghost use Rattle.mav_router.specs.Threads.{HasRouted, HasStopped};
 
-use crate::{PortEnd, RouteEnd, RouteFault, RoutePlan, route_links};
+use crate::crew::BoxedLink;
+use crate::threads::route_threads;
+use crate::{PortEnd, RouteEnd, RouteFault, RoutePlan, route_one};
 use dialect::Dialect;
 use mav_links::Link;
 use mav_sign::Key;
@@ -13,58 +16,50 @@ use std::alloc::Global;
 use std::sync::Wait;
 use std::thread::Threads;
 
-// Routes between links on one thread.
-fn route_halting<L: Link>(
+// Routes between the ports on one thread.
+fn route_alone(
     alloc: Global,
     key: &Key,
     known: &Dialect,
-    links: &mut [L],
+    ports: &mut Vec<BoxedLink>,
     plan: RoutePlan,
 ) -> Result<RouteEnd, RouteFault>
-    requires from { 1 ≤ length links.old }
-    requires to { length links.old ≤ 8 }
+    requires from { 1 ≤ length ports.old.items }
+    requires to { length ports.old.items ≤ 8 }
     requires turns { plan.turns ≤ 1_000_000_000 }
-    ensures journal { IfOk result (λ end. IsJournal (record { key = key.now; known = known.now; ports = length links.old; plain = plan.plain }) [] end.journal.items) }
-    ensures few { IfOk result (λ end. length end.journal.items ≤ 1000000) }
-    ensures ports { IfOk result (λ end. length end.ports.items ≡ length links.old) }
-    ensures each { IfOk result (λ end. (k : ℕ) (b c : _) (e : PortEnd) → slice_get links.old k ≡ Some b
-        → slice_get links.new k ≡ Some c → slice_get end.ports.items k ≡ Some e
-        → PortRun (record { key = key.now; known = known.now; ports = length links.old; plain = plan.plain }) end.journal.items plan.turns (k + 1) (L.state b) (L.state c) e) }
-    ensures kept { IfErr result (λ fault. IsJournal (record { key = key.now; known = known.now; ports = length links.old; plain = plan.plain }) [] fault.journal.items) }
-    ensures stopped { IfErr result (λ fault. RouteHalted L.state (record { key = key.now; known = known.now; ports = length links.old; plain = plan.plain }) fault.why fault.journal.items links.old links.new) }
+    ensures links { length ports.new.items ≡ length ports.old.items }
+    ensures routed { IfOk result (λ end. HasRouted state (record { key = key.now; known = known.now; ports = length ports.old.items; plain = plan.plain }) plan.turns ports.old.items ports.new.items end.journal.items end.ports.items) }
+    ensures stopped { IfErr result (λ fault. HasStopped state (record { key = key.now; known = known.now; ports = length ports.old.items; plain = plan.plain }) ports.old.items ports.new.items fault.why fault.journal.items) }
 {
-    route_links(alloc, key, known, links, plan)
+    route_one(alloc, key, known, ports, plan)
 }
 
-/// Routes between links, as [`route_all`] does.
-pub fn route_vec<R: Threads + Wait + Sync, L: Link>(
+// Routes between the ports as the plan says.
+fn route_by_plan<R: Threads + Wait + Sync>(
     rt: &R,
     alloc: Global,
     key: &Key,
     known: &Dialect,
-    links: &mut Vec<L>,
+    ports: &mut Vec<BoxedLink>,
     plan: RoutePlan,
 ) -> Result<RouteEnd, RouteFault>
-    requires from { 1 ≤ length links.old.items }
-    requires to { length links.old.items ≤ 8 }
+    requires from { 1 ≤ length ports.old.items }
+    requires to { length ports.old.items ≤ 8 }
     requires turns { plan.turns ≤ 1_000_000_000 }
-    ensures links { length links.new.items ≡ length links.old.items }
-    ensures journal { IfOk result (λ end. IsJournal (record { key = key.now; known = known.now; ports = length links.old.items; plain = plan.plain }) [] end.journal.items) }
-    ensures few { IfOk result (λ end. length end.journal.items ≤ 1000000) }
-    ensures ports { IfOk result (λ end. length end.ports.items ≡ length links.old.items) }
-    ensures each { IfOk result (λ end. (k : ℕ) (b c : _) (e : PortEnd) → slice_get links.old.items k ≡ Some b
-        → slice_get links.new.items k ≡ Some c → slice_get end.ports.items k ≡ Some e
-        → PortRun (record { key = key.now; known = known.now; ports = length links.old.items; plain = plan.plain }) end.journal.items plan.turns (k + 1) (L.state b) (L.state c) e) }
-    ensures kept { IfErr result (λ fault. IsJournal (record { key = key.now; known = known.now; ports = length links.old.items; plain = plan.plain }) [] fault.journal.items) }
-    ensures stopped { IfErr result (λ fault. RouteHalted L.state (record { key = key.now; known = known.now; ports = length links.old.items; plain = plan.plain }) fault.why fault.journal.items links.old.items links.new.items) }
+    ensures links { length ports.new.items ≡ length ports.old.items }
+    ensures routed { IfOk result (λ end. HasRouted state (record { key = key.now; known = known.now; ports = length ports.old.items; plain = plan.plain }) plan.turns ports.old.items ports.new.items end.journal.items end.ports.items) }
+    ensures stopped { IfErr result (λ fault. HasStopped state (record { key = key.now; known = known.now; ports = length ports.old.items; plain = plan.plain }) ports.old.items ports.new.items fault.why fault.journal.items) }
 {
-    let _ = rt;
-    route_halting(alloc, key, known, links.as_mut_slice(), plan)
+    if plan.one {
+        route_alone(alloc, key, known, ports, plan)
+    } else {
+        route_threads(rt, alloc, key, known, ports, plan)
+    }
 }
 
-/// Routes between the ports, and returns what came in and what became of each port. It may start a thread for each port,
-/// unless the plan is for one thread; as yet it runs on one, as [`route_one`] does. A run that stops because memory is
-/// out, or because the journal is full, gives back its journal so far.
+/// Routes between the ports, and returns what came in and what became of each port. Each port has a thread of its own,
+/// unless the plan is for one thread; then it is [`route_one`]. A run that stops because memory is out, or because the
+/// journal is full, gives back its journal so far.
 pub fn route_all<R: Threads + Wait + Sync>(
     rt: &R,
     alloc: Global,
@@ -88,5 +83,5 @@ pub fn route_all<R: Threads + Wait + Sync>(
     ensures kept { IfErr result (λ fault. IsJournal (record { key = key.now; known = known.now; ports = length ports.old.items; plain = plan.plain }) [] fault.journal.items) }
     ensures stopped { IfErr result (λ fault. RouteHalted state (record { key = key.now; known = known.now; ports = length ports.old.items; plain = plan.plain }) fault.why fault.journal.items ports.old.items ports.new.items) }
 {
-    route_vec(rt, alloc, key, known, ports, plan)
+    route_by_plan(rt, alloc, key, known, ports, plan)
 }

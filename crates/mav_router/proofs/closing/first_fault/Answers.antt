@@ -1,4 +1,4 @@
-use Rattle.std.proofs.Common.{◌≡◌, ◌∙◌, ap, sym, inl, inr, length, arith}
+use Rattle.std.proofs.Common.{◌∙◌, ap, sym, inr, arith}
 use Rattle.std.proofs.lemmas.Option.{get_or_from_slice_get}
 use Rattle.mav_router.specs.declared.parts.Side.{Side}
 use Rattle.mav_router.proofs.Journals.{element}

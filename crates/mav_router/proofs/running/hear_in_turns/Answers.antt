@@ -1,5 +1,4 @@
-use Rattle.std.proofs.Common.{◌∙◌, ◌++◌, ap, subst, Bool, sym, append_assoc, List}
-use Rattle.mav_router.specs.declared.entries.Entry.{Entry}
+use Rattle.std.proofs.Common.{◌∙◌, ◌++◌, ap, subst, Bool, List}
 use Rattle.mav_router.specs.declared.history.SwitchEvent.{SwitchEvent}
 use Rattle.mav_router.specs.Journal.{frames_from}
 use Rattle.mav_router.specs.History.{entries_in}

@@ -1,9 +1,8 @@
-use Rattle.std.proofs.Common.{◌≡◌, ◌∙◌, ◌++◌, ◌∷◌, [], refl, ap, sym, subst, List}
+use Rattle.std.proofs.Common.{◌∙◌, refl, ap, sym, subst, List}
 use mathlib.Core.List.{IsPrefix}
 use Rattle.turnstile.specs.Participants.{Participant, entered}
 use Rattle.mav_router.specs.declared.entries.Entry.{Entry}
 use Rattle.mav_router.specs.declared.history.SwitchEvent.{SwitchEvent}
-use Rattle.mav_router.specs.declared.history.SwitchEvent.TheVariants.{Admitted}
 use Rattle.mav_router.specs.Journal.{SwitchState, entry_after, frames_from}
 use Rattle.mav_router.specs.History.{history_of, entries_in}
 use Rattle.mav_router.specs.Faults.{IsSwitchFault}

@@ -1,10 +1,10 @@
-use Rattle.std.proofs.Common.{◌≡◌, ◌∙◌, ◌≤◌, refl, ap, sym, subst, List, length, take}
+use Rattle.std.proofs.Common.{◌∙◌, ◌≤◌, refl, ap, sym, subst, List, length, take}
 use mathlib.Core.List.{IsPrefix}
 use Rattle.turnstile.specs.Participants.{entered}
 use Rattle.mav_router.specs.declared.entries.Entry.{Entry}
 use Rattle.mav_router.specs.Journal.{SwitchState, frames_to}
 use Rattle.mav_router.specs.Batches.{Gathered}
-use Rattle.mav_router.specs.History.{history_of, entries_in}
+use Rattle.mav_router.specs.History.{history_of}
 use Rattle.mav_router.proofs.Seats.{looked}
 use Rattle.mav_router.proofs.turns.gather_waiting.Goals as goal
 

@@ -1,0 +1,37 @@
+use Rattle.std.proofs.Common.{◌≡◌, ◌∙◌, ◌⊎◌, ◌+◌, List, Some, slice_get, map, length, refl, sym, subst, ap}
+use Rattle.mav_router.specs.declared.entries.Entry.{Entry}
+use Rattle.mav_router.specs.declared.entries.SwitchFault.TheVariants.{NoMemory}
+use Rattle.mav_router.specs.declared.parts.Side.{Side}
+use Rattle.mav_router.specs.Crews.{HasFault}
+use Rattle.mav_router.specs.Ends.{end_by}
+use Rattle.mav_router.specs.Threads.{HasClosed, HasWrittenLeft}
+use Rattle.mav_router.proofs.Moving.{written_over}
+use Rattle.mav_router.proofs.Served.{routed, stopped}
+use Rattle.mav_router.proofs.threads.finish.Goals as goal
+
+pub returns-in-Some-clause-stopped : goal.returns-in-Some-clause-stopped
+returns-in-Some-clause-stopped g c = λ before closed.
+    let j = c.into_journal.ensures in
+    let why = c.in-Some.why in
+    stopped g.L.Link.state c.args.switch.rules c.args.turns why c.into_journal.result.items before c.give_links.new.links.items c.args.sides.now.items j.within j.legal
+    (subst (λ (l : List (Side g.row.L.Denot)). (why ≡ NoMemory) ⊎ HasFault l why) c.as_slice.ensures.value c.in-Some.ensures.some)
+    c.give_links.ensures
+    (subst (λ (l : List Entry). HasClosed g.L.Link.state c.args.switch.rules c.args.turns l before c.args.sides.now.items) (sym j.journal) closed)
+
+pub returns-in-None-clause-routed : goal.returns-in-None-clause-routed
+returns-in-None-clause-routed g c = λ before closed.
+    let j = c.into_journal-in-None.ensures in
+    let w = c.write_each_left.ensures in
+    let old = c.args.sides.now.items in
+    let written : List (Side g.row.L.Denot) = c.write_each_left.new.sides in
+    let long = w.length ∙ ap length c.as_mut_slice.ensures.value in
+    let over = written_over written old c.args.sides.now.len c.args.sides.now.ok.0 long in
+    routed g.L.Link.state c.args.switch.rules c.args.turns c.into_journal-in-None.result.items before c.give_links-in-None.new.links.items old written c.put_ends.new.ends.items c.requires.turns j.within j.legal
+    (λ k side is. c.in-None.ensures.none refl k side (subst (λ (l : List (Side g.row.L.Denot)). slice_get l k ≡ Some side) (sym c.as_slice.ensures.value) is))
+    long
+    (λ k b d is_b is_d.
+    subst (λ (l : List Entry). HasWrittenLeft g.L.Link.state l (k + 1) b d) (c.journal.ensures.entries ∙ sym j.journal)
+    (w.each k b d (subst (λ (l : List (Side g.row.L.Denot)). slice_get l k ≡ Some b) (sym c.as_mut_slice.ensures.value) is_b) is_d))
+    (c.put_ends.ensures ∙ ap (λ (l : List (Side g.row.L.Denot)). map (λ (s : Side g.row.L.Denot). end_by s.lane c.args.turns) l) (c.as_slice-in-None.ensures.value ∙ over))
+    (c.give_links-in-None.ensures ∙ ap (λ (l : List (Side g.row.L.Denot)). map (λ (s : Side g.row.L.Denot). s.link) l) over)
+    (subst (λ (l : List Entry). HasClosed g.L.Link.state c.args.switch.rules c.args.turns l before old) (sym j.journal) closed)
