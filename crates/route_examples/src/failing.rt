@@ -9,8 +9,8 @@ use mav_sign::Key;
 use std::alloc::Global;
 use std::test::Fail;
 
-// HEARTBEAT frames without a signature block, of systems 1, 2 and 3.
-static FRAMES: [[u8; 21]; 3] = [
+/// HEARTBEAT frames without a signature block, of systems 1, 2 and 3.
+pub(crate) static FRAMES: [[u8; 21]; 3] = [
     [
         253, 9, 0, 0, 0, 1, 1, 0, 0, 0, 0, 0, 0, 0, 2, 3, 0, 4, 3, 74, 215,
     ],

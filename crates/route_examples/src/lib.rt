@@ -4,6 +4,10 @@
 
 #[cfg(test)]
 mod failing;
+#[cfg(test)]
+mod gated;
+#[cfg(test)]
+mod threaded;
 
 ghost use Rattle.route_examples.specs.Worked.{Worked};
 
