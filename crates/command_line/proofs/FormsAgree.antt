@@ -1,5 +1,5 @@
 -- The tests of a line agree with the forms of what is built.
-use Rattle.std.proofs.Common.{◌≡◌, ◌∙◌, ◌≤◌, ◌<◌, ◌-◌, ◌^◌, ◌&&◌, ◌||◌, not, nat_le, ℕ, Bool, true, false, List, [], ◌∷◌, refl, sym, ap, arith, IsTrue, map, length, take, drop, get_or, Some, is_some, option_map, string_bytes, ◌⊎◌, inl, inr}
+use Rattle.std.proofs.Common.{◌≡◌, ◌∙◌, ◌≤◌, ◌<◌, ◌-◌, ◌^◌, ◌&&◌, ◌||◌, not, nat_le, ℕ, Bool, true, false, List, [], ◌∷◌, refl, sym, ap, arith, map, length, take, drop, get_or, Some, is_some, option_map, string_bytes, ◌⊎◌, inl, inr}
 use Rattle.std.proofs.lemmas.Bool.{cases_Bool, cond-true, cond-false, and_parts, and_from, and_left, and_right, leb-true, le-leb}
 use Rattle.std.proofs.lemmas.Grind.{common_steps}
 use Rattle.std.proofs.lemmas.List.Sums.{AllPass-from_list_all, list_all-from_AllPass}
@@ -10,15 +10,14 @@ use Rattle.command_line.specs.declared.commands.Command.TheVariants.{Fleet, Dial
 use Rattle.command_line.specs.declared.commands.OptionName.{OptionName}
 use Rattle.command_line.specs.declared.commands.OptionName.TheVariants.{Frames, Key, Defs, One, Turns, Ticks, File, Store}
 use Rattle.command_line.specs.Commands.{has_option, needs_key}
-use Rattle.command_line.specs.Built.{is_built, is_option_built, needs_now, built}
+use Rattle.command_line.specs.Built.{is_built, is_option_built, built}
 use Rattle.command_line.specs.Forms.{Given, latest_start, most_turns, is_named, IsValue, AreTaken, all_differ, has_given, stdin_files, IsFile, ArePlain, Fits}
 use Rattle.command_line.specs.Names.{value_given}
 use Rattle.command_line.specs.Operations.{OneNumber, NumberAndFile}
-use Rattle.command_line.specs.Pieces.{all_options}
 use Rattle.command_line.specs.Ports.{IsRouterPort}
 use Rattle.command_line.specs.Numbers.{number_in}
 use Rattle.command_line.specs.PortTexts.{is_some_text, is_router_port}
-use Rattle.command_line.specs.Lines.{given_of, is_value_now, taken_now, is_key, is_needed, has_needed, is_one_file, is_no_word, are_ports, is_one_number, is_number_and_file, plain_now, fits_now}
+use Rattle.command_line.specs.Lines.{given_of, is_value_now, taken_now, has_needed, is_one_file, is_no_word, are_ports, is_one_number, is_number_and_file, plain_now, fits_now}
 use Rattle.command_line.proofs.NodeWords.{drone_form, form_drone, station_form, form_station}
 use Rattle.command_line.proofs.Numerals.{number_form, form_number}
 use Rattle.command_line.proofs.PortWords.{some_text, text_some, no_text, router_form, form_router}
@@ -137,7 +136,7 @@ is_plain LogFilter gs plain are = file_and_number 255 plain (omega arith) are
 is_plain LogMake gs plain are = file_and_number latest_start plain (omega arith) are
 is_plain Fence gs plain are = file_one plain are
 
--- the options that are needed
+-- the key, if it is needed
 implied : (a b : Bool) → (not a || b) ≡ true → a ≡ true → b ≡ true
 implied true b e needed = e
 implied false b e never = absurd (cc never)
@@ -145,48 +144,6 @@ implied false b e never = absurd (cc never)
 implies : (a b : Bool) → (a ≡ true → b ≡ true) → (not a || b) ≡ true
 implies true b f = f refl
 implies false b f = refl
-
-or_second : (a b : Bool) → b ≡ true → (a || b) ≡ true
-or_second true b e = refl
-or_second false b e = e
-
-or_first : (a b : Bool) → a ≡ true → (a || b) ≡ true
-or_first true b e = refl
-or_first false b never = absurd (cc never)
-
-either : (a b : Bool) → (a || b) ≡ true → (a ≡ true) ⊎ (b ≡ true)
-either true b e = inl refl
-either false b e = inr e
-
-there_at : (c : Command) (gs : List Given) → has_needed c gs ≡ true → (k : ℕ) → k < 8 → (not (is_needed c (get_or all_options k Frames)) || has_given (get_or all_options k Frames) gs) ≡ true
-there_at c gs e k within = AllPass-from_list_all (λ name. not (is_needed c name) || has_given name gs) all_options e k Frames within
-
-there : (c : Command) (gs : List Given) → has_needed c gs ≡ true → (name : OptionName) → is_needed c name ≡ true → has_given name gs ≡ true
-there c gs e Frames needed = implied (is_needed c Frames) (has_given Frames gs) (there_at c gs e 0 (omega arith)) needed
-there c gs e Key needed = implied (is_needed c Key) (has_given Key gs) (there_at c gs e 1 (omega arith)) needed
-there c gs e Defs needed = implied (is_needed c Defs) (has_given Defs gs) (there_at c gs e 2 (omega arith)) needed
-there c gs e One needed = implied (is_needed c One) (has_given One gs) (there_at c gs e 3 (omega arith)) needed
-there c gs e Turns needed = implied (is_needed c Turns) (has_given Turns gs) (there_at c gs e 4 (omega arith)) needed
-there c gs e Ticks needed = implied (is_needed c Ticks) (has_given Ticks gs) (there_at c gs e 5 (omega arith)) needed
-there c gs e File needed = implied (is_needed c File) (has_given File gs) (there_at c gs e 6 (omega arith)) needed
-there c gs e Store needed = implied (is_needed c Store) (has_given Store gs) (there_at c gs e 7 (omega arith)) needed
-
-need_given : (c : Command) (gs : List Given) → (IsTrue (needs_key c) → IsTrue (has_given Key gs)) → ((name : OptionName) → IsTrue (needs_now c name) → IsTrue (has_given name gs)) → (name : OptionName) → is_needed c name ≡ true → has_given name gs ≡ true
-need_given c gs key now Frames e = now Frames e
-need_given c gs key now Key e = elim (either (needs_key c) (needs_now c Key) e) [ inl k ↦ key k | inr n ↦ now Key n ]
-need_given c gs key now Defs e = now Defs e
-need_given c gs key now One e = now One e
-need_given c gs key now Turns e = now Turns e
-need_given c gs key now Ticks e = now Ticks e
-need_given c gs key now File e = now File e
-need_given c gs key now Store e = now Store e
-
-every_passes : {X : Type 0} (f : X → Bool) → ((x : X) → f x ≡ true) → (xs : List X) → list_all f xs ≡ true
-every_passes f every [] = refl
-every_passes f every (x ∷ xs) = and_from (f x) (list_all f xs) (every x) (every_passes f every xs)
-
-all_there : (c : Command) (gs : List Given) → ((name : OptionName) → is_needed c name ≡ true → has_given name gs ≡ true) → has_needed c gs ≡ true
-all_there c gs each = every_passes _ (λ name. implies (is_needed c name) (has_given name gs) (each name)) all_options
 
 pub fits_when : (c : Command) (gs : List Given) (plain : List (List ℕ)) → fits_now c gs plain ≡ true → Fits built c gs plain
 fits_when c gs plain e =
@@ -199,8 +156,7 @@ fits_when c gs plain e =
       command_built = b;
       options_taken = taken c gs t;
       once = d;
-      key_given = λ needs. there c gs n Key (or_first (needs_key c) (needs_now c Key) needs);
-      needed_given = λ name needs. there c gs n name (or_second (is_key name && needs_key c) (needs_now c name) needs);
+      key_given = implied (needs_key c) (has_given Key gs) n;
       plain_words = plain_is c gs plain p;
       one_stdin = leb-true (stdin_files c gs plain) 1 s;
     }
@@ -208,7 +164,7 @@ fits_when c gs plain e =
 pub when_fits : (c : Command) (gs : List Given) (plain : List (List ℕ)) → Fits built c gs plain → fits_now c gs plain ≡ true
 when_fits c gs plain f =
     and_from (is_built c) _ f.command_built (and_from (list_all (taken_now c) gs) _ (takes c gs f.options_taken)
-    (and_from (all_differ gs) _ f.once (and_from (has_needed c gs) _ (all_there c gs (need_given c gs f.key_given f.needed_given))
+    (and_from (all_differ gs) _ f.once (and_from (has_needed c gs) _ (implies (needs_key c) (has_given Key gs) f.key_given)
     (and_from (plain_now c (has_given File gs) plain) _ (is_plain c gs plain f.plain_words)
     (le-leb (stdin_files c gs plain) 1 f.one_stdin)))))
 
@@ -235,22 +191,14 @@ and_holds x y e = ap (λ b. b && y) e
 pub not_taken : (c : Command) (ss : List Setting) (plain : List (List ℕ)) → list_all (λ s. taken_now c (given_of s)) ss ≡ false → false ≡ fits_now c (map given_of ss) plain
 not_taken c ss plain e = sym (and_right (is_built c) _ (and_left (list_all (taken_now c) (map given_of ss)) _ (list_all_map (taken_now c) ss ∙ e)))
 
-all_same : {X : Type 0} (f g : X → Bool) → ((x : X) → f x ≡ g x) → (xs : List X) → list_all f xs ≡ list_all g xs
-all_same f g same [] = refl
-all_same f g same (x ∷ xs) = rw (same x, all_same f g same xs) refl
+pub not_needed : (c : Command) (gs : List Given) (plain : List (List ℕ)) → has_needed c gs ≡ false → false ≡ fits_now c gs plain
+not_needed c gs plain e =
+    sym (and_right (is_built c) _ (and_right (list_all (taken_now c) gs) _ (and_right (all_differ gs) _ (and_left (has_needed c gs) _ e))))
 
-pub needed_map : (c : Command) (ss : List Setting) → list_all (λ name. not (is_needed c name) || list_any (λ s. is_named name (given_of s)) ss) all_options ≡ has_needed c (map given_of ss)
-needed_map c ss = all_same _ _ (λ name. ap (λ b. not (is_needed c name) || b) (sym (list_any_map (is_named name) ss))) all_options
-
-pub not_needed : (c : Command) (ss : List Setting) (plain : List (List ℕ)) → list_all (λ name. not (is_needed c name) || list_any (λ s. is_named name (given_of s)) ss) all_options ≡ false → false ≡ fits_now c (map given_of ss) plain
-not_needed c ss plain e =
-    sym (and_right (is_built c) _ (and_right (list_all (taken_now c) (map given_of ss)) _ (and_right (all_differ (map given_of ss)) _
-    (and_left (has_needed c (map given_of ss)) _ (sym (needed_map c ss) ∙ e)))))
-
-pub all_hold : (c : Command) (ss : List Setting) (plain : List (List ℕ)) → is_built c ≡ true → list_all (λ s. taken_now c (given_of s)) ss ≡ true → all_differ (map given_of ss) ≡ true → list_all (λ name. not (is_needed c name) || list_any (λ s. is_named name (given_of s)) ss) all_options ≡ true → plain_now c (has_given File (map given_of ss)) plain ≡ true → nat_le (stdin_files c (map given_of ss) plain) 1 ≡ fits_now c (map given_of ss) plain
+pub all_hold : (c : Command) (ss : List Setting) (plain : List (List ℕ)) → is_built c ≡ true → list_all (λ s. taken_now c (given_of s)) ss ≡ true → all_differ (map given_of ss) ≡ true → has_needed c (map given_of ss) ≡ true → plain_now c (has_given File (map given_of ss)) plain ≡ true → nat_le (stdin_files c (map given_of ss) plain) 1 ≡ fits_now c (map given_of ss) plain
 all_hold c ss plain b t d n p =
     sym (and_holds (is_built c) _ b ∙ and_holds (list_all (taken_now c) (map given_of ss)) _ (list_all_map (taken_now c) ss ∙ t)
-    ∙ and_holds (all_differ (map given_of ss)) _ d ∙ and_holds (has_needed c (map given_of ss)) _ (sym (needed_map c ss) ∙ n)
+    ∙ and_holds (all_differ (map given_of ss)) _ d ∙ and_holds (has_needed c (map given_of ss)) _ n
     ∙ and_holds (plain_now c (has_given File (map given_of ss)) plain) _ p)
 
 -- plain words that aren't of the command's form

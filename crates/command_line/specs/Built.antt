@@ -30,10 +30,5 @@ is_option_built LogFilter Defs = true
 is_option_built LogMake Defs = true
 is_option_built _ _ = false
 
--- the options that a command needs as it is built, and won't need for ever: a router on one thread alone
-abbrev pub needs_now : Command → OptionName → Bool
-needs_now Route One = true
-needs_now _ _ = false
-
 abbrev pub built : Built
-built = record { commands = is_built; options = is_option_built; needs = needs_now }
+built = record { commands = is_built; options = is_option_built }

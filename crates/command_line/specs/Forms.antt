@@ -16,11 +16,10 @@ pub record Given : Type 0 where
   pub name : OptionName
   pub value : List ℕ
 
--- which commands and options are built, and which options a command needs as it is built
+-- which commands and options are built
 pub record Built : Type 0 where
   pub commands : Command → Bool
   pub options : Command → OptionName → Bool
-  pub needs : Command → OptionName → Bool
 
 -- the most turns, ticks and steps that can be asked for
 abbrev pub most_turns : ℕ
@@ -127,8 +126,6 @@ pub record Fits (built : Built) (command : Command) (settings : List Given) (pla
   pub once : all_differ settings ≡ true
   -- the commands that need a key have one
   pub key_given : IsTrue (needs_key command) → IsTrue (has_given Key settings)
-  -- an option that it needs as it is built is given
-  pub needed_given : (name : OptionName) → IsTrue (built.needs command name) → IsTrue (has_given name settings)
   -- the plain words are of the command's form
   pub plain_words : ArePlain built command settings plain
   -- standard input is one file at most

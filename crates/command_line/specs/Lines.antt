@@ -15,11 +15,11 @@ use Rattle.command_line.specs.declared.ports.Port.{Port}
 use Rattle.command_line.specs.Commands.{has_option, needs_key}
 use Rattle.command_line.specs.Numbers.{number_in}
 use Rattle.command_line.specs.PortTexts.{is_some_text, is_router_port, port_text}
-use Rattle.command_line.specs.Built.{is_built, is_option_built, needs_now}
+use Rattle.command_line.specs.Built.{is_built, is_option_built}
 use Rattle.command_line.specs.Forms.{Given, latest_start, most_turns, all_differ, has_given, stdin_files}
 use Rattle.command_line.specs.Names.{port_words}
 use Rattle.command_line.specs.Nodes.{is_drone, is_station, NodeSays}
-use Rattle.command_line.specs.Pieces.{Parts, joined, parts_at, all_options}
+use Rattle.command_line.specs.Pieces.{Parts, joined, parts_at}
 use Rattle.command_line.specs.Grammar.{Asked}
 
 abbrev pub given_of : Setting → Given
@@ -49,16 +49,9 @@ is_value_now Store value = is_some_text value
 abbrev pub taken_now : Command → Given → Bool
 taken_now command g = (has_option command g.name && is_option_built command g.name) && is_value_now g.name g.value
 
-abbrev pub is_key : OptionName → Bool
-is_key Key = true
-is_key _ = false
-
--- an option that a command needs, for ever or as it is built
-abbrev pub is_needed : Command → OptionName → Bool
-is_needed command name = (is_key name && needs_key command) || needs_now command name
-
+-- the key is given, if the command needs one
 abbrev pub has_needed : Command → List Given → Bool
-has_needed command settings = list_all (λ name. not (is_needed command name) || has_given name settings) all_options
+has_needed command settings = not (needs_key command) || has_given Key settings
 
 abbrev pub is_one_file : List (List ℕ) → Bool
 is_one_file [] = false

@@ -1,8 +1,7 @@
 // The commands and their options, and which of them are built.
 ghost use Rattle.std.specs.Prelude.{◌≡◌};
-ghost use Rattle.command_line.specs.Commands.{command_word, option_word, has_value, has_option};
+ghost use Rattle.command_line.specs.Commands.{command_word, option_word, has_value, has_option, needs_key};
 ghost use Rattle.command_line.specs.Built.{is_built, is_option_built};
-ghost use Rattle.command_line.specs.Lines.{is_needed};
 
 /// What the program does.
 #[derive(Clone, Copy)]
@@ -155,18 +154,12 @@ impl Command {
             Command::Make | Command::Fence => false,
         }
     }
-}
 
-impl Command {
-    /// Whether it needs this option. `route` needs `--one` as long as it runs on one thread alone.
-    pub(crate) fn needs(self, name: OptionName) -> bool
-        ensures { result ≡ is_needed self name }
+    /// Whether it needs a key.
+    pub(crate) fn needs_key(self) -> bool
+        ensures { result ≡ needs_key self }
     {
-        match self {
-            Command::Route => matches!(name, OptionName::Key | OptionName::One),
-            Command::Drone | Command::Station => matches!(name, OptionName::Key),
-            _ => false,
-        }
+        matches!(self, Command::Route | Command::Drone | Command::Station)
     }
 }
 

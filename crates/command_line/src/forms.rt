@@ -1,13 +1,12 @@
 // Whether options are of the forms that the command has.
-ghost use Rattle.std.specs.Prelude.{◌≡◌, ◌||◌, not, true, map, string_bytes, count_by, drop, nat_le};
+ghost use Rattle.std.specs.Prelude.{◌≡◌, true, map, string_bytes, count_by, drop, nat_le};
 ghost use Rattle.std.specs.List.{list_all, list_any};
 ghost use Rattle.command_line.specs.Forms.{all_differ, has_given, is_named, is_stdin, is_stdin_given, names_file};
 ghost use Rattle.command_line.specs.Forms.{reads_file, has_number_first, file_words, stdin_files};
-ghost use Rattle.command_line.specs.Lines.{given_of, is_value_now, taken_now, is_needed, plain_now, fits_now};
-ghost use Rattle.command_line.specs.Pieces.{all_options};
+ghost use Rattle.command_line.specs.Lines.{given_of, is_value_now, taken_now, has_needed, plain_now, fits_now};
 ghost use Rattle.command_line.specs.PortTexts.{is_some_text};
 
-use crate::commands::{Command, OPTION_NAMES, OptionName};
+use crate::commands::{Command, OptionName};
 use crate::lines::{Line, Setting};
 
 pub(crate) fn is_some_text(text: &str) -> bool
@@ -72,12 +71,11 @@ fn all_differ(mut settings: &[Setting]) -> bool
     true
 }
 
-// Each option that the command needs is given.
+// The key is given, if the command needs one.
 fn has_needed(command: Command, settings: &[Setting]) -> bool
-    ensures { result ≡ list_all (λ name. not (is_needed command name)
-        || list_any (λ s. is_named name (given_of s)) settings.now) all_options }
+    ensures { result ≡ has_needed command (map given_of settings.now) }
 {
-    OPTION_NAMES.iter().all(|name| !command.needs(*name) || is_any_named(settings, *name))
+    !command.needs_key() || has_given(settings, OptionName::Key)
 }
 
 fn is_stdin(word: &str) -> bool

@@ -1,4 +1,5 @@
 use Rattle.std.proofs.Common.{◌∙◌, sym, map, string_bytes}
+use Rattle.command_line.specs.Lines.{given_of}
 use Rattle.command_line.proofs.FormsAgree.{not_taken, not_needed, all_hold}
 use Rattle.command_line.proofs.forms.fits.Goals as goal
 
@@ -10,7 +11,7 @@ returns-then-not-are_taken c =
 pub returns-then-not-has_needed : goal.returns-then-not-has_needed
 returns-then-not-has_needed c =
     let line = c.args.line.now in
-    not_needed line.command line.settings.items (map string_bytes line.words.items) (rw c.deref-3.ensures.value at (sym c.has_needed.ensures ∙ c.if-not-has_needed.true))
+    not_needed line.command (map given_of line.settings.items) (map string_bytes line.words.items) (rw c.deref-3.ensures.value at (sym c.has_needed.ensures ∙ c.if-not-has_needed.true))
 
 pub returns : goal.returns
 returns c =
