@@ -9,7 +9,6 @@ use Rattle.mav_router.specs.declared.entries.Entry.{Entry}
 use Rattle.mav_router.specs.declared.entries.SwitchFault.{SwitchFault}
 use Rattle.mav_router.specs.declared.entries.SwitchFault.TheVariants.{Full, NoMemory as NoRoom}
 use Rattle.mav_router.specs.declared.ends.PortEnd.{PortEnd}
-use Rattle.mav_router.specs.Faults.{CausedBy, Untaken}
 use Rattle.run_status.specs.declared.live_ends.LiveEnd.TheVariants.{PortTurns}
 use Rattle.run_status.specs.declared.run_ends.RunEnd.{RunEnd}
 use Rattle.run_status.specs.declared.run_ends.RunEnd.TheVariants.{WriteFault, NoMemory, Live}
@@ -184,13 +183,9 @@ module _ (p : Ports) (end : Option RunEnd) (rb ra : ℕ) (sb sa : Option (List �
         | inr other ↦ not_at_fault 11 (λ e. omega (arith, e)) (λ e. omega (arith, e)) code (status_text (Some (end_of_fault s.why))) other
       ]
 
-  full_at : (entries : ℕ) (journal : List Entry) (untaken : Option Untaken) (ports : ℕ) → CausedBy (Full entries) untaken ports journal → (entries ≡ 1000000) × (length journal ≡ 1000000)
-  full_at entries journal None ports never = absurd never
-  full_at entries journal (Some u) ports cause = (cause.0, cause.1)
-
   limit_by : (why : SwitchFault) (journal : List Entry) → Halted p why journal → end ≡ Some (end_of_fault why) → sa ≡ append_known sb (status_text (Some (end_of_fault why))) → code_of end ≡ 6 → Limited
   limit_by (Full entries) journal h e sent code =
-      let full = full_at entries journal h.stopped.untaken (length p.before) h.stopped.cause in
+      let full = h.stopped.cause in
       (journal, subst (λ (n : ℕ). Halted p (Full n) journal) full.0 h, full.1, sent)
   limit_by NoRoom journal h e sent code = absurd (let seven : code_of (Some NoMemory) ≡ 6 = code_at end (Some NoMemory) 6 e code in omega (arith, seven))
 

@@ -14,7 +14,7 @@ use Rattle.mav_router.specs.declared.ends.How.{How}
 use Rattle.mav_router.specs.declared.ends.How.TheVariants.{Ended, Failed, Turns}
 use Rattle.mav_router.specs.Journal.{Rules, IsJournal}
 use Rattle.mav_router.specs.Ends.{PortRun}
-use Rattle.mav_router.specs.Faults.{RouteStopped}
+use Rattle.mav_router.specs.Faults.{RouteHalted}
 use Rattle.run_status.specs.declared.input_errors.Bound.TheVariants.{Entries}
 use Rattle.run_status.specs.declared.input_errors.InputError.TheVariants.{AtLimit}
 use Rattle.run_status.specs.declared.live_ends.LiveEnd.TheVariants.{PortTurns}
@@ -56,11 +56,12 @@ pub record Routed (p : Ports) (journal : List Entry) (ends : List PortEnd) : Typ
   pub each : (k : ℕ) (b c : p.Port) (e : PortEnd) → slice_get p.before k ≡ Some b → slice_get p.after k ≡ Some c → slice_get ends k ≡ Some e
       → PortRun p.rules journal p.most (k + 1) (p.state b) (p.state c) e
 
--- it stopped before that: the journal was full, or memory was out
+-- it stopped before that: the journal was full, or memory was out; at each port there may be a frame more than those of its
+-- entries
 pub record Halted (p : Ports) (why : SwitchFault) (journal : List Entry) : Type 0 where
   pub legal : IsJournal p.rules [] journal
   pub links : length p.after ≡ length p.before
-  pub stopped : RouteStopped p.state p.rules why journal p.before p.after
+  pub stopped : RouteHalted p.state p.rules why journal p.before p.after
 
 -- a port hadn't ended after as many reads as it may have
 abbrev pub is_turns : How → Bool

@@ -11,10 +11,14 @@ use crate::port_lines::{has_turns, put_ends};
 use dialect::Dialect;
 use mav_links::Link;
 use mav_ports::Sink;
-use mav_router::{Entry, PortEnd, RouteEnd, RouteFault, RoutePlan, SwitchFault, route_links};
+use mav_router::{
+    Entry, PortEnd, RouteEnd, RouteFault, RoutePlan, SwitchFault, route_all, route_one,
+};
 use mav_sign::Key;
 use run_status::{Bound, ENOUGH_BYTES, InputError, LiveEnd, RunEnd, write_held};
 use std::alloc::Global;
+use std::sync::Wait;
+use std::thread::Threads;
 
 // More than a line has.
 const LINE_BYTES: usize = 128;
@@ -60,33 +64,11 @@ fn end_of_fault(fault: &RouteFault) -> RunEnd
     }
 }
 
-/// Routes between the links on one thread, and writes what came in and what became of each port. Nothing is written of a
-/// run that stops because its journal is full, or because memory is out. Why the run ended so isn't written.
-pub fn route_over<L: Link, K: Sink>(
-    alloc: Global,
-    key: &Key,
-    known: &Dialect,
-    links: &mut [L],
-    plan: RoutePlan,
-    out: &mut K,
-) -> Result<(), RunEnd>
-    requires from { 1 ≤ length links.old }
-    requires to { length links.old ≤ 8 }
-    requires turns { plan.turns ≤ 1_000_000_000 }
-    ensures routes { RoutesBeforeStatus (ports_of L.state
-        (rules_of key.now known.now plan.plain (length links.old)) plan.turns links.old links.new)
-        (result_err result) (K.faults out.old) (K.faults out.new) (K.sent out.old) (K.sent out.new) }
-    ensures sound { ¬ IsErrOf result RunEnd.WriteFault → K.faults out.new ≡ K.faults out.old }
-{
-    let turns = plan.turns;
-    match route_links(alloc, key, known, links, plan) {
-        Ok(end) => report(alloc, &end, turns, out),
-        Err(fault) => Err(end_of_fault(&fault)),
-    }
-}
-
-/// The same over links that their caller boxed.
-pub fn route<K: Sink>(
+/// Routes between the ports, with a thread for each or with one as the plan says, and writes what came in and what became
+/// of each port. Nothing is written of a run that stops because its journal is full, or because memory is out. Why the run
+/// ended so isn't written.
+pub fn route<R: Threads + Wait + Sync, K: Sink>(
+    rt: &R,
     alloc: Global,
     key: &Key,
     known: &Dialect,
@@ -102,5 +84,33 @@ pub fn route<K: Sink>(
         (result_err result) (K.faults out.old) (K.faults out.new) (K.sent out.old) (K.sent out.new) }
     ensures sound { ¬ IsErrOf result RunEnd.WriteFault → K.faults out.new ≡ K.faults out.old }
 {
-    route_over(alloc, key, known, ports.as_mut_slice(), plan, out)
+    let turns = plan.turns;
+    match route_all(rt, alloc, key, known, ports, plan) {
+        Ok(end) => report(alloc, &end, turns, out),
+        Err(fault) => Err(end_of_fault(&fault)),
+    }
+}
+
+/// The same on the caller's thread alone, whatever the plan says.
+pub fn route_alone<K: Sink>(
+    alloc: Global,
+    key: &Key,
+    known: &Dialect,
+    ports: &mut Vec<Box<dyn Link>>,
+    plan: RoutePlan,
+    out: &mut K,
+) -> Result<(), RunEnd>
+    requires from { 1 ≤ length ports.old.items }
+    requires to { length ports.old.items ≤ 8 }
+    requires turns { plan.turns ≤ 1_000_000_000 }
+    ensures routes { RoutesBeforeStatus (ports_of state
+        (rules_of key.now known.now plan.plain (length ports.old.items)) plan.turns ports.old.items ports.new.items)
+        (result_err result) (K.faults out.old) (K.faults out.new) (K.sent out.old) (K.sent out.new) }
+    ensures sound { ¬ IsErrOf result RunEnd.WriteFault → K.faults out.new ≡ K.faults out.old }
+{
+    let turns = plan.turns;
+    match route_one(alloc, key, known, ports, plan) {
+        Ok(end) => report(alloc, &end, turns, out),
+        Err(fault) => Err(end_of_fault(&fault)),
+    }
 }
