@@ -9,3 +9,4 @@ pub mod Stationed
 pub mod Made
 pub mod Logged
 pub mod Links
+pub mod Told

@@ -8,6 +8,7 @@ use Rattle.field_layout.specs.Definition.{Definition}
 use Rattle.mav_profile.specs.Profile.{profile_definitions}
 use Rattle.mav_links.specs.Links.{LinkState}
 use Rattle.mav_router.specs.declared.entries.SwitchFault.TheVariants.{NoMemory as NoRoom}
+use Rattle.mav_router.proofs.Halts.{halted}
 use Rattle.mav_router.proofs.PortEnds.{nothing_routed}
 use Rattle.run_status.specs.declared.run_ends.RunEnd.{RunEnd}
 use Rattle.run_status.specs.declared.run_ends.RunEnd.TheVariants.{NoMemory}
@@ -86,7 +87,7 @@ pub unrouted : {A : Type 0} (state : A → LinkState) (asked : Asked) (ports : L
 unrouted state asked ports key known end refusals before after is same = inr (record {
   journal = [];
   why = NoRoom;
-  halted = record { legal = tt; links = refl; stopped = nothing_routed state _ ports };
+  halted = record { legal = tt; links = refl; stopped = halted state _ NoRoom [] ports ports (nothing_routed state _ ports) };
   wrote = inl (ap Some is, refl, same ∙ append_known_nil before);
 })
 

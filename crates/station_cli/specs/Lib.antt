@@ -10,3 +10,5 @@ pub mod Flying
 pub mod Reported
 pub mod Ordering
 pub mod Stationing
+pub mod Doing
+pub mod Promised

@@ -1,5 +1,5 @@
 -- What is read of the inputs that a line on logs names, and in which order.
-use Rattle.std.specs.Prelude.{◌≡◌, ℕ, Bool, List}
+use Rattle.std.specs.Prelude.{ℕ, Bool, List}
 use Rattle.field_layout.specs.Definition.{Definition}
 use Rattle.command_line.specs.declared.commands.Command.{Command}
 use Rattle.command_line.specs.declared.commands.Command.TheVariants.{LogFilter, LogMake}

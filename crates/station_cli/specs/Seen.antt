@@ -1,6 +1,5 @@
 -- What contracts see of an input and of the output, before and after a run.
-use Rattle.std.specs.Prelude.{◌≡◌, ℕ, List}
-use Rattle.std.specs.declared.option.Option.{Option}
+use Rattle.std.specs.Prelude.{◌≡◌, ℕ, List, [], ⊤, Option, Some}
 use Rattle.mav_ports.specs.Gets.{IsSpent}
 use Rattle.run_status.specs.declared.run_ends.RunEnd.{RunEnd}
 use Rattle.run_status.specs.Runs.{CommandSpec, PortOutcome, port_outcome, RunBeforeStatus, Promises}
@@ -16,6 +15,19 @@ pub record Input : Type 1 where
   pub idles_after : ℕ
   pub left_before : Option (List ℕ)
   pub left_after : Option (List ℕ)
+
+-- a command's that has none: it has ended, and nothing was in it
+abbrev pub no_input : Input
+no_input = record {
+  spent = ⊤;
+  unread = ⊤;
+  faults_before = 0;
+  faults_after = 0;
+  idles_before = 0;
+  idles_after = 0;
+  left_before = Some [];
+  left_after = Some [];
+}
 
 pub record Output : Type 0 where
   pub refusals_before : ℕ

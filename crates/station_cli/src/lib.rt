@@ -1,9 +1,9 @@
 //! All that the program does, over any inputs, output, clock, ports and stores.
 //!
-//! [`wanted`] says what the words ask to be opened, and [`run`] does what they ask for. `run` only
-//! reads the words and passes what they name to their command; its contract has a clause
-//! for each command, with all that the command promises of a run, and clauses for words that are
-//! of no command. Nothing here opens a file, waits or ends a process.
+//! [`wanted`] says what the words ask to be opened, and [`run`] does what they ask for; [`run_alone`] does the same and
+//! starts no thread. Both only read the words and pass what they name to their command. Their contract is one record,
+//! `RunPromises`, with a field for each command, which has all that the command promises of a run, and fields for words that
+//! are of no command. Nothing here opens a file or ends a process, and only a `route` of `run` waits.
 #![tactic(auto)]
 
 mod decoding;
@@ -13,6 +13,7 @@ mod keys;
 mod logging;
 mod making;
 mod ordering;
+mod routers;
 mod routing;
 mod runs;
 mod stationing;
@@ -20,6 +21,6 @@ mod wants;
 mod words;
 
 pub use command_line::{Files, FilesKind, Port, Socket, SocketKind, Target, WantedFault};
-pub use runs::run;
+pub use runs::{run, run_alone};
 pub use wants::{Inputs, Store, Wanted};
 pub use words::wanted;

@@ -10,6 +10,7 @@ ghost use Rattle.route_command.specs.Routes.{RoutesBeforeStatus};
 ghost use Rattle.station_cli.specs.Routing.{Routing, router_of, open_ports, KnownIs};
 ghost use Rattle.station_cli.specs.Seen.{input_of, output_of, before_status_over};
 
+use crate::routers::Router;
 use crate::wants::Inputs;
 use command_line::{Line, OptionName, Port};
 use dialect::Dialect;
@@ -19,7 +20,6 @@ use link_table::Ways;
 use mav_links::Link;
 use mav_ports::{Sink, Source};
 use mav_router::RoutePlan;
-use route_command::route;
 use run_status::RunEnd;
 use std::alloc::Global;
 
@@ -66,14 +66,16 @@ fn open_ports(ports: &[Port]) -> Ways
     ways
 }
 
-/// Routes between the ports. Why the run halted, if it did, isn't written.
-pub(crate) fn run_route<S: Source, K: Sink>(
+/// Routes between the ports by the router, on one thread if the line says so. Why the run halted, if it did, isn't written.
+pub(crate) fn run_route<T: Router, S: Source, K: Sink>(
+    router: &T,
     alloc: Global,
     line: &Line,
     inputs: &mut Inputs<S>,
     ports: &mut Vec<Box<dyn Link>>,
     out: &mut K,
 ) -> Result<(), RunEnd>
+    requires ready { T.ready }
     requires ports { map port_text line.now.ports.items ≡ map string_bytes line.now.words.items }
     requires from { 1 ≤ length (map string_bytes line.now.words.items) }
     requires to { length (map string_bytes line.now.words.items) ≤ 8 }
@@ -93,9 +95,9 @@ pub(crate) fn run_route<S: Source, K: Sink>(
     let key = read_given_key(&mut inputs.key)?;
     let known = known_messages(alloc, line, &mut inputs.defs)?;
     let plan = RoutePlan {
-        one: true,
+        one: line.has(OptionName::One),
         turns: line.turns(),
         plain: open_ports(&line.ports),
     };
-    route(alloc, &key, &known, ports, plan, out)
+    router.route(alloc, &key, &known, ports, plan, out)
 }

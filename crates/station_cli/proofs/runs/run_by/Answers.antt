@@ -1,0 +1,11 @@
+use Rattle.station_cli.proofs.Told.{promises}
+use Rattle.station_cli.proofs.runs.run_by.Goals as goal
+
+pub returns : goal.returns
+returns g c =
+    let ended = c.run_words-ended in
+    rw c.code_of.ensures
+    (record {
+      promises = promises _ _ _ _ _ _ _ _ _ ended.result c.write_status.result ended.ensures.sound c.write_status.ensures.writes (λ spent. spent.1) (λ spent. spent.1) (λ spent. spent.1) _ ended.ensures.does
+          ended.ensures.leaves_alone ended.ensures.usage ended.ensures.usage_only ended.ensures.untouched ended.ensures.unsent;
+    })
