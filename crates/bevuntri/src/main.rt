@@ -19,6 +19,8 @@ use std::alloc::AllocError;
 use std::fs::File;
 use std::io::{ErrorKind, Read, Stdin};
 use std::process::ExitCode;
+use std::sync::Wait;
+use std::thread::Threads;
 use std::{env, fs, io};
 
 const NO_MEMORY: u8 = 7;
@@ -89,16 +91,22 @@ fn no_inputs() -> Inputs<StdSource<Reader>> {
     }
 }
 
-// Opens the ports that the words name, and runs them.
-fn run_wanted(rt: &HostRuntime, words: &[String], wanted: &Wanted) -> Result<u8, AllocError>
+// Opens the ports that the words name, and runs them. The second handle starts threads and waits.
+fn run_wanted<R: Threads + Wait + Sync>(
+    rt: &HostRuntime,
+    threads: &R,
+    words: &[String],
+    wanted: &Wanted,
+) -> Result<u8, AllocError>
     requires { Wants (map string_bytes words.now) wanted.now }
 {
     let mut inputs = inputs_of(rt, wanted)?;
-    run_ports(rt, words, wanted, &mut inputs)
+    run_ports(rt, threads, words, wanted, &mut inputs)
 }
 
-fn run_ports(
+fn run_ports<R: Threads + Wait + Sync>(
     rt: &HostRuntime,
+    threads: &R,
     words: &[String],
     wanted: &Wanted,
     inputs: &mut Inputs<StdSource<Reader>>,
@@ -127,12 +135,13 @@ fn run_ports(
             },
         }
     }
-    run_stores(rt, words, wanted, inputs, &mut ports)
+    run_stores(rt, threads, words, wanted, inputs, &mut ports)
 }
 
 // The store that the words name, if they name one: a file, and not standard input, which is `-` and fails at each call.
-fn run_stores(
+fn run_stores<R: Threads + Wait + Sync>(
     rt: &HostRuntime,
+    threads: &R,
     words: &[String],
     wanted: &Wanted,
     inputs: &mut Inputs<StdSource<Reader>>,
@@ -145,20 +154,21 @@ fn run_stores(
     match &wanted.store {
         Some(name) if name.as_str() == "-" => {
             stores.push(Box::new(rt.alloc(), FailKeeper::new())?)?;
-            Ok(run_over(rt, words, inputs, ports, &mut stores))
+            Ok(run_over(rt, threads, words, inputs, ports, &mut stores))
         }
         Some(name) => {
             let keeper = FileStore::open(rt, name.as_str())?;
             stores.push(Box::new(rt.alloc(), keeper)?)?;
-            Ok(run_over(rt, words, inputs, ports, &mut stores))
+            Ok(run_over(rt, threads, words, inputs, ports, &mut stores))
         }
-        None => Ok(run_over(rt, words, inputs, ports, &mut stores)),
+        None => Ok(run_over(rt, threads, words, inputs, ports, &mut stores)),
     }
 }
 
 // Runs the words over standard output and the system's clock.
-fn run_over(
+fn run_over<R: Threads + Wait + Sync>(
     rt: &HostRuntime,
+    threads: &R,
     words: &[String],
     inputs: &mut Inputs<StdSource<Reader>>,
     ports: &mut Vec<Box<dyn Link>>,
@@ -170,6 +180,7 @@ fn run_over(
     let mut out = StdSink::new(io::writer(rt));
     let mut clock = StdClock::new(rt);
     run(
+        threads,
         rt.alloc(),
         words,
         inputs,
@@ -180,14 +191,15 @@ fn run_over(
     )
 }
 
-fn status(rt: &HostRuntime) -> Result<u8, AllocError> {
+fn status<R: Threads + Wait + Sync>(rt: &HostRuntime, threads: &R) -> Result<u8, AllocError> {
     let words = words_of(rt)?;
     match wanted(rt.alloc(), &words) {
-        Ok(wanted) => run_wanted(rt, &words, &wanted),
+        Ok(wanted) => run_wanted(rt, threads, &words, &wanted),
         // With nothing made: no words of a command are refused.
         Err(WantedFault::Usage) => {
             Ok(run_over(
                 rt,
+                threads,
                 &words,
                 &mut no_inputs(),
                 &mut Vec::new(rt.alloc()),
@@ -199,5 +211,5 @@ fn status(rt: &HostRuntime) -> Result<u8, AllocError> {
 }
 
 fn main(rt: HostRuntime) -> ExitCode {
-    ExitCode::from(status(&rt).unwrap_or(NO_MEMORY))
+    ExitCode::from(status(&rt, &rt).unwrap_or(NO_MEMORY))
 }

@@ -10,7 +10,8 @@ use std::net::{SocketAddr, TcpListener, TcpStream, ToSocketAddrs, UdpSocket};
 use std::time::Duration;
 use std::{fs, io};
 
-// How long a read waits for bytes: a router reads its ports in turn.
+// How long a read waits for bytes: a router on one thread reads its ports in turn, and one with threads writes to a port only
+// between its reads.
 const WAIT_OF_A_ROUTER_MILLISECONDS: u64 = 10;
 
 const WAIT_MILLISECONDS: u64 = 250;

@@ -1,14 +1,12 @@
--- What the clauses of `run` say of a command without options, if the ports are in memory and don't fail.
+-- What the promises of a run say of a command without options, if the ports are in memory and don't fail.
 use Rattle.std.proofs.Common.{◌≡◌, ◌≢◌, ◌+◌, ◌-◌, ◌^◌, ◌<◌, ◌≤◌, ◌⊎◌, inl, inr, ◌∙◌, ℕ, true, false, List, [], ◌∷◌, ◌++◌, codes, length, refl, sym, ap, arith, lit≤, Option, Some, None, IsTrue}
 use Rattle.std.specs.Io.KnownBytes.{append_known}
-use Rattle.std.specs.Prelude.{⊤}
 use Rattle.mav_ports.specs.Counts.{Rose}
 use Rattle.mav_ports.specs.SureReads.{SureReads}
 use Rattle.mav_ports.specs.SureWrites.{SureWrites}
 use Rattle.command_line.specs.declared.commands.Command.{Command}
 use Rattle.command_line.specs.declared.commands.Command.TheVariants.{Fleet, Dialect, Decode}
-use Rattle.command_line.specs.declared.commands.OptionName.{OptionName}
-use Rattle.command_line.specs.Built.{built, is_built, needs_now}
+use Rattle.command_line.specs.Built.{built, is_built}
 use Rattle.command_line.specs.Commands.{command_words, needs_key}
 use Rattle.command_line.specs.Forms.{stdin_files, ArePlain, IsFile}
 use Rattle.command_line.specs.Grammar.{Asked, Asks, Bare}
@@ -42,25 +40,24 @@ asked command = record { command = command; settings = []; plain = the_file }
 is_file : IsFile the_file
 is_file = (codes "file", refl, some_byte 102 (codes "ile"))
 
-asks : (command : Command) (words : List (List ℕ)) → words ≡ command_words command ++ the_file → is_built command ≡ true → (IsTrue (needs_key command) → ⊥) → ((name : OptionName) → IsTrue (needs_now command name) → ⊥) → ArePlain built command [] the_file → stdin_files command [] the_file ≤ 1 → Asks built words (asked command)
-asks command words same is_built no_key no_other plain one = record {
+asks : (command : Command) (words : List (List ℕ)) → words ≡ command_words command ++ the_file → is_built command ≡ true → (IsTrue (needs_key command) → ⊥) → ArePlain built command [] the_file → stdin_files command [] the_file ≤ 1 → Asks built words (asked command)
+asks command words same is_built no_key plain one = record {
   written = record { pieces = Bare (codes "file") ∷ []; behind = None; are_pieces = (refl, tt); words_are = same; settings_are = refl; plain_are = refl };
   fits = record {
     command_built = is_built;
     options_taken = tt;
     once = refl;
     key_given = λ needed. absurd (no_key needed);
-    needed_given = λ name needed. absurd (no_other name needed);
     plain_words = plain;
     one_stdin = one;
   };
 }
 
 pub asks_fleet : (words : List (List ℕ)) → words ≡ codes "fleet" ∷ the_file → Asks built words (asked Fleet)
-asks_fleet words same = asks Fleet words same refl never (λ name. never) is_file (lit≤ tt)
+asks_fleet words same = asks Fleet words same refl never is_file (lit≤ tt)
 
 pub asks_decode : (words : List (List ℕ)) → words ≡ codes "decode" ∷ the_file → Asks built words (asked Decode)
-asks_decode words same = asks Decode words same refl never (λ name. never) is_file (lit≤ tt)
+asks_decode words same = asks Decode words same refl never is_file (lit≤ tt)
 
 abbrev pub asked_dialect : Asked
 asked_dialect = record { command = Dialect; settings = []; plain = [] }
@@ -68,7 +65,7 @@ asked_dialect = record { command = Dialect; settings = []; plain = [] }
 pub asks_dialect : (words : List (List ℕ)) → words ≡ codes "dialect" ∷ [] → Asks built words asked_dialect
 asks_dialect words same = record {
   written = record { pieces = []; behind = None; are_pieces = tt; words_are = same; settings_are = refl; plain_are = refl };
-  fits = record { command_built = refl; options_taken = tt; once = refl; key_given = λ needed. absurd (never needed); needed_given = λ name needed. absurd (never needed); plain_words = refl; one_stdin = lit≤ tt };
+  fits = record { command_built = refl; options_taken = tt; once = refl; key_given = λ needed. absurd (never needed); plain_words = refl; one_stdin = lit≤ tt };
 }
 
 -- none of these words names a port or a store
@@ -92,10 +89,6 @@ sure_input old new = input_of (λ (s : SureReads). IsTrue s.ended) (λ (s : Sure
 
 abbrev sure_output : SureWrites → SureWrites → Output
 sure_output old new = output_of (λ (s : SureWrites). s.faults) (λ (s : SureWrites). Some s.sent) old new
-
--- no input is read
-abbrev pub no_input : Input
-no_input = record { spent = ⊤; unread = ⊤; faults_before = 0; faults_after = 0; idles_before = 0; idles_after = 0; left_before = Some []; left_after = Some [] }
 
 abbrev Fails : Input → Type 0
 Fails main = Rose main.faults_before main.faults_after

@@ -1,4 +1,4 @@
-// Runs of a live drone and a live station over a link in memory.
+// Runs of a live drone, a live station and a router over a link in memory.
 ghost use Rattle.std.specs.Prelude.{◌≡◌, true, false, is_some, length, map, string_bytes};
 ghost use Rattle.command_line.specs.Built.{built};
 ghost use Rattle.command_line.specs.Grammar.{Asked, Asks};
@@ -8,7 +8,7 @@ ghost use Rattle.station_cli.specs.Wants.{keepers_asked};
 use crate::faults::words_of;
 use mav_links::{Link, MemLink};
 use mav_ports::{MemClock, SureSink, SureSource};
-use station_cli::{Inputs, Wanted, run, wanted};
+use station_cli::{Inputs, Wanted, run_alone, wanted};
 use std::alloc::{AllocError, Global};
 use std::test::Fail;
 
@@ -39,7 +39,7 @@ struct LiveRun {
 }
 
 // A signed HEARTBEAT has 34 bytes, and so has a signed PING 1 for everyone, whose last bytes, zeros, are left out.
-static RUNS: [LiveRun; 5] = [
+static RUNS: [LiveRun; 7] = [
     LiveRun {
         words: "drone --key k 1 file:a:b",
         bytes: b"",
@@ -90,6 +90,26 @@ static RUNS: [LiveRun; 5] = [
         output: b"1 255.190 HEARTBEAT\n2 255.190 PING 1 to 0.0\n3 255.190 ACK 15 mission to 1.1\n4 255.190 LIST mission to 1.1\n5 255.190 ACK 0 mission to 1.1\noutcome 255.190 got 0\n",
         sent: 150,
     },
+    LiveRun {
+        words: "route --key k --turns 3 file:a:b",
+        bytes: b"",
+        idles: 2,
+        read_fails: &[],
+        write_fails: &[],
+        status: 0,
+        output: b"port 1 read 0 skipped 0 written 0 ended\n",
+        sent: 0,
+    },
+    LiveRun {
+        words: "route --key k --turns 3 file:a:b",
+        bytes: b"",
+        idles: 9,
+        read_fails: &[],
+        write_fails: &[],
+        status: 11,
+        output: b"port 1 read 0 skipped 0 written 0 turns\nturns spent 3\n",
+        sent: 0,
+    },
 ];
 
 fn link_of(alloc: Global, wanted: &LiveRun) -> Result<MemLink, AllocError> {
@@ -131,7 +151,7 @@ fn run_linked(
         key: SureSource::new(KEY.to_vec(alloc)?),
     };
     let mut clock = MemClock::new(1_000_000);
-    Ok(run(
+    Ok(run_alone(
         alloc,
         words,
         &mut inputs,
