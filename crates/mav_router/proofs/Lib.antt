@@ -1,5 +1,6 @@
 pub mod Journals
 pub mod Readings
+pub mod Findings
 pub mod PortSteps
 pub mod RunSteps
 pub mod PortEnds

@@ -1,23 +1,19 @@
 -- How a seat goes on in its turn.
-use Rattle.std.proofs.Common.{inl, inr, ◌≡◌, ◌∙◌, ℕ, ◌==◌, ◌≤◌, arith, Bool, true, List, [], ◌∷◌, ◌++◌, length, map, take, drop, Ok, Err, OnOk, OnErr, Some, None, if◌then◌else◌, refl, ap, sym, subst, append_assoc, append-nil}
+use Rattle.std.proofs.Common.{inl, inr, ◌≡◌, ◌∙◌, ℕ, ◌==◌, ◌≤◌, arith, Bool, true, List, [], ◌∷◌, ◌++◌, length, map, take, drop, Ok, Err, OnOk, OnErr, Option, Some, None, if◌then◌else◌, refl, ap, sym, subst, append_assoc, append-nil}
 use Rattle.std.proofs.lemmas.List.{map-append}
 use Rattle.std.proofs.lemmas.List.Elements.{filter_map-append}
-use Rattle.std.specs.declared.result.Result.{Result}
 use mathlib.Core.List.{IsPrefix}
-use Rattle.turnstile.specs.Journals.{AppendsAtMostOne}
 use Rattle.turnstile.specs.Labels.{EachPasses}
 use Rattle.turnstile.specs.Participants.{Lock, Participant, HasItsOwn, entered, left}
 use Rattle.turnstile.proofs.Preservation.{drop_all}
 use Rattle.mav_frame.specs.Packet.{Packet}
-use Rattle.mav_sign.specs.Streams.{listed}
 use Rattle.mav_router.specs.declared.entries.Entry.{Entry}
 use Rattle.mav_router.specs.declared.history.SwitchEvent.{SwitchEvent}
 use Rattle.mav_router.specs.declared.history.SwitchEvent.TheVariants.{Opened, Admitted}
 use Rattle.mav_router.specs.Journal.{Rules, SwitchState, frame_from, frames_from}
 use Rattle.mav_router.specs.History.{history_of, entry_in, entries_in, label_of}
 use Rattle.mav_router.specs.Parts.{IsSeated}
-use Rattle.mav_router.proofs.Journals.{filter_map_push}
-use Rattle.mav_router.proofs.Readings.{from_own}
+use Rattle.mav_router.specs.Found.{Keeps}
 use Rattle.std.proofs.lemmas.Grind.{common_steps}
 
 -- the entries of a history
@@ -73,34 +69,47 @@ looked lock rules port seat middle last v n s prefix enters leaves stands by sam
     let own = ap (λ (p : Participant SwitchEvent). p.own) is ∙ (ap (λ (h : List SwitchEvent). seat.own ++ drop (length before) h) after ∙ (ap (λ (d : List SwitchEvent). seat.own ++ d) (drop_all before []) ∙ append-nil seat.own)) in
     turned lock rules port seat last v n seat.own [] s prefix is stands by (same ∙ sym (append-nil v.journal)) own s.labels
 
-passes_more : (p : SwitchEvent → Bool) (xs : List SwitchEvent) (x : SwitchEvent) → EachPasses p xs → p x ≡ true → EachPasses p (xs ++ x ∷ [])
-passes_more p [] x all one = (one, tt)
-passes_more p (y ∷ xs) x all one = (all.0, passes_more p xs x all.1 one)
+pub passes_both : {E : Type 0} (p : E → Bool) (xs ys : List E) → EachPasses p xs → EachPasses p ys → EachPasses p (xs ++ ys)
+passes_both p [] ys a b = b
+passes_both p (x ∷ xs) ys a b = (a.0, passes_both p xs ys a.1 b)
 
--- an entry of the port was added
-pub added : (lock : Lock SwitchEvent) (rules : Rules) (port : ℕ) (seat middle last : Participant SwitchEvent) (v n : SwitchState) (entry : Entry) → IsSeated lock rules port seat → IsPrefix seat.seen (history_of v.rules v.journal) → middle ≡ entered seat (history_of v.rules v.journal) → last ≡ left middle (history_of n.rules n.journal) → HasItsOwn last → n.rules ≡ v.rules → n.journal ≡ v.journal ++ entry ∷ [] → entry.port ≡ port → Turned lock rules port (seat.own ++ Admitted entry ∷ []) n.journal seat last
-added lock rules port seat middle last v n entry s prefix enters leaves stands by goes at =
+-- entries of the port are events with its label
+passes_admitted : (port : ℕ) (entries : List Entry) → EachPasses (λ (entry : Entry). entry.port == port) entries → EachPasses (λ e. label_of e == port) (map Admitted entries)
+passes_admitted port [] all = tt
+passes_admitted port (entry ∷ entries) all = (all.0, passes_admitted port entries all.1)
+
+events_more : (v n : SwitchState) (more : List Entry) → n.rules ≡ v.rules → n.journal ≡ v.journal ++ more → history_of n.rules n.journal ≡ history_of v.rules v.journal ++ map Admitted more
+events_more v n more by goes = ap (λ (r : Rules). history_of r n.journal) by ∙ (ap (history_of v.rules) goes ∙ ap (λ (l : List SwitchEvent). Opened v.rules ∷ l) (map-append Admitted v.journal more))
+
+-- entries of the port were added
+pub added : (lock : Lock SwitchEvent) (rules : Rules) (port : ℕ) (seat middle last : Participant SwitchEvent) (v n : SwitchState) (frames : List Packet) → IsSeated lock rules port seat → IsPrefix seat.seen (history_of v.rules v.journal) → middle ≡ entered seat (history_of v.rules v.journal) → last ≡ left middle (history_of n.rules n.journal) → HasItsOwn last → n.rules ≡ v.rules → (k : Keeps port v.journal n.journal frames)
+    → Turned lock rules port (seat.own ++ map Admitted k.more) n.journal seat last
+added lock rules port seat middle last v n frames s prefix enters leaves stands by k =
     let before = history_of v.rules v.journal in
     let is = leaves ∙ ap (λ (m : Participant SwitchEvent). left m (history_of n.rules n.journal)) enters in
-    let after : history_of n.rules n.journal ≡ before ++ Admitted entry ∷ [] =
-    ap (λ (r : Rules). history_of r n.journal) by ∙ (ap (history_of v.rules) goes ∙ ap (λ (l : List SwitchEvent). Opened v.rules ∷ l) (map-append Admitted v.journal (entry ∷ []))) in
-    let own = ap (λ (p : Participant SwitchEvent). p.own) is ∙ (ap (λ (h : List SwitchEvent). seat.own ++ drop (length before) h) after ∙ ap (λ (d : List SwitchEvent). seat.own ++ d) (drop_all before (Admitted entry ∷ []))) in
-    turned lock rules port seat last v n (seat.own ++ Admitted entry ∷ []) (entry ∷ []) s prefix is stands by goes own (passes_more (λ e. label_of e == port) seat.own (Admitted entry) s.labels (labelled entry.port port at))
-  where
-    labelled : (m n : ℕ) → m ≡ n → (m == n) ≡ true
-    labelled m n e = grind (arith, common_steps)
+    let own = ap (λ (p : Participant SwitchEvent). p.own) is ∙ (ap (λ (h : List SwitchEvent). seat.own ++ drop (length before) h) (events_more v n k.more by k.goes) ∙ ap (λ (d : List SwitchEvent). seat.own ++ d) (drop_all before (map Admitted k.more))) in
+    turned lock rules port seat last v n (seat.own ++ map Admitted k.more) k.more s prefix is stands by k.goes own (passes_both (λ e. label_of e == port) seat.own (map Admitted k.more) s.labels (passes_admitted port k.more k.ports))
 
--- the frames that a seat's entries have, after one more
-pub one_more : (port : ℕ) (own : List SwitchEvent) (entry : Entry) → entry.port ≡ port → frames_from port (entries_in (own ++ Admitted entry ∷ [])) ≡ frames_from port (entries_in own) ++ entry.frame ∷ []
-one_more port own entry at =
-    ap (frames_from port) (filter_map_push entry_in own (Admitted entry))
-    ∙ (filter_map_push (frame_from port) (entries_in own) entry
-    ∙ ap (λ (l : List Packet). frames_from port (entries_in own) ++ l) (ap listed (ap (λ (p : ℕ). if p == port then Some entry.frame else None) at ∙ from_own port entry.frame)))
+abbrev pub with_first : Option Packet → List Packet → List Packet
+with_first None frames = frames
+with_first (Some frame) frames = frame ∷ frames
+
+-- the frames of entries that are all of the port
+frames_of_all : (port : ℕ) (entries : List Entry) → EachPasses (λ (entry : Entry). entry.port == port) entries → frames_from port entries ≡ map (λ (entry : Entry). entry.frame) entries
+frames_of_all port [] all = refl
+frames_of_all port (entry ∷ entries) all =
+    ap (λ (b : Bool). with_first (if b then Some entry.frame else None) (frames_from port entries)) all.0 ∙ ap (λ (l : List Packet). entry.frame ∷ l) (frames_of_all port entries all.1)
+
+-- the frames that a seat's entries have, after more
+pub more_own : (port : ℕ) (own : List SwitchEvent) (before after : List Entry) (frames : List Packet) → (k : Keeps port before after frames) → frames_from port (entries_in (own ++ map Admitted k.more)) ≡ frames_from port (entries_in own) ++ frames
+more_own port own before after frames k =
+    ap (frames_from port) (filter_map-append entry_in own (map Admitted k.more) ∙ ap (λ (l : List Entry). entries_in own ++ l) (entries_of k.more))
+    ∙ (filter_map-append (frame_from port) (entries_in own) k.more
+    ∙ ap (λ (l : List Packet). frames_from port (entries_in own) ++ l) (frames_of_all port k.more k.ports ∙ k.took))
 
 -- the history after a try
-pub tried : {A E : Type 0} (r : Result A E) (v n : SwitchState) (entry : Entry) (seen : List SwitchEvent) → seen ≡ history_of v.rules v.journal → n.rules ≡ v.rules → OnOk r (n.journal ≡ v.journal ++ entry ∷ []) → OnErr r (n.journal ≡ v.journal) → AppendsAtMostOne seen (history_of n.rules n.journal)
-tried (Ok a) v n entry seen is by goes same = inr (Admitted entry, ap (λ (r : Rules). history_of r n.journal) by ∙ (ap (history_of v.rules) goes ∙ (ap (λ (l : List SwitchEvent). Opened v.rules ∷ l) (map-append Admitted v.journal (entry ∷ [])) ∙ ap (λ (l : List SwitchEvent). l ++ Admitted entry ∷ []) (sym is))))
-tried (Err e) v n entry seen is by goes same = inl (ap (λ (r : Rules). history_of r n.journal) by ∙ (ap (history_of v.rules) same ∙ sym is))
+pub tried : (v n : SwitchState) (port : ℕ) (frames : List Packet) (seen : List SwitchEvent) → seen ≡ history_of v.rules v.journal → n.rules ≡ v.rules → Keeps port v.journal n.journal frames → IsPrefix seen (history_of n.rules n.journal)
+tried v n port frames seen is by k = (map Admitted k.more, ap (λ (l : List SwitchEvent). l ++ map Admitted k.more) is ∙ sym (events_more v n k.more by k.goes))
 
 pub prefix_then : {E : Type 0} (xs ys zs : List E) → IsPrefix xs ys → IsPrefix ys zs → IsPrefix xs zs
 prefix_then xs ys zs p q = (p.0 ++ q.0, sym (append_assoc xs p.0 q.0) ∙ (ap (λ l. l ++ q.0) p.1 ∙ q.1))

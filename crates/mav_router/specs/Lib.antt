@@ -6,6 +6,7 @@ pub mod Faults
 pub mod Delivery
 pub mod History
 pub mod Unheard
+pub mod Found
 pub mod Parts
 pub mod Crews
 pub mod Threads

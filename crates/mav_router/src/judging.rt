@@ -16,6 +16,13 @@ pub(crate) struct Judgement {
     pub(crate) target: Name,
 }
 
+/// A frame with its judgement.
+#[derive(Clone, Copy)]
+pub(crate) struct Judged {
+    pub(crate) frame: Frame,
+    pub(crate) judgement: Judgement,
+}
+
 // The node that a frame is for.
 fn target(known: &Dialect, frame: &Frame) -> Name
     ensures { (key : List ℕ) (ports : ℕ) (plain : _) → result ≡ target_by (record { key = key; known = known.now; ports = ports; plain = plain }) frame.now }

@@ -7,7 +7,7 @@
 //! and put frames without a signature block through open ports alone.
 //!
 //! With a thread for each port (`threads`) the switch is behind a `turnstile`: each thread reads its own port and writes
-//! to it (`running`), and has the switch admit a frame in a turn of its own.
+//! to it (`running`), and has the switch admit in one turn the frames that it found and judged before (`turns`).
 #![tactic(auto)]
 
 mod batch;
@@ -15,6 +15,7 @@ mod closing;
 mod crew;
 mod ends;
 mod entries;
+mod found;
 mod hearing;
 mod history;
 mod jobs;

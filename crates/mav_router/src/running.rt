@@ -7,20 +7,20 @@ ghost use Rattle.mav_router.specs.Faults.{IsSwitchFault, StopsReading};
 ghost use Rattle.mav_router.specs.History.{entries_in};
 ghost use Rattle.mav_router.specs.Parts.{IsSeated, IsReady, PartSoFar, PartStopped, PartEnds};
 
-use crate::hearing::next_frame;
+use crate::found::{FoundFrames, find_frames};
 use crate::lanes::{read_lane, write_batch};
 use crate::parts::{Halt, Part};
 use crate::routing::{PIECE, is_live};
 use crate::signals::Signals;
-use crate::turns::{admit_frame, gather_waiting};
+use crate::turns::{admit_found, gather_waiting};
 use crate::{RouterRules, Switch, SwitchFault};
 use mav_links::Link;
 use mav_scan::Scanner;
 use std::sync::Wait;
 use turnstile::{Turn, TurnSeat};
 
-// Feeds a piece to the port's reader, has the switch admit each frame in a turn of its own, and counts the bytes that are
-// skipped.
+// Feeds a piece to the port's reader, and has the switch admit the frames that are found, as many in a turn as are kept.
+// Bytes that are skipped are counted.
 fn hear_in_turns<'a, R: Wait>(
     rt: &R,
     turn: &Turn<Switch<'a>>,
@@ -30,6 +30,7 @@ fn hear_in_turns<'a, R: Wait>(
     skipped: &mut u64,
     port: u8,
     piece: &[u8],
+    found: &mut FoundFrames,
 ) -> Result<(), SwitchFault>
     requires seated { IsSeated turn.now rules.now port seat.old }
     requires from { 1 ≤ port }
@@ -46,12 +47,15 @@ fn hear_in_turns<'a, R: Wait>(
     ensures fault { IfErr result (λ fault. IsSwitchFault fault (entries_in seat.new.seen)) }
 {
     let mut taken = 0;
-    while let Some(frame) = next_frame(scanner, skipped, piece, &mut taken) {
-        if let Err(fault) = admit_frame(rt, turn, rules, seat, port, &frame) {
+    'reading: loop {
+        let is_all = find_frames(rules, scanner, skipped, piece, &mut taken, found);
+        if let Err(fault) = admit_found(rt, turn, rules, seat, port, found.items()) {
             return Err(fault);
         }
+        if is_all {
+            return Ok(());
+        }
     }
-    Ok(())
 }
 
 // Reads a port that is still read once, and has the switch admit the frames that are found.
@@ -61,6 +65,7 @@ fn read_part<'a, R: Wait, L: Link>(
     rules: &RouterRules<'_>,
     part: &mut Part<'a, L>,
     buf: &mut [u8],
+    found: &mut FoundFrames,
 ) -> Result<(), SwitchFault>
     requires ready { IsReady turn.now rules.now part.old }
     requires live { part.old.side.lane.ended ≡ false }
@@ -87,6 +92,7 @@ fn read_part<'a, R: Wait, L: Link>(
         &mut side.lane.skipped,
         part.port,
         &buf[..count],
+        found,
     )
 }
 
@@ -158,6 +164,7 @@ fn read_turns<'a, R: Wait, L: Link>(
     ensures ends { (first : LinkState) → PartSoFar L.state rules.now first part.old → PartEnds result L.state rules.now turns first part.new }
 {
     let mut buf = [0; PIECE];
+    let mut found = FoundFrames::new();
     for turned in 0..turns {
         let _ = turned;
         if !is_live(&part.side.lane) {
@@ -166,7 +173,7 @@ fn read_turns<'a, R: Wait, L: Link>(
         if signals.is_stopped() {
             return Halt::Stopped;
         }
-        if let Err(fault) = read_part(rt, turn, rules, part, &mut buf) {
+        if let Err(fault) = read_part(rt, turn, rules, part, &mut buf, &mut found) {
             signals.stop();
             return Halt::Fault(fault);
         }

@@ -1,45 +1,64 @@
 // What a thread does in its turn.
-ghost use Rattle.std.specs.Prelude.{◌≡◌, ◌≤◌, ◌++◌, ◌∷◌, [], ℕ, length, take, OnOk, OnErr, IfErr};
+ghost use Rattle.std.specs.Prelude.{◌≡◌, ◌≤◌, ℕ, length, take, All, IfErr};
 ghost use mathlib.Core.List.{IsPrefix};
-ghost use Rattle.mav_router.specs.Journal.{frames_from, frames_to};
+ghost use Rattle.mav_router.specs.Found.{IsJudged, Admits, Takes, packets_of};
+ghost use Rattle.mav_router.specs.Journal.{frames_to};
 ghost use Rattle.mav_router.specs.Batches.{Gathered};
 ghost use Rattle.mav_router.specs.History.{entries_in, history_of};
 ghost use Rattle.mav_router.specs.Parts.{IsSeated};
 ghost use Rattle.mav_router.specs.Faults.{IsSwitchFault};
 
 use crate::batch::Batch;
-use crate::judging::judge;
+use crate::judging::Judged;
 use crate::{RouterRules, Switch, SwitchFault};
-use mav_frame::Frame;
 use std::sync::Wait;
 use turnstile::{Turn, TurnSeat};
 
-/// Judges a frame that came in at the port, and has the switch admit it in a turn.
-pub(crate) fn admit_frame<'a, R: Wait>(
+// Has the switch admit frames that came in at the port and were judged, in their order, until it doesn't take one.
+fn admit_each(
+    switch: &mut Switch<'_>,
+    port: u8,
+    frames: &[Judged],
+) -> Result<(), SwitchFault>
+    requires from { 1 ≤ port }
+    requires to { port ≤ switch.old.rules.ports }
+    requires judged { All (IsJudged switch.old.rules) frames.now }
+    ensures rules { switch.new.rules ≡ switch.old.rules }
+    ensures admits { Admits result port switch.old.journal switch.new.journal (packets_of frames.now) }
+    ensures fault { IfErr result (λ fault. IsSwitchFault fault switch.new.journal) }
+{
+    for at in 0..frames.len() {
+        let judged = &frames[at];
+        if let Err(fault) = switch.admit_judged(port, &judged.frame, judged.judgement) {
+            return Err(fault);
+        }
+    }
+    Ok(())
+}
+
+/// Has the switch admit in a turn the frames that were found at the port.
+pub(crate) fn admit_found<'a, R: Wait>(
     rt: &R,
     turn: &Turn<Switch<'a>>,
     rules: &RouterRules<'_>,
     seat: &mut TurnSeat<Switch<'a>>,
     port: u8,
-    frame: &Frame,
+    frames: &[Judged],
 ) -> Result<(), SwitchFault>
     requires seated { IsSeated turn.now rules.now port seat.old }
     requires from { 1 ≤ port }
     requires to { port ≤ rules.now.ports }
+    requires judged { All (IsJudged rules.now) frames.now }
     ensures seated { IsSeated turn.now rules.now port seat.new }
     ensures begins { IsPrefix (entries_in seat.old.seen) (entries_in seat.new.seen) }
-    ensures took { OnOk result (frames_from port (entries_in seat.new.own) ≡ frames_from port (entries_in seat.old.own) ++ frame.now ∷ []) }
-    ensures unchanged { OnErr result (seat.new.own ≡ seat.old.own) }
+    ensures takes { Takes result port (entries_in seat.old.own) (entries_in seat.new.own) (packets_of frames.now) }
     ensures fault { IfErr result (λ fault. IsSwitchFault fault (entries_in seat.new.seen)) }
 {
-    let judgement = judge(rules, frame);
+    let _ = rules;
     let mut held = turn.enter(rt, seat);
-    let admitted = held.value().admit_judged(port, frame, judgement);
+    let admitted = admit_each(held.value(), port, frames);
     turn.leave(seat, held);
-    match admitted {
-        Ok(_) => Ok(()),
-        Err(fault) => Err(fault),
-    }
+    admitted
 }
 
 /// Gathers in a turn what waits for the port, as `Batch::gather` does, and returns whether that was all.

@@ -1,11 +1,10 @@
 -- What a step tells the participant that made it.
-use Rattle.std.proofs.Common.{◌≡◌, ℕ, ◌+◌, ◌%◌, ◌^◌, ◌==◌, Bool, true, false, List, [], ◌∷◌, length, drop, All, Option, Some, None, MatchBool, sym, refl, ap, ◌∙◌, subst, ⊎_elim, arith, append-nil}
+use Rattle.std.proofs.Common.{◌≡◌, ℕ, ◌+◌, ◌%◌, ◌^◌, ◌==◌, Bool, true, false, List, [], ◌∷◌, length, drop, All, Option, Some, None, MatchBool, sym, refl, ap, ◌∙◌, subst}
 use mathlib.Core.List.{IsPrefix}
 use Rattle.atomic_table.specs.Table.{Me, step, rest, Allows, Final, Seen}
 use mathlib.Core.Option.{none, some, some-injective}
 use lib.ListN.{get_elem?}
 use Rattle.turnstile.specs.declared.participant.ParticipantState.{ParticipantState}
-use Rattle.turnstile.specs.Journals.{AppendsAtMostOne}
 use Rattle.turnstile.specs.Steps.{polled, released, releases, after}
 use Rattle.turnstile.specs.Invariant.{TurnInvariant}
 use Rattle.turnstile.specs.Moments.{IsInside, IsWaiting}
@@ -48,15 +47,13 @@ module _ {V E : Type 0} (journal : V → List E) where
       told x (ap (λ (z : M). z.1) same) ∙ ap gone (ap (λ (z : M). z.0) same)
 
   module _ (opening handles : ℕ) where
-    pub release_allowed : (slots id : ℕ) (m n : M) (x : V) → n ≡ (m.0, (0, Some x) ∷ rest m.1) → IsInside m → AppendsAtMostOne m.0.seen (journal x)
+    pub release_allowed : (slots id : ℕ) (m n : M) (x : V) → n ≡ (m.0, (0, Some x) ∷ rest m.1) → IsInside m → IsPrefix m.0.seen (journal x)
         → Allows (TurnInvariant journal opening handles) slots id n 1 (λ k. (k + 1) % 2 ^ 64) (released journal (step slots 1 1 0 none) n)
     release_allowed slots id m n x is in_turn new =
         let held : M = (m.0, (0, Some x) ∷ []) in
         let same : n ≡ held = is ∙ ap (λ (l : List (ℕ × Option V)). (m.0, (0, Some x) ∷ l)) (ap rest in_turn.slot) in
         let P : M → Type 0 = λ z. Allows (TurnInvariant journal opening handles) slots id z 1 (λ k. (k + 1) % 2 ^ 64) (released journal (step slots 1 1 0 none) z) in
-        subst P (sym same) (⊎_elim
-        (λ no. release_keeps journal opening handles slots id held x [] in_turn.ticket in_turn.has_turn refl (no ∙ sym (append-nil m.0.seen)) (omega arith))
-        (λ one. release_keeps journal opening handles slots id held x (one.0 ∷ []) in_turn.ticket in_turn.has_turn refl one.1 (omega arith)) new)
+        subst P (sym same) (release_keeps journal opening handles slots id held x new.0 in_turn.ticket in_turn.has_turn refl (sym new.1))
 
     -- what the value has at the end
     pub record EndedWith (v : ParticipantState E) (x : V) : Type 0 where

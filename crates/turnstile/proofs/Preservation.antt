@@ -208,17 +208,15 @@ module _ {V E : Type 0} (journal : V → List E) (opening handles : ℕ) where
     pub no_ticket : w.ticket ≡ None
     pub no_turn : w.has_turn ≡ false
 
-  own_facts : (v : ParticipantState E) (new : List E) → length new ≤ 1 → OwnFacts v (with_entries v new) new
-  own_facts v [] short = record { seen = sym (append-nil v.seen); own = omega arith; merged = refl; represents = refl; no_ticket = refl; no_turn = refl }
-  own_facts v (e ∷ []) short = record { seen = refl; own = length-append v.own (e ∷ []); merged = refl; represents = refl; no_ticket = refl; no_turn = refl }
-  own_facts v (e ∷ d ∷ es) short = absurd (omega arith)
+  own_facts : (v : ParticipantState E) (new : List E) → OwnFacts v (with_entries v new) new
+  own_facts v new = record { seen = refl; own = length-append v.own new; merged = refl; represents = refl; no_ticket = refl; no_turn = refl }
 
-  pub release_keeps : (slots id : ℕ) (me : M) (x : V) (new : List E) → ((t : ℕ) × (me.0.ticket ≡ Some t)) → me.0.has_turn ≡ true → me.1 ≡ (0, Some x) ∷ [] → journal x ≡ me.0.seen ++ new → length new ≤ 1
+  pub release_keeps : (slots id : ℕ) (me : M) (x : V) (new : List E) → ((t : ℕ) × (me.0.ticket ≡ Some t)) → me.0.has_turn ≡ true → me.1 ≡ (0, Some x) ∷ [] → journal x ≡ me.0.seen ++ new
       → Allows Rule slots id me 1 (λ n. (n + 1) % 2 ^ 64) (released journal (step slots 1 1 0 maybe.none) me)
-  release_keeps slots id me x new ticket in_turn slot is short s r _ at _ =
+  release_keeps slots id me x new ticket in_turn slot is s r _ at _ =
       let w : ParticipantState E = with_entries me.0 (drop (length me.0.seen) (journal x)) in
       let same_new : drop (length me.0.seen) (journal x) ≡ new = ap (drop (length me.0.seen)) is ∙ drop_all me.0.seen new in
-      let f : OwnFacts me.0 w new = subst (λ (z : List E). OwnFacts me.0 (with_entries me.0 z) new) (sym same_new) (own_facts me.0 new short) in
+      let f : OwnFacts me.0 w new = subst (λ (z : List E). OwnFacts me.0 (with_entries me.0 z) new) (sym same_new) (own_facts me.0 new) in
       let mine = r.each id me.0 at in
       let mt = (mine.has_turn in_turn).0 in
       let log_is : journal x ≡ r.history ++ new = is ∙ ap (λ (l : List E). l ++ new) (mine.has_turn in_turn).1 in

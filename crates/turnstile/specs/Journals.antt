@@ -1,11 +1,7 @@
 -- Histories and the entries that one participant added.
-use Rattle.std.specs.Prelude.{◌≡◌, ℕ, suc, ◌≤◌, ◌⊎◌, List, [], ◌∷◌, ◌++◌, slice_get, Some}
+use Rattle.std.specs.Prelude.{◌≡◌, ℕ, suc, ◌≤◌, List, [], ◌∷◌, slice_get, Some}
 
 module _ {E : Type 0} where
-  -- the second history is the first, or the first with one entry more
-  abbrev pub AppendsAtMostOne : List E → List E → Type 0
-  AppendsAtMostOne before after = (after ≡ before) ⊎ ((e : E) × (after ≡ before ++ e ∷ []))
-
   -- the entries stand in the history at these positions, which rise from `low` on
   abbrev pub StandAt : List E → ℕ → List ℕ → List E → Type 0
   StandAt history low [] [] = Unit {0}

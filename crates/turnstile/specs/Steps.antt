@@ -4,6 +4,7 @@ use Rattle.std.specs.Prelude.{◌≡◌, ℕ, ◌+◌, ◌-◌, ◌%◌, ◌^◌
 use mathlib.Core.List.{IsPrefix}
 use Rattle.atomic_table.specs.Table.{Me, Step}
 use Rattle.turnstile.specs.declared.participant.ParticipantState.{ParticipantState}
+use Rattle.turnstile.specs.Journals.{positions_from}
 
 pub data StepKind (E : Type 0) : Type 0 where
   opens : List E → ℕ → StepKind E
@@ -20,10 +21,9 @@ module _ {E : Type 0} where
   abbrev pub new_participant : List E → ℕ → ParticipantState E
   new_participant seen represents = record { seen = seen; own = []; merged = []; positions = []; represents = represents; ticket = None; has_turn = false }
 
-  -- without a ticket, and with these entries, of which there is one at most, as its own
+  -- without a ticket, and with these entries as its own
   abbrev pub with_entries : ParticipantState E → List E → ParticipantState E
-  with_entries p [] = record p { ticket = None; has_turn = false }
-  with_entries p (e ∷ es) = record { seen = p.seen ++ e ∷ []; own = p.own ++ e ∷ []; merged = p.merged; positions = p.positions ++ length p.seen ∷ []; represents = p.represents; ticket = None; has_turn = false }
+  with_entries p es = record { seen = p.seen ++ es; own = p.own ++ es; merged = p.merged; positions = p.positions ++ positions_from (length p.seen) es; represents = p.represents; ticket = None; has_turn = false }
 
   -- What each kind of step makes of the participant that steps
   abbrev pub after : StepKind E → ParticipantState E → ParticipantState E

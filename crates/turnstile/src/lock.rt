@@ -1,7 +1,6 @@
 // The ticket lock over its table, step by step.
 ghost use Rattle.std.specs.Prelude.{◌≡◌, ◌+◌, ◌<◌, ◌≤◌, [], length, drop, IfOk, IfSome, IfNone, All};
 ghost use mathlib.Core.List.{IsPrefix};
-ghost use Rattle.turnstile.specs.Journals.{AppendsAtMostOne};
 ghost use Rattle.turnstile.specs.Steps.{after, opens, splits, split_off, joins, releases, retired};
 ghost use Rattle.turnstile.specs.Moments.{IsOutside, IsWaiting, IsInside, HasEntered, KeepsOwn, OwnEntriesStand};
 
@@ -146,7 +145,7 @@ impl<V: Journaled + Drop> TicketLock<V> {
     pub(crate) fn leave(&self, seat: &mut Seat<Option<V>, ParticipantState<V::Entry>>, value: V)
         requires of { seat.old.table_id ≡ self.now.table.shared.table_id }
         requires inside { IsInside seat.old.me }
-        requires appended { AppendsAtMostOne seat.old.me.0.seen (V.journal value) }
+        requires appended { IsPrefix seat.old.me.0.seen (V.journal value) }
         ensures of { seat.new.table_id ≡ seat.old.table_id }
         ensures state { seat.new.me ≡ (after (releases (drop (length seat.old.me.0.seen) (V.journal value))) seat.old.me.0, []) }
         ensures stand { OwnEntriesStand seat.old.me.0 → OwnEntriesStand seat.new.me.0 }

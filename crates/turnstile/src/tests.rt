@@ -1,7 +1,7 @@
 // Two threads at one lock, in lockstep.
 ghost use Rattle.std.specs.Prelude.{◌≡◌, length, vec_len, All};
-ghost use Rattle.turnstile.specs.Journals.{AppendsAtMostOne};
 ghost use Rattle.turnstile.specs.Participants.{CanEnter};
+ghost use mathlib.Core.List.{IsPrefix};
 
 use crate::{Journaled, NoMemory, Turn, TurnSeat};
 use std::alloc::Global;
@@ -29,7 +29,7 @@ impl Journaled for Notes {
 impl Notes {
     // Notes it, if there is memory.
     fn note(&mut self, note: u64)
-        ensures { AppendsAtMostOne self.old.notes.items self.new.notes.items }
+        ensures { IsPrefix self.old.notes.items self.new.notes.items }
     {
         if let Err(_) = self.notes.push(note) {}
     }

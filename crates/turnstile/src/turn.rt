@@ -1,7 +1,6 @@
 // The lock, and what its participants do with it.
 ghost use Rattle.std.specs.Prelude.{◌≡◌, ◌+◌, ◌<◌, ◌≤◌, length, IfOk, vec_len, All, sum_by, true, replicate};
 ghost use mathlib.Core.List.{IsPrefix};
-ghost use Rattle.turnstile.specs.Journals.{AppendsAtMostOne};
 ghost use Rattle.turnstile.specs.Participants.{opened, entered, left, CanEnter, HasItsOwn};
 ghost use Rattle.turnstile.specs.Merging.{Continues};
 
@@ -65,11 +64,12 @@ impl<V: Journaled + Drop> Turn<V> {
         }
     }
 
-    /// Takes the value back, and passes the turn on. The value may have one entry more than `enter` gave it with.
+    /// Takes the value back, and passes the turn on. Its entries are those that `enter` gave it with, and then what this
+    /// participant added.
     pub fn leave(&self, seat: &mut TurnSeat<V>, held: Held<V>)
         requires of { seat.old.lock ≡ self.now.id }
         requires inside { seat.old.has_turn ≡ true }
-        requires appended { AppendsAtMostOne seat.old.seen (V.journal held.value) }
+        requires appended { IsPrefix seat.old.seen (V.journal held.value) }
         ensures left { seat.new ≡ left seat.old (V.journal held.value) }
         ensures own { HasItsOwn seat.new }
     {

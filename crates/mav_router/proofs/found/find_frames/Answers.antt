@@ -1,0 +1,44 @@
+use Rattle.std.proofs.Common.{◌∙◌, ◌<◌, ◌++◌, ◌∷◌, [], ℕ, List, length, take, Bool, All, arith, ap, sym, subst, map, length-append}
+use Rattle.mav_frame.specs.Packet.{Packet}
+use Rattle.mav_router.specs.declared.judging.Judged.{Judged}
+use Rattle.mav_router.specs.Faults.{StopsReading}
+use Rattle.mav_router.specs.Found.{IsJudged, packets_of}
+use Rattle.mav_router.proofs.Findings.{Finds, found_more, packets_more, judged_more}
+use Rattle.mav_router.proofs.found.find_frames.Goals as goal
+
+pub returns-in_default-clause-all : goal.returns-in_default-clause-all
+returns-in_default-clause-all c = λ _ port bytes journal after live first e.
+    let r = c.loop-at in
+    c.in_default.ensures.all c.args.rules.now port bytes after (λ some. r.invariant.ended ∙ live some) ((r.invariant.finds port bytes journal live first).reads after e)
+
+pub returns-in_default-clause-stops : goal.returns-in_default-clause-stops
+returns-in_default-clause-stops c = λ port bytes journal after count live first less e.
+    let r = c.loop-at in
+    (r.invariant.finds port bytes journal live first).stops count after less e
+
+pub loop-at-preserved : goal.loop-at-preserved
+loop-at-preserved c =
+    let r = c.loop-at in
+    let rules = c.args.rules.now in
+    let piece = c.args.piece.now in
+    let ended = c.args.scanner.now.ended in
+    let judged : Judged = record { frame = c.in-Some.frame; judgement = c.judge-judgement.result } in
+    record {
+      within = c.in-Some.ensures.within;
+      ended = c.in-Some.ensures.ended ∙ r.invariant.ended;
+      count = (let n = ap length c.push.ensures in omega (arith, n, length-append r.found (judged ∷ []), r.invariant.count));
+      judged = subst (All (IsJudged rules)) (sym c.push.ensures) (judged_more rules r.found judged r.invariant.judged record { verifies = c.judge-judgement.ensures.verifies; target = c.judge-judgement.ensures.target });
+      fewer = omega (arith, c.in-Some.ensures.fewer, r.invariant.fewer);
+      finds = λ port bytes journal live first.
+          let so_far = r.invariant.finds port bytes journal live first in
+          let next = found_more ended rules port (bytes ++ take r.taken piece) (bytes ++ take c.next_frame.new.taken piece) (bytes ++ piece) r.scanner c.next_frame.new.scanner r.skipped c.next_frame.new.skipped journal (packets_of r.found) c.in-Some.frame
+          (λ before after read own. c.in-Some.ensures.found rules port bytes before after (λ some. r.invariant.ended ∙ live some) read own)
+          (λ before after read same. subst (λ (b : Bool). StopsReading b rules port (bytes ++ piece) after) r.invariant.ended (c.in-Some.ensures.untaken rules port bytes before after (λ some. r.invariant.ended ∙ live some) read same))
+          so_far in
+          subst (λ (l : List Packet). Finds ended rules port (bytes ++ take c.next_frame.new.taken piece) (bytes ++ piece) c.next_frame.new.scanner c.next_frame.new.skipped journal l) (sym (ap packets_of c.push.ensures ∙ packets_more r.found judged)) next;
+    }
+
+pub returns-clause-stops : goal.returns-clause-stops
+returns-clause-stops c = λ port bytes journal after count live first less e.
+    let r = c.loop-at in
+    (r.invariant.finds port bytes journal live first).stops count after less e
