@@ -1,19 +1,16 @@
 -- How frames are found at a port, before the switch takes them.
-use Rattle.std.proofs.Common.{◌≡◌, ◌∙◌, ◌<◌, ◌≢◌, ℕ, ◌==◌, arith, zero, suc, ◌+◌, Bool, true, All, get_or, List, [], ◌∷◌, ◌++◌, length, map, take, Option, Some, None, refl, ap, sym, subst, append_assoc, append-nil, length-append, if◌then◌else◌}
+use Rattle.std.proofs.Common.{◌≡◌, ◌∙◌, ◌<◌, ◌≢◌, ℕ, ◌==◌, arith, zero, suc, ◌+◌, Bool, true, All, get_or, List, [], ◌∷◌, ◌++◌, length, map, take, Option, refl, ap, sym, append_assoc, append-nil, length-append}
 use Rattle.std.proofs.lemmas.Grind.{common_steps}
 use Rattle.std.proofs.lemmas.List.{map-append, take_all}
 use Rattle.std.proofs.lemmas.List.Elements.{All-append, All-cons}
 use mathlib.Core.Logic.{dite}
 use native.Mathlib.Decide.{ℕ_discrete}
 use Rattle.mav_frame.specs.Packet.{Packet}
-use Rattle.mav_frame.specs.declared.events.Event.{Event}
 use Rattle.mav_stream.specs.Held.{Held}
-use Rattle.mav_sign.specs.Streams.{listed}
-use Rattle.mav_sign.specs.Endpoints.{frames_of}
 use Rattle.mav_router.specs.declared.entries.Entry.{Entry}
 use Rattle.mav_router.specs.declared.judging.Judged.{Judged}
-use Rattle.mav_router.specs.Journal.{Rules, entry_after, frame_from, frames_from}
-use Rattle.mav_router.specs.Runs.{Reading, AllRead}
+use Rattle.mav_router.specs.Journal.{Rules, entry_after, frames_from}
+use Rattle.mav_router.specs.Runs.{Reading}
 use Rattle.mav_router.specs.Faults.{StopsReading}
 use Rattle.mav_router.specs.Found.{IsJudged, Keeps, packets_of}
 use Rattle.mav_router.proofs.Readings.{from_own}

@@ -1,5 +1,5 @@
 -- What holds when a run stops because its switch takes no more frames.
-use Rattle.std.specs.Prelude.{ℕ, ◌≡◌, ◌≤◌, ◌+◌, ◌==◌, Bool, true, if◌then◌else◌, List, [], ◌∷◌, ◌++◌, length, slice_get, Option, Some, None, IsSome, ⊤}
+use Rattle.std.specs.Prelude.{ℕ, ◌≡◌, ◌≤◌, ◌+◌, ◌==◌, Bool, true, false, if◌then◌else◌, List, [], ◌∷◌, ◌++◌, length, slice_get, Option, Some, None, IsSome, ⊤}
 use Rattle.std.specs.Io.KnownBytes.{append_known, prepend_known}
 use Rattle.mav_ports.specs.Gets.{IsSpent}
 use Rattle.mav_links.specs.Links.{LinkState}
@@ -87,8 +87,13 @@ HaltedBy NoMemory untaken ports journal = ⊤
 HaltedBy (Full entries) untaken ports journal =
     (entries ≡ 1000000) × (length journal ≡ 1000000) × ((port : ℕ) × (1 ≤ port) × (port ≤ ports) × IsSome (untaken port))
 
--- a run stopped, with any number of threads: at each port there may be a frame that the switch didn't take
+-- a run with a thread for each port stopped: at each port there may be a frame that the switch didn't take
 pub record RouteHalted {A : Type 0} (state : A → LinkState) (rules : Rules) (why : SwitchFault) (journal : List Entry) (before after : List A) : Type 0 where
   pub untaken : ℕ → Option Packet
   pub cause : HaltedBy why untaken (length before) journal
   pub ports : (k : ℕ) (b c : A) → slice_get before k ≡ Some b → slice_get after k ≡ Some c → PartRun rules journal (k + 1) (listed (untaken (k + 1))) (state b) (state c)
+
+-- a run stopped, on one thread or with one for each port
+abbrev pub StopsBy : {A : Type 0} → (one : Bool) → (A → LinkState) → Rules → SwitchFault → List Entry → List A → List A → Type 0
+StopsBy true state rules why journal before after = RouteStopped state rules why journal before after
+StopsBy false state rules why journal before after = RouteHalted state rules why journal before after

@@ -1,5 +1,5 @@
 -- The frames that were found at a port and judged, until the switch takes them.
-use Rattle.std.specs.Prelude.{ℕ, ◌≡◌, ◌<◌, ◌==◌, Bool, List, ◌++◌, length, map, take, OnOk, OnErr}
+use Rattle.std.specs.Prelude.{ℕ, ◌≡◌, ◌<◌, ◌==◌, List, ◌++◌, length, map, take, OnOk, OnErr}
 use Rattle.std.specs.declared.result.Result.{Result}
 use Rattle.turnstile.specs.Labels.{EachPasses}
 use Rattle.mav_frame.specs.Packet.{Packet}

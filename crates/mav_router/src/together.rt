@@ -1,12 +1,9 @@
 // A run of a router on one thread or on many.
 ghost use Rattle.std.specs.Prelude.{◌≡◌, ◌≤◌, ◌+◌, ℕ, [], length, IfOk, IfErr, slice_get, Some};
-ghost use Rattle.mav_links.specs.Links.{LinkState};
 ghost use Rattle.mav_router.specs.Journal.{IsJournal};
 ghost use Rattle.mav_router.specs.Ends.{PortRun};
-ghost use Rattle.mav_router.specs.Faults.{RouteHalted};
-ghost use Rattle.mav_router.specs.Threads.{HasRouted, HasStopped};
+ghost use Rattle.mav_router.specs.Faults.{StopsBy};
 
-use crate::crew::BoxedLink;
 use crate::threads::route_threads;
 use crate::{PortEnd, RouteEnd, RouteFault, RoutePlan, route_one};
 use dialect::Dialect;
@@ -15,47 +12,6 @@ use mav_sign::Key;
 use std::alloc::Global;
 use std::sync::Wait;
 use std::thread::Threads;
-
-// Routes between the ports on one thread.
-fn route_alone(
-    alloc: Global,
-    key: &Key,
-    known: &Dialect,
-    ports: &mut Vec<BoxedLink>,
-    plan: RoutePlan,
-) -> Result<RouteEnd, RouteFault>
-    requires from { 1 ≤ length ports.old.items }
-    requires to { length ports.old.items ≤ 8 }
-    requires turns { plan.turns ≤ 1_000_000_000 }
-    ensures links { length ports.new.items ≡ length ports.old.items }
-    ensures routed { IfOk result (λ end. HasRouted state (record { key = key.now; known = known.now; ports = length ports.old.items; plain = plan.plain }) plan.turns ports.old.items ports.new.items end.journal.items end.ports.items) }
-    ensures stopped { IfErr result (λ fault. HasStopped state (record { key = key.now; known = known.now; ports = length ports.old.items; plain = plan.plain }) ports.old.items ports.new.items fault.why fault.journal.items) }
-{
-    route_one(alloc, key, known, ports, plan)
-}
-
-// Routes between the ports as the plan says.
-fn route_by_plan<R: Threads + Wait + Sync>(
-    rt: &R,
-    alloc: Global,
-    key: &Key,
-    known: &Dialect,
-    ports: &mut Vec<BoxedLink>,
-    plan: RoutePlan,
-) -> Result<RouteEnd, RouteFault>
-    requires from { 1 ≤ length ports.old.items }
-    requires to { length ports.old.items ≤ 8 }
-    requires turns { plan.turns ≤ 1_000_000_000 }
-    ensures links { length ports.new.items ≡ length ports.old.items }
-    ensures routed { IfOk result (λ end. HasRouted state (record { key = key.now; known = known.now; ports = length ports.old.items; plain = plan.plain }) plan.turns ports.old.items ports.new.items end.journal.items end.ports.items) }
-    ensures stopped { IfErr result (λ fault. HasStopped state (record { key = key.now; known = known.now; ports = length ports.old.items; plain = plan.plain }) ports.old.items ports.new.items fault.why fault.journal.items) }
-{
-    if plan.one {
-        route_alone(alloc, key, known, ports, plan)
-    } else {
-        route_threads(rt, alloc, key, known, ports, plan)
-    }
-}
 
 /// Routes between the ports, and returns what came in and what became of each port. Each port has a thread of its own,
 /// unless the plan is for one thread; then it is [`route_one`]. A run that stops because memory is out, or because the
@@ -81,7 +37,11 @@ pub fn route_all<R: Threads + Wait + Sync>(
         → PortRun (record { key = key.now; known = known.now; ports = length ports.old.items; plain = plan.plain }) end.journal.items plan.turns (k + 1) (state b) (state c) e) }
     // A run that stopped, with its journal so far.
     ensures kept { IfErr result (λ fault. IsJournal (record { key = key.now; known = known.now; ports = length ports.old.items; plain = plan.plain }) [] fault.journal.items) }
-    ensures stopped { IfErr result (λ fault. RouteHalted state (record { key = key.now; known = known.now; ports = length ports.old.items; plain = plan.plain }) fault.why fault.journal.items ports.old.items ports.new.items) }
+    ensures stopped { IfErr result (λ fault. StopsBy plan.one state (record { key = key.now; known = known.now; ports = length ports.old.items; plain = plan.plain }) fault.why fault.journal.items ports.old.items ports.new.items) }
 {
-    route_by_plan(rt, alloc, key, known, ports, plan)
+    if plan.one {
+        route_one(alloc, key, known, ports, plan)
+    } else {
+        route_threads(rt, alloc, key, known, ports, plan)
+    }
 }

@@ -15,11 +15,7 @@ use std::sync::Wait;
 use turnstile::{Turn, TurnSeat};
 
 // Has the switch admit frames that came in at the port and were judged, in their order, until it doesn't take one.
-fn admit_each(
-    switch: &mut Switch<'_>,
-    port: u8,
-    frames: &[Judged],
-) -> Result<(), SwitchFault>
+fn admit_each(switch: &mut Switch<'_>, port: u8, frames: &[Judged]) -> Result<(), SwitchFault>
     requires from { 1 ≤ port }
     requires to { port ≤ switch.old.rules.ports }
     requires judged { All (IsJudged switch.old.rules) frames.now }

@@ -1,4 +1,4 @@
-use Rattle.std.proofs.Common.{◌∙◌, ◌<◌, ◌++◌, ◌∷◌, [], ℕ, List, length, take, Bool, All, arith, ap, sym, subst, map, length-append}
+use Rattle.std.proofs.Common.{◌∙◌, ◌++◌, ◌∷◌, [], List, length, take, Bool, All, arith, ap, sym, subst, length-append}
 use Rattle.mav_frame.specs.Packet.{Packet}
 use Rattle.mav_router.specs.declared.judging.Judged.{Judged}
 use Rattle.mav_router.specs.Faults.{StopsReading}

@@ -1,9 +1,5 @@
-use Rattle.std.proofs.Common.{◌∙◌, ◌<◌, ◌++◌, ap, sym, subst, Bool, List, length}
-use Rattle.mav_router.specs.declared.judging.Judged.{Judged}
+use Rattle.std.proofs.Common.{◌∙◌}
 use Rattle.mav_router.specs.History.{entries_in}
-use Rattle.mav_router.specs.Journal.{frames_from}
-use Rattle.mav_router.specs.Faults.{StopsReading}
-use Rattle.mav_router.specs.Found.{Takes, packets_of}
 use Rattle.mav_router.proofs.Findings.{took_all}
 use Rattle.mav_router.proofs.Seats.{prefix_then}
 use Rattle.mav_router.proofs.running.hear_in_turns.Goals as goal

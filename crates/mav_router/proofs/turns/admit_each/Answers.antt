@@ -1,6 +1,5 @@
-use Rattle.std.proofs.Common.{◌∙◌, ◌≡◌, ◌++◌, ◌∷◌, [], ap, sym, refl, subst, List, take, ◌+◌}
+use Rattle.std.proofs.Common.{◌∙◌, ◌++◌, ◌∷◌, [], ap, sym, refl, subst, take}
 use Rattle.mav_router.specs.declared.judging.Judged.{Judged}
-use Rattle.mav_frame.specs.Packet.{Packet}
 use Rattle.mav_router.specs.Journal.{entry_after}
 use Rattle.mav_router.specs.Found.{Keeps, packets_of}
 use Rattle.mav_router.proofs.Findings.{keeps_more, next_packet}

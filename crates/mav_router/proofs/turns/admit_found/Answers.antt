@@ -6,7 +6,6 @@ use Rattle.mav_router.specs.declared.history.SwitchEvent.{SwitchEvent}
 use Rattle.mav_router.specs.declared.history.SwitchEvent.TheVariants.{Admitted}
 use Rattle.mav_router.specs.Journal.{SwitchState, frames_from}
 use Rattle.mav_router.specs.History.{history_of, entries_in}
-use Rattle.mav_router.specs.Found.{packets_of}
 use Rattle.mav_router.specs.Faults.{IsSwitchFault}
 use Rattle.mav_router.proofs.Seats.{Turned, added, tried, more_own}
 use Rattle.mav_router.proofs.turns.admit_found.Given as given
