@@ -1,9 +1,8 @@
 -- From the jobs of all ports to the end of a run.
-use Rattle.std.proofs.Common.{All, ◌⊎◌, ◌≡◌, ◌∙◌, ◌<◌, ◌≤◌, ℕ, ◌+◌, arith, List, [], length, map, replicate, sum_by, slice_get, Some, Ok, Err, IfOk, IfErr, ap, sym, subst}
+use Rattle.std.proofs.Common.{All, ◌⊎◌, ◌≡◌, ◌∙◌, ◌<◌, ◌≤◌, ℕ, ◌+◌, arith, List, [], length, map, replicate, sum_by, slice_get, Some, ap, sym, subst}
 use Rattle.std.proofs.lemmas.List.{length-map, length-replicate}
 use Rattle.std.proofs.lemmas.Option.{get_or_from_slice_get}
 use Rattle.std.proofs.lemmas.Simd.{map-map}
-use Rattle.std.specs.declared.result.Result.{Result}
 use mathlib.Core.List.{IsPrefix}
 use Rattle.turnstile.specs.Merging.{Continues}
 use Rattle.turnstile.specs.Participants.{Lock, Participant, CanEnter, opened}
@@ -219,12 +218,3 @@ stopped_as state rules other before after why journal e s = subst (λ (r : Rules
 
 pub stocked_as : {A : Type 0} (rules other : Rules) (stock : Stock A) → other ≡ rules → IsStocked other stock → IsStocked rules stock
 stocked_as rules other stock e s = subst (λ (r : Rules). IsStocked r stock) e s
-
--- several clauses on one result
-pub if_ok_all : {X E : Type 0} {P Q R S T : X → Type 0} (r : Result X E) → ((x : X) → P x → Q x → R x → S x → T x) → IfOk r P → IfOk r Q → IfOk r R → IfOk r S → IfOk r T
-if_ok_all (Ok x) f p q s t = f x p q s t
-if_ok_all (Err e) f p q s t = tt
-
-pub if_err_both : {X E : Type 0} {P Q R : E → Type 0} (r : Result X E) → ((e : E) → P e → Q e → R e) → IfErr r P → IfErr r Q → IfErr r R
-if_err_both (Ok x) f p q = tt
-if_err_both (Err e) f p q = f e p q

@@ -14,7 +14,7 @@ use Rattle.mav_router.specs.declared.ends.How.{How}
 use Rattle.mav_router.specs.declared.ends.How.TheVariants.{Ended, Failed, Turns}
 use Rattle.mav_router.specs.Journal.{Rules, IsJournal}
 use Rattle.mav_router.specs.Ends.{PortRun}
-use Rattle.mav_router.specs.Faults.{RouteHalted}
+use Rattle.mav_router.specs.Faults.{StopsBy}
 use Rattle.run_status.specs.declared.input_errors.Bound.TheVariants.{Entries}
 use Rattle.run_status.specs.declared.input_errors.InputError.TheVariants.{AtLimit}
 use Rattle.run_status.specs.declared.live_ends.LiveEnd.TheVariants.{PortTurns}
@@ -27,20 +27,23 @@ use Rattle.route_command.specs.Texts.{route_text}
 abbrev pub rules_of : List ℕ → List Definition → List Bool → ℕ → Rules
 rules_of key known plain ports = record { key = key; known = known; ports = ports; plain = plain }
 
--- the ports before and after a run, of which at most so many reads each may give bytes or return Idle
+-- the ports before and after a run on one thread or with one for each, of which at most so many reads each may give bytes
+-- or return Idle
 pub record Ports : Type 1 where
   pub Port : Type 0
   pub state : Port → LinkState
   pub rules : Rules
+  pub one : Bool
   pub most : ℕ
   pub before : List Port
   pub after : List Port
 
-abbrev pub ports_of : {A : Type 0} → (A → LinkState) → Rules → ℕ → List A → List A → Ports
-ports_of {A} state rules most before after = record {
+abbrev pub ports_of : {A : Type 0} → (A → LinkState) → Rules → (one : Bool) → ℕ → List A → List A → Ports
+ports_of {A} state rules one most before after = record {
   Port = A;
   state = state;
   rules = rules;
+  one = one;
   most = most;
   before = before;
   after = after;
@@ -56,12 +59,12 @@ pub record Routed (p : Ports) (journal : List Entry) (ends : List PortEnd) : Typ
   pub each : (k : ℕ) (b c : p.Port) (e : PortEnd) → slice_get p.before k ≡ Some b → slice_get p.after k ≡ Some c → slice_get ends k ≡ Some e
       → PortRun p.rules journal p.most (k + 1) (p.state b) (p.state c) e
 
--- it stopped before that: the journal was full, or memory was out; at each port there may be a frame more than those of its
--- entries
+-- it stopped before that: the journal was full, or memory was out; there may be a frame more than those of the entries, with
+-- threads one at each port
 pub record Halted (p : Ports) (why : SwitchFault) (journal : List Entry) : Type 0 where
   pub legal : IsJournal p.rules [] journal
   pub links : length p.after ≡ length p.before
-  pub stopped : RouteHalted p.state p.rules why journal p.before p.after
+  pub stopped : StopsBy p.one p.state p.rules why journal p.before p.after
 
 -- a port hadn't ended after as many reads as it may have
 abbrev pub is_turns : How → Bool

@@ -1,5 +1,5 @@
 // The command `route`.
-ghost use Rattle.std.specs.Prelude.{◌≡◌, ◌≤◌, ◌++◌, ◌⊎◌, ℕ, List, [], length, IfErr, IsErrOf, OnOk, Some, None};
+ghost use Rattle.std.specs.Prelude.{◌≡◌, ◌≤◌, ◌++◌, ◌⊎◌, ℕ, List, [], length, true, IfErr, IsErrOf, OnOk, Some, None};
 ghost use Rattle.std.specs.Result.{result_err};
 ghost use Rattle.mav_ports.specs.Counts.{Rose};
 ghost use Rattle.mav_ports.specs.Puts.{SentPrefix};
@@ -80,7 +80,7 @@ pub fn route<R: Threads + Wait + Sync, K: Sink>(
     requires to { length ports.old.items ≤ 8 }
     requires turns { plan.turns ≤ 1_000_000_000 }
     ensures routes { RoutesBeforeStatus (ports_of state
-        (rules_of key.now known.now plan.plain (length ports.old.items)) plan.turns ports.old.items ports.new.items)
+        (rules_of key.now known.now plan.plain (length ports.old.items)) plan.one plan.turns ports.old.items ports.new.items)
         (result_err result) (K.faults out.old) (K.faults out.new) (K.sent out.old) (K.sent out.new) }
     ensures sound { ¬ IsErrOf result RunEnd.WriteFault → K.faults out.new ≡ K.faults out.old }
 {
@@ -104,7 +104,7 @@ pub fn route_alone<K: Sink>(
     requires to { length ports.old.items ≤ 8 }
     requires turns { plan.turns ≤ 1_000_000_000 }
     ensures routes { RoutesBeforeStatus (ports_of state
-        (rules_of key.now known.now plan.plain (length ports.old.items)) plan.turns ports.old.items ports.new.items)
+        (rules_of key.now known.now plan.plain (length ports.old.items)) true plan.turns ports.old.items ports.new.items)
         (result_err result) (K.faults out.old) (K.faults out.new) (K.sent out.old) (K.sent out.new) }
     ensures sound { ¬ IsErrOf result RunEnd.WriteFault → K.faults out.new ≡ K.faults out.old }
 {

@@ -8,7 +8,6 @@ use Rattle.field_layout.specs.Definition.{Definition}
 use Rattle.mav_profile.specs.Profile.{profile_definitions}
 use Rattle.mav_links.specs.Links.{LinkState}
 use Rattle.mav_router.specs.declared.entries.SwitchFault.TheVariants.{NoMemory as NoRoom}
-use Rattle.mav_router.proofs.Halts.{halted}
 use Rattle.mav_router.proofs.PortEnds.{nothing_routed}
 use Rattle.run_status.specs.declared.run_ends.RunEnd.{RunEnd}
 use Rattle.run_status.specs.declared.run_ends.RunEnd.TheVariants.{NoMemory}
@@ -30,6 +29,7 @@ use Rattle.command_line.specs.Grammar.{Asked}
 use Rattle.command_line.specs.PortTexts.{is_marked, port_text}
 use Rattle.command_line.proofs.PortWords.{mark_of}
 use Rattle.route_command.specs.Routes.{ports_of, rules_of, RoutesBeforeStatus}
+use Rattle.route_command.proofs.Runs.{stops_as}
 use Rattle.station_cli.specs.Seen.{Input, input_of, before_status_over}
 use Rattle.station_cli.specs.Decoding.{WithDefinitions}
 use Rattle.station_cli.specs.Routing.{Routing, pad, router_of, KnownIs, AllEnded}
@@ -87,17 +87,18 @@ pub unrouted : {A : Type 0} (state : A → LinkState) (asked : Asked) (ports : L
 unrouted state asked ports key known end refusals before after is same = inr (record {
   journal = [];
   why = NoRoom;
-  halted = record { legal = tt; links = refl; stopped = halted state _ NoRoom [] ports ports (nothing_routed state _ ports) };
+  halted = record { legal = tt; links = refl; stopped = stops_as _ state _ NoRoom [] ports ports (nothing_routed state _ ports) };
   wrote = inl (ap Some is, refl, same ∙ append_known_nil before);
 })
 
 -- the same run by other names
-pub routed_as : {A : Type 0} (state : A → LinkState) (key : List ℕ) (known : List Definition) (count : ℕ) (before after : List A) (end : Option RunEnd) (rb ra : ℕ) (sb sa : Option (List ℕ)) (plain other : List Bool) (turns most : ℕ) → plain ≡ other → turns ≡ most
-    → RoutesBeforeStatus (ports_of state (rules_of key known plain count) turns before after) end rb ra sb sa
-    → RoutesBeforeStatus (ports_of state (rules_of key known other count) most before after) end rb ra sb sa
-routed_as state key known count before after end rb ra sb sa plain other turns most same too run =
-    subst (λ t. RoutesBeforeStatus (ports_of state (rules_of key known other count) t before after) end rb ra sb sa) too
-    (subst (λ p. RoutesBeforeStatus (ports_of state (rules_of key known p count) turns before after) end rb ra sb sa) same run)
+pub routed_as : {A : Type 0} (state : A → LinkState) (key : List ℕ) (known : List Definition) (count : ℕ) (before after : List A) (end : Option RunEnd) (rb ra : ℕ) (sb sa : Option (List ℕ)) (plain other : List Bool) (one alone : Bool) (turns most : ℕ) → plain ≡ other → one ≡ alone → turns ≡ most
+    → RoutesBeforeStatus (ports_of state (rules_of key known plain count) one turns before after) end rb ra sb sa
+    → RoutesBeforeStatus (ports_of state (rules_of key known other count) alone most before after) end rb ra sb sa
+routed_as state key known count before after end rb ra sb sa plain other one alone turns most same way too run =
+    subst (λ t. RoutesBeforeStatus (ports_of state (rules_of key known other count) alone t before after) end rb ra sb sa) too
+    (subst (λ o. RoutesBeforeStatus (ports_of state (rules_of key known other count) o turns before after) end rb ra sb sa) way
+    (subst (λ p. RoutesBeforeStatus (ports_of state (rules_of key known p count) one turns before after) end rb ra sb sa) same run))
 
 pub routing_as : (one other : Bool) (runs : CommandSpec → Input → Type 0) (halted unmoved : Type 0) (first second : List ℕ → List Definition → Type 0) (key defs : Input) → one ≡ other → first ≡ second → Routing one runs halted unmoved first key defs → Routing other runs halted unmoved second key defs
 routing_as one other runs halted unmoved first second key defs same too d =

@@ -6,6 +6,8 @@ use Rattle.mav_links.specs.Links.{LinkState}
 use Rattle.run_status.specs.Runs.{CommandSpec}
 use Rattle.key_file.specs.Spec.{given_key_spec, HoldsGivenKey, TookAtMost}
 use Rattle.dialect_command.specs.Reads.{Holds}
+use Rattle.command_line.specs.declared.commands.OptionName.TheVariants.{One}
+use Rattle.command_line.specs.Forms.{has_given}
 use Rattle.command_line.specs.Grammar.{Asked}
 use Rattle.command_line.specs.Names.{port_words, turns_asked}
 use Rattle.command_line.specs.PortTexts.{is_marked}
@@ -37,7 +39,7 @@ open_ports words = pad 8 (map is_marked words)
 -- the router that a line asks for, by a key and definitions, before and after its run
 abbrev pub router_of : {A : Type 0} → (A → LinkState) → Asked → (before after : List A) → List ℕ → List Definition → Ports
 router_of state asked before after key known =
-    ports_of state (rules_of key known (open_ports asked.plain) (length before)) (turns_asked asked.settings) before after
+    ports_of state (rules_of key known (open_ports asked.plain) (length before)) (has_given One asked.settings) (turns_asked asked.settings) before after
 
 -- the definitions that were read, or those of the profile
 abbrev pub KnownIs : Bool → Input → List Definition → Type 0

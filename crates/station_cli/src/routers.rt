@@ -33,7 +33,7 @@ pub(crate) trait Router {
         requires to { length ports.old.items ≤ 8 }
         requires turns { plan.turns ≤ 1_000_000_000 }
         ensures routes { RoutesBeforeStatus (ports_of state
-            (rules_of key.now known.now plan.plain (length ports.old.items)) plan.turns ports.old.items ports.new.items)
+            (rules_of key.now known.now plan.plain (length ports.old.items)) plan.one plan.turns ports.old.items ports.new.items)
             (result_err result) (K.faults out.old) (K.faults out.new) (K.sent out.old) (K.sent out.new) }
         ensures sound { ¬ IsErrOf result RunEnd.WriteFault → K.faults out.new ≡ K.faults out.old };
 }

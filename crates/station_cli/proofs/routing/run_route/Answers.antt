@@ -31,6 +31,6 @@ returns-clause-routed g c =
       c.in_ok-key.key,
       c.in_ok-key.ensures.holds,
       after_definitions _ _ _ _ _ c.in_ok-known.known _ c.in_ok-known.ensures.is
-          (routed_as _ c.in_ok-key.key c.in_ok-known.known _ c.args.ports.now.items c.route.new.ports.items _ _ _ _ _ _ _ _ _
-          (c.open_ports.ensures ∙ ap open_ports (ap (map port_text) c.deref.ensures.value ∙ c.requires.ports)) c.turns.ensures.asked c.route.ensures.routes),
+          (routed_as _ c.in_ok-key.key c.in_ok-known.known _ c.args.ports.now.items c.route.new.ports.items _ _ _ _ _ _ _ _ _ _ _
+          (c.open_ports.ensures ∙ ap open_ports (ap (map port_text) c.deref.ensures.value ∙ c.requires.ports)) c.has.ensures c.turns.ensures.asked c.route.ensures.routes),
     )
