@@ -15,6 +15,7 @@ use Rattle.run_status.specs.declared.run_ends.RunEnd.TheVariants.{WriteFault, No
 use Rattle.run_status.specs.Endings.{code_of, text_of, live_text}
 use Rattle.run_status.specs.StatusText.{StatusWritten, WritesStatus}
 use Rattle.run_status.proofs.RunsBeforeStatus.{behind, front_same, behind_front}
+use Rattle.route_command.proofs.Runs.{as_halted}
 use Rattle.route_command.specs.Texts.{route_text}
 use Rattle.route_command.specs.Routes.{Ports, Routed, Halted, has_turns, end_of_ports, end_of_fault, WroteAll, status_text, untold, Reports, Stops, Routes, RoutesBeforeStatus}
 use Rattle.route_command.specs.Promises.{RoutePromises}
@@ -185,7 +186,7 @@ module _ (p : Ports) (end : Option RunEnd) (rb ra : ℕ) (sb sa : Option (List �
 
   limit_by : (why : SwitchFault) (journal : List Entry) → Halted p why journal → end ≡ Some (end_of_fault why) → sa ≡ append_known sb (status_text (Some (end_of_fault why))) → code_of end ≡ 6 → Limited
   limit_by (Full entries) journal h e sent code =
-      let full = h.stopped.cause in
+      let full = (as_halted p.one p.state p.rules (Full entries) journal p.before p.after h.stopped).cause in
       (journal, subst (λ (n : ℕ). Halted p (Full n) journal) full.0 h, full.1, sent)
   limit_by NoRoom journal h e sent code = absurd (let seven : code_of (Some NoMemory) ≡ 6 = code_at end (Some NoMemory) 6 e code in omega (arith, seven))
 

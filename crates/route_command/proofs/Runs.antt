@@ -7,7 +7,7 @@ use Rattle.mav_router.specs.declared.entries.SwitchFault.{SwitchFault}
 use Rattle.mav_router.specs.declared.ends.PortEnd.{PortEnd}
 use Rattle.mav_router.specs.Journal.{Rules, IsJournal}
 use Rattle.mav_router.specs.Ends.{PortRun}
-use Rattle.mav_router.specs.Faults.{RouteStopped, StopsBy}
+use Rattle.mav_router.specs.Faults.{RouteStopped, RouteHalted, StopsBy}
 use Rattle.mav_router.proofs.Halts.{halted}
 use Rattle.run_status.specs.declared.run_ends.RunEnd.{RunEnd}
 use Rattle.route_command.specs.Texts.{route_text}
@@ -58,3 +58,8 @@ alone_as one state rules most before after end rb ra sb sa (inr s) = inr (record
   halted = record { legal = s.halted.legal; links = s.halted.links; stopped = stops_as one state rules s.why s.journal before after s.halted.stopped };
   wrote = s.wrote;
 })
+
+-- either way there may be a frame at each port
+pub as_halted : {A : Type 0} (one : Bool) (state : A → LinkState) (rules : Rules) (why : SwitchFault) (journal : List Entry) (before after : List A) → StopsBy one state rules why journal before after → RouteHalted state rules why journal before after
+as_halted true state rules why journal before after s = halted state rules why journal before after s
+as_halted false state rules why journal before after s = s
