@@ -3,6 +3,7 @@ ghost use Rattle.std.specs.Prelude.{◌≡◌, ◌++◌, OnOk};
 ghost use Rattle.mav_nodes.specs.FileServices.{file_message, target_of, files_step};
 
 use crate::NoMemory;
+use crate::services::reply;
 use mav_ftp::FtpServer;
 use mav_messages::{FileTransferProtocol, Message};
 use mav_names::{Name, Stream, is_for};
@@ -46,7 +47,6 @@ pub(crate) fn serve_files(
     if !is_for(me, target_of(request)) {
         return Ok(());
     }
-    let reply = server.step(from, &request.payload)?;
-    answers.push(file_message(from, reply))?;
-    Ok(())
+    let payload = server.step(from, &request.payload)?;
+    reply(answers, file_message(from, payload))
 }

@@ -5,7 +5,8 @@ ghost use Rattle.mav_nodes.specs.News.{events_of, shown};
 ghost use Rattle.mav_nodes.specs.Services.{step_of, sim_step as sim_step_of, position_message, reached_messages, reached_events, captured_events};
 
 use crate::drone_params::STEP;
-use crate::services::Served;
+use crate::news::report;
+use crate::services::{Served, reply};
 use crate::{News, NoMemory};
 use drone_sim::SimNews;
 use mav_messages::{GlobalPositionInt, Message, MissionItemReached};
@@ -55,21 +56,24 @@ fn tell_reached(
     ensures answers { OnOk result (answers.new.items ≡ answers.old.items ++ reached_messages reached) }
     ensures last { OnOk result (events_of last.new.items ≡ events_of last.old.items ++ map shown (reached_events reached)) }
 {
-    if let Some(seq) = reached {
-        answers.push(Message::MissionItemReached(MissionItemReached { seq }))?;
-        last.push(News::Reached(seq))?;
-    }
-    Ok(())
+    let Some(seq) = reached else {
+        return Ok(());
+    };
+    reply(
+        answers,
+        Message::MissionItemReached(MissionItemReached { seq }),
+    )?;
+    report(last, News::Reached(seq))
 }
 
 // The total of pictures, if one was taken.
 fn tell_captured(captured: bool, total: u32, last: &mut Vec<News>) -> Result<(), NoMemory>
     ensures { OnOk result (events_of last.new.items ≡ events_of last.old.items ++ map shown (captured_events captured total)) }
 {
-    if captured {
-        last.push(News::Captured(total))?;
+    if !captured {
+        return Ok(());
     }
-    Ok(())
+    report(last, News::Captured(total))
 }
 
 /// Says where the drone is, and which item it has reached.
@@ -84,7 +88,7 @@ pub(crate) fn say_flight(
 {
     let mut answers = Vec::new(alloc);
     let mut last = Vec::new(alloc);
-    answers.push(position_of(time, news))?;
+    reply(&mut answers, position_of(time, news))?;
     tell_reached(news.reached, &mut answers, &mut last)?;
     tell_captured(news.captured, total, &mut last)?;
     Ok(Served { answers, last })

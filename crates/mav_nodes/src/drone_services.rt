@@ -11,7 +11,7 @@ use crate::NoMemory;
 use crate::drone_files::serve_files;
 use crate::drone_flights::{say_flight, sim_step};
 use crate::drone_params::drone_params;
-use crate::services::{Served, Services};
+use crate::services::{Served, Services, reply};
 use crate::steps::PlanNews;
 use command_proto::{Executor, Ready};
 use drone_sim::Sim;
@@ -73,7 +73,7 @@ fn take_all(server: &mut ParamServer, answers: &mut Vec<Message>) -> Result<(), 
     ensures server { OnOk result (server.new ≡ record server.old { waiting = [] }) }
 {
     while let Some(answer) = server.take() {
-        answers.push(answer)?;
+        reply(answers, answer)?;
     }
     Ok(())
 }
@@ -116,13 +116,13 @@ impl DroneServices {
         }) }
         ensures answers { OnOk result (answers.new.items ≡ answers.old.items ++ sent_of (executor_step self.old.executor from message.now ready).answer) }
     {
-        if let Some((answer, action)) = self.executor.step(from, message, ready) {
-            if let Some(action) = action {
-                self.sim.act(action);
-            }
-            answers.push(answer)?;
+        let Some((answer, action)) = self.executor.step(from, message, ready) else {
+            return Ok(());
+        };
+        if let Some(action) = action {
+            self.sim.act(action);
         }
-        Ok(())
+        reply(answers, answer)
     }
 
     // What the executor and the parameters do at a message.

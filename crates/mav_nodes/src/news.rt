@@ -1,7 +1,8 @@
 // What happens in a node.
 ghost use Rattle.std.specs.Prelude.{◌≡◌, ◌++◌, ◌∷◌, [], OnOk, IfErr};
+ghost use Rattle.mav_nodes.specs.News.{said_by, events_of};
 
-use crate::NodeFault;
+use crate::{NoMemory, NodeFault};
 use field_layout::Label;
 use mav_frame::Frame;
 use mav_messages::Message;
@@ -60,6 +61,14 @@ pub enum News {
 pub(crate) fn tell(news: &mut Vec<News>, piece: News) -> Result<(), NodeFault>
     ensures told { OnOk result (news.new.items ≡ news.old.items ++ piece ∷ []) }
     ensures fault { IfErr result (λ fault. fault ≡ NodeFault.NoMemory) }
+{
+    news.push(piece)?;
+    Ok(())
+}
+
+/// The same, by what contracts see of it.
+pub(crate) fn report(news: &mut Vec<News>, piece: News) -> Result<(), NoMemory>
+    ensures { OnOk result (events_of news.new.items ≡ events_of news.old.items ++ said_by piece ∷ []) }
 {
     news.push(piece)?;
     Ok(())

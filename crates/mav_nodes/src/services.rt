@@ -1,4 +1,5 @@
 // What a node does beside its plan core.
+ghost use Rattle.std.specs.Prelude.{◌≡◌, ◌++◌, ◌∷◌, [], OnOk};
 
 use crate::steps::PlanNews;
 use crate::{News, NoMemory};
@@ -11,6 +12,14 @@ use std::alloc::Global;
 pub(crate) struct Served {
     pub(crate) answers: Vec<Message>,
     pub(crate) last: Vec<News>,
+}
+
+/// One message more that is sent.
+pub(crate) fn reply(answers: &mut Vec<Message>, message: Message) -> Result<(), NoMemory>
+    ensures { OnOk result (answers.new.items ≡ answers.old.items ++ message ∷ []) }
+{
+    answers.push(message)?;
+    Ok(())
 }
 
 /// The services of a node with a core. They have no link, no clock and no store.

@@ -6,6 +6,8 @@ ghost use Rattle.mav_nodes.specs.FileServices.{new_station_files, file_order, be
 ghost use Rattle.mav_nodes.specs.Services.{file_events};
 
 use crate::drone_files::{file_message, target_of};
+use crate::news::report;
+use crate::services::reply;
 use crate::{FileEnd, FileOp, News, NoMemory};
 use mav_ftp::{FtpClient, FtpFault, FtpStep, FtpTick};
 use mav_messages::Message;
@@ -47,12 +49,11 @@ fn tell_step(
     ensures last { OnOk result (events_of last.new.items ≡ events_of last.old.items ++ map shown (file_events (end_of_step step))) }
 {
     match step {
-        FtpStep::Quiet => {}
-        FtpStep::Send(payload) => answers.push(file_message(drone, payload))?,
-        FtpStep::Done(bytes) => last.push(News::File(FileEnd::Done(bytes)))?,
-        FtpStep::Refused(code) => last.push(News::File(FileEnd::Refused(code)))?,
+        FtpStep::Quiet => Ok(()),
+        FtpStep::Send(payload) => reply(answers, file_message(drone, payload)),
+        FtpStep::Done(bytes) => report(last, News::File(FileEnd::Done(bytes))),
+        FtpStep::Refused(code) => report(last, News::File(FileEnd::Refused(code))),
     }
-    Ok(())
 }
 
 // The same of a tick.
@@ -66,11 +67,10 @@ fn tell_tick(
     ensures last { OnOk result (events_of last.new.items ≡ events_of last.old.items ++ map shown (file_events (end_of_tick tick))) }
 {
     match tick {
-        FtpTick::Quiet => {}
-        FtpTick::Again(payload) => answers.push(file_message(drone, payload))?,
-        FtpTick::NoAnswer(_) => last.push(News::File(FileEnd::NoAnswer))?,
+        FtpTick::Quiet => Ok(()),
+        FtpTick::Again(payload) => reply(answers, file_message(drone, payload)),
+        FtpTick::NoAnswer(_) => report(last, News::File(FileEnd::NoAnswer)),
     }
-    Ok(())
 }
 
 impl StationFiles {

@@ -11,7 +11,8 @@ ghost use Rattle.mav_nodes.specs.declared.faults.NodeFault.TheVariants.{NoMemory
 ghost use Rattle.mav_nodes.specs.declared.faults.OrderFault.TheVariants.{Node};
 ghost use Rattle.mav_nodes.specs.Promises.{AcceptsService, RefusesService, KeepsService};
 
-use crate::services::{Served, Services};
+use crate::news::report;
+use crate::services::{Served, Services, reply};
 use crate::station_files::StationFiles;
 use crate::steps::PlanNews;
 use crate::{News, NoMemory, NodeFault, Order, OrderFault};
@@ -43,10 +44,10 @@ impl Model for StationServices {
 fn tell_result(ended: Option<u8>, last: &mut Vec<News>) -> Result<(), NoMemory>
     ensures { OnOk result (events_of last.new.items ≡ events_of last.old.items ++ shown_of_result ended) }
 {
-    if let Some(result) = ended {
-        last.push(News::Command(Some(result)))?;
+    match ended {
+        Some(result) => report(last, News::Command(Some(result))),
+        None => Ok(()),
     }
-    Ok(())
 }
 
 // The end of what was asked of parameters, if there is one.
@@ -54,11 +55,10 @@ fn tell_end(end: Option<ParamEnd>, last: &mut Vec<News>) -> Result<(), NoMemory>
     ensures { OnOk result (events_of last.new.items ≡ events_of last.old.items ++ shown_of_end end) }
 {
     match end {
-        None => {}
-        Some(ParamEnd::One(param)) => last.push(News::Param(param))?,
-        Some(ParamEnd::All(count)) => last.push(News::Params(Some(count)))?,
+        None => Ok(()),
+        Some(ParamEnd::One(param)) => report(last, News::Param(param)),
+        Some(ParamEnd::All(count)) => report(last, News::Params(Some(count))),
     }
-    Ok(())
 }
 
 // What a tick of the commander brings: the command again, or its end.
@@ -71,11 +71,10 @@ fn tell_command(
     ensures last { OnOk result (events_of last.new.items ≡ events_of last.old.items ++ shown_of_command tick) }
 {
     match tick {
-        CommandTick::Quiet => {}
-        CommandTick::Again(message) => answers.push(message)?,
-        CommandTick::NoAnswer(_) => last.push(News::Command(None))?,
+        CommandTick::Quiet => Ok(()),
+        CommandTick::Again(message) => reply(answers, message),
+        CommandTick::NoAnswer(_) => report(last, News::Command(None)),
     }
-    Ok(())
 }
 
 // What a tick of the client brings.
@@ -88,11 +87,10 @@ fn tell_params(
     ensures last { OnOk result (events_of last.new.items ≡ events_of last.old.items ++ shown_of_params tick) }
 {
     match tick {
-        ParamTick::Quiet => {}
-        ParamTick::Again(message) => answers.push(message)?,
-        ParamTick::NoAnswer(_) => last.push(News::Params(None))?,
+        ParamTick::Quiet => Ok(()),
+        ParamTick::Again(message) => reply(answers, message),
+        ParamTick::NoAnswer(_) => report(last, News::Params(None)),
     }
-    Ok(())
 }
 
 // One message is sent, and nothing ends.
@@ -102,7 +100,7 @@ fn asked(alloc: Global, message: Message) -> Result<Served, OrderFault>
     ensures fault { IfErr result (λ fault. fault ≡ Node NoMemory) }
 {
     let mut answers = Vec::new(alloc);
-    match answers.push(message) {
+    match reply(&mut answers, message) {
         Ok(()) => Ok(Served {
             answers,
             last: Vec::new(alloc),
