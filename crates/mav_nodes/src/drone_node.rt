@@ -174,6 +174,19 @@ impl DroneNode {
         }
     }
 
+    /// Drops it part by part: a deep value is dropped where nothing else is owned.
+    pub fn discard(self) {
+        let DroneNode {
+            alloc: _,
+            link,
+            drone,
+            services,
+        } = self;
+        link.discard();
+        discard(drone);
+        services.discard();
+    }
+
     /// Where the drone starts, and returns to.
     pub fn home(&self) -> Point
         ensures { result ≡ self.now.services.sim.home }

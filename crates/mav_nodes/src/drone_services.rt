@@ -95,6 +95,9 @@ impl DroneServices {
         })
     }
 
+    /// Drops them where nothing else is owned.
+    pub(crate) fn discard(self) {}
+
     /// The drone that is simulated.
     pub(crate) fn sim(&self) -> &Sim
         ensures { result.now ≡ self.now.sim }

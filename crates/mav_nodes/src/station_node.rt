@@ -138,6 +138,9 @@ fn is_for_services(order: &Order) -> bool
     )
 }
 
+// Drops it where nothing else is owned.
+fn discard(_station: Station) {}
+
 impl StationNode {
     /// A station with this stream and boot time in microseconds. It knows the messages of the profile. All its
     /// memory is allocated here, but for the news.
@@ -170,6 +173,19 @@ impl StationNode {
                 Err(refused)
             }
         }
+    }
+
+    /// Drops it part by part: a deep value is dropped where nothing else is owned.
+    pub fn discard(self) {
+        let StationNode {
+            alloc: _,
+            link,
+            station,
+            services,
+        } = self;
+        link.discard();
+        discard(station);
+        services.discard();
     }
 
     /// Takes a datagram as a whole input by itself: each of its frames in order, and each reply is sent before the next

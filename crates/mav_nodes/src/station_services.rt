@@ -163,7 +163,7 @@ impl StationServices {
         ensures refused { IfErr result (λ fault. RefusesService self.old order fault) }
         ensures unchanged { IfErr result (λ fault. KeepsService self.old self.new fault) }
     {
-        let message = match order {
+        match order {
             Order::Command {
                 drone,
                 command,
@@ -172,31 +172,30 @@ impl StationServices {
                 .commander
                 .issue(drone, command, [word, 0, 0, 0, 0, 0, 0])
             {
-                Ok(message) => message,
-                Err(busy) => return Err(OrderFault::Command(busy)),
+                Ok(message) => asked(alloc, message),
+                Err(busy) => Err(OrderFault::Command(busy)),
             },
             Order::ParamRead { drone, id } => match self.client.read(drone, id) {
-                Ok(message) => message,
-                Err(busy) => return Err(OrderFault::Param(busy)),
+                Ok(message) => asked(alloc, message),
+                Err(busy) => Err(OrderFault::Param(busy)),
             },
             Order::ParamSet { drone, param } => match self.client.set(drone, param) {
-                Ok(message) => message,
-                Err(busy) => return Err(OrderFault::Param(busy)),
+                Ok(message) => asked(alloc, message),
+                Err(busy) => Err(OrderFault::Param(busy)),
             },
             Order::ParamList { drone } => match self.client.list(drone) {
-                Ok(message) => message,
-                Err(busy) => return Err(OrderFault::Param(busy)),
+                Ok(message) => asked(alloc, message),
+                Err(busy) => Err(OrderFault::Param(busy)),
             },
             Order::File { drone, op } => match self.files.begin(drone, op) {
-                Ok(message) => message,
-                Err(fault) => return Err(OrderFault::File(fault)),
+                Ok(message) => asked(alloc, message),
+                Err(fault) => Err(OrderFault::File(fault)),
             },
-            _ => return Ok(Served {
+            _ => Ok(Served {
                 answers: Vec::new(alloc),
                 last: Vec::new(alloc),
             }),
-        };
-        asked(alloc, message)
+        }
     }
 }
 

@@ -1,17 +1,18 @@
-use Rattle.std.proofs.Common.{Bool, true, ◌∷◌, [], ap, ◌∙◌, sym, subst}
+use Rattle.std.proofs.Common.{Bool, true, inl, refl, ◌∷◌, [], ap, ◌∙◌, sym, subst}
 use Rattle.std.proofs.lemmas.List.{append-nil, map-append}
 use Rattle.mav_nodes.specs.declared.news.News.TheVariants.{Dropped as NewsDropped}
 use Rattle.mav_nodes.specs.News.{said_by, events_of}
 use Rattle.mav_nodes.specs.Links.{Outcome, tries}
-use Rattle.mav_nodes.specs.Stores.{HasFailed}
+use Rattle.mav_nodes.specs.Stores.{HasFailed, IsKept}
 use Rattle.mav_nodes.specs.Steps.{Side, steps_noted, serves, hears}
 use Rattle.mav_nodes.specs.Cores.{IsNode, NodeDid, rules_of}
 use Rattle.mav_nodes.specs.Promises.{IsTried, Fails}
 use Rattle.mav_nodes.proofs.Cores.{if_ok, if_err, hears_plan, hears_service, hears_other, hears_dropped}
 use Rattle.std.proofs.lemmas.Result.{err_from_is_err_and}
 use Rattle.mav_nodes.specs.declared.faults.NodeFault.{NodeFault}
-use Rattle.mav_nodes.proofs.StoreCalls.{then_failed}
-use Rattle.mav_nodes.proofs.Keeping.{frame_fails, served_fails}
+use Rattle.mav_nodes.proofs.Ends.{on_ok}
+use Rattle.mav_nodes.proofs.StoreCalls.{then_failed, serves_both}
+use Rattle.mav_nodes.proofs.Keeping.{kept_so, store_fails, frame_fails, served_fails}
 use Rattle.mav_nodes.proofs.node.hear.Goals as goal
 
 pub returns-in-Plan-clause-done : goal.returns-in-Plan-clause-done
@@ -77,3 +78,92 @@ returns-in_err-serve-in-Service-clause-fault g c =
     (then_failed faults sure c.args.keeper.now then now c.hear.ensures.serves)
     (λ node is. (record node { link = tries frame node.link }, record { link = c.in_ok-from.ensures.link node.link is.link; core = is.core; served = is.served }, hears_service (rules_of g.C.Core.taken g.V.Services.noted g.V.Services.served true) c.args.clock node frame from message (subst (IsTried node.link c.args.frame.now) c.in-Service.is (c.in_ok-from.ensures.tried node.link is.link))))
     (subst (λ (f : NodeFault). Fails f (λ (node : Side g.row.C.Denot g.row.V.Denot). IsNode node c.hear.new.self c.args.core.now c.args.services.now) one (HasFailed faults sure then now)) (sym p.2) c.in_err-serve-in-Service.ensures.fault))
+
+pub returns-in_err-from : goal.returns-in_err-from
+returns-in_err-from g c =
+    let p = err_from_is_err_and c.from_residual.result c.from_residual.ensures.1 in
+    let faults = g.K.Keeper.faults in
+    let sure = g.K.Keeper.is_infallible in
+    let old = c.args.keeper.now in
+    let now = c.hear.new.keeper in
+    rw (p.1, p.2) (record {
+      done = tt;
+      unkept = tt;
+      stored = tt;
+      reader = c.hear.ensures.reader;
+      serves = c.hear.ensures.serves;
+      fault = store_fails _ (λ (node : Side g.row.C.Denot g.row.V.Denot). IsNode node c.args.link.now c.args.core.now c.args.services.now) (λ (kept : Bool) (node : Side g.row.C.Denot g.row.V.Denot). hears (rules_of g.C.Core.taken g.V.Services.noted g.V.Services.served kept) c.args.clock c.args.frame.now node) (λ (kept : Bool). IsKept kept (HasFailed faults sure old now)) faults sure old now (HasFailed faults sure old now) (λ failed. failed) c.in_err-from.ensures.fault;
+    })
+
+pub returns-in-Plan-clause-unkept : goal.returns-in-Plan-clause-unkept
+returns-in-Plan-clause-unkept g c =
+    if_ok c.take.result (λ kept is. kept_so kept (then_failed g.K.Keeper.faults g.K.Keeper.is_infallible c.args.keeper.now c.hear.new.keeper c.take.new.keeper c.hear.ensures.serves) is) c.take.ensures.unkept
+
+pub returns-in-Plan-clause-stored : goal.returns-in-Plan-clause-stored
+returns-in-Plan-clause-stored g c = on_ok c.take.result (λ held h. held (c.in_ok-from.ensures.stored h)) c.take.ensures.stored
+
+pub returns-in-Plan-clause-reader : goal.returns-in-Plan-clause-reader
+returns-in-Plan-clause-reader g c = c.take.ensures.reader ∙ c.hear.ensures.reader
+
+pub returns-in-Plan-clause-serves : goal.returns-in-Plan-clause-serves
+returns-in-Plan-clause-serves g c =
+    serves_both g.K.Keeper.faults g.K.Keeper.is_infallible c.args.keeper.now c.hear.new.keeper c.take.new.keeper c.hear.ensures.serves c.take.ensures.serves
+
+pub returns-in_ok-serve-in-Service-clause-unkept : goal.returns-in_ok-serve-in-Service-clause-unkept
+returns-in_ok-serve-in-Service-clause-unkept g c = inl refl
+
+pub returns-in_ok-serve-in-Service-clause-stored : goal.returns-in_ok-serve-in-Service-clause-stored
+returns-in_ok-serve-in-Service-clause-stored g c = λ held. c.in_ok-serve-in-Service.ensures.stored (c.in_ok-from.ensures.stored held)
+
+pub returns-in_ok-serve-in-Service-clause-reader : goal.returns-in_ok-serve-in-Service-clause-reader
+returns-in_ok-serve-in-Service-clause-reader g c = c.serve.ensures.reader ∙ c.hear.ensures.reader
+
+pub returns-in_ok-serve-in-Service-clause-serves : goal.returns-in_ok-serve-in-Service-clause-serves
+returns-in_ok-serve-in-Service-clause-serves g c =
+    serves_both g.K.Keeper.faults g.K.Keeper.is_infallible c.args.keeper.now c.hear.new.keeper c.serve.new.keeper c.hear.ensures.serves c.serve.ensures.serves
+
+pub returns-in_err-serve-in-Service-clause-done : goal.returns-in_err-serve-in-Service-clause-done
+returns-in_err-serve-in-Service-clause-done g c =
+    let p = err_from_is_err_and c.from_residual-in_err-serve-in-Service.result c.from_residual-in_err-serve-in-Service.ensures.1 in
+    rw p.1 tt
+
+pub returns-in_err-serve-in-Service-clause-unkept : goal.returns-in_err-serve-in-Service-clause-unkept
+returns-in_err-serve-in-Service-clause-unkept g c =
+    let p = err_from_is_err_and c.from_residual-in_err-serve-in-Service.result c.from_residual-in_err-serve-in-Service.ensures.1 in
+    rw p.1 tt
+
+pub returns-in_err-serve-in-Service-clause-stored : goal.returns-in_err-serve-in-Service-clause-stored
+returns-in_err-serve-in-Service-clause-stored g c =
+    let p = err_from_is_err_and c.from_residual-in_err-serve-in-Service.result c.from_residual-in_err-serve-in-Service.ensures.1 in
+    rw p.1 tt
+
+pub returns-in_err-serve-in-Service-clause-reader : goal.returns-in_err-serve-in-Service-clause-reader
+returns-in_err-serve-in-Service-clause-reader g c = c.serve.ensures.reader ∙ c.hear.ensures.reader
+
+pub returns-in_err-serve-in-Service-clause-serves : goal.returns-in_err-serve-in-Service-clause-serves
+returns-in_err-serve-in-Service-clause-serves g c =
+    serves_both g.K.Keeper.faults g.K.Keeper.is_infallible c.args.keeper.now c.hear.new.keeper c.serve.new.keeper c.hear.ensures.serves c.serve.ensures.serves
+
+pub returns-in_err-tell-in-Dropped : goal.returns-in_err-tell-in-Dropped
+returns-in_err-tell-in-Dropped g c =
+    let p = err_from_is_err_and c.from_residual-in_err-tell-in-Dropped.result c.from_residual-in_err-tell-in-Dropped.ensures.1 in
+    rw (p.1, p.2, c.in_err-tell-in-Dropped.ensures.fault) (record {
+      done = tt;
+      unkept = tt;
+      stored = tt;
+      reader = c.hear.ensures.reader;
+      serves = c.hear.ensures.serves;
+      fault = tt;
+    })
+
+pub returns-in-Other-clause-unkept : goal.returns-in-Other-clause-unkept
+returns-in-Other-clause-unkept g c = inl refl
+
+pub returns-in-Other-clause-stored : goal.returns-in-Other-clause-stored
+returns-in-Other-clause-stored g c = c.in_ok-from.ensures.stored
+
+pub returns-in_ok-tell-in-Dropped-clause-unkept : goal.returns-in_ok-tell-in-Dropped-clause-unkept
+returns-in_ok-tell-in-Dropped-clause-unkept g c = inl refl
+
+pub returns-in_ok-tell-in-Dropped-clause-stored : goal.returns-in_ok-tell-in-Dropped-clause-stored
+returns-in_ok-tell-in-Dropped-clause-stored g c = c.in_ok-from.ensures.stored
