@@ -120,7 +120,9 @@ pub fn run_drone<L: Link, K: Sink, C: Clock, S: Keeper>(
             };
             let mut teller = Teller::new(alloc, name);
             let mut live = LiveNode::Drone(drone);
-            run_live(&mut live, &mut teller, plan.turns, link, out, clock, keeper)
+            let ended = run_live(&mut live, &mut teller, plan.turns, link, out, clock, keeper);
+            live.discard();
+            ended
         }
         Err(fault) => Err(start_end(fault)),
     }

@@ -70,6 +70,14 @@ fn station_part(station: &mut StationNode, piece: &[u8], clock: u64) -> Result<V
 }
 
 impl LiveNode {
+    /// Drops it where nothing else is owned.
+    pub(crate) fn discard(self) {
+        match self {
+            LiveNode::Drone(drone) => drone.discard(),
+            LiveNode::Station(station) => station.discard(),
+        }
+    }
+
     /// Takes a piece of the stream, and hears the frames that it completes.
     pub(crate) fn part<S: Keeper>(
         &mut self,

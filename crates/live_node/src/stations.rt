@@ -248,5 +248,6 @@ pub fn run_station<L: Link, K: Sink, C: Clock>(
         clock,
         &mut keeper,
     );
+    live.discard();
     give(ended, out)
 }
