@@ -1,9 +1,9 @@
-use Rattle.std.proofs.Common.{◌++◌, ℕ, List, None, sym, ap, ◌∙◌, subst}
+use Rattle.std.proofs.Common.{◌++◌, List, sym, ap, ◌∙◌, subst}
 use Rattle.std.proofs.lemmas.List.{map-append}
 use Rattle.std.proofs.lemmas.Result.{err_from_is_err_and}
 use Rattle.mav_messages.specs.declared.messages.Message.{Message}
 use Rattle.mav_nodes.specs.News.{Shown, said_by, events_of}
-use Rattle.mav_nodes.specs.Links.{Link, IsLink, LinkView, sends_all}
+use Rattle.mav_nodes.specs.Links.{Link, IsLink, sends_all}
 use Rattle.mav_nodes.specs.Steps.{Side, serves}
 use Rattle.mav_nodes.specs.Stores.{HasFailed}
 use Rattle.mav_nodes.specs.Promises.{LinkDid}

@@ -1,14 +1,41 @@
-use Rattle.std.proofs.Common.{sym, ap, ◌∙◌, subst}
+use Rattle.std.proofs.Common.{◌≡◌, ℕ, Bool, List, Option, Some, None, refl, sym, ap, ◌∙◌, subst}
+use Rattle.plan_items.specs.declared.messages.PlanMsg.{PlanMsg}
+use Rattle.mav_nodes.specs.Steps.{Side, steps_noted}
 use Rattle.std.proofs.lemmas.Result.{err_from_is_err_and}
 use Rattle.mav_nodes.specs.declared.faults.NodeFault.{NodeFault}
 use Rattle.mav_nodes.specs.Links.{Link, IsLink}
-use Rattle.mav_nodes.specs.Stores.{HasFailed}
-use Rattle.mav_nodes.specs.Cores.{IsStep, says}
+use Rattle.mav_nodes.specs.Stores.{Holds, HoldsNearly, StoredBefore, HasFailed, IsKept}
+use Rattle.mav_nodes.specs.Cores.{IsStep, IsNode, says}
 use Rattle.mav_nodes.specs.Promises.{Fails}
 use Rattle.mav_nodes.proofs.Cores.{stepped}
-use Rattle.mav_nodes.proofs.StoreCalls.{failed_then, then_failed}
-use Rattle.mav_nodes.proofs.Keeping.{kept_so, step_fails}
+use Rattle.mav_nodes.proofs.StoreCalls.{failed_then, then_failed, serves_both}
+use Rattle.mav_nodes.proofs.Keeping.{kept_so, store_fails, step_fails}
 use Rattle.mav_nodes.proofs.node.take.Goals as goal
+
+-- what the store has before the reply
+stored_before : {Core : Type 0} (contents : Option (List ℕ)) (stored : Core → ℕ → List ℕ → Type 0) (view core : Core) (given answer : Option PlanMsg) (low : Option ℕ) → view ≡ core → given ≡ answer → (answer ≡ None → Holds contents (stored core) low) → HoldsNearly contents (stored core) low → StoredBefore given contents (stored view) low
+stored_before {Core} contents stored view core given answer low same is silent nearly =
+    subst (λ (c : Core). StoredBefore given contents (stored c) low) (sym same) (subst (λ (a : Option PlanMsg). StoredBefore a contents (stored core) low) (sym is) (by_answer answer silent))
+  where
+    by_answer : (a : Option PlanMsg) → (a ≡ None → Holds contents (stored core) low) → StoredBefore a contents (stored core) low
+    by_answer None f = f refl
+    by_answer (Some message) f = nearly
+
+pub returns-in_err-kept : goal.returns-in_err-kept
+returns-in_err-kept g c =
+    let p = err_from_is_err_and c.from_residual.result c.from_residual.ensures.1 in
+    let faults = g.K.Keeper.faults in
+    let sure = g.K.Keeper.is_infallible in
+    let old = c.args.keeper.now in
+    let now = c.save_step.new.keeper in
+    rw (p.1, p.2) (record {
+      done = tt;
+      unkept = tt;
+      stored = tt;
+      reader = refl;
+      serves = c.save_step.ensures.serves;
+      fault = store_fails _ (λ (node : Side g.row.C.Denot g.row.V.Denot). IsNode node c.args.link.now c.args.core.now c.args.services.now) (λ (kept : Bool) (node : Side g.row.C.Denot g.row.V.Denot). steps_noted g.V.Services.noted c.args.clock node.link node.services (g.C.Core.taken kept node.core c.args.from c.args.message.now)) (λ (kept : Bool). IsKept kept (HasFailed faults sure old now)) faults sure old now (HasFailed faults sure old now) (λ failed. failed) c.in_err-kept.ensures.fault;
+    })
 
 pub returns-in_err-say-clause-fault : goal.returns-in_err-say-clause-fault
 returns-in_err-say-clause-fault g c =
@@ -34,3 +61,19 @@ returns-clause-done g c =
     let s = subst (λ (core : g.row.C.Denot). IsStep (g.C.Core.taken kept core c.args.from c.args.message.now) c.take-step.new.self step) is.core c.take-step.ensures in
     let noted = c.note.ensures did.first s.first ∙ ap (λ (v : g.row.V.Denot). g.V.Services.noted v did.first) is.served in
     stepped c.args.clock node.link (g.V.Services.noted node.services did.first) c.note.new.self did c.take-step.new.self step c.say.new.self c.args.news.now.items c.say.new.news.items noted s (c.in_ok-say.ensures.said node.link did.first did.last is.link s.first s.last)
+
+pub returns-clause-unkept : goal.returns-clause-unkept
+returns-clause-unkept g c =
+    kept_so c.in_ok-kept.kept (λ failed. failed_then g.K.Keeper.faults g.K.Keeper.is_infallible c.args.keeper.now c.save_step.new.keeper c.say.new.keeper failed c.say.ensures.serves) c.in_ok-kept.ensures.unkept
+
+pub returns-clause-stored : goal.returns-clause-stored
+returns-clause-stored g c = λ held.
+    let step = c.take-step.result in
+    let did = g.C.Core.taken c.in_ok-kept.kept c.args.core.now c.args.from c.args.message.now in
+    let before = subst (Holds (g.K.Keeper.contents c.args.keeper.now) (g.C.Core.stored c.args.core.now)) (sym c.low.ensures.low) held in
+    c.in_ok-say.ensures.stored (subst (λ (low : Option ℕ). StoredBefore step.answer (g.K.Keeper.contents c.save_step.new.keeper) (g.C.Core.stored c.take-step.new.self) low) c.low.ensures.low
+    (stored_before (g.K.Keeper.contents c.save_step.new.keeper) g.C.Core.stored c.take-step.new.self did.core step.answer did.answer c.low.result c.take-step.ensures.core c.take-step.ensures.answer (λ none. c.in_ok-kept.ensures.silent none before) (c.in_ok-kept.ensures.nearly before)))
+
+pub returns-clause-serves : goal.returns-clause-serves
+returns-clause-serves g c =
+    serves_both g.K.Keeper.faults g.K.Keeper.is_infallible c.args.keeper.now c.save_step.new.keeper c.say.new.keeper c.save_step.ensures.serves c.say.ensures.serves

@@ -1,4 +1,4 @@
-use Rattle.std.proofs.Common.{◌≡◌, ◌⊎◌, ◌<◌, ℕ, List, [], Option, Some, None, Result, Ok, Err, true, inl, inr, false, ap, refl, arith, ◌^◌, ◌∙◌, sym, subst}
+use Rattle.std.proofs.Common.{◌≡◌, ◌⊎◌, ◌<◌, ℕ, List, [], Option, Some, None, Result, Ok, Err, true, inl, inr, false, refl, arith, ◌^◌}
 use Rattle.std.specs.Prelude.{IfSome, unwrap_or}
 use Rattle.std.proofs.lemmas.Result.{err_from_is_err_and}
 use Rattle.mav_ports.specs.Counts.{Rose}
@@ -8,7 +8,6 @@ use Rattle.plan_store.specs.declared.keepers.KeepFault.TheVariants.{Store as Kep
 use Rattle.plan_store.specs.declared.saves.Stored.{Stored}
 use Rattle.plan_store.specs.declared.saves.Stored.TheVariants.{New, Old}
 use Rattle.mav_nodes.specs.Stores.{Holds, HoldsNearly, AreStored, HasFailedAt, fault_of}
-use Rattle.mav_nodes.specs.declared.faults.NodeFault.{NodeFault}
 use Rattle.mav_nodes.proofs.StoreCalls.{serves_same}
 use Rattle.mav_nodes.proofs.stores.save_step.Goals as goal
 

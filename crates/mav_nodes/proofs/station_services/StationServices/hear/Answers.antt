@@ -1,4 +1,4 @@
-use Rattle.std.proofs.Common.{◌≡◌, ◌++◌, [], ◌∷◌, ℕ, Bool, true, false, if◌then◌else◌, List, subst, Option, Some, None, map, refl, sym, ap, ◌∙◌}
+use Rattle.std.proofs.Common.{◌≡◌, ◌++◌, [], ℕ, Bool, true, false, if◌then◌else◌, List, subst, Option, Some, None, map, refl, sym, ap, ◌∙◌}
 use Rattle.std.specs.Prelude.{option_map, ◌==◌, nat_lt, nat_le, length}
 use Rattle.std.proofs.lemmas.List.{map-append}
 use Rattle.std.proofs.lemmas.Result.{err_from_is_err_and}
@@ -7,7 +7,7 @@ use Rattle.mav_names.specs.Addresses.{same_stream}
 use Rattle.mav_messages.specs.declared.messages.Message.{Message}
 use Rattle.mav_messages.specs.declared.messages.Message.TheVariants.{Heartbeat, Ping, ParamRequestRead, ParamRequestList, ParamValue, ParamSet, GlobalPositionInt, MissionCurrent, MissionRequestList, MissionCount, MissionClearAll, MissionItemReached, MissionAck, MissionRequestInt, MissionItemInt, CommandLong, CommandAck, FileTransferProtocol, Statustext}
 use Rattle.command_proto.specs.Commander.{CommanderState, CommanderStep, CommandEnd, Result, commander_step, ack_comes, acknowledged, counts, waits_on}
-use Rattle.param_proto.specs.Client.{ClientState, ClientStep, ParamsEnd, One_value, All_values, No_answer, Operation, Task, Reads, Sets_to, All_listed, client_step, told, answered, value_comes, one_comes, listed, heard_at, was_taken, with_value, param_in, known_values, rests}
+use Rattle.param_proto.specs.Client.{ClientState, ClientStep, Operation, Task, Reads, Sets_to, All_listed, client_step, told, answered, value_comes, one_comes, listed, heard_at, was_taken, with_value, param_in, known_values, rests}
 use Rattle.param_proto.specs.Params.{same_id}
 use Rattle.command_proto.specs.declared.commands.Issue.{Issue}
 use Rattle.param_proto.specs.Ends.{end_told}
