@@ -11,3 +11,5 @@ mod OneNumber
 mod WireWords
 mod NodesHeld
 mod Taken
+mod PortLists
+mod TwoWords

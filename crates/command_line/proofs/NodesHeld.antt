@@ -79,6 +79,17 @@ not_four file_given (x ∷ y ∷ []) few = refl
 not_four file_given (x ∷ y ∷ z ∷ []) few = refl
 not_four file_given (x ∷ y ∷ z ∷ w ∷ ws) few = absurd (omega (arith, few))
 
+-- a station's words of which one isn't read
+module _ (file_given : Bool) (ws : List (List ℕ)) (sys comp drone port : List ℕ) (op : List (List ℕ)) (are : ws ≡ sys ∷ comp ∷ drone ∷ port ∷ op) where
+  pub no_system : None ≡ number_in 1 255 sys → is_station file_given ws ≡ false
+  no_system none = ap (is_station file_given) are ∙ and_left (is_node sys) _ (ap is_some (sym none))
+
+  pub no_task : None ≡ task_in file_given comp drone op → is_station file_given ws ≡ false
+  no_task none = ap (is_station file_given) are ∙ and_right (is_node sys) _ (and_left (is_some (task_in file_given comp drone op)) (is_port port) (ap is_some (sym none)))
+
+  pub no_port : is_port port ≡ false → is_station file_given ws ≡ false
+  no_port none = ap (is_station file_given) are ∙ and_right (is_node sys) _ (and_right (is_some (task_in file_given comp drone op)) (is_port port) none)
+
 -- one port
 port_is : (port : List ℕ) (ports : List Port) → OnePort port ports → map port_text ports ≡ port ∷ []
 port_is port ports one = ap (map port_text) one.ports_are ∙ ap (λ (w : List ℕ). w ∷ []) one.word_is
