@@ -30,7 +30,9 @@ pub fn run_show<S: Source, K: Sink>(
     ensures sound { ¬ IsErrOf result RunEnd.WriteFault → K.faults out.new ≡ K.faults out.old }
 {
     let mut show = Show::new(alloc, known)?;
-    run_teller(alloc, &mut show, main, out)
+    let end = run_teller(alloc, &mut show, main, out);
+    show.discard();
+    end
 }
 
 /// Writes the rows of a log whose frames are of a system, as they are.
@@ -49,7 +51,9 @@ pub fn run_filter<S: Source, K: Sink>(
     ensures sound { ¬ IsErrOf result RunEnd.WriteFault → K.faults out.new ≡ K.faults out.old }
 {
     let mut filter = Filter::new(alloc, known, sys)?;
-    run_teller(alloc, &mut filter, main, out)
+    let end = run_teller(alloc, &mut filter, main, out);
+    filter.discard();
+    end
 }
 
 /// Writes the frames of a stream as rows, the first at `start` and each 1,000 microseconds after the one before.
@@ -69,5 +73,7 @@ pub fn run_make<S: Source, K: Sink>(
     ensures sound { ¬ IsErrOf result RunEnd.WriteFault → K.faults out.new ≡ K.faults out.old }
 {
     let mut make = Make::new(alloc, known, start)?;
-    run_teller(alloc, &mut make, main, out)
+    let end = run_teller(alloc, &mut make, main, out);
+    make.discard();
+    end
 }

@@ -9,7 +9,7 @@ ghost use Rattle.mav_log.specs.RowsMade.{row_of};
 ghost use Rattle.mav_log.specs.Tellers.{IsRowOf};
 
 use crate::scanner::LogScanner;
-use crate::tellers::Teller;
+use crate::tellers::{Teller, discard};
 use dialect::Dialect;
 use log_rows::RowSpan;
 use mav_frame::OLD_STX;
@@ -52,9 +52,16 @@ impl Filter {
     pub(crate) fn new(alloc: Global, known: Dialect, sys: u8) -> Result<Filter, NoMemory>
         ensures { IfOk result (λ filter. filter ≡ record { known = known; sys = sys; reader = no_bytes_held (extras_of known) }) }
     {
-        let reader = LogScanner::new(alloc, known.extras().copy()?)?;
-        Ok(Filter { known, sys, reader })
+        match LogScanner::of(alloc, &known) {
+            Ok(reader) => Ok(Filter { known, sys, reader }),
+            Err(fault) => {
+                discard(known);
+                Err(fault)
+            }
+        }
     }
+
+    pub(crate) fn discard(self) {}
 
     #[inline]
     fn keep_row(&mut self, size: usize, text: &mut Vec<u8>) -> Result<(), NoMemory>

@@ -6,7 +6,7 @@ ghost use Rattle.mav_scan.specs.Spans.{first_packet};
 ghost use Rattle.mav_stream.specs.Held.{nothing_held};
 ghost use Rattle.log_rows.specs.Rows.{row_encoding};
 
-use crate::tellers::Teller;
+use crate::tellers::{Teller, discard};
 use dialect::Dialect;
 use mav_ports::NoMemory;
 use mav_scan::{NextSpan, Scanner};
@@ -36,19 +36,33 @@ impl Model for Make {
     ghost invariant = { λ m. m.start ≤ 4000000000000000 };
 }
 
+// A reader of frames of both versions that have these messages.
+fn scanner_of(alloc: Global, known: &Dialect) -> Result<Scanner, NoMemory>
+    ensures { IfOk result (λ scanner. scanner ≡ nothing_held (extras_of known.now) true) }
+{
+    Scanner::new(alloc, known.extras().copy()?, true)
+}
+
 impl Make {
     pub(crate) fn new(alloc: Global, known: Dialect, start: u64) -> Result<Make, NoMemory>
         requires { start ≤ 4000000000000000 }
         ensures { IfOk result (λ make. make ≡ record { known = known; start = start; reader = nothing_held (extras_of known) true; rows = 0 }) }
     {
-        let reader = Scanner::new(alloc, known.extras().copy()?, true)?;
-        Ok(Make {
-            known,
-            start,
-            reader,
-            rows: 0,
-        })
+        match scanner_of(alloc, &known) {
+            Ok(reader) => Ok(Make {
+                known,
+                start,
+                reader,
+                rows: 0,
+            }),
+            Err(fault) => {
+                discard(known);
+                Err(fault)
+            }
+        }
     }
+
+    pub(crate) fn discard(self) {}
 
     // Adds the frame at the start of what is held as a row.
     #[inline]

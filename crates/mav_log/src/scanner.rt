@@ -1,10 +1,12 @@
 // A log that is read in large pieces.
 ghost use Rattle.std.specs.Prelude.{◌≡◌, ◌+◌, ◌<◌, ◌≤◌, ◌++◌, ℕ, List, length, drop, true, IfOk};
+ghost use Rattle.mav_profile.specs.Messages.{extras_of};
 ghost use Rattle.log_rows.specs.LogParse.{LogEvent};
 ghost use Rattle.log_rows.specs.Progress.{LogProgress, IsWholeLog, no_bytes_held};
 ghost use Rattle.log_rows.specs.Spans.{span_events, span_size, held_behind, IfNeed, IfSome, IfRow};
 ghost use Rattle.mav_log.specs.Tellers.{IsRowOf};
 
+use dialect::Dialect;
 use log_rows::{RowSpan, row_span};
 use mav_ports::NoMemory;
 use mav_scan::Scanner;
@@ -40,6 +42,15 @@ impl LogScanner {
             ended: false,
         })
     }
+
+    /// A reader of frames that have these messages.
+    pub(crate) fn of(alloc: Global, known: &Dialect) -> Result<LogScanner, NoMemory>
+        ensures { IfOk result (λ scanner. scanner ≡ no_bytes_held (extras_of known.now)) }
+    {
+        LogScanner::new(alloc, known.extras().copy()?)
+    }
+
+    pub(crate) fn discard(self) {}
 
     /// Takes the next bytes, for which there is room.
     pub(crate) fn feed(&mut self, piece: &[u8])

@@ -10,7 +10,7 @@ ghost use Rattle.log_rows.specs.Progress.{no_bytes_held};
 ghost use Rattle.mav_log.specs.LogText.{counts_line, row_line};
 
 use crate::scanner::LogScanner;
-use crate::tellers::Teller;
+use crate::tellers::{Teller, discard};
 use dialect::Dialect;
 use log_rows::RowSpan;
 use mav_frame::Why;
@@ -93,16 +93,30 @@ impl Show {
     pub(crate) fn new(alloc: Global, known: Dialect) -> Result<Show, NoMemory>
         ensures { IfOk result (λ show. show ≡ record { known = known; reader = no_bytes_held (extras_of known); offset = 0; rows = 0; skipped = 0 }) }
     {
-        let reader = LogScanner::new(alloc, known.extras().copy()?)?;
-        Ok(Show {
-            templates: LineTemplates::new(alloc, known)?,
-            reader,
-            chunk: Chunk::new(),
-            offset: 0,
-            rows: 0,
-            skipped: 0,
-        })
+        let reader = match LogScanner::of(alloc, &known) {
+            Ok(reader) => reader,
+            Err(fault) => {
+                discard(known);
+                return Err(fault);
+            }
+        };
+        match LineTemplates::new(alloc, known) {
+            Ok(templates) => Ok(Show {
+                templates,
+                reader,
+                chunk: Chunk::new(),
+                offset: 0,
+                rows: 0,
+                skipped: 0,
+            }),
+            Err(fault) => {
+                reader.discard();
+                Err(fault)
+            }
+        }
     }
+
+    pub(crate) fn discard(self) {}
 
     fn show_row(&mut self, size: usize, text: &mut Vec<u8>) -> Result<(), NoMemory>
         requires size { size ≤ length self.old.reader.bytes }

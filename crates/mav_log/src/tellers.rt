@@ -1,7 +1,10 @@
 // What a command makes of the bytes of an input.
 ghost use Rattle.std.specs.Prelude.{◌≡◌, ◌<◌, ◌≤◌, ◌+◌, ◌*◌, ◌++◌, ℕ, Bool, List, length, true, false, OnOk, IfOk};
 
+use dialect::Dialect;
 use mav_ports::NoMemory;
+
+pub(crate) fn discard(_known: Dialect) {}
 
 /// A text that is made of the bytes of an input as they come.
 pub(crate) trait Teller {

@@ -15,23 +15,23 @@ returns-in_err-filter-clause-untold g c =
 pub returns-in_err-filter-clause-sound : goal.returns-in_err-filter-clause-sound
 returns-in_err-filter-clause-sound g c = λ other. refl
 
-pub run_teller-requires-clause-room : goal.run_teller-requires-clause-room
-run_teller-requires-clause-room g c = filter_room c.args.known c.args.sys c.in_ok-filter.filter c.in_ok-filter.ensures
+pub run_teller-end-requires-clause-room : goal.run_teller-end-requires-clause-room
+run_teller-end-requires-clause-room g c = filter_room c.args.known c.args.sys c.in_ok-filter.filter c.in_ok-filter.ensures
 
-pub run_teller-requires-clause-load : goal.run_teller-requires-clause-load
-run_teller-requires-clause-load g c = refl
+pub run_teller-end-requires-clause-load : goal.run_teller-end-requires-clause-load
+run_teller-end-requires-clause-load g c = refl
 
-pub run_teller-requires-clause-new : goal.run_teller-requires-clause-new
-run_teller-requires-clause-new g c = filter_new c.args.known c.args.sys c.in_ok-filter.filter c.in_ok-filter.ensures
+pub run_teller-end-requires-clause-new : goal.run_teller-end-requires-clause-new
+run_teller-end-requires-clause-new g c = filter_new c.args.known c.args.sys c.in_ok-filter.filter c.in_ok-filter.ensures
 
-pub run_teller-requires-clause-nothing : goal.run_teller-requires-clause-nothing
-run_teller-requires-clause-nothing g c = refl
+pub run_teller-end-requires-clause-nothing : goal.run_teller-end-requires-clause-nothing
+run_teller-end-requires-clause-nothing g c = refl
 
 pub returns-clause-untold : goal.returns-clause-untold
 returns-clause-untold g c =
     let f = c.in_ok-filter.filter in
-    same_run (filter_telling f.known f.sys) (filter_telling c.args.known c.args.sys) _ (g.S.Source.left c.args.main.now) (g.S.Source.left c.run_teller.new.main) (g.K.Sink.sent c.args.out.now) (g.K.Sink.sent c.run_teller.new.out) (result_err c.run_teller.result)
-    (ap (λ (z : Filtering). filter_telling z.known z.sys) c.in_ok-filter.ensures) c.run_teller.ensures.untold
+    same_run (filter_telling f.known f.sys) (filter_telling c.args.known c.args.sys) _ (g.S.Source.left c.args.main.now) (g.S.Source.left c.run_teller-end.new.main) (g.K.Sink.sent c.args.out.now) (g.K.Sink.sent c.run_teller-end.new.out) (result_err c.run_teller-end.result)
+    (ap (λ (z : Filtering). filter_telling z.known z.sys) c.in_ok-filter.ensures) c.run_teller-end.ensures.untold
 
 pub returns-clause-sound : goal.returns-clause-sound
-returns-clause-sound g c = λ other. c.run_teller.ensures.sound other
+returns-clause-sound g c = λ other. c.run_teller-end.ensures.sound other

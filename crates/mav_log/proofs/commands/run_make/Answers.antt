@@ -15,23 +15,23 @@ returns-in_err-make-clause-untold g c =
 pub returns-in_err-make-clause-sound : goal.returns-in_err-make-clause-sound
 returns-in_err-make-clause-sound g c = λ other. refl
 
-pub run_teller-requires-clause-room : goal.run_teller-requires-clause-room
-run_teller-requires-clause-room g c = make_room c.args.known c.args.start c.in_ok-make.make c.in_ok-make.ensures
+pub run_teller-end-requires-clause-room : goal.run_teller-end-requires-clause-room
+run_teller-end-requires-clause-room g c = make_room c.args.known c.args.start c.in_ok-make.make c.in_ok-make.ensures
 
-pub run_teller-requires-clause-load : goal.run_teller-requires-clause-load
-run_teller-requires-clause-load g c = make_load c.args.known c.args.start c.in_ok-make.make c.in_ok-make.ensures
+pub run_teller-end-requires-clause-load : goal.run_teller-end-requires-clause-load
+run_teller-end-requires-clause-load g c = make_load c.args.known c.args.start c.in_ok-make.make c.in_ok-make.ensures
 
-pub run_teller-requires-clause-new : goal.run_teller-requires-clause-new
-run_teller-requires-clause-new g c = make_new c.args.known c.args.start c.in_ok-make.make c.in_ok-make.ensures
+pub run_teller-end-requires-clause-new : goal.run_teller-end-requires-clause-new
+run_teller-end-requires-clause-new g c = make_new c.args.known c.args.start c.in_ok-make.make c.in_ok-make.ensures
 
-pub run_teller-requires-clause-nothing : goal.run_teller-requires-clause-nothing
-run_teller-requires-clause-nothing g c = refl
+pub run_teller-end-requires-clause-nothing : goal.run_teller-end-requires-clause-nothing
+run_teller-end-requires-clause-nothing g c = refl
 
 pub returns-clause-untold : goal.returns-clause-untold
 returns-clause-untold g c =
     let m = c.in_ok-make.make in
-    same_run (make_telling m.known m.start) (make_telling c.args.known c.args.start) _ (g.S.Source.left c.args.main.now) (g.S.Source.left c.run_teller.new.main) (g.K.Sink.sent c.args.out.now) (g.K.Sink.sent c.run_teller.new.out) (result_err c.run_teller.result)
-    (ap (λ (z : Making). make_telling z.known z.start) c.in_ok-make.ensures) c.run_teller.ensures.untold
+    same_run (make_telling m.known m.start) (make_telling c.args.known c.args.start) _ (g.S.Source.left c.args.main.now) (g.S.Source.left c.run_teller-end.new.main) (g.K.Sink.sent c.args.out.now) (g.K.Sink.sent c.run_teller-end.new.out) (result_err c.run_teller-end.result)
+    (ap (λ (z : Making). make_telling z.known z.start) c.in_ok-make.ensures) c.run_teller-end.ensures.untold
 
 pub returns-clause-sound : goal.returns-clause-sound
-returns-clause-sound g c = λ other. c.run_teller.ensures.sound other
+returns-clause-sound g c = λ other. c.run_teller-end.ensures.sound other
