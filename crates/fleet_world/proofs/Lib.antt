@@ -16,3 +16,4 @@ pub mod Closings
 pub mod Contexts
 mod NodeFaults
 pub mod Restarting
+mod PlanLines

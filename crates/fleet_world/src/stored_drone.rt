@@ -13,6 +13,7 @@ use plan_store::MemKeeper;
 use plan_upload::Drone;
 use std::alloc::Global;
 use std::marker::Model;
+use std::mem;
 
 /// A drone's node and the store that it was started with.
 #[derive(Drop)]
@@ -28,6 +29,9 @@ impl Model for StoredDrone {
 
     ghost view = { λ d. record { node = d.node; store = d.store } };
 }
+
+// Ends a node.
+fn discard(_node: DroneNode) {}
 
 impl StoredDrone {
     /// A drone of this system, at x and y in units of 1e-7 degrees, over an empty store.
@@ -112,7 +116,8 @@ impl StoredDrone {
     {
         let sys = self.node.plans().sys();
         let home = self.node.home();
-        self.node = DroneNode::start(alloc, key, sys, home.x, home.y, &mut self.store)?;
+        let node = DroneNode::start(alloc, key, sys, home.x, home.y, &mut self.store)?;
+        discard(mem::replace(&mut self.node, node));
         Ok(())
     }
 
