@@ -1,13 +1,14 @@
 -- The row at the start of some bytes, and its system.
-use Rattle.std.proofs.Common.{◌≡◌, ◌≢◌, ◌∙◌, ◌==◌, ◌++◌, ◌-◌, ℕ, List, [], sym, ap, arith, append-nil, length, take, drop, get_or}
+use Rattle.std.proofs.Common.{◌≡◌, ◌≢◌, ◌∙◌, ◌==◌, ◌++◌, ◌-◌, ◌+◌, ℕ, List, [], sym, ap, arith, append-nil, length, take, drop, get_or}
 use Rattle.std.proofs.lemmas.Bool.{eq-eqb, ne_eqb, cond-true, cond-false}
 use Rattle.std.proofs.lemmas.List.{take_all, length-drop}
 use Rattle.mav_frame.specs.Looks.{packet_at}
+use Rattle.mav_stream.specs.Held.{Held}
 use Rattle.log_rows.specs.LogParse.{RowEvent}
 use Rattle.log_rows.specs.Progress.{LogHeld}
 use Rattle.log_rows.specs.Rows.{row_encoding, first_row}
 use Rattle.mav_log.specs.RowsMade.{row_of}
-use Rattle.mav_log.specs.Tellers.{IsRowOf, Filtering}
+use Rattle.mav_log.specs.Tellers.{IsRowOf, Filtering, Making}
 
 pub behind_time : (bytes : List ℕ) → take (length bytes - 8) (drop 8 bytes) ≡ drop 8 bytes
 behind_time bytes = take_all (length bytes - 8) (drop 8 bytes) (omega (arith, length-drop 8 bytes))
@@ -47,3 +48,9 @@ pub row_gone : (now inside : Filtering) (size : ℕ) (reader : LogHeld) → insi
 row_gone now inside size reader same gone =
     ap (λ (z : LogHeld). let f : Filtering = record inside { reader = z } in f) gone
     ∙ ap (λ (f : Filtering). let g : Filtering = record f { reader = record f.reader { bytes = drop size f.reader.bytes } } in g) same
+
+pub row_made : (now inside : Making) (size : ℕ) (reader : Held) → inside ≡ now → reader ≡ record inside.reader { bytes = drop size inside.reader.bytes }
+    → ◌≡◌ {A = Making} (record inside { reader = reader; rows = inside.rows + 1 }) (record now { reader = record now.reader { bytes = drop size now.reader.bytes }; rows = now.rows + 1 })
+row_made now inside size reader same gone =
+    ap (λ (z : Held). let m : Making = record inside { reader = z; rows = inside.rows + 1 } in m) gone
+    ∙ ap (λ (m : Making). let n : Making = record m { reader = record m.reader { bytes = drop size m.reader.bytes }; rows = m.rows + 1 } in n) same
