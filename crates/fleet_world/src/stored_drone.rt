@@ -30,9 +30,6 @@ impl Model for StoredDrone {
     ghost view = { λ d. record { node = d.node; store = d.store } };
 }
 
-// Ends a node.
-fn discard(_node: DroneNode) {}
-
 impl StoredDrone {
     /// A drone of this system, at x and y in units of 1e-7 degrees, over an empty store.
     pub(crate) fn start(
@@ -117,7 +114,7 @@ impl StoredDrone {
         let sys = self.node.plans().sys();
         let home = self.node.home();
         let node = DroneNode::start(alloc, key, sys, home.x, home.y, &mut self.store)?;
-        discard(mem::replace(&mut self.node, node));
+        mem::replace(&mut self.node, node).discard();
         Ok(())
     }
 
