@@ -1,0 +1,143 @@
+-- What a drone's calls come to, by the tests that they make.
+use Rattle.std.proofs.Common.{◌≡◌, ℕ, ◌+◌, ◌==◌, ◌<◌, ◌≤◌, Bool, true, false, ◌&&◌, ◌||◌, not, nat_lt, if◌then◌else◌, length, ◌++◌, ◌∷◌, [], Option, Some, None, refl, sym, ap, ◌∙◌, arith}
+use Rattle.std.specs.Prelude.{is_some}
+use Rattle.std.proofs.lemmas.List.{length_push}
+use Rattle.std.proofs.lemmas.Bool.Decides.{nat_tests}
+use Rattle.mav_names.specs.declared.names.Stream.{Stream}
+use Rattle.plan_items.specs.Kinds.{number_of, limit_of, kind_of}
+use Rattle.plan_items.specs.Validation.{plan_fault, item_fault}
+use Rattle.plan_items.specs.declared.faults.PlanFault.{PlanFault}
+use Rattle.plan_items.specs.declared.items.Item.{Item}
+use Rattle.plan_items.specs.declared.kinds.PlanKind.{PlanKind}
+use Rattle.plan_items.specs.declared.kinds.PlanKind.TheVariants.{Mission, Fence, Rally}
+use Rattle.plan_items.specs.declared.messages.PlanMsg.{PlanMsg}
+use Rattle.plan_items.specs.declared.messages.PlanMsg.TheVariants.{Count, Request, Item as Give, Ack, List as Listing, Clear, Ping}
+use Rattle.plan_items.proofs.KindNumbers.{kind_of-none, number_of-kind_of}
+use Rattle.plan_upload.specs.Addresses.{same_stream, node_of}
+use Rattle.plan_upload.specs.Drone.{DroneState, DroneStep, PlanEvent, Quiet, Installs, Upload, closed, opened, answers, rests, heard, gathered, ack, ask, is_other, has_no_room, result_of, most_results, count_comes, item_comes, item_fits, ack_comes, clear_comes, list_comes, request_comes, drone_step}
+use Rattle.plan_upload.specs.Gathering.{verdict_of, item_verdict, last_verdict, asked_of, acked_of, with_item, installed_by}
+use Rattle.plan_upload.specs.Heard.{is_heard}
+use Rattle.plan_upload.specs.Room.{has_place}
+use Rattle.plan_upload.specs.declared.verdicts.Verdict.{Verdict}
+use Rattle.plan_upload.specs.declared.verdicts.Verdict.TheVariants.{NotOwn, AskAgain, Refuse, Gather, Install}
+
+-- ---- an item, by its verdict
+
+abbrev installs_by : Option Upload → Stream → Item → PlanEvent
+installs_by None s item = Quiet
+installs_by (Some u) s item = Installs s u.kind (u.items ++ item ∷ [])
+
+abbrev pub step_by : DroneState → Stream → Option Upload → Item → Verdict → DroneStep
+step_by d s u item NotOwn = rests d
+step_by d s u item AskAgain = record { drone = d; answer = asked_of u s; event = Quiet }
+step_by d s u item (Refuse code) = record { drone = closed d s; answer = acked_of u s code; event = Quiet }
+step_by d s u item Gather = record { drone = record d { upload = with_item u item }; answer = asked_of (with_item u item) s; event = Quiet }
+step_by d s u item Install = record { drone = installed_by d s u item; answer = acked_of u s 0; event = installs_by u s item }
+
+whole_fits : (d : DroneState) (s : Stream) (u : Upload) (item : Item) (more : Bool) (f : Option PlanFault) → (if more then answers (gathered d u item) (ask s u.kind (length u.items + 1)) else if is_some f then answers (closed d s) (ack s 5 u.kind) else step_by d s (Some u) item Install) ≡ step_by d s (Some u) item (if more then Gather else last_verdict f)
+whole_fits d s u item true f = ap (λ (n : ℕ). answers (gathered d u item) (ask s u.kind n)) (sym (length_push u.items item))
+whole_fits d s u item false (Some fault) = refl
+whole_fits d s u item false None = refl
+
+item_fits_by : (d : DroneState) (s : Stream) (u : Upload) (item : Item) (f : Option PlanFault) → item_fits true d s u item f ≡ step_by d s (Some u) item (item_verdict u item f)
+item_fits_by d s u item (Some fault) = refl
+item_fits_by d s u item None = whole_fits d s u item (nat_lt (length u.items + 1) u.total) (plan_fault u.kind (u.items ++ item ∷ []))
+
+item_tests : (d : DroneState) (s : Stream) (u : Upload) (item : Item) (own asked : Bool) (f : Option PlanFault) → (if not own then rests d else if not asked then answers d (ask s u.kind (length u.items)) else item_fits true d s u item f) ≡ step_by d s (Some u) item (if not own then NotOwn else if not asked then AskAgain else item_verdict u item f)
+item_tests d s u item false asked f = refl
+item_tests d s u item true false f = refl
+item_tests d s u item true true f = item_fits_by d s u item f
+
+item_comes_by : (d : DroneState) (s : Stream) (u : Option Upload) (seq kind : ℕ) (item : Item) → item_comes true d s u seq kind item ≡ step_by d s u item (verdict_of u s seq kind item)
+item_comes_by d s None seq kind item = refl
+item_comes_by d s (Some u) seq kind item = item_tests d s u item (same_stream u.stream s) ((kind == u.kind) && (seq == length u.items)) (item_fault u.kind item)
+
+pub judged : (v d : DroneState) (s : Stream) (seq kind : ℕ) (item : Item) (a b : Verdict) → v ≡ d → a ≡ verdict_of v.upload s seq kind item → a ≡ b → step_by v s v.upload item b ≡ item_comes true d s d.upload seq kind item
+judged v d s seq kind item a b view is at =
+    sym (ap (λ (d : DroneState). item_comes true d s d.upload seq kind item) (sym view) ∙ (item_comes_by v s v.upload seq kind item ∙ ap (step_by v s v.upload item) (sym is ∙ at)))
+
+-- ---- a count, by its tests
+
+abbrev pub known_count : (d : DroneState) (s : Stream) (count kind : ℕ) (other none many full : Bool) → DroneStep
+known_count d s count kind other none many full =
+    if other then answers d (ack s 14 kind)
+    else if none then answers (closed d s) (ack s 5 kind)
+    else if many then answers (closed d s) (ack s 4 kind)
+    else if full then answers d (ack s 14 kind)
+    else answers (opened d s kind count) (ask s kind 0)
+
+known_low : (kind : ℕ) (known : PlanKind) → kind_of kind ≡ Some known → nat_lt 2 kind ≡ false
+known_low kind Mission is = let e : 0 ≡ kind = number_of-kind_of kind Mission is in grind (arith, nat_tests)
+known_low kind Fence is = let e : 1 ≡ kind = number_of-kind_of kind Fence is in grind (arith, nat_tests)
+known_low kind Rally is = let e : 2 ≡ kind = number_of-kind_of kind Rally is in grind (arith, nat_tests)
+
+unknown_high : (kind : ℕ) → kind_of kind ≡ None → nat_lt 2 kind ≡ true
+unknown_high kind is = let h : 2 < kind = kind_of-none kind is in grind (arith, nat_tests)
+
+pub unknown_count : (d : DroneState) (s : Stream) (count kind : ℕ) (a : Option PlanKind) → a ≡ kind_of kind → a ≡ None → answers (closed d s) (ack s 3 kind) ≡ count_comes d s count kind
+unknown_count d s count kind a is none = sym (rw (unknown_high kind (sym is ∙ none)) refl)
+
+-- the tests after that of the kind
+count_tests : (v d : DroneState) (s : Stream) (count kind : ℕ) (a : Option PlanKind) (known : PlanKind) (other none many full : Bool) → v ≡ d → a ≡ kind_of kind → a ≡ Some known → is_other v.upload s ≡ other → (count == 0) ≡ none → nat_lt (limit_of (number_of known)) count ≡ many → has_no_room v s ≡ full → known_count d s count kind other none many full ≡ count_comes d s count kind
+count_tests v d s count kind a known other none many full view is at e1 e2 e3 e4 =
+    let some = sym is ∙ at in
+    let number : number_of known ≡ kind = number_of-kind_of kind known some in
+    let low : nat_lt 2 kind ≡ false = known_low kind known some in
+    let e1' : is_other d.upload s ≡ other = ap (λ (d : DroneState). is_other d.upload s) (sym view) ∙ e1 in
+    let e3' : nat_lt (limit_of kind) count ≡ many = ap (λ (n : ℕ). nat_lt (limit_of n) count) (sym number) ∙ e3 in
+    let e4' : has_no_room d s ≡ full = ap (λ (d : DroneState). has_no_room d s) (sym view) ∙ e4 in
+    sym (λ k. if low k then answers (closed d s) (ack s 3 kind) else known_count d s count kind (e1' k) (e2 k) (e3' k) (e4' k))
+
+pub denied_count : (v d : DroneState) (s : Stream) (count kind : ℕ) (a : Option PlanKind) (known : PlanKind) (other : Bool) → v ≡ d → a ≡ kind_of kind → a ≡ Some known → other ≡ is_other v.upload s → other ≡ true → answers d (ack s 14 kind) ≡ count_comes d s count kind
+denied_count v d s count kind a known other view is at e1 holds = count_tests v d s count kind a known true _ _ _ view is at (sym e1 ∙ holds) refl refl refl
+
+pub empty_count : (v d : DroneState) (s : Stream) (count kind : ℕ) (a : Option PlanKind) (known : PlanKind) (other : Bool) → v ≡ d → a ≡ kind_of kind → a ≡ Some known → other ≡ is_other v.upload s → other ≡ false → count ≡ 0 → answers (closed d s) (ack s 5 kind) ≡ count_comes d s count kind
+empty_count v d s count kind a known other view is at e1 holds zero = count_tests v d s count kind a known false true _ _ view is at (sym e1 ∙ holds) (ap (λ (n : ℕ). n == 0) zero) refl refl
+
+some_left : (count : ℕ) → 0 < count → (count == 0) ≡ false
+some_left count some = grind (arith, nat_tests)
+
+above : (limit count : ℕ) → limit < count → nat_lt limit count ≡ true
+above limit count h = grind (arith, nat_tests)
+
+below : (limit count : ℕ) → count ≤ limit → nat_lt limit count ≡ false
+below limit count h = grind (arith, nat_tests)
+
+pub long_count : (v d : DroneState) (s : Stream) (count kind : ℕ) (a : Option PlanKind) (known : PlanKind) (other : Bool) (limit : ℕ) → v ≡ d → a ≡ kind_of kind → a ≡ Some known → other ≡ is_other v.upload s → other ≡ false → 0 < count → limit ≡ limit_of (number_of known) → limit < count → answers (closed d s) (ack s 4 kind) ≡ count_comes d s count kind
+long_count v d s count kind a known other limit view is at e1 holds some limit_is many = count_tests v d s count kind a known false false true _ view is at (sym e1 ∙ holds) (some_left count some) (above _ count (rw limit_is at many)) refl
+
+has_no_room_is : (d : DroneState) (s : Stream) (place : Bool) → place ≡ has_place d.results s → has_no_room d s ≡ not place
+has_no_room_is d s place is = turned (is_some (result_of d.results s)) (nat_lt (length d.results) most_results) ∙ ap not (sym is)
+  where
+    turned : (a b : Bool) → (not a && not b) ≡ not (a || b)
+    turned true b = refl
+    turned false b = refl
+
+pub full_count : (v d : DroneState) (s : Stream) (count kind : ℕ) (a : Option PlanKind) (known : PlanKind) (other : Bool) (limit : ℕ) (place : Bool) → v ≡ d → a ≡ kind_of kind → a ≡ Some known → other ≡ is_other v.upload s → other ≡ false → 0 < count → limit ≡ limit_of (number_of known) → count ≤ limit → place ≡ has_place v.results s → known_count d s count kind false false false (not place) ≡ count_comes d s count kind
+full_count v d s count kind a known other limit place view is at e1 holds some limit_is few room = count_tests v d s count kind a known false false false (not place) view is at (sym e1 ∙ holds) (some_left count some) (below _ count (rw limit_is at few)) (has_no_room_is v s place room)
+
+-- ---- a message that is heard, and one that isn't
+
+abbrev pub call_of : DroneState → Stream → PlanMsg → DroneStep
+call_of d s (Ping to usec seq) = answers d (Ping (node_of s) usec seq)
+call_of d s (Count to count kind) = count_comes d s count kind
+call_of d s (Give to seq kind item) = item_comes true d s d.upload seq kind item
+call_of d s (Ack to code kind) = ack_comes d s code kind
+call_of d s (Clear to kind) = clear_comes true d s kind
+call_of d s (Listing to kind) = list_comes d s kind
+call_of d s (Request to seq kind) = request_comes d s d.download seq kind
+
+by_heard : (d : DroneState) (s : Stream) (m : PlanMsg) → drone_step true d s m ≡ heard d (is_heard d.sys m) (call_of d s m)
+by_heard d s (Ping to usec seq) = refl
+by_heard d s (Count to count kind) = refl
+by_heard d s (Give to seq kind item) = refl
+by_heard d s (Ack to code kind) = refl
+by_heard d s (Clear to kind) = refl
+by_heard d s (Listing to kind) = refl
+by_heard d s (Request to seq kind) = refl
+
+pub called : (d : DroneState) (s : Stream) (m at : PlanMsg) (hears : Bool) → hears ≡ is_heard d.sys m → hears ≡ true → m ≡ at → call_of d s at ≡ drone_step true d s m
+called d s m at hears is holds message = sym (by_heard d s m ∙ (ap (λ (b : Bool). heard d b (call_of d s m)) (sym is ∙ holds) ∙ ap (call_of d s) message))
+
+pub unheard : (d : DroneState) (s : Stream) (m : PlanMsg) (hears : Bool) → hears ≡ is_heard d.sys m → hears ≡ false → rests d ≡ drone_step true d s m
+unheard d s m hears is other = sym (by_heard d s m ∙ ap (λ (b : Bool). heard d b (call_of d s m)) (sym is ∙ other))
