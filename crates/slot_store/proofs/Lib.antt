@@ -2,6 +2,7 @@ mod Moments
 mod Decisions
 mod Images
 mod Bodies
+mod Runs
 mod Saves
 mod Options
 mod Past

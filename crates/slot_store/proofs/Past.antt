@@ -55,3 +55,10 @@ pub elapses : (past mid later : List Moment) (bytes now : List ℕ) (ranges open
 elapses past mid later bytes now ranges open_now (m, is, are, same) end =
     subst (λ l. Elapses (length past) (length l) (Since past bytes ranges) (Since l now open_now) (IsImage now open_now)) (sym (end ∙ same))
     (elapses_push past m bytes now ranges open_now is are)
+
+-- a call that recorded nothing and changed nothing
+pub elapses_kept : (past later : List Moment) (bytes now : List ℕ) (ranges open_now : List Range) → later ≡ past → now ≡ bytes → open_now ≡ ranges
+    → Elapses (length past) (length later) (Since past bytes ranges) (Since later now open_now) (IsImage now open_now)
+elapses_kept past later bytes now ranges open_now is kept open_kept =
+    subst (λ b. Elapses (length past) (length later) (Since past bytes ranges) (Since later b open_now) (IsImage b open_now)) (sym kept)
+    (subst (λ r. Elapses (length past) (length later) (Since past bytes ranges) (Since later bytes r) (IsImage bytes r)) (sym open_kept) (elapses_same past later bytes ranges is))

@@ -105,3 +105,6 @@ pushed at n held new ranges now r is within starts ends writes =
 -- the same of what was there before
 pub carried : (at n : ℕ) (b b1 : List ℕ) (r r1 : List Range) (Q : List ℕ → Type 0) → b1 ≡ b → r1 ≡ r → Tears at n (IsImage b1 r1) Q → Tears at n (IsImage b r) Q
 carried at n b b1 r r1 Q bytes ranges is = subst (λ x. Tears at n (IsImage x r) Q) bytes (subst (λ x. Tears at n (IsImage b1 x) Q) ranges is)
+
+pub tears_kept : (at n : ℕ) (held now : List ℕ) (ranges open_now : List Range) → now ≡ held → open_now ≡ ranges → Tears at n (IsImage held ranges) (IsImage now open_now)
+tears_kept at n held now ranges open_now kept open_kept = subst (λ b. Tears at n (IsImage held ranges) (IsImage b open_now)) (sym kept) (tears_nothing at n held ranges open_now open_kept)

@@ -1,4 +1,6 @@
-use Rattle.std.proofs.Common.{◌∙◌, ◌+◌, ◌∷◌, [], length, sym, subst}
+use Rattle.std.proofs.lemmas.Result.{err_from_is_err_and}
+use Rattle.mav_ports.specs.Counts.{Rose}
+use Rattle.std.proofs.Common.{ℕ, ◌∙◌, ◌+◌, ◌∷◌, [], length, sym, subst}
 use Rattle.slot_store.specs.Disks.{SameOutside, LeavesOnly, Writes}
 use Rattle.slot_store.specs.Layout.{start_of, contents, MayClose}
 use Rattle.slot_store.specs.Crashes.{HoldsEither}
@@ -96,3 +98,21 @@ returns-clause-saved g c = λ observable read.
     let is = saved s bytes read.own c.requires.fits h t n read.read c.spare-slot.ensures c.new_generation-generation.ensures s1 closes s2 writes s3 opens in
     let now = new_headers s bytes read.own c.requires.fits h t n read.read c.spare-slot.ensures c.new_generation-generation.ensures s1 closes s2 writes s3 opens in
     (record { alone = c.in_ok-put.ensures.durable; read = c.with.ensures ∙ sym now; own = is.0 }, is.1)
+
+pub returns-in_err-close-clause-saved : goal.returns-in_err-close-clause-saved
+returns-in_err-close-clause-saved g c = λ observable read. rw (err_from_is_err_and c.from_residual.result c.from_residual.ensures.1).1 tt
+
+pub returns-in_err-close-clause-faults : goal.returns-in_err-close-clause-faults
+returns-in_err-close-clause-faults g c = rw (err_from_is_err_and c.from_residual.result c.from_residual.ensures.1).1 c.in_err-close.ensures.faults
+
+pub returns-in_err-stage-clause-saved : goal.returns-in_err-stage-clause-saved
+returns-in_err-stage-clause-saved g c = λ observable read. rw (err_from_is_err_and c.from_residual-in_err-stage.result c.from_residual-in_err-stage.ensures.1).1 tt
+
+pub returns-in_err-stage-clause-faults : goal.returns-in_err-stage-clause-faults
+returns-in_err-stage-clause-faults g c = rw (err_from_is_err_and c.from_residual-in_err-stage.result c.from_residual-in_err-stage.ensures.1).1 (subst (λ (n : ℕ). Rose n (g.D.Disk.faults c.stage.new.disk)) c.in_ok-close.ensures.faults c.in_err-stage.ensures.faults)
+
+pub returns-in_err-put-clause-saved : goal.returns-in_err-put-clause-saved
+returns-in_err-put-clause-saved g c = λ observable read. rw (err_from_is_err_and c.from_residual-in_err-put.result c.from_residual-in_err-put.ensures.1).1 tt
+
+pub returns-in_err-put-clause-faults : goal.returns-in_err-put-clause-faults
+returns-in_err-put-clause-faults g c = rw (err_from_is_err_and c.from_residual-in_err-put.result c.from_residual-in_err-put.ensures.1).1 (subst (λ (n : ℕ). Rose n (g.D.Disk.faults c.put.new.disk)) (c.in_ok-stage.ensures.faults ∙ c.in_ok-close.ensures.faults) c.in_err-put.ensures.faults)

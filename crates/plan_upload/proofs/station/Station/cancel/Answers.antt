@@ -27,12 +27,6 @@ returns-in-Cancelling-clause-answer c =
     let now = station_view c.self.inside in let drone = c.in-Some.field-0.drone in let at = c.in-Cancelling in
     sends_nothing now (λ (t : Bool). cancelling_view drone at.task t at.number) at.terminating ∙ sym (ap (λ (t : StationStep). t.answer) (cancelled c.self.inside c.in-Some.field-0 _ c.args.self.now c.self.view_is (sym c.take.ensures.value ∙ c.in-Some.is) c.in-Cancelling.is))
 
-pub returns-in-Clearing-clause-station : goal.returns-in-Clearing-clause-station
-returns-in-Clearing-clause-station c = c.resynchronise-in-Clearing.ensures.station ∙ sym (ap (λ (t : StationStep). t.station) (cancelled c.self.inside c.in-Some.field-0 _ c.args.self.now c.self.view_is (sym c.take.ensures.value ∙ c.in-Some.is) c.in-Clearing.is))
-
-pub returns-in-Clearing-clause-answer : goal.returns-in-Clearing-clause-answer
-returns-in-Clearing-clause-answer c = c.resynchronise-in-Clearing.ensures.answer ∙ sym (ap (λ (t : StationStep). t.answer) (cancelled c.self.inside c.in-Some.field-0 _ c.args.self.now c.self.view_is (sym c.take.ensures.value ∙ c.in-Some.is) c.in-Clearing.is))
-
 pub returns-in-Listing-clause-station : goal.returns-in-Listing-clause-station
 returns-in-Listing-clause-station c = c.resynchronise-in-Listing.ensures.station ∙ sym (ap (λ (t : StationStep). t.station) (cancelled c.self.inside c.in-Some.field-0 _ c.args.self.now c.self.view_is (sym c.take.ensures.value ∙ c.in-Some.is) c.in-Listing.is))
 

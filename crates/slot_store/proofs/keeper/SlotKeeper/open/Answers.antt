@@ -17,3 +17,12 @@ returns-in-Ok-2-clause-opened g c = λ observable.
       c.in-Ok.ensures.durable,
       ap are_foreign (sym (c.in-Ok.ensures.headers observable)) ∙ sym c.are_foreign.ensures ∙ c.if-are_foreign.false,
     )
+
+pub returns-in-Err-clause-any_moment_fault : goal.returns-in-Err-clause-any_moment_fault
+returns-in-Err-clause-any_moment_fault g c = c.look.ensures.any_moment
+
+pub returns-in-Ok-clause-any_moment_fault : goal.returns-in-Ok-clause-any_moment_fault
+returns-in-Ok-clause-any_moment_fault g c = c.look.ensures.any_moment
+
+pub returns-in-Ok-2-clause-any_moment : goal.returns-in-Ok-2-clause-any_moment
+returns-in-Ok-2-clause-any_moment g c = c.look.ensures.any_moment

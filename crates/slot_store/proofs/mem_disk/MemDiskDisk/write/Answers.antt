@@ -1,9 +1,9 @@
-use Rattle.std.proofs.Common.{◌≤◌, ◌+◌, length, ap, refl, sym, subst, arith}
-use Rattle.slot_store.specs.Disks.{Tears}
+use Rattle.std.proofs.Common.{ℕ, List, ◌≤◌, ◌+◌, length, ap, refl, sym, subst, arith}
+use Rattle.slot_store.specs.Disks.{Tears, Writes}
 use Rattle.slot_store.specs.MemDisks.{IsImage}
 use Rattle.slot_store.specs.declared.mem_disk.MemDisk.{MemDisk}
-use Rattle.slot_store.proofs.Past.{elapses}
-use Rattle.slot_store.proofs.Patches.{carried}
+use Rattle.slot_store.proofs.Past.{elapses, elapses_kept}
+use Rattle.slot_store.proofs.Patches.{carried, tears_kept}
 use Rattle.slot_store.proofs.mem_disk.MemDiskDisk.write.Goals as goal
 
 pub returns-in-Ok-clause-time : goal.returns-in-Ok-clause-time
@@ -21,3 +21,24 @@ returns-in_default-clause-crash c =
 
 pub returns-in_default-clause-time : goal.returns-in_default-clause-time
 returns-in_default-clause-time c = elapses c.args.self.now.past.items c.begin.new.self.past.items c.fault.new.self.past.items c.args.self.now.bytes.items c.fault.new.self.bytes.items c.args.self.now.ranges.items c.fault.new.self.ranges.items c.in_ok-fails.ensures.past (ap (λ (d : MemDisk). d.past.items) c.fault.ensures)
+
+pub returns-in_err-fails-clause-time : goal.returns-in_err-fails-clause-time
+returns-in_err-fails-clause-time c =
+    let old = c.args.self.now in let new = c.begin.new.self in
+    elapses_kept old.past.items new.past.items old.bytes.items new.bytes.items old.ranges.items new.ranges.items c.in_err-fails.ensures.past_err (ap (λ v. v.items) c.begin.ensures.bytes) (ap (λ v. v.items) c.begin.ensures.ranges)
+
+pub returns-in_err-fails-clause-crash : goal.returns-in_err-fails-clause-crash
+returns-in_err-fails-clause-crash c =
+    let old = c.args.self.now in let new = c.begin.new.self in
+    tears_kept c.args.at (length c.args.bytes.now) old.bytes.items new.bytes.items old.ranges.items new.ranges.items (ap (λ v. v.items) c.begin.ensures.bytes) (ap (λ v. v.items) c.begin.ensures.ranges)
+
+pub returns-in-Ok-clause-written : goal.returns-in-Ok-clause-written
+returns-in-Ok-clause-written c = subst (λ (b : List ℕ). Writes c.args.at c.args.bytes.now b c.replace.new.held.items) (ap (λ v. v.items) c.begin.ensures.bytes) c.replace.ensures
+
+pub returns-in-Ok-clause-crash : goal.returns-in-Ok-clause-crash
+returns-in-Ok-clause-crash c =
+    let n = length c.args.bytes.now in let mid = c.begin.new.self in
+    let bytes = ap (λ v. v.items) c.begin.ensures.bytes in
+    let within : c.args.at + n ≤ length mid.bytes.items = omega (arith, c.requires, ap length bytes) in
+    carried c.args.at n c.args.self.now.bytes.items mid.bytes.items c.args.self.now.ranges.items mid.ranges.items _ bytes (ap (λ v. v.items) c.begin.ensures.ranges)
+    (c.in-Ok.ensures.written mid.bytes.items c.replace.new.held.items within c.replace.ensures.outside)
