@@ -1,4 +1,4 @@
-use Rattle.std.proofs.Common.{ℕ, sym, subst, ◌∙◌}
+use Rattle.std.proofs.Common.{ℕ, subst, ◌∙◌}
 use Rattle.std.proofs.lemmas.Result.{err_from_is_err_and}
 use Rattle.mav_ports.specs.Counts.{Rose}
 use Rattle.slot_store.proofs.Moments.{one_after_another}
@@ -60,9 +60,6 @@ returns-in_err-read_header-2-clause-faults g c = rw (err_from_is_err_and c.from_
 
 pub returns-clause-headers : goal.returns-clause-headers
 returns-clause-headers g c = λ seen. both_read _ _ (g.D.Disk.seen c.sync.new.self) (g.D.Disk.seen c.read_header.new.disk) _ (c.in_ok-read_header.ensures.header seen) (c.in_ok-read_header-2.ensures.header seen) c.read_header.ensures.seen c.read_header-2.ensures.seen
-
-pub returns-clause-durable : goal.returns-clause-durable
-returns-clause-durable g c = λ x left. c.in_ok-sync.ensures.durable x (c.read_header.ensures.crash x (c.read_header-2.ensures.crash x left)) ∙ sym (c.read_header-2.ensures.seen ∙ c.read_header.ensures.seen)
 
 pub returns-clause-faults : goal.returns-clause-faults
 returns-clause-faults g c = c.in_ok-read_header-2.ensures.faults ∙ (c.in_ok-read_header.ensures.faults ∙ c.in_ok-sync.ensures.faults)

@@ -35,9 +35,6 @@ returns-clause-any_moment g c = λ alone.
 pub returns-clause-written : goal.returns-clause-written
 returns-clause-written g c = λ seen. still_written c.sync.result c.args.at c.args.bytes.now (g.D.Disk.seen c.args.disk.now) _ _ (c.in_ok-write.ensures.written seen) c.sync.ensures.seen
 
-pub returns-clause-durable : goal.returns-clause-durable
-returns-clause-durable g c = c.sync.ensures.durable
-
 pub returns-clause-extent : goal.returns-clause-extent
 returns-clause-extent g c = c.sync.ensures.extent ∙ c.write.ensures.extent
 
