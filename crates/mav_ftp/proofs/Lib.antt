@@ -1,3 +1,4 @@
+pub mod ClientCalls
 pub mod Payloads
 pub mod SlotLists
 pub mod ServerSteps
