@@ -1,3 +1,4 @@
+use Rattle.std.proofs.lemmas.Result.{err_from_is_err_and}
 use Rattle.std.proofs.Common.{◌≡◌, ℕ, List, ◌∷◌, [], ◌++◌, IfOk, take, ap, ◌∙◌, subst}
 use Rattle.field_layout.specs.Types.{element_size}
 use Rattle.field_layout.specs.Definition.{element_count}
@@ -19,3 +20,12 @@ returns-clause-text c =
     ∙ together out text after behind field.name (value_text field words) name in
     let P : List ℕ → Type 0 = λ whole. IfOk c.append_enough.result (λ end. c.append_enough.new.out.items ++ take end c.put_value-end.new.chunk ≡ whole) in
     subst P put c.append_enough.ensures.text
+
+pub returns-in_err-end-clause-text : goal.returns-in_err-end-clause-text
+returns-in_err-end-clause-text c = rw (err_from_is_err_and c.from_residual.result c.from_residual.ensures.1).1 tt
+
+pub returns-in_err-end-clause-room : goal.returns-in_err-end-clause-room
+returns-in_err-end-clause-room c = rw (err_from_is_err_and c.from_residual.result c.from_residual.ensures.1).1 tt
+
+pub returns-in_err-end-clause-prefix : goal.returns-in_err-end-clause-prefix
+returns-in_err-end-clause-prefix c = c.put_name.ensures.prefix

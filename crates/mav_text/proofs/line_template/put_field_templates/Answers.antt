@@ -1,7 +1,8 @@
-use Rattle.std.proofs.Common.{List, ◌++◌, take, vec_len, sym, ap, ◌∙◌, append-nil, drop_of_length-le}
+use Rattle.std.proofs.lemmas.Option.{slice_get_read}
+use Rattle.std.proofs.Common.{List, ◌++◌, take, vec_len, sym, ap, ◌∙◌, append-nil, drop_of_length-le, refl, length}
 use Rattle.std.proofs.lemmas.Result.{err_from_is_err_and}
 use Rattle.mav_text.specs.TemplateText.{FieldTemplate, field_template_text, field_templates_text}
-use Rattle.mav_text.proofs.SkipSteps.{kept_more}
+use Rattle.mav_text.proofs.SkipSteps.{kept_more, kept_same}
 use Rattle.mav_text.proofs.TemplateSteps.{field_templates_next, text_put}
 use Rattle.mav_text.proofs.line_template.put_field_templates.Goals as goal
 
@@ -35,3 +36,18 @@ pub returns-in_err-left-clause-text : goal.returns-in_err-left-clause-text
 returns-in_err-left-clause-text c =
     let e = err_from_is_err_and c.from_residual.result c.from_residual.ensures.1 in
     rw e.1 tt
+
+pub loop-field_template-init : goal.loop-field_template-init
+loop-field_template-init c = record { room = c.requires.room; kept = kept_same c.args.out.now.items c.args.out.now.items (vec_len c.args.out.now) c.args.out.now.ok.0 refl; text = refl }
+
+pub put-end-requires-clause-within : goal.put-end-requires-clause-within
+put-end-requires-clause-within c = c.requires.within c.loop-field_template.field_template-index c.field_template-item.result (slice_get_read c.args.field_templates.now (length c.args.field_templates.now) _ _ refl c.loop-field_template-test.true c.field_template-item.is)
+
+pub put-end-requires-clause-room : goal.put-end-requires-clause-room
+put-end-requires-clause-room c = c.loop-field_template.invariant.room
+
+pub append_enough-requires : goal.append_enough-requires
+append_enough-requires c = c.put-end.ensures.index
+
+pub returns-clause-prefix : goal.returns-clause-prefix
+returns-clause-prefix c = c.loop-field_template.invariant.kept

@@ -1,3 +1,4 @@
+use Rattle.std.proofs.lemmas.Result.{err_from_is_err_and}
 use Rattle.std.proofs.Common.{ℕ, ◌+◌, ◌++◌, slice_range, vec_len, ap, ◌∙◌, arith}
 use Rattle.mav_frame.specs.declared.looks.Why.{Why}
 use Rattle.mav_text.specs.FrameText.{skip_lines}
@@ -17,3 +18,6 @@ loop-done-preserved c =
           (kept_prefix l.out.items (skip_lines (first + done) (slice_range bytes done (done + count)) why) c.append.new.out.items (vec_len l.out) l.out.ok.0 put);
       text = skips_part l.out.items c.append.new.out.items first done (done + count) bytes why (omega arith) (omega arith) put ∙ l.invariant.text;
     }
+
+pub returns-in_err-append-clause-ok : goal.returns-in_err-append-clause-ok
+returns-in_err-append-clause-ok c = rw (err_from_is_err_and c.from_residual.result c.from_residual.ensures.1).1 tt
