@@ -1,5 +1,5 @@
 -- What a drone's calls come to, by the tests that they make.
-use Rattle.std.proofs.Common.{◌≡◌, ℕ, ◌+◌, ◌==◌, ◌<◌, ◌≤◌, Bool, true, false, ◌&&◌, ◌||◌, not, nat_lt, if◌then◌else◌, length, ◌++◌, ◌∷◌, [], Option, Some, None, refl, sym, ap, ◌∙◌, arith}
+use Rattle.std.proofs.Common.{◌≡◌, ℕ, ◌+◌, ◌==◌, ◌<◌, ◌≤◌, Bool, true, false, ◌&&◌, ◌||◌, not, nat_lt, if◌then◌else◌, length, ◌++◌, ◌∷◌, [], List, Option, Some, None, refl, sym, ap, ◌∙◌, arith}
 use Rattle.std.specs.Prelude.{is_some}
 use Rattle.std.proofs.lemmas.List.{length_push}
 use Rattle.std.proofs.lemmas.Bool.Decides.{nat_tests}
@@ -14,9 +14,10 @@ use Rattle.plan_items.specs.declared.messages.PlanMsg.{PlanMsg}
 use Rattle.plan_items.specs.declared.messages.PlanMsg.TheVariants.{Count, Request, Item as Give, Ack, List as Listing, Clear, Ping}
 use Rattle.plan_items.proofs.KindNumbers.{kind_of-none, number_of-kind_of}
 use Rattle.plan_upload.specs.Addresses.{same_stream, node_of}
-use Rattle.plan_upload.specs.Drone.{DroneState, DroneStep, PlanEvent, Quiet, Installs, Upload, closed, opened, answers, rests, heard, gathered, ack, ask, is_other, has_no_room, result_of, most_results, count_comes, item_comes, item_fits, ack_comes, clear_comes, list_comes, request_comes, drone_step}
+use Rattle.plan_upload.specs.Drone.{Download, DroneState, DroneStep, PlanEvent, Quiet, Installs, Upload, closed, opened, answers, rests, heard, gathered, ack, ask, is_other, has_no_room, result_of, most_results, count_comes, item_comes, item_fits, is_downloading, copy_of, Shows, ack_comes, clear_comes, list_comes, request_comes, drone_step}
 use Rattle.plan_upload.specs.Gathering.{verdict_of, item_verdict, last_verdict, asked_of, acked_of, with_item, installed_by}
 use Rattle.plan_upload.specs.Heard.{is_heard}
+use Rattle.plan_upload.specs.Plans.{plan_at}
 use Rattle.plan_upload.specs.Room.{has_place}
 use Rattle.plan_upload.specs.declared.verdicts.Verdict.{Verdict}
 use Rattle.plan_upload.specs.declared.verdicts.Verdict.TheVariants.{NotOwn, AskAgain, Refuse, Gather, Install}
@@ -115,6 +116,32 @@ has_no_room_is d s place is = turned (is_some (result_of d.results s)) (nat_lt (
 
 pub full_count : (v d : DroneState) (s : Stream) (count kind : ℕ) (a : Option PlanKind) (known : PlanKind) (other : Bool) (limit : ℕ) (place : Bool) → v ≡ d → a ≡ kind_of kind → a ≡ Some known → other ≡ is_other v.upload s → other ≡ false → 0 < count → limit ≡ limit_of (number_of known) → count ≤ limit → place ≡ has_place v.results s → known_count d s count kind false false false (not place) ≡ count_comes d s count kind
 full_count v d s count kind a known other limit place view is at e1 holds some limit_is few room = count_tests v d s count kind a known false false false (not place) view is at (sym e1 ∙ holds) (some_left count some) (below _ count (rw limit_is at few)) (has_no_room_is v s place room)
+
+-- ---- a list, by its tests
+
+pub unknown_list : (d : DroneState) (s : Stream) (kind : ℕ) (a : Option PlanKind) → a ≡ kind_of kind → a ≡ None → answers d (ack s 3 kind) ≡ list_comes d s kind
+unknown_list d s kind a is none = sym (rw (unknown_high kind (sym is ∙ none)) refl)
+
+abbrev pub shows_at : DroneState → Stream → ℕ → Option Download → List Item → DroneStep
+shows_at d s kind copy items = record { drone = record d { download = copy }; answer = Some (Count (node_of s) (length items) kind); event = Shows s kind items }
+
+list_tests : (v d : DroneState) (s : Stream) (kind : ℕ) (a : Option PlanKind) (known : PlanKind) (o other : Bool) → v ≡ d → a ≡ kind_of kind → a ≡ Some known → o ≡ is_downloading v.download s → o ≡ other
+    → (if other then answers d (ack s 14 kind) else shows_at d s kind (copy_of s kind (plan_at d.plans kind)) (plan_at d.plans kind)) ≡ list_comes d s kind
+list_tests v d s kind a known o other view is at test yes_or_no =
+    let low : nat_lt 2 kind ≡ false = known_low kind known (sym is ∙ at) in
+    let tested : is_downloading d.download s ≡ other = ap (λ (d : DroneState). is_downloading d.download s) (sym view) ∙ (sym test ∙ yes_or_no) in
+    sym (λ k. if low k then answers d (ack s 3 kind) else if tested k then answers d (ack s 14 kind) else shows_at d s kind (copy_of s kind (plan_at d.plans kind)) (plan_at d.plans kind))
+
+pub denied_list : (v d : DroneState) (s : Stream) (kind : ℕ) (a : Option PlanKind) (known : PlanKind) (o : Bool) → v ≡ d → a ≡ kind_of kind → a ≡ Some known → o ≡ is_downloading v.download s → o ≡ true → answers d (ack s 14 kind) ≡ list_comes d s kind
+denied_list v d s kind a known o view is at test other = list_tests v d s kind a known o true view is at test other
+
+pub shown_list : (v d : DroneState) (s : Stream) (kind : ℕ) (a : Option PlanKind) (known : PlanKind) (o : Bool) (items : List Item) (copy : Option Download) → v ≡ d → a ≡ kind_of kind → a ≡ Some known → o ≡ is_downloading v.download s → o ≡ false
+    → items ≡ plan_at v.plans (number_of known) → copy ≡ copy_of s (number_of known) items → shows_at v s kind copy items ≡ list_comes d s kind
+shown_list v d s kind a known o items copy view is at test own there copied =
+    let number : number_of known ≡ kind = number_of-kind_of kind known (sym is ∙ at) in
+    let plan : items ≡ plan_at d.plans kind = there ∙ (λ k. plan_at (view k).plans (number k)) in
+    let made : copy ≡ copy_of s kind (plan_at d.plans kind) = copied ∙ (λ k. copy_of s (number k) (plan k)) in
+    (λ k. shows_at (view k) s kind (made k) (plan k)) ∙ list_tests v d s kind a known o false view is at test own
 
 -- ---- a message that is heard, and one that isn't
 
