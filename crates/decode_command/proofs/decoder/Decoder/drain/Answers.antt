@@ -50,3 +50,18 @@ pub returns-in_err-pass-in_default-clause-sound : goal.returns-in_err-pass-in_de
 returns-in_err-pass-in_default-clause-sound g c =
     let e = err_from_is_err_and c.from_residual.result c.from_residual.ensures.1 in
     rw (e.1, e.2) (λ other. c.in_err-pass-in_default.ensures.sound other ∙ c.loop-span.invariant.refusals)
+
+pub returns-in_err-pass-in_default-clause-within : goal.returns-in_err-pass-in_default-clause-within
+returns-in_err-pass-in_default-clause-within g c = rw (err_from_is_err_and c.from_residual.result c.from_residual.ensures.1).1 tt
+
+pub returns-in_err-pass-in_default-clause-sum : goal.returns-in_err-pass-in_default-clause-sum
+returns-in_err-pass-in_default-clause-sum g c = rw (err_from_is_err_and c.from_residual.result c.from_residual.ensures.1).1 tt
+
+pub returns-in_err-pass-in_default-clause-room : goal.returns-in_err-pass-in_default-clause-room
+returns-in_err-pass-in_default-clause-room g c = rw (err_from_is_err_and c.from_residual.result c.from_residual.ensures.1).1 tt
+
+pub returns-in_err-pass-in_default-clause-ended : goal.returns-in_err-pass-in_default-clause-ended
+returns-in_err-pass-in_default-clause-ended g c = rw (err_from_is_err_and c.from_residual.result c.from_residual.ensures.1).1 tt
+
+pub returns-in_err-pass-in_default-clause-drained : goal.returns-in_err-pass-in_default-clause-drained
+returns-in_err-pass-in_default-clause-drained g c = λ known taken before d. rw (err_from_is_err_and c.from_residual.result c.from_residual.ensures.1).1 tt

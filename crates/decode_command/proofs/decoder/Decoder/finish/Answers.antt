@@ -38,3 +38,9 @@ returns-clause-halted g c =
     (unfinished known taken c.drain.new.self before (g.K.Sink.sent c.drain.new.out) ended
     (c.in_ok-drain.ensures.drained known taken before (decoding_fed known taken taken c.args.self.now c.end.new.self before (g.K.Sink.sent c.args.out.now) d.decoding (λ given p. c.end.ensures.progress _ _ taken given p)))
     (g.K.Sink.sent c.write_held.new.out) c.put_counts.new.text.items c.in_ok-put_counts.ensures c.write_held.ensures.front)
+
+pub returns-in_err-drain-clause-done : goal.returns-in_err-drain-clause-done
+returns-in_err-drain-clause-done g c = λ known taken before d. rw (err_from_is_err_and c.from_residual.result c.from_residual.ensures.1).1 tt
+
+pub returns-in_err-put_counts-clause-done : goal.returns-in_err-put_counts-clause-done
+returns-in_err-put_counts-clause-done g c = λ known taken before d. rw (err_from_is_err_and c.from_residual-in_err-put_counts.result c.from_residual-in_err-put_counts.ensures.1).1 tt

@@ -74,3 +74,21 @@ returns-in_err-drain-clause-sound g c =
 pub returns-clause-rose : goal.returns-clause-rose
 returns-clause-rose g c = λ refused.
     subst (λ n. Rose n (g.K.Sink.faults c.write_held.new.out)) c.loop-place.invariant.refusals (c.write_held.ensures.rose refused)
+
+pub returns-in_err-drain-clause-within : goal.returns-in_err-drain-clause-within
+returns-in_err-drain-clause-within g c = rw (err_from_is_err_and c.from_residual.result c.from_residual.ensures.1).1 tt
+
+pub returns-in_err-drain-clause-sum : goal.returns-in_err-drain-clause-sum
+returns-in_err-drain-clause-sum g c = rw (err_from_is_err_and c.from_residual.result c.from_residual.ensures.1).1 tt
+
+pub returns-in_err-drain-clause-room : goal.returns-in_err-drain-clause-room
+returns-in_err-drain-clause-room g c = rw (err_from_is_err_and c.from_residual.result c.from_residual.ensures.1).1 tt
+
+pub returns-in_err-drain-clause-still : goal.returns-in_err-drain-clause-still
+returns-in_err-drain-clause-still g c = rw (err_from_is_err_and c.from_residual.result c.from_residual.ensures.1).1 tt
+
+pub returns-in_err-drain-clause-empty : goal.returns-in_err-drain-clause-empty
+returns-in_err-drain-clause-empty g c = rw (err_from_is_err_and c.from_residual.result c.from_residual.ensures.1).1 tt
+
+pub returns-in_err-drain-clause-drained : goal.returns-in_err-drain-clause-drained
+returns-in_err-drain-clause-drained g c = λ known taken before d. rw (err_from_is_err_and c.from_residual.result c.from_residual.ensures.1).1 tt
