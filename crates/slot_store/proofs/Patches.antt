@@ -108,3 +108,7 @@ carried at n b b1 r r1 Q bytes ranges is = subst (λ x. Tears at n (IsImage x r)
 
 pub tears_kept : (at n : ℕ) (held now : List ℕ) (ranges open_now : List Range) → now ≡ held → open_now ≡ ranges → Tears at n (IsImage held ranges) (IsImage now open_now)
 tears_kept at n held now ranges open_now kept open_kept = subst (λ b. Tears at n (IsImage held ranges) (IsImage b open_now)) (sym kept) (tears_nothing at n held ranges open_now open_kept)
+
+-- what a crash may leave stays
+pub images_kept : (held now : List ℕ) (ranges open_now : List Range) → now ≡ held → open_now ≡ ranges → (c : List ℕ) → IsImage now open_now c → IsImage held ranges c
+images_kept held now ranges open_now kept open_kept c is = subst (λ b. IsImage b ranges c) kept (subst (λ r. IsImage now r c) open_kept is)

@@ -1,8 +1,9 @@
-use Rattle.std.proofs.Common.{ap, refl, subst}
+use Rattle.std.proofs.lemmas.Result.{err_from_is_err_and}
+use Rattle.std.proofs.Common.{ap, refl, subst, length}
 use Rattle.slot_store.specs.declared.mem_disk.MemDisk.{MemDisk}
 use Rattle.slot_store.proofs.Past.{elapses, elapses_kept}
 use Rattle.slot_store.specs.MemDisks.{IsImage}
-use Rattle.slot_store.proofs.Patches.{no_range}
+use Rattle.slot_store.proofs.Patches.{no_range, images_kept}
 use Rattle.slot_store.proofs.mem_disk.MemDiskDisk.sync.Goals as goal
 
 pub returns-then-branch-clause-time : goal.returns-then-branch-clause-time
@@ -18,3 +19,27 @@ pub returns-in_err-begin-clause-time : goal.returns-in_err-begin-clause-time
 returns-in_err-begin-clause-time c =
     let old = c.args.self.now in let new = c.begin.new.self in
     elapses_kept old.past.items new.past.items old.bytes.items new.bytes.items old.ranges.items new.ranges.items c.in_err-begin.ensures.past_err (ap (λ v. v.items) c.begin.ensures.bytes) (ap (λ v. v.items) c.begin.ensures.ranges)
+
+pub returns-in_err-begin-clause-durable : goal.returns-in_err-begin-clause-durable
+returns-in_err-begin-clause-durable c = rw (err_from_is_err_and c.from_residual.result c.from_residual.ensures.1).1 tt
+
+pub returns-in_err-begin-clause-seen : goal.returns-in_err-begin-clause-seen
+returns-in_err-begin-clause-seen c = rw (err_from_is_err_and c.from_residual.result c.from_residual.ensures.1).1 tt
+
+pub returns-in_err-begin-clause-listed : goal.returns-in_err-begin-clause-listed
+returns-in_err-begin-clause-listed c = rw (err_from_is_err_and c.from_residual.result c.from_residual.ensures.1).1 tt
+
+pub returns-in_err-begin-clause-crash : goal.returns-in_err-begin-clause-crash
+returns-in_err-begin-clause-crash c = images_kept c.args.self.now.bytes.items c.begin.new.self.bytes.items c.args.self.now.ranges.items c.begin.new.self.ranges.items (ap (λ v. v.items) c.begin.ensures.bytes) (ap (λ v. v.items) c.begin.ensures.ranges)
+
+pub returns-in_err-begin-clause-extent : goal.returns-in_err-begin-clause-extent
+returns-in_err-begin-clause-extent c = ap (λ v. length v.items) c.begin.ensures.bytes
+
+pub returns-in_err-begin-clause-faults : goal.returns-in_err-begin-clause-faults
+returns-in_err-begin-clause-faults c = rw (err_from_is_err_and c.from_residual.result c.from_residual.ensures.1).1 c.in_err-begin.ensures.faults
+
+pub returns-in_err-begin-clause-call : goal.returns-in_err-begin-clause-call
+returns-in_err-begin-clause-call c = c.begin.ensures.call
+
+pub returns-in_err-begin-clause-stays : goal.returns-in_err-begin-clause-stays
+returns-in_err-begin-clause-stays c = (c.begin.ensures.listed, c.begin.ensures.stop)

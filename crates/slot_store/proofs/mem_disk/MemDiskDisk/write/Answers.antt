@@ -1,3 +1,4 @@
+use Rattle.std.proofs.lemmas.Result.{err_from_is_err_and}
 use Rattle.std.proofs.Common.{ℕ, List, ◌≤◌, ◌+◌, length, ap, refl, sym, subst, arith}
 use Rattle.slot_store.specs.Disks.{Tears, Writes}
 use Rattle.slot_store.specs.MemDisks.{IsImage}
@@ -42,3 +43,21 @@ returns-in-Ok-clause-crash c =
     let within : c.args.at + n ≤ length mid.bytes.items = omega (arith, c.requires, ap length bytes) in
     carried c.args.at n c.args.self.now.bytes.items mid.bytes.items c.args.self.now.ranges.items mid.ranges.items _ bytes (ap (λ v. v.items) c.begin.ensures.ranges)
     (c.in-Ok.ensures.written mid.bytes.items c.replace.new.held.items within c.replace.ensures.outside)
+
+pub returns-in_err-fails-clause-written : goal.returns-in_err-fails-clause-written
+returns-in_err-fails-clause-written c = rw (err_from_is_err_and c.from_residual.result c.from_residual.ensures.1).1 tt
+
+pub returns-in_err-fails-clause-listed : goal.returns-in_err-fails-clause-listed
+returns-in_err-fails-clause-listed c = rw (err_from_is_err_and c.from_residual.result c.from_residual.ensures.1).1 tt
+
+pub returns-in_err-fails-clause-extent : goal.returns-in_err-fails-clause-extent
+returns-in_err-fails-clause-extent c = ap (λ v. length v.items) c.begin.ensures.bytes
+
+pub returns-in_err-fails-clause-faults : goal.returns-in_err-fails-clause-faults
+returns-in_err-fails-clause-faults c = rw (err_from_is_err_and c.from_residual.result c.from_residual.ensures.1).1 c.in_err-fails.ensures.faults
+
+pub returns-in_err-fails-clause-call : goal.returns-in_err-fails-clause-call
+returns-in_err-fails-clause-call c = c.begin.ensures.call
+
+pub returns-in_err-fails-clause-stays : goal.returns-in_err-fails-clause-stays
+returns-in_err-fails-clause-stays c = (c.begin.ensures.listed, c.begin.ensures.stop)
