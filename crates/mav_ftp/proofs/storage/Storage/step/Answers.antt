@@ -1,5 +1,5 @@
 use Rattle.std.proofs.Common.{◌≡◌, ℕ, ◌<◌, ◌≤◌, Bool, true, false, not, nat_lt, if◌then◌else◌, List, sym, ap, ◌∙◌, subst, arith}
-use Rattle.std.specs.Prelude.{OnOk, IfOk}
+use Rattle.std.specs.Prelude.{IfOk}
 use Rattle.std.proofs.lemmas.Bool.Decides.{nat_tests}
 use Rattle.mav_names.specs.declared.names.Stream.{Stream}
 use Rattle.mav_ftp.specs.Payload.{most_data, invalid_data_size, unknown_command}
@@ -36,9 +36,6 @@ returns-then-from-gt-MAX_DATA_BYTES-clause-storage c = ap (λ (t : Served). t.st
 
 pub returns-then-from-gt-MAX_DATA_BYTES-clause-reply : goal.returns-then-from-gt-MAX_DATA_BYTES-clause-reply
 returns-then-from-gt-MAX_DATA_BYTES-clause-reply c = c.nak-then-from-gt-MAX_DATA_BYTES.ensures ∙ ap (λ (t : Served). t.reply) (long c.args.self.now c.args.from c.args.request.now c.args.bytes.now c.is_known.result c.is_known.ensures c.if-not-is_known.false (omega (arith, c.from.ensures, c.if-from-gt-MAX_DATA_BYTES.true)))
-
-pub returns-clause-storage : goal.returns-clause-storage
-returns-clause-storage c = subst (λ (t : Served). OnOk c.serve.result (c.serve.new.self ≡ t.storage)) (served c.args.self.now c.args.from c.args.request.now c.args.bytes.now c.is_known.result c.is_known.ensures c.if-not-is_known.false (omega (arith, c.from.ensures, c.if-from-gt-MAX_DATA_BYTES.false))) c.serve.ensures.storage
 
 pub returns-clause-reply : goal.returns-clause-reply
 returns-clause-reply c = subst (λ (t : Served). IfOk c.serve.result (λ r. r ≡ t.reply)) (served c.args.self.now c.args.from c.args.request.now c.args.bytes.now c.is_known.result c.is_known.ensures c.if-not-is_known.false (omega (arith, c.from.ensures, c.if-from-gt-MAX_DATA_BYTES.false))) c.serve.ensures.reply
