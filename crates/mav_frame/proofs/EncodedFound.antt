@@ -212,3 +212,12 @@ found_as false extras old p rest f s =
 -- what encodes a frame is found
 pub found : (extras : List (ℕ × ℕ)) (old : Bool) (p : Packet) (b rest : List ℕ) → FitsFrame p → IsSealed extras old p → b ≡ encoding p ++ rest → look_of extras old b ≡ Found p (length (encoding p))
 found extras old p b rest f s e = ap (look_of extras old) e ∙ found_as p.old extras old p rest f s
+
+-- the frame is read back
+pub read_again : (v : Bool) (p : Packet) (rest : List ℕ) → FitsFrame (record p { old = v }) → packet_at v (encoding (record p { old = v }) ++ rest) ≡ record p { old = v }
+read_again true p rest f =
+    let q : Packet = record p { old = true } in
+    ap (packet_at true) (encoded_is true q rest f) ∙ old_packet q rest f (f.old refl)
+read_again false p rest f =
+    let q : Packet = record p { old = false } in
+    ap (packet_at false) (encoded_is false q rest f) ∙ new_packet q rest f

@@ -8,3 +8,4 @@ pub mod LongerParse
 pub mod EventsFound
 pub mod ParsedByFunction
 mod Versions
+pub mod RawFrames

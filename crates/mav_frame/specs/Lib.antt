@@ -3,6 +3,7 @@ pub mod Packet
 pub mod Padding
 pub mod Encoding
 pub mod Looks
+pub mod Raw
 pub mod Parse
 pub mod FinalParse
 pub mod ParseLaws

@@ -18,7 +18,7 @@ const HEADER_BYTES: usize = 10;
 
 const OLD_HEADER_BYTES: usize = 6;
 
-const CHECK_BYTES: usize = 2;
+pub(crate) const CHECK_BYTES: usize = 2;
 
 const BLOCK_BYTES: usize = 13;
 
@@ -70,7 +70,7 @@ pub fn frame_at(old: bool, bytes: &[u8]) -> Frame
 
 // Whether a frame of MAVLink 1 begins here, if such are read.
 #[inline(always)]
-fn is_old_frame(old: bool, bytes: &[u8]) -> bool
+pub(crate) fn is_old_frame(old: bool, bytes: &[u8]) -> bool
     ensures { result ≡ is_old_at old bytes.now }
 {
     old && !bytes.is_empty() && bytes[0] == OLD_STX
@@ -99,7 +99,7 @@ fn checked<T: CrcExtras>(extras: &T, old: bool, bytes: &[u8]) -> FrameCheck
 
 // The bytes of a header.
 #[inline(always)]
-fn header_bytes(old: bool) -> usize
+pub(crate) fn header_bytes(old: bool) -> usize
     ensures { result ≡ header_size old }
 {
     if old { OLD_HEADER_BYTES } else { HEADER_BYTES }
@@ -107,7 +107,7 @@ fn header_bytes(old: bool) -> usize
 
 // The message id of a header.
 #[inline(always)]
-fn id_in(old: bool, bytes: &[u8]) -> u32
+pub(crate) fn id_in(old: bool, bytes: &[u8]) -> u32
     requires { header_size old ≤ length bytes.now }
     ensures { result ≡ id_at old bytes.now }
 {
@@ -118,13 +118,22 @@ fn id_in(old: bool, bytes: &[u8]) -> u32
     }
 }
 
+// Where the checksum begins, after the header that comes first.
+#[inline(always)]
+pub(crate) fn offset_in(old: bool, bytes: &[u8]) -> usize
+    requires { header_size old ≤ length bytes.now }
+    ensures { result ≡ check_offset old bytes.now }
+{
+    header_bytes(old) + usize::from(bytes[1])
+}
+
 // The length of the frame whose header comes first.
 #[inline(always)]
 fn size_in(old: bool, bytes: &[u8]) -> usize
     requires { header_size old ≤ length bytes.now }
     ensures { result ≡ frame_size_at old bytes.now }
 {
-    let unsigned = header_bytes(old) + usize::from(bytes[1]) + CHECK_BYTES;
+    let unsigned = offset_in(old, bytes) + CHECK_BYTES;
     if old || bytes[2] == 0 {
         unsigned
     } else {
@@ -161,7 +170,7 @@ fn check_known(extra: u8, old: bool, bytes: &[u8]) -> FrameCheck
     if held < size {
         return FrameCheck::More(size - held);
     }
-    let offset = header_bytes(old) + usize::from(bytes[1]);
+    let offset = offset_in(old, bytes);
     let mut check = X25::new();
     check.push_all(&bytes[1..offset]);
     check.push(extra);
@@ -243,7 +252,7 @@ fn new_frame_of(bytes: &[u8]) -> Frame
     }
 }
 
-fn block_of(at: usize, bytes: &[u8]) -> Block
+pub(crate) fn block_of(at: usize, bytes: &[u8]) -> Block
     requires { at + 13 ≤ length bytes.now }
     ensures { Some result ≡ block_at at bytes.now }
 {

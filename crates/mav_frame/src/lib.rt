@@ -14,6 +14,7 @@ pub mod laws;
 mod looks;
 mod numbers;
 mod parsing;
+mod raw;
 mod tables;
 
 pub use checking::{check_frame, frame_at, look};
@@ -23,6 +24,7 @@ pub use frames::{Block, Frame};
 pub use looks::{FrameCheck, Look, Why};
 pub use numbers::bytes_6;
 pub use parsing::{event_at, parse};
+pub use raw::RawFrame;
 use std::alloc::AllocError;
 pub use tables::CrcExtras;
 
