@@ -3,7 +3,7 @@ ghost use Rattle.std.specs.Prelude.{◌≡◌, ◌≤◌, ◌<◌, length, is_so
 ghost use Rattle.mav_frame.specs.Encoding.{encoding};
 ghost use Rattle.mav_frame.specs.Packet.{FitsBlock, FitsFrame};
 ghost use Rattle.mav_frame.specs.Looks.{is_old_at, packet_at};
-ghost use Rattle.mav_frame.specs.Raw.{StartsFrame, through_checksum};
+ghost use Rattle.mav_frame.specs.Raw.{IsFrame, StartsFrame, packet_in, through_checksum};
 
 use crate::checking::{
     CHECK_BYTES, block_of, frame_at, header_bytes, id_in, is_old_frame, offset_in,
@@ -77,6 +77,14 @@ impl<'a> RawFrame<'a> {
         }
     }
 
+    /// The frame that all of the bytes encode.
+    pub fn new(bytes: &'a [u8]) -> RawFrame<'a>
+        requires { IsFrame bytes.now }
+        ensures { result ≡ packet_in bytes.now }
+    {
+        RawFrame { bytes }
+    }
+
     /// The same frame, as the bytes that encode it.
     pub fn of(frame: &Frame, bytes: &'a [u8]) -> RawFrame<'a>
         requires { bytes.now ≡ encoding frame.now }
@@ -90,6 +98,9 @@ impl<'a> RawFrame<'a> {
     pub fn bytes(&self) -> &'a [u8]
         ensures bytes { result.now ≡ encoding self.now }
         ensures short { length result.now ≤ 280 }
+        // They are read as the same frame.
+        ensures frame { IsFrame result.now }
+        ensures again { packet_in result.now ≡ self.now }
     {
         self.bytes
     }

@@ -8,11 +8,10 @@ use native.Mathlib.Decide.{ℕ_discrete}
 use Rattle.mav_frame.specs.Packet.{Packet}
 use Rattle.mav_stream.specs.Held.{Held}
 use Rattle.mav_router.specs.declared.entries.Entry.{Entry}
-use Rattle.mav_router.specs.declared.judging.Judged.{Judged}
 use Rattle.mav_router.specs.Journal.{Rules, entry_after, frames_from}
 use Rattle.mav_router.specs.Runs.{Reading}
 use Rattle.mav_router.specs.Faults.{StopsReading}
-use Rattle.mav_router.specs.Found.{IsJudged, Keeps, packets_of}
+use Rattle.mav_router.specs.Found.{IsJudged, Judged, Keeps, packets_of}
 use Rattle.mav_router.proofs.Readings.{from_own}
 use Rattle.mav_router.proofs.Seats.{passes_both, with_first}
 

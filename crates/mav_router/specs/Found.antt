@@ -1,17 +1,29 @@
 -- The frames that were found at a port and judged, until the switch takes them.
-use Rattle.std.specs.Prelude.{ℕ, ◌≡◌, ◌<◌, ◌==◌, List, ◌++◌, length, map, take, OnOk, OnErr}
+use Rattle.std.specs.Prelude.{ℕ, ◌≡◌, ◌<◌, ◌==◌, List, [], ◌∷◌, ◌++◌, length, map, take, OnOk, OnErr}
 use Rattle.std.specs.declared.result.Result.{Result}
 use Rattle.turnstile.specs.Labels.{EachPasses}
 use Rattle.mav_frame.specs.Packet.{Packet}
 use Rattle.mav_sign.specs.Signing.{verified}
 use Rattle.mav_router.specs.declared.entries.Entry.{Entry}
-use Rattle.mav_router.specs.declared.judging.Judged.{Judged}
+use Rattle.mav_router.specs.declared.judging.Judgement.{Judgement}
 use Rattle.mav_router.specs.Journal.{Rules, target_by, frames_from}
+
+-- a frame with its judgement
+pub record Judged : Type 0 where
+  pub frame : Packet
+  pub judgement : Judgement
 
 -- the judgement of a frame is that of these rules
 pub record IsJudged (rules : Rules) (judged : Judged) : Type 0 where
   pub verifies : judged.judgement.verifies ≡ verified rules.key judged.frame judged.frame.block
   pub target : judged.judgement.target ≡ target_by rules judged.frame
+
+-- a frame more was found, and judged by these rules
+pub record KeepsFound (rules : Rules) (packet : Packet) (before after : List Judged) : Type 0 where
+  pub judged : Judged
+  pub frame : judged.frame ≡ packet
+  pub right : IsJudged rules judged
+  pub kept : after ≡ before ++ judged ∷ []
 
 abbrev pub packets_of : List Judged → List Packet
 packets_of frames = map (λ (judged : Judged). judged.frame) frames

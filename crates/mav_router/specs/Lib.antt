@@ -10,3 +10,4 @@ pub mod Found
 pub mod Parts
 pub mod Crews
 pub mod Threads
+pub mod Spans

@@ -17,12 +17,12 @@ use Rattle.mav_router.specs.Journal.{Rules, IsJournal, frames_to}
 use Rattle.mav_router.specs.Parts.{IsReady, PartEnds}
 use Rattle.mav_router.specs.Runs.{Input, Output, HadTurns, AllFresh, AllTurned}
 
--- new lanes and batches for all ports, and room for all that is left of them
+-- new lanes and room for all ports, and room for all that is left of them
 pub record IsStocked {A : Type 0} (rules : Rules) (stock : Stock A) : Type 0 where
   pub lanes : vec_len stock.lanes ≡ rules.ports
   pub fresh : AllFresh rules stock.lanes.items
   pub turned : AllTurned stock.lanes.items 0
-  pub batches : vec_len stock.batches ≡ rules.ports
+  pub rooms : vec_len stock.rooms ≡ rules.ports
   pub sides : vec_len stock.sides ≡ 0
   pub room : rules.ports ≤ vec_capacity stock.sides
 

@@ -5,8 +5,8 @@ ghost use Rattle.mav_router.specs.Journal.{frames_to};
 ghost use Rattle.mav_router.specs.Batches.{Gathered};
 
 use crate::switch::next_index;
-use crate::{Entry, NoMemory};
-use mav_frame::{Frame, encode};
+use crate::{Journal, NoMemory};
+use mav_frame::RawFrame;
 use std::alloc::Global;
 use std::marker::Model;
 
@@ -61,19 +61,17 @@ impl Batch {
         self.bytes.len() <= MOST_BYTES - FRAME_BYTES
     }
 
-    fn push(&mut self, frame: &Frame)
+    fn push(&mut self, frame: &RawFrame<'_>)
         requires { length self.old + 280 ≤ 65536 }
         ensures bytes { self.new ≡ self.old ++ encoding frame.now }
         ensures short { length self.new ≤ length self.old + 280 }
     {
-        let mut out = [0; FRAME_BYTES];
-        let size = encode(frame, &mut out);
-        self.bytes.extend_from_slice(&out[..size]).unwrap();
+        self.bytes.extend_from_slice(frame.bytes()).unwrap();
     }
 
     /// Takes frames that go out at the port, of the entries from `from` on, as many as surely fit, in place of what it held.
     /// Moves `from` past the entries that were looked through, and returns whether these were all.
-    pub(crate) fn gather(&mut self, journal: &[Entry], port: u8, from: &mut usize) -> bool
+    pub(crate) fn gather(&mut self, journal: &Journal, port: u8, from: &mut usize) -> bool
         requires from { 1 ≤ port }
         requires to { port ≤ 8 }
         requires within { from.old ≤ length journal.now }
@@ -89,7 +87,7 @@ impl Batch {
                 *from = index;
                 return true;
             }
-            self.push(&journal[index].frame);
+            self.push(&journal.frame(index));
             *from = index + 1;
         }
         false

@@ -14,11 +14,11 @@ use crate::lanes::write_batch;
 use crate::moves::put_last;
 use crate::parts::{Halt, Side};
 use crate::routing::end_of;
-use crate::{Entry, PortEnd, SwitchFault};
+use crate::{Journal, PortEnd, SwitchFault};
 use mav_links::Link;
 
 // Writes what is left for a port that hasn't failed, as much as is gathered at once, and returns whether that was all.
-fn write_some_left<L: Link>(journal: &[Entry], port: u8, side: &mut Side<L>) -> bool
+fn write_some_left<L: Link>(journal: &Journal, port: u8, side: &mut Side<L>) -> bool
     requires from { 1 ≤ port }
     requires to { port ≤ 8 }
     requires fine { side.old.lane.failed ≡ false }
@@ -32,13 +32,13 @@ fn write_some_left<L: Link>(journal: &[Entry], port: u8, side: &mut Side<L>) -> 
     ensures all { result ≡ true → frames_to port (take side.new.taken journal.now) ≡ frames_to port journal.now }
     ensures moves { result ≡ false → side.old.taken < side.new.taken }
 {
-    let all = side.batch.gather(journal, port, &mut side.taken);
-    write_batch(&mut side.lane, &mut side.link, side.batch.bytes());
+    let all = side.room.batch.gather(journal, port, &mut side.taken);
+    write_batch(&mut side.lane, &mut side.link, side.room.batch.bytes());
     all
 }
 
 /// Writes all that is left for a port, unless it failed or fails.
-pub(crate) fn write_left<L: Link>(journal: &[Entry], port: u8, side: &mut Side<L>)
+pub(crate) fn write_left<L: Link>(journal: &Journal, port: u8, side: &mut Side<L>)
     requires from { 1 ≤ port }
     requires to { port ≤ 8 }
     requires within { side.old.taken ≤ length journal.now }
@@ -58,7 +58,7 @@ pub(crate) fn write_left<L: Link>(journal: &[Entry], port: u8, side: &mut Side<L
 }
 
 /// Writes all that is left, in the order of the ports.
-pub(crate) fn write_each_left<L: Link>(journal: &[Entry], sides: &mut [Side<L>])
+pub(crate) fn write_each_left<L: Link>(journal: &Journal, sides: &mut [Side<L>])
     requires few { length sides.old ≤ 8 }
     requires within { (k : ℕ) (side : _) → slice_get sides.old k ≡ Some side → side.taken ≤ length journal.now }
     ensures length { length sides.new ≡ length sides.old }

@@ -1,5 +1,5 @@
 // What a run ends with.
-use crate::{Entry, SwitchFault};
+use crate::{Journal, SwitchFault};
 use link_table::Ways;
 
 /// How a run goes: with one thread or one for each port, how many times each port is read at most, and which ports are
@@ -34,7 +34,7 @@ pub struct PortEnd {
 /// The end of a run: what came in, and what became of each port.
 #[derive(Drop)]
 pub struct RouteEnd {
-    pub journal: Vec<Entry>,
+    pub journal: Journal,
     pub ports: Vec<PortEnd>,
 }
 
@@ -42,5 +42,5 @@ pub struct RouteEnd {
 #[derive(Drop)]
 pub struct RouteFault {
     pub why: SwitchFault,
-    pub journal: Vec<Entry>,
+    pub journal: Journal,
 }

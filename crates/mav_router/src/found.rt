@@ -1,91 +1,124 @@
 // The frames that a port's reader found, until a turn.
-ghost use Rattle.std.specs.Prelude.{◌≡◌, ◌<◌, ◌≤◌, ◌+◌, ◌-◌, ◌*◌, ◌++◌, ◌∷◌, [], ℕ, List, length, take, true, false, All};
+ghost use Rattle.std.specs.Prelude.{◌≡◌, ◌<◌, ◌≤◌, ◌+◌, ◌-◌, ◌*◌, ◌++◌, ◌∷◌, [], ℕ, List, length, take, true, false, All, IfOk, slice_get, Some};
 ghost use Rattle.mav_router.specs.declared.entries.Entry.{Entry};
 ghost use Rattle.mav_router.specs.Faults.{StopsReading};
-ghost use Rattle.mav_router.specs.Found.{IsJudged, packets_of};
+ghost use Rattle.mav_router.specs.Found.{IsJudged, Judged, KeepsFound, packets_of};
+ghost use Rattle.mav_scan.specs.Spans.{first_packet, held_after, next_span};
 ghost use Rattle.mav_router.specs.Journal.{frames_from};
 ghost use Rattle.mav_router.specs.Runs.{Reading, AllRead};
 
-use crate::RouterRules;
 use crate::hearing::next_frame;
-use crate::judging::{Judged, Judgement, judge};
-use mav_frame::Frame;
-use mav_names::Name;
-use mav_scan::Scanner;
+use crate::judging::{Judgement, judge};
+use crate::spans::{Span, frame_in};
+use crate::{NoMemory, RouterRules};
+use mav_frame::RawFrame;
+use mav_scan::{NextSpan, Scanner};
+use std::alloc::Global;
 use std::marker::Model;
 
 /// So many at most.
-pub(crate) const MOST_FOUND: usize = 64;
+pub(crate) const MOST_FOUND: usize = 128;
 
-/// Frames with their judgements, in their order.
+// As many bytes as they have at most.
+const MOST_BYTES: usize = 35_840;
+
+// A frame without its bytes.
+#[derive(Clone, Copy)]
+struct FoundFrame {
+    span: Span,
+    judgement: Judgement,
+}
+
+/// Frames with their judgements, in their order. All memory is allocated at the start.
 #[derive(Drop)]
 pub(crate) struct FoundFrames {
-    items: [Judged; MOST_FOUND],
-    count: usize,
+    bytes: Vec<u8>,
+    items: Vec<FoundFrame>,
 }
 
 impl Model for FoundFrames {
-    ghost use Rattle.std.specs.Prelude.{List, take, ◌≤◌};
-    ghost use Rattle.mav_router.specs.declared.judging.Judged.{Judged};
+    ghost use Rattle.std.specs.Prelude.{List, map, length, vec_capacity, ◌≤◌, ◌*◌};
+    ghost use Rattle.mav_router.specs.Found.{Judged};
+    ghost use Rattle.mav_router.specs.Spans.{judged_of, AreFound};
 
     ghost Value = { List Judged };
 
-    ghost view = { λ f. take f.count f.items };
+    ghost view = { λ f. map (judged_of f.bytes.items) f.items.items };
 
-    ghost invariant = { λ f. f.count ≤ 64 };
+    ghost invariant = { λ f. AreFound f.bytes.items f.items.items
+        × (length f.bytes.items ≤ 280 * length f.items.items) × (length f.items.items ≤ 128)
+        × (35840 ≤ vec_capacity f.bytes) × (128 ≤ vec_capacity f.items) };
 }
 
-// What fills the room that isn't used.
-fn nothing() -> Judged {
-    let nobody = Name { sys: 0, comp: 0 };
-    Judged {
-        frame: Frame {
-            old: false,
-            compat: 0,
-            seq: 0,
-            from: nobody,
-            id: 0,
-            len: 0,
-            payload: [0; 255],
-            check: 0,
-            block: None,
-        },
-        judgement: Judgement {
-            verifies: false,
-            target: nobody,
-        },
-    }
+fn item_at(items: &[FoundFrame], index: usize) -> FoundFrame
+    requires { index < length items.now }
+    ensures { slice_get items.now index ≡ Some result }
+{
+    items[index]
 }
 
 impl FoundFrames {
-    pub(crate) fn new() -> FoundFrames
-        ensures { result ≡ [] }
+    pub(crate) fn new(alloc: Global) -> Result<FoundFrames, NoMemory>
+        ensures { IfOk result (λ found. found ≡ []) }
     {
-        FoundFrames {
-            items: [nothing(); MOST_FOUND],
-            count: 0,
-        }
+        Ok(FoundFrames {
+            bytes: Vec::with_capacity(alloc, MOST_BYTES)?,
+            items: Vec::with_capacity(alloc, MOST_FOUND)?,
+        })
     }
 
     pub(crate) fn clear(&mut self)
         ensures { self.new ≡ [] }
     {
-        self.count = 0;
+        self.bytes.clear();
+        self.items.clear();
     }
 
-    pub(crate) fn push(&mut self, judged: Judged)
-        requires { length self.old < 64 }
-        ensures { self.new ≡ self.old ++ judged ∷ [] }
+    pub(crate) fn push(&mut self, frame: &RawFrame<'_>, judgement: Judgement)
+        requires { length self.old < 128 }
+        ensures { self.new ≡ self.old ++ (record { frame = frame.now; judgement = judgement }) ∷ [] }
     {
-        self.items[self.count] = judged;
-        self.count += 1;
+        let start = self.bytes.len();
+        self.bytes.extend_from_slice(frame.bytes()).unwrap();
+        let end = self.bytes.len();
+        let span = Span { start, end };
+        self.items.push(FoundFrame { span, judgement }).unwrap();
     }
 
-    pub(crate) fn items(&self) -> &[Judged]
-        ensures { result.now ≡ self.now }
+    pub(crate) fn len(&self) -> usize
+        ensures { result ≡ length self.now }
     {
-        &self.items[..self.count]
+        self.items.len()
     }
+
+    /// The frame at an index.
+    pub(crate) fn frame(&self, index: usize) -> RawFrame<'_>
+        requires { index < length self.now }
+        ensures { (judged : Judged) → slice_get self.now index ≡ Some judged → result ≡ judged.frame }
+    {
+        frame_in(&self.bytes, item_at(&self.items, index).span)
+    }
+
+    /// Its judgement.
+    pub(crate) fn judgement(&self, index: usize) -> Judgement
+        requires { index < length self.now }
+        ensures { (judged : Judged) → slice_get self.now index ≡ Some judged → result ≡ judged.judgement }
+    {
+        item_at(&self.items, index).judgement
+    }
+}
+
+// Takes the frame at the start of what a reader holds, and keeps it with its judgement.
+fn find_frame(rules: &RouterRules<'_>, scanner: &mut Scanner, size: usize, found: &mut FoundFrames)
+    requires there { next_span scanner.old ≡ NextSpan.Frame size }
+    requires room { length found.old < 128 }
+    ensures scanner { scanner.new ≡ held_after scanner.old (NextSpan.Frame size) }
+    ensures kept { KeepsFound rules.now (first_packet scanner.old) found.old found.new }
+{
+    let frame = scanner.raw_frame(size);
+    let judgement = judge(rules, &frame);
+    found.push(&frame, judgement);
+    scanner.consume(size);
 }
 
 /// The next frames that a port's reader finds, if it is fed what isn't taken yet of the piece, as many as are kept, with
@@ -120,11 +153,10 @@ pub(crate) fn find_frames(
     found.clear();
     for at in 0..MOST_FOUND {
         let _ = at;
-        let Some(frame) = next_frame(scanner, skipped, piece, taken) else {
+        let Some(size) = next_frame(scanner, skipped, piece, taken) else {
             return true;
         };
-        let judgement = judge(rules, &frame);
-        found.push(Judged { frame, judgement });
+        find_frame(rules, scanner, size, found);
     }
     false
 }

@@ -1,32 +1,33 @@
 // What comes in at a port.
 ghost use Rattle.std.specs.Prelude.{◌≡◌, ◌≤◌, ◌<◌, ◌+◌, ◌-◌, ◌*◌, ◌++◌, ◌∷◌, [], ℕ, List, length, take, false, OnOk, OnErr, OnSome, IfErr, IfSome, IfNone};
-ghost use Rattle.mav_frame.specs.Packet.{Packet};
 ghost use Rattle.mav_router.specs.declared.entries.Entry.{Entry};
-ghost use Rattle.mav_router.specs.Journal.{Rules, Grows, frames_from};
+ghost use Rattle.mav_router.specs.Journal.{Rules, Grows, entry_after, frames_from, given_to};
+ghost use Rattle.mav_scan.specs.Spans.{first_packet, held_after, next_span};
 ghost use Rattle.mav_router.specs.Runs.{Reading, AllRead};
 ghost use Rattle.mav_router.specs.Faults.{IsSwitchFault, StopsReading};
 
 use crate::{Switch, SwitchFault};
-use mav_frame::Frame;
 use mav_scan::{NextSpan, Scanner};
 
-/// The next frame that a port's reader finds, if it is fed what isn't taken yet of the piece. Bytes that are skipped are
-/// counted.
+/// How many bytes the next frame has that a port's reader finds, if it is fed what isn't taken yet of the piece. The frame
+/// is then at the start of what the reader holds. Bytes that are skipped are counted.
 pub(crate) fn next_frame(
     scanner: &mut Scanner,
     skipped: &mut u64,
     piece: &[u8],
     taken: &mut usize,
-) -> Option<Frame>
+) -> Option<usize>
     requires { taken.old ≤ length piece.now }
     ensures within { taken.new ≤ length piece.now }
     ensures ended { scanner.new.ended ≡ scanner.old.ended }
-    ensures fewer { OnSome result (2 * (length piece.now - taken.new) + length scanner.new.bytes < 2 * (length piece.now - taken.old) + length scanner.old.bytes) }
-    ensures found { IfSome result (λ frame. (rules : Rules) (port : ℕ) (bytes : List ℕ) (journal after : List Entry) → (0 < length piece.now → scanner.old.ended ≡ false)
+    ensures there { IfSome result (λ size. next_span scanner.new ≡ NextSpan.Frame size) }
+    ensures size { IfSome result (λ size. (0 < size) × (size ≤ length scanner.new.bytes)) }
+    ensures fewer { 2 * (length piece.now - taken.new) + length scanner.new.bytes ≤ 2 * (length piece.now - taken.old) + length scanner.old.bytes }
+    ensures found { IfSome result (λ size. (rules : Rules) (port : ℕ) (bytes : List ℕ) (journal after : List Entry) → (0 < length piece.now → scanner.old.ended ≡ false)
         → Reading rules port (bytes ++ take taken.old piece.now) scanner.old skipped.old journal
-        → frames_from port after ≡ frames_from port journal ++ frame ∷ []
-        → Reading rules port (bytes ++ take taken.new piece.now) scanner.new skipped.new after) }
-    ensures untaken { IfSome result (λ frame. (rules : Rules) (port : ℕ) (bytes : List ℕ) (journal after : List Entry) → (0 < length piece.now → scanner.old.ended ≡ false)
+        → frames_from port after ≡ frames_from port journal ++ first_packet scanner.new ∷ []
+        → Reading rules port (bytes ++ take taken.new piece.now) (held_after scanner.new (NextSpan.Frame size)) skipped.new after) }
+    ensures untaken { IfSome result (λ size. (rules : Rules) (port : ℕ) (bytes : List ℕ) (journal after : List Entry) → (0 < length piece.now → scanner.old.ended ≡ false)
         → Reading rules port (bytes ++ take taken.old piece.now) scanner.old skipped.old journal
         → frames_from port after ≡ frames_from port journal
         → StopsReading scanner.old.ended rules port (bytes ++ piece.now) after) }
@@ -36,11 +37,7 @@ pub(crate) fn next_frame(
 {
     'reading: loop {
         match scanner.next_span() {
-            NextSpan::Frame(size) => {
-                let frame = scanner.frame();
-                scanner.consume(size);
-                return Some(frame);
-            }
+            NextSpan::Frame(size) => return Some(size),
             NextSpan::Skipped(_, count) => {
                 *skipped = skipped.saturating_add(count as u64);
                 scanner.consume(count);
@@ -53,6 +50,32 @@ pub(crate) fn next_frame(
         }
         *taken += scanner.feed(&piece[*taken..]);
     }
+}
+
+// Has the switch admit the frame at the start of what a port's reader holds, and takes its bytes off.
+fn hear_frame(
+    switch: &mut Switch<'_>,
+    scanner: &mut Scanner,
+    port: u8,
+    size: usize,
+) -> Result<(), SwitchFault>
+    requires from { 1 ≤ port }
+    requires to { port ≤ switch.old.rules.ports }
+    requires there { next_span scanner.old ≡ NextSpan.Frame size }
+    requires within { size ≤ length scanner.old.bytes }
+    ensures rules { switch.new.rules ≡ switch.old.rules }
+    ensures given { (other : ℕ) → given_to switch.new other ≡ given_to switch.old other }
+    ensures ended { scanner.new.ended ≡ scanner.old.ended }
+    ensures scanner { OnOk result (scanner.new ≡ held_after scanner.old (NextSpan.Frame size)) }
+    ensures journal { OnOk result (switch.new.journal ≡ switch.old.journal ++ entry_after switch.old.rules switch.old.journal port (first_packet scanner.old) ∷ []) }
+    ensures unchanged { OnErr result (switch.new.journal ≡ switch.old.journal) }
+    ensures fault { IfErr result (λ fault. IsSwitchFault fault switch.old.journal) }
+{
+    if let Err(fault) = switch.admit_raw(port, &scanner.raw_frame(size)) {
+        return Err(fault);
+    }
+    scanner.consume(size);
+    Ok(())
 }
 
 /// Feeds a piece to the port's reader, admits each frame that is found, and counts the bytes that are skipped.
@@ -76,8 +99,8 @@ pub(crate) fn hear(
     ensures fault { IfErr result (λ fault. IsSwitchFault fault switch.new.journal) }
 {
     let mut taken = 0;
-    while let Some(frame) = next_frame(scanner, skipped, piece, &mut taken) {
-        if let Err(fault) = switch.admit(port, &frame) {
+    while let Some(size) = next_frame(scanner, skipped, piece, &mut taken) {
+        if let Err(fault) = hear_frame(switch, scanner, port, size) {
             return Err(fault);
         }
     }

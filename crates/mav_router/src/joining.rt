@@ -4,9 +4,10 @@ ghost use Rattle.mav_router.specs.Threads.{IsStocked, IsPlaced};
 
 use crate::batch::Batch;
 use crate::crew::PortJob;
+use crate::found::FoundFrames;
 use crate::lane::Lane;
 use crate::moves::{put_last, take_first};
-use crate::parts::{Halt, Part, Side};
+use crate::parts::{Halt, Part, Room, Side};
 use crate::routing::new_lanes;
 use crate::signals::Signals;
 use crate::{NoMemory, RouterRules, Switch};
@@ -19,19 +20,25 @@ use turnstile::{Turn, TurnSeat};
 #[derive(Drop)]
 pub(crate) struct Stock<L> {
     pub(crate) lanes: Vec<Lane>,
-    pub(crate) batches: Vec<Batch>,
+    pub(crate) rooms: Vec<Room>,
     pub(crate) sides: Vec<Side<L>>,
 }
 
-fn new_batches(alloc: Global, count: usize) -> Result<Vec<Batch>, NoMemory>
-    ensures { IfOk result (λ batches. vec_len batches ≡ count) }
+fn new_room(alloc: Global) -> Result<Room, NoMemory> {
+    let batch = Batch::new(alloc)?;
+    let found = FoundFrames::new(alloc)?;
+    Ok(Room { batch, found })
+}
+
+fn new_rooms(alloc: Global, count: usize) -> Result<Vec<Room>, NoMemory>
+    ensures { IfOk result (λ rooms. vec_len rooms ≡ count) }
 {
-    let mut batches = Vec::new(alloc);
+    let mut rooms = Vec::new(alloc);
     for at in 0..count {
         let _ = at;
-        batches.push(Batch::new(alloc)?)?;
+        rooms.push(new_room(alloc)?)?;
     }
-    Ok(batches)
+    Ok(rooms)
 }
 
 /// What so many ports need.
@@ -46,7 +53,7 @@ pub(crate) fn new_stock<L>(
 {
     Ok(Stock {
         lanes: new_lanes(alloc, known, plain, count)?,
-        batches: new_batches(alloc, count)?,
+        rooms: new_rooms(alloc, count)?,
         sides: Vec::with_capacity(alloc, count)?,
     })
 }
@@ -64,7 +71,7 @@ pub(crate) fn muster<'a, 't, L: Drop>(
 )
     requires few { vec_len ports.old ≤ 8 }
     requires lanes { vec_len stock.old.lanes ≡ vec_len ports.old }
-    requires batches { vec_len stock.old.batches ≡ vec_len ports.old }
+    requires rooms { vec_len stock.old.rooms ≡ vec_len ports.old }
     requires seats { vec_len seats.old ≡ vec_len ports.old }
     requires new { vec_len jobs.old ≡ 0 }
     requires room { vec_len ports.old ≤ vec_capacity jobs.old }
@@ -82,7 +89,7 @@ pub(crate) fn muster<'a, 't, L: Drop>(
             link: take_first(ports),
             lane: take_first(&mut stock.lanes),
             taken: 0,
-            batch: take_first(&mut stock.batches),
+            room: take_first(&mut stock.rooms),
             halt: Halt::Done,
         };
         let part = Part {

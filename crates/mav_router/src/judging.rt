@@ -5,9 +5,9 @@ ghost use Rattle.mav_router.specs.Journal.{Rules, target_by};
 
 use crate::RouterRules;
 use dialect::Dialect;
-use mav_frame::Frame;
+use mav_frame::RawFrame;
 use mav_names::Name;
-use mav_sign::verifies;
+use mav_sign::verifies_raw;
 
 /// Whether the signature of a frame verifies, and the node that it is for.
 #[derive(Clone, Copy)]
@@ -16,22 +16,15 @@ pub(crate) struct Judgement {
     pub(crate) target: Name,
 }
 
-/// A frame with its judgement.
-#[derive(Clone, Copy)]
-pub(crate) struct Judged {
-    pub(crate) frame: Frame,
-    pub(crate) judgement: Judgement,
-}
-
 // The node that a frame is for.
-fn target(known: &Dialect, frame: &Frame) -> Name
+fn target(known: &Dialect, frame: &RawFrame<'_>) -> Name
     ensures { (key : List ℕ) (ports : ℕ) (plain : _) → result ≡ target_by (record { key = key; known = known.now; ports = ports; plain = plain }) frame.now }
 {
-    let Some(layout) = known.get(frame.id) else {
+    let Some(layout) = known.get(frame.id()) else {
         return Name { sys: 0, comp: 0 };
     };
-    let payload = frame.payload_bytes();
-    if frame.old {
+    let payload = frame.payload();
+    if frame.is_old() {
         let base = usize::from(layout.base_len()).min(payload.len());
         layout.target(&payload[..base])
     } else {
@@ -40,12 +33,12 @@ fn target(known: &Dialect, frame: &Frame) -> Name
 }
 
 /// Judges a frame by the rules of a router.
-pub(crate) fn judge(rules: &RouterRules<'_>, frame: &Frame) -> Judgement
+pub(crate) fn judge(rules: &RouterRules<'_>, frame: &RawFrame<'_>) -> Judgement
     ensures verifies { result.verifies ≡ verified rules.now.key frame.now frame.now.block }
     ensures target { result.target ≡ target_by rules.now frame.now }
 {
     Judgement {
-        verifies: verifies(&rules.key, frame),
+        verifies: verifies_raw(&rules.key, frame),
         target: target(rules.known, frame),
     }
 }

@@ -1,6 +1,6 @@
 //! A router of MAVLink packets between links, on one thread or with a thread for each port.
 //!
-//! A [`Switch`] admits the frames that come in at its ports, keeps an [`Entry`] of each in its journal, and gives each
+//! A [`Switch`] admits the frames that come in at its ports, keeps an [`Entry`] of each in its [`Journal`], and gives each
 //! port the frames that go out there; all of it follows from the journal (MAVLink guide, Routing). [`route_one`] and
 //! [`route_all`] run one over boxed links that may fail at any call, and return the journal and what became of each port,
 //! or at a fault the journal so far. They never call a port again that failed, never send a packet back to its own port,
@@ -20,6 +20,7 @@ mod hearing;
 mod history;
 mod jobs;
 mod joining;
+mod journal;
 mod judging;
 mod lane;
 mod lanes;
@@ -31,6 +32,7 @@ mod routing;
 mod rules;
 mod running;
 mod signals;
+mod spans;
 mod switch;
 mod threads;
 mod together;
@@ -39,6 +41,7 @@ mod turns;
 pub use ends::{How, PortEnd, RouteEnd, RouteFault, RoutePlan};
 pub use entries::{Entry, SwitchFault};
 pub use history::SwitchEvent;
+pub use journal::{Journal, Outcome};
 pub use routing::{route_links, route_one};
 pub use rules::RouterRules;
 use std::alloc::AllocError;

@@ -1,5 +1,6 @@
 // One port of a router with a thread for each.
 use crate::batch::Batch;
+use crate::found::FoundFrames;
 use crate::lane::Lane;
 use crate::{Switch, SwitchFault};
 use mav_links::Link;
@@ -16,13 +17,20 @@ pub(crate) enum Halt {
     Fault(SwitchFault),
 }
 
+/// What a thread works in: what waits for its port, and the frames that were found there.
+#[derive(Drop)]
+pub(crate) struct Room {
+    pub(crate) batch: Batch,
+    pub(crate) found: FoundFrames,
+}
+
 /// A port with its link, without its seat: `taken` is how many entries of the journal were looked through for it.
 #[derive(Drop)]
 pub(crate) struct Side<L> {
     pub(crate) link: L,
     pub(crate) lane: Lane,
     pub(crate) taken: usize,
-    pub(crate) batch: Batch,
+    pub(crate) room: Room,
     pub(crate) halt: Halt,
 }
 

@@ -10,7 +10,9 @@ ghost use Rattle.mav_router.specs.Faults.{IsSwitchFault, StopsRound, RouteStoppe
 use crate::batch::Batch;
 use crate::lane::Lane;
 use crate::rounds::{read_each, write_each};
-use crate::{How, NoMemory, PortEnd, RouteEnd, RouteFault, RoutePlan, Switch, SwitchFault};
+use crate::{
+    How, Journal, NoMemory, PortEnd, RouteEnd, RouteFault, RoutePlan, Switch, SwitchFault,
+};
 use dialect::Dialect;
 use link_table::Ways;
 use mav_links::Link;
@@ -261,19 +263,19 @@ pub fn route_links<L: Link>(
     requires from { 1 ≤ length links.old }
     requires to { length links.old ≤ 8 }
     requires turns { plan.turns ≤ 1_000_000_000 }
-    ensures journal { IfOk result (λ end. IsJournal (record { key = key.now; known = known.now; ports = length links.old; plain = plan.plain }) [] end.journal.items) }
-    ensures few { IfOk result (λ end. length end.journal.items ≤ 1000000) }
+    ensures journal { IfOk result (λ end. IsJournal (record { key = key.now; known = known.now; ports = length links.old; plain = plan.plain }) [] end.journal) }
+    ensures few { IfOk result (λ end. length end.journal ≤ 1000000) }
     ensures ports { IfOk result (λ end. length end.ports.items ≡ length links.old) }
     ensures each { IfOk result (λ end. (k : ℕ) (b c : _) (e : PortEnd) → slice_get links.old k ≡ Some b
         → slice_get links.new k ≡ Some c → slice_get end.ports.items k ≡ Some e
-        → PortRun (record { key = key.now; known = known.now; ports = length links.old; plain = plan.plain }) end.journal.items plan.turns (k + 1) (L.state b) (L.state c) e) }
-    ensures kept { IfErr result (λ fault. IsJournal (record { key = key.now; known = known.now; ports = length links.old; plain = plan.plain }) [] fault.journal.items) }
-    ensures stopped { IfErr result (λ fault. RouteStopped L.state (record { key = key.now; known = known.now; ports = length links.old; plain = plan.plain }) fault.why fault.journal.items links.old links.new) }
+        → PortRun (record { key = key.now; known = known.now; ports = length links.old; plain = plan.plain }) end.journal plan.turns (k + 1) (L.state b) (L.state c) e) }
+    ensures kept { IfErr result (λ fault. IsJournal (record { key = key.now; known = known.now; ports = length links.old; plain = plan.plain }) [] fault.journal) }
+    ensures stopped { IfErr result (λ fault. RouteStopped L.state (record { key = key.now; known = known.now; ports = length links.old; plain = plan.plain }) fault.why fault.journal links.old links.new) }
 {
     let Ok(mut switch) = Switch::new(alloc, *key, known, links.len() as u8, plan.plain) else {
         return Err(RouteFault {
             why: SwitchFault::NoMemory,
-            journal: Vec::new(alloc),
+            journal: Journal::new(alloc),
         });
     };
     match route_switch(alloc, known, &mut switch, links, plan) {
@@ -302,16 +304,16 @@ pub fn route_one(
     requires to { length ports.old.items ≤ 8 }
     requires turns { plan.turns ≤ 1_000_000_000 }
     ensures links { length ports.new.items ≡ length ports.old.items }
-    ensures journal { IfOk result (λ end. IsJournal (record { key = key.now; known = known.now; ports = length ports.old.items; plain = plan.plain }) [] end.journal.items) }
-    ensures few { IfOk result (λ end. length end.journal.items ≤ 1000000) }
+    ensures journal { IfOk result (λ end. IsJournal (record { key = key.now; known = known.now; ports = length ports.old.items; plain = plan.plain }) [] end.journal) }
+    ensures few { IfOk result (λ end. length end.journal ≤ 1000000) }
     ensures ports { IfOk result (λ end. length end.ports.items ≡ length ports.old.items) }
     // What was read from each port, and what was written to it.
     ensures each { IfOk result (λ end. (k : ℕ) (b c : _) (e : PortEnd) → slice_get ports.old.items k ≡ Some b
         → slice_get ports.new.items k ≡ Some c → slice_get end.ports.items k ≡ Some e
-        → PortRun (record { key = key.now; known = known.now; ports = length ports.old.items; plain = plan.plain }) end.journal.items plan.turns (k + 1) (state b) (state c) e) }
+        → PortRun (record { key = key.now; known = known.now; ports = length ports.old.items; plain = plan.plain }) end.journal plan.turns (k + 1) (state b) (state c) e) }
     // A run that stopped, with its journal so far.
-    ensures kept { IfErr result (λ fault. IsJournal (record { key = key.now; known = known.now; ports = length ports.old.items; plain = plan.plain }) [] fault.journal.items) }
-    ensures stopped { IfErr result (λ fault. RouteStopped state (record { key = key.now; known = known.now; ports = length ports.old.items; plain = plan.plain }) fault.why fault.journal.items ports.old.items ports.new.items) }
+    ensures kept { IfErr result (λ fault. IsJournal (record { key = key.now; known = known.now; ports = length ports.old.items; plain = plan.plain }) [] fault.journal) }
+    ensures stopped { IfErr result (λ fault. RouteStopped state (record { key = key.now; known = known.now; ports = length ports.old.items; plain = plan.plain }) fault.why fault.journal ports.old.items ports.new.items) }
 {
     route_links(alloc, key, known, ports.as_mut_slice(), plan)
 }

@@ -49,7 +49,7 @@ fn hear_in_turns<'a, R: Wait>(
     let mut taken = 0;
     'reading: loop {
         let is_all = find_frames(rules, scanner, skipped, piece, &mut taken, found);
-        if let Err(fault) = admit_found(rt, turn, rules, seat, port, found.items()) {
+        if let Err(fault) = admit_found(rt, turn, rules, seat, port, found) {
             return Err(fault);
         }
         if is_all {
@@ -65,7 +65,6 @@ fn read_part<'a, R: Wait, L: Link>(
     rules: &RouterRules<'_>,
     part: &mut Part<'a, L>,
     buf: &mut [u8],
-    found: &mut FoundFrames,
 ) -> Result<(), SwitchFault>
     requires ready { IsReady turn.now rules.now part.old }
     requires live { part.old.side.lane.ended ≡ false }
@@ -92,7 +91,7 @@ fn read_part<'a, R: Wait, L: Link>(
         &mut side.lane.skipped,
         part.port,
         &buf[..count],
-        found,
+        &mut side.room.found,
     )
 }
 
@@ -118,9 +117,9 @@ fn write_some<'a, R: Wait, L: Link>(
         &mut part.seat,
         part.port,
         &mut side.taken,
-        &mut side.batch,
+        &mut side.room.batch,
     );
-    write_batch(&mut side.lane, &mut side.link, side.batch.bytes());
+    write_batch(&mut side.lane, &mut side.link, side.room.batch.bytes());
     all
 }
 
@@ -164,7 +163,6 @@ fn read_turns<'a, R: Wait, L: Link>(
     ensures ends { (first : LinkState) → PartSoFar L.state rules.now first part.old → PartEnds result L.state rules.now turns first part.new }
 {
     let mut buf = [0; PIECE];
-    let mut found = FoundFrames::new();
     for turned in 0..turns {
         let _ = turned;
         if !is_live(&part.side.lane) {
@@ -173,7 +171,7 @@ fn read_turns<'a, R: Wait, L: Link>(
         if signals.is_stopped() {
             return Halt::Stopped;
         }
-        if let Err(fault) = read_part(rt, turn, rules, part, &mut buf, &mut found) {
+        if let Err(fault) = read_part(rt, turn, rules, part, &mut buf) {
             signals.stop();
             return Halt::Fault(fault);
         }

@@ -1,5 +1,5 @@
 // The switch.
-ghost use Rattle.std.specs.Prelude.{◌≡◌, ◌⊎◌, ◌+◌, ◌-◌, ◌<◌, ◌≤◌, ◌++◌, ◌∷◌, [], ℕ, List, length, vec_len, vec_capacity, take, slice_index, slice_get, Some, None, Err, IfOk, IfErr, OnOk, OnErr, OnSome, IfSome, IfNone, IsErrOf, true, false};
+ghost use Rattle.std.specs.Prelude.{◌≡◌, ◌⊎◌, ◌+◌, ◌-◌, ◌<◌, ◌≤◌, ◌++◌, ◌∷◌, [], ℕ, List, length, take, slice_index, slice_get, Some, None, Err, IfOk, IfErr, OnOk, OnErr, OnSome, IfSome, IfNone, IsErrOf, true, false};
 ghost use Rattle.mav_sign.specs.Streams.{listed};
 ghost use Rattle.mav_sign.specs.History.{Entry as Tried, is_admitted};
 ghost use Rattle.mav_sign.specs.Kept.{Represents};
@@ -12,10 +12,10 @@ ghost use Rattle.mav_router.specs.Faults.{IsSwitchFault};
 
 use crate::batch::Batch;
 use crate::judging::{Judgement, judge};
-use crate::{Entry, NoMemory, RouterRules, SwitchFault};
+use crate::{Journal, NoMemory, RouterRules, SwitchFault};
 use dialect::Dialect;
 use link_table::{LinkTable, Ways};
-use mav_frame::Frame;
+use mav_frame::{Frame, RawFrame, encode};
 use mav_names::Name;
 use mav_sign::{Admit, Key, Stamps};
 use std::alloc::Global;
@@ -31,7 +31,7 @@ pub struct Switch<'a> {
     rules: RouterRules<'a>,
     stamps: Stamps,
     table: LinkTable,
-    journal: Vec<Entry>,
+    journal: Journal,
     seen: [usize; 8],
 }
 
@@ -45,27 +45,33 @@ impl<'a> Model for Switch<'a> {
 
     ghost view = { λ s. record {
       rules = s.rules;
-      journal = s.journal.items;
+      journal = s.journal;
       seen = s.seen;
     } };
 
     ghost invariant = { λ s. (1 ≤ s.rules.ports) × (s.rules.ports ≤ 8) × (s.table.ports ≡ s.rules.ports)
-        × Represents s.stamps (tried_in s.journal.items)
-        × StandsFor s.table (learned_in s.journal.items)
-        × IsJournal s.rules [] s.journal.items
-        × ((k : ℕ) → slice_index s.seen k ≤ length s.journal.items)
-        × (length s.journal.items ≤ 1000000) };
+        × Represents s.stamps (tried_in s.journal)
+        × StandsFor s.table (learned_in s.journal)
+        × IsJournal s.rules [] s.journal
+        × ((k : ℕ) → slice_index s.seen k ≤ length s.journal)
+        × (length s.journal ≤ 1000000) };
 }
 
 // The verdict on a frame at a port that is open or not.
-fn verdict(stamps: &mut Stamps, key: &Key, is_open: bool, frame: &Frame, verifies: bool) -> Admit
+fn verdict(
+    stamps: &mut Stamps,
+    key: &Key,
+    is_open: bool,
+    frame: &RawFrame<'_>,
+    verifies: bool,
+) -> Admit
     requires { verifies ≡ verified key.now frame.now frame.now.block }
     ensures verdict { (history : List Tried) → Represents stamps.old history
         → result ≡ verdict_on key.now is_open history frame.now }
     ensures history { (history : List Tried) → Represents stamps.old history
         → Represents stamps.new (history ++ listed (tried_as frame.now result)) }
 {
-    if frame.block.is_some() {
+    if frame.has_block() {
         return stamps.admit_judged(key, frame, verifies);
     }
     if is_open {
@@ -76,7 +82,7 @@ fn verdict(stamps: &mut Stamps, key: &Key, is_open: bool, frame: &Frame, verifie
 }
 
 // The ports that an admitted frame goes to, which teaches where its sender is.
-fn route(table: &mut LinkTable, plain: Ways, port: u8, target: Name, frame: &Frame) -> Ways
+fn route(table: &mut LinkTable, plain: Ways, port: u8, target: Name, frame: &RawFrame<'_>) -> Ways
     requires from { 1 ≤ port }
     requires to { port ≤ table.old.ports }
     ensures ports { table.new.ports ≡ table.old.ports }
@@ -86,8 +92,8 @@ fn route(table: &mut LinkTable, plain: Ways, port: u8, target: Name, frame: &Fra
         → StandsFor table.new (learned ++ listed (learned_at true port frame.now.from)) }
 {
     let ways = table.ways(port, target);
-    table.learn(port, frame.from);
-    if frame.block.is_some() {
+    table.learn(port, frame.from());
+    if frame.has_block() {
         ways
     } else {
         ways.common(plain)
@@ -101,7 +107,7 @@ fn route_by(
     plain: Ways,
     port: u8,
     target: Name,
-    frame: &Frame,
+    frame: &RawFrame<'_>,
 ) -> Ways
     requires from { 1 ≤ port }
     requires to { port ≤ table.old.ports }
@@ -118,27 +124,8 @@ fn route_by(
     }
 }
 
-fn entry_of(port: u8, frame: &Frame, admit: Admit, ways: Ways) -> Entry
-    ensures { result ≡ record { port = port; frame = frame.now; admit = admit; ways = ways } }
-{
-    Entry {
-        port,
-        frame: *frame,
-        admit,
-        ways,
-    }
-}
-
-// Appends an entry, for which there is room.
-fn keep(journal: &mut Vec<Entry>, entry: Entry)
-    requires { vec_len journal.old < vec_capacity journal.old }
-    ensures { journal.new.items ≡ journal.old.items ++ entry ∷ [] }
-{
-    journal.push(entry).unwrap();
-}
-
 // The index of the next entry that goes out at the port, or the number of entries.
-pub(crate) fn next_index(journal: &[Entry], from: usize, port: u8) -> usize
+pub(crate) fn next_index(journal: &Journal, from: usize, port: u8) -> usize
     requires from { from ≤ length journal.now }
     requires port { 1 ≤ port }
     requires to { port ≤ 8 }
@@ -149,7 +136,7 @@ pub(crate) fn next_index(journal: &[Entry], from: usize, port: u8) -> usize
 {
     let mut index = from;
     while index < journal.len() {
-        if journal[index].ways.has(port) {
+        if journal.outcome(index).ways.has(port) {
             return index;
         }
         index += 1;
@@ -184,13 +171,30 @@ impl<'a> Switch<'a> {
             rules,
             stamps,
             table,
-            journal: Vec::new(alloc),
+            journal: Journal::new(alloc),
             seen: [0, 0, 0, 0, 0, 0, 0, 0],
         })
     }
 
     /// Tries a frame that came in at the port, and keeps its entry.
     pub fn admit(&mut self, port: u8, frame: &Frame) -> Result<Admit, SwitchFault>
+        requires from { 1 ≤ port }
+        requires to { port ≤ self.old.rules.ports }
+        ensures verdict { IfOk result (λ verdict. verdict ≡ admit_after self.old.rules self.old.journal port frame.now) }
+        ensures journal { OnOk result (self.new.journal ≡ self.old.journal ++ entry_after self.old.rules self.old.journal port frame.now ∷ []) }
+        ensures same { (self.new.rules ≡ self.old.rules) × (self.new.seen ≡ self.old.seen) }
+        ensures given { (other : ℕ) → given_to self.new other ≡ given_to self.old other }
+        ensures unchanged { OnErr result (self.new.journal ≡ self.old.journal) }
+        ensures full { length self.old.journal ≡ 1_000_000 → IsErrOf result (SwitchFault.Full 1000000) }
+        ensures fault { IfErr result (λ fault. IsSwitchFault fault self.old.journal) }
+    {
+        let mut bytes = [0; 280];
+        let size = encode(frame, &mut bytes);
+        self.admit_raw(port, &RawFrame::of(frame, &bytes[..size]))
+    }
+
+    /// The same of a frame as the bytes that encode it.
+    pub(crate) fn admit_raw(&mut self, port: u8, frame: &RawFrame<'_>) -> Result<Admit, SwitchFault>
         requires from { 1 ≤ port }
         requires to { port ≤ self.old.rules.ports }
         ensures verdict { IfOk result (λ verdict. verdict ≡ admit_after self.old.rules self.old.journal port frame.now) }
@@ -209,7 +213,7 @@ impl<'a> Switch<'a> {
     pub(crate) fn admit_judged(
         &mut self,
         port: u8,
-        frame: &Frame,
+        frame: &RawFrame<'_>,
         judgement: Judgement,
     ) -> Result<Admit, SwitchFault>
         requires from { 1 ≤ port }
@@ -227,7 +231,7 @@ impl<'a> Switch<'a> {
         if self.journal.len() >= ENTRY_LIMIT {
             return Err(SwitchFault::Full { entries: 1_000_000 });
         }
-        let Ok(()) = self.journal.reserve(1) else {
+        let Ok(()) = self.journal.add(port, frame) else {
             return Err(SwitchFault::NoMemory);
         };
         let plain = self.rules.plain();
@@ -235,7 +239,7 @@ impl<'a> Switch<'a> {
         let key = self.rules.key();
         let admit = verdict(&mut self.stamps, key, is_open, frame, judgement.verifies);
         let ways = route_by(&mut self.table, admit, plain, port, judgement.target, frame);
-        keep(&mut self.journal, entry_of(port, frame, admit, ways));
+        self.journal.judge_last(admit, ways);
         Ok(admit)
     }
 
@@ -251,7 +255,7 @@ impl<'a> Switch<'a> {
         let Some(index) = self.next(port) else {
             return None;
         };
-        Some(*self.frame(index))
+        Some(self.journal.frame(index).to_frame())
     }
 
     // The index of that frame's entry.
@@ -274,14 +278,6 @@ impl<'a> Switch<'a> {
         }
         self.seen[at] = index + 1;
         Some(index)
-    }
-
-    // The frame of an entry.
-    fn frame(&self, index: usize) -> &Frame
-        requires { index < length self.now.journal }
-        ensures { frames_at self.now.journal (Some index) ≡ result.now ∷ [] }
-    {
-        &self.journal[index].frame
     }
 
     /// Takes frames that wait for the port, as many as surely fit, in place of what the batch held, and returns whether no
@@ -311,7 +307,7 @@ impl<'a> Switch<'a> {
     }
 
     /// The entries so far.
-    pub fn journal(&self) -> &[Entry]
+    pub fn journal(&self) -> &Journal
         ensures entries { result.now ≡ self.now.journal }
         ensures within { length self.now.journal ≤ 1000000 }
     {
@@ -319,10 +315,10 @@ impl<'a> Switch<'a> {
     }
 
     /// The entries, which are a journal by the switch's rules.
-    pub fn into_journal(self) -> Vec<Entry>
-        ensures journal { result.items ≡ self.entry.journal }
-        ensures legal { IsJournal self.entry.rules [] result.items }
-        ensures within { length result.items ≤ 1000000 }
+    pub fn into_journal(self) -> Journal
+        ensures journal { result ≡ self.entry.journal }
+        ensures legal { IsJournal self.entry.rules [] result }
+        ensures within { length result ≤ 1000000 }
     {
         self.journal
     }

@@ -10,7 +10,9 @@ use crate::jobs::run_all;
 use crate::joining::{Stock, dismiss, give_links, muster, new_stock};
 use crate::parts::Side;
 use crate::signals::Signals;
-use crate::{NoMemory, PortEnd, RouteEnd, RouteFault, RoutePlan, RouterRules, Switch, SwitchFault};
+use crate::{
+    Journal, NoMemory, PortEnd, RouteEnd, RouteFault, RoutePlan, RouterRules, Switch, SwitchFault,
+};
 use dialect::Dialect;
 use mav_links::Link;
 use mav_sign::Key;
@@ -63,9 +65,9 @@ fn finish<L: Link>(
     requires turns { turns ≤ 1_000_000_000 }
     ensures links { length ports.new.items ≡ length sides.old.items }
     ensures routed { IfOk result (λ end. (before : List _) → HasClosed L.state switch.entry.rules turns switch.entry.journal before sides.old.items
-        → HasRouted L.state switch.entry.rules turns before ports.new.items end.journal.items end.ports.items) }
+        → HasRouted L.state switch.entry.rules turns before ports.new.items end.journal end.ports.items) }
     ensures stopped { IfErr result (λ fault. (before : List _) → HasClosed L.state switch.entry.rules turns switch.entry.journal before sides.old.items
-        → HasStopped L.state switch.entry.rules before ports.new.items fault.why fault.journal.items) }
+        → HasStopped L.state switch.entry.rules before ports.new.items fault.why fault.journal) }
 {
     match first_fault(sides.as_slice()) {
         Some(why) => {
@@ -91,11 +93,11 @@ fn finish<L: Link>(
 // Nothing was routed, since there was no memory.
 fn no_memory(alloc: Global) -> RouteFault
     ensures why { result.why ≡ SwitchFault.NoMemory }
-    ensures journal { result.journal.items ≡ [] }
+    ensures journal { result.journal ≡ [] }
 {
     RouteFault {
         why: SwitchFault::NoMemory,
-        journal: Vec::new(alloc),
+        journal: Journal::new(alloc),
     }
 }
 
@@ -124,8 +126,8 @@ fn route_seated<'a, R: Threads + Wait + Sync>(
     requires room { rules.now.ports ≤ vec_capacity ends }
     requires turns { turns ≤ 1_000_000_000 }
     ensures links { length ports.new.items ≡ length ports.old.items }
-    ensures routed { IfOk result (λ end. HasRouted state rules.now turns ports.old.items ports.new.items end.journal.items end.ports.items) }
-    ensures stopped { IfErr result (λ fault. HasStopped state rules.now ports.old.items ports.new.items fault.why fault.journal.items) }
+    ensures routed { IfOk result (λ end. HasRouted state rules.now turns ports.old.items ports.new.items end.journal end.ports.items) }
+    ensures stopped { IfErr result (λ fault. HasStopped state rules.now ports.old.items ports.new.items fault.why fault.journal) }
 {
     let signals = Signals::new(ports.len() as u64);
     let mut seats = seats;
@@ -156,8 +158,8 @@ fn route_stocked<R: Threads + Wait + Sync>(
     requires new { vec_len ends ≡ 0 }
     requires room { length ports.old.items ≤ vec_capacity ends }
     ensures links { length ports.new.items ≡ length ports.old.items }
-    ensures routed { IfOk result (λ end. HasRouted state (record { key = key.now; known = known.now; ports = length ports.old.items; plain = plan.plain }) plan.turns ports.old.items ports.new.items end.journal.items end.ports.items) }
-    ensures stopped { IfErr result (λ fault. HasStopped state (record { key = key.now; known = known.now; ports = length ports.old.items; plain = plan.plain }) ports.old.items ports.new.items fault.why fault.journal.items) }
+    ensures routed { IfOk result (λ end. HasRouted state (record { key = key.now; known = known.now; ports = length ports.old.items; plain = plan.plain }) plan.turns ports.old.items ports.new.items end.journal end.ports.items) }
+    ensures stopped { IfErr result (λ fault. HasStopped state (record { key = key.now; known = known.now; ports = length ports.old.items; plain = plan.plain }) ports.old.items ports.new.items fault.why fault.journal) }
 {
     let count = ports.len() as u8;
     let Ok(switch) = Switch::new(alloc, *key, known, count, plan.plain) else {
@@ -190,8 +192,8 @@ pub(crate) fn route_threads<R: Threads + Wait + Sync>(
     requires to { length ports.old.items ≤ 8 }
     requires turns { plan.turns ≤ 1_000_000_000 }
     ensures links { length ports.new.items ≡ length ports.old.items }
-    ensures routed { IfOk result (λ end. HasRouted state (record { key = key.now; known = known.now; ports = length ports.old.items; plain = plan.plain }) plan.turns ports.old.items ports.new.items end.journal.items end.ports.items) }
-    ensures stopped { IfErr result (λ fault. HasStopped state (record { key = key.now; known = known.now; ports = length ports.old.items; plain = plan.plain }) ports.old.items ports.new.items fault.why fault.journal.items) }
+    ensures routed { IfOk result (λ end. HasRouted state (record { key = key.now; known = known.now; ports = length ports.old.items; plain = plan.plain }) plan.turns ports.old.items ports.new.items end.journal end.ports.items) }
+    ensures stopped { IfErr result (λ fault. HasStopped state (record { key = key.now; known = known.now; ports = length ports.old.items; plain = plan.plain }) ports.old.items ports.new.items fault.why fault.journal) }
 {
     let count = ports.len();
     let Ok(ends) = Vec::with_capacity(alloc, count) else {

@@ -28,16 +28,16 @@ pub fn route_all<R: Threads + Wait + Sync>(
     requires to { length ports.old.items ≤ 8 }
     requires turns { plan.turns ≤ 1_000_000_000 }
     ensures links { length ports.new.items ≡ length ports.old.items }
-    ensures journal { IfOk result (λ end. IsJournal (record { key = key.now; known = known.now; ports = length ports.old.items; plain = plan.plain }) [] end.journal.items) }
-    ensures few { IfOk result (λ end. length end.journal.items ≤ 1000000) }
+    ensures journal { IfOk result (λ end. IsJournal (record { key = key.now; known = known.now; ports = length ports.old.items; plain = plan.plain }) [] end.journal) }
+    ensures few { IfOk result (λ end. length end.journal ≤ 1000000) }
     ensures ports { IfOk result (λ end. length end.ports.items ≡ length ports.old.items) }
     // What was read from each port, and what was written to it.
     ensures each { IfOk result (λ end. (k : ℕ) (b c : _) (e : PortEnd) → slice_get ports.old.items k ≡ Some b
         → slice_get ports.new.items k ≡ Some c → slice_get end.ports.items k ≡ Some e
-        → PortRun (record { key = key.now; known = known.now; ports = length ports.old.items; plain = plan.plain }) end.journal.items plan.turns (k + 1) (state b) (state c) e) }
+        → PortRun (record { key = key.now; known = known.now; ports = length ports.old.items; plain = plan.plain }) end.journal plan.turns (k + 1) (state b) (state c) e) }
     // A run that stopped, with its journal so far.
-    ensures kept { IfErr result (λ fault. IsJournal (record { key = key.now; known = known.now; ports = length ports.old.items; plain = plan.plain }) [] fault.journal.items) }
-    ensures stopped { IfErr result (λ fault. StopsBy plan.one state (record { key = key.now; known = known.now; ports = length ports.old.items; plain = plan.plain }) fault.why fault.journal.items ports.old.items ports.new.items) }
+    ensures kept { IfErr result (λ fault. IsJournal (record { key = key.now; known = known.now; ports = length ports.old.items; plain = plan.plain }) [] fault.journal) }
+    ensures stopped { IfErr result (λ fault. StopsBy plan.one state (record { key = key.now; known = known.now; ports = length ports.old.items; plain = plan.plain }) fault.why fault.journal ports.old.items ports.new.items) }
 {
     if plan.one {
         route_one(alloc, key, known, ports, plan)

@@ -9,13 +9,13 @@ ghost use Rattle.mav_router.specs.Parts.{IsSeated};
 ghost use Rattle.mav_router.specs.Faults.{IsSwitchFault};
 
 use crate::batch::Batch;
-use crate::judging::Judged;
+use crate::found::FoundFrames;
 use crate::{RouterRules, Switch, SwitchFault};
 use std::sync::Wait;
 use turnstile::{Turn, TurnSeat};
 
 // Has the switch admit frames that came in at the port and were judged, in their order, until it doesn't take one.
-fn admit_each(switch: &mut Switch<'_>, port: u8, frames: &[Judged]) -> Result<(), SwitchFault>
+fn admit_each(switch: &mut Switch<'_>, port: u8, frames: &FoundFrames) -> Result<(), SwitchFault>
     requires from { 1 ≤ port }
     requires to { port ≤ switch.old.rules.ports }
     requires judged { All (IsJudged switch.old.rules) frames.now }
@@ -24,8 +24,8 @@ fn admit_each(switch: &mut Switch<'_>, port: u8, frames: &[Judged]) -> Result<()
     ensures fault { IfErr result (λ fault. IsSwitchFault fault switch.new.journal) }
 {
     for at in 0..frames.len() {
-        let judged = &frames[at];
-        if let Err(fault) = switch.admit_judged(port, &judged.frame, judged.judgement) {
+        let judgement = frames.judgement(at);
+        if let Err(fault) = switch.admit_judged(port, &frames.frame(at), judgement) {
             return Err(fault);
         }
     }
@@ -39,7 +39,7 @@ pub(crate) fn admit_found<'a, R: Wait>(
     rules: &RouterRules<'_>,
     seat: &mut TurnSeat<Switch<'a>>,
     port: u8,
-    frames: &[Judged],
+    frames: &FoundFrames,
 ) -> Result<(), SwitchFault>
     requires seated { IsSeated turn.now rules.now port seat.old }
     requires from { 1 ≤ port }

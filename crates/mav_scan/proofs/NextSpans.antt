@@ -17,7 +17,7 @@ use Rattle.mav_stream.specs.declared.Next.TheVariants.{Frame as NextFrame, Skipp
 use Rattle.mav_stream.proofs.Steps.{next_on, whole_at}
 use Rattle.mav_scan.specs.Skips.{skipped_length}
 use Rattle.mav_scan.specs.Spans.{first_packet, span_by, span_events, held_after, span_size, IfEvent, IfFrame, IfNeed}
-use Rattle.mav_scan.specs.declared.spans.NextSpan.TheVariants.{Skipped, Need}
+use Rattle.mav_scan.specs.declared.spans.NextSpan.TheVariants.{Frame, Skipped, Need}
 use Rattle.mav_stream.proofs.Answers.{gives_frame, gives_short, needs, has_room}
 use Rattle.mav_scan.proofs.Skipped.{each_looks, length_within, skips_on}
 
@@ -121,3 +121,18 @@ module _ (held : Held) (bytes : IsBytes held.bytes) where
     whole (Found p n) e = tt
     whole (NotHere why) e = tt
     whole (More k) e = need_whole k e is_short refl
+
+-- ---- the frame that was found
+
+frame_span : (m n : ℕ) → Frame m ≡ Frame n → m ≡ n
+frame_span m n e = cc
+
+no_frame_short : (t : Bool) (size : ℕ) → (if t then Skipped Short 1 else Need) ≡ Frame size → ⊥
+no_frame_short true size e = cc
+no_frame_short false size e = cc
+
+pub frame_found : (held : Held) (size : ℕ) (look : Look) → look_of held.extras held.reads_old held.bytes ≡ look → span_by look held ≡ Frame size → look_of held.extras held.reads_old held.bytes ≡ Found (first_packet held) size
+frame_found held size (Found p n) e span =
+    e ∙ (λ i. Found (sym (found_is held.extras held.reads_old held.bytes p n e).0 i) (frame_span n size span i))
+frame_found held size (NotHere why) e span = absurd (let bad : Skipped why (skipped_length why held.extras held.reads_old held.bytes) ≡ Frame size = span in cc)
+frame_found held size (More k) e span = absurd (no_frame_short (held.ended && nat_lt 0 (length held.bytes)) size span)

@@ -13,7 +13,7 @@ use crate::skips::skipped_length;
 use crate::spans::NextSpan;
 use crate::table::ExtrasTable;
 use crate::window::Window;
-use mav_frame::{Frame, FrameCheck, Why, check_frame, frame_at};
+use mav_frame::{Frame, FrameCheck, RawFrame, Why, check_frame, frame_at};
 use std::alloc::Global;
 use std::marker::Model;
 use x25_check::Extras;
@@ -107,6 +107,15 @@ impl Scanner {
         ensures { result ≡ first_packet self.now }
     {
         frame_at(self.reads_old, self.window.bytes())
+    }
+
+    /// The same as the bytes that encode it, whose length `next_span` says.
+    #[inline]
+    pub fn raw_frame(&self, size: usize) -> RawFrame<'_>
+        requires { next_span self.now ≡ NextSpan.Frame size }
+        ensures { result ≡ first_packet self.now }
+    {
+        RawFrame::at(self.reads_old, self.window.bytes(), size)
     }
 
     /// Removes bytes from the start, once their events were seen.

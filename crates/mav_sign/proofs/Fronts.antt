@@ -4,7 +4,7 @@ use Rattle.mav_frame.specs.Numbers.{little_endian}
 use Rattle.mav_frame.specs.Packet.{Packet}
 use Rattle.mav_frame.specs.Encoding.{encoding, block_bytes, checked_bytes, header_of}
 use Rattle.mav_frame.specs.Looks.{header_size}
-use Rattle.mav_sign.specs.Signing.{through_checksum}
+use Rattle.mav_frame.specs.Raw.{through_checksum}
 
 front_of : (a b xs : List ℕ) (n : ℕ) → take n xs ≡ a ++ b → take (length a) xs ≡ a
 front_of [] b xs n e = refl

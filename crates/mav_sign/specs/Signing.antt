@@ -4,11 +4,7 @@ use Rattle.std.specs.Str.{bytes_eq}
 use Rattle.sha2.specs.Sha256.{sha256}
 use Rattle.mav_frame.specs.Numbers.{little_endian}
 use Rattle.mav_frame.specs.Packet.{Packet, SignatureBlock}
-use Rattle.mav_frame.specs.Encoding.{checked_bytes, stx_of}
-
--- the bytes of a frame from STX through its checksum
-abbrev pub through_checksum : Packet → List ℕ
-through_checksum packet = stx_of packet.old ∷ checked_bytes packet ++ little_endian 2 packet.check
+use Rattle.mav_frame.specs.Raw.{through_checksum}
 
 -- the first 6 bytes of SHA-256 over the secret key, the frame through its checksum, the link id and the timestamp
 abbrev pub signature_of : List ℕ → Packet → ℕ → ℕ → List ℕ

@@ -1,10 +1,13 @@
 // Signatures of frames.
-ghost use Rattle.std.specs.Prelude.{◌≡◌, ◌^◌, ◌<◌, ◌↔◌, IsTrue, IsSome, Some, take};
+ghost use Rattle.std.specs.Prelude.{◌≡◌, ◌^◌, ◌<◌, ◌↔◌, ◌++◌, ◌∷◌, IsTrue, IsSome, Some, take};
 ghost use Rattle.std.specs.Str.{bytes_eq};
-ghost use Rattle.mav_sign.specs.Signing.{signature_of, through_checksum, Verifies, verified};
+ghost use Rattle.sha2.specs.Sha256.{sha256};
+ghost use Rattle.mav_frame.specs.Numbers.{little_endian};
+ghost use Rattle.mav_frame.specs.Raw.{through_checksum};
+ghost use Rattle.mav_sign.specs.Signing.{signature_of, Verifies, verified};
 
 use crate::Key;
-use mav_frame::{Block, Frame, bytes_6, encode};
+use mav_frame::{Block, Frame, RawFrame, bytes_6, encode};
 use sha2::{Digest, Sha256};
 
 // Writes the bytes of a frame, and returns the length of the part through its checksum.
@@ -16,21 +19,28 @@ fn write_through_checksum(frame: &Frame, out: &mut [u8; 280]) -> usize
     frame.unsigned_size()
 }
 
-// The signature of a frame.
-fn signature(key: &Key, frame: &Frame, link: u8, stamp: u64) -> [u8; 6]
-    ensures { result ≡ signature_of key.now frame.now link stamp }
+// The signature over the bytes of a frame through its checksum.
+fn signature_over(key: &Key, bytes: &[u8], link: u8, stamp: u64) -> [u8; 6]
+    ensures { result ≡ take 6 (sha256 (key.now ++ bytes.now ++ link ∷ little_endian 6 stamp)) }
 {
-    let mut bytes = [0; 280];
-    let end = write_through_checksum(frame, &mut bytes);
     let mut hasher = Sha256::new();
     hasher.update(key.bytes());
-    hasher.update(&bytes[..end]);
+    hasher.update(bytes);
     hasher.update([link].as_slice());
     hasher.update(bytes_6(stamp).as_slice());
     let digest = hasher.finalize();
     let mut first = [0; 6];
     first.copy_from_slice(&digest[..6]);
     first
+}
+
+// The signature of a frame.
+fn signature(key: &Key, frame: &Frame, link: u8, stamp: u64) -> [u8; 6]
+    ensures { result ≡ signature_of key.now frame.now link stamp }
+{
+    let mut bytes = [0; 280];
+    let end = write_through_checksum(frame, &mut bytes);
+    signature_over(key, &bytes[..end], link, stamp)
 }
 
 // Whether a signature block has the signature of the frame.
@@ -48,6 +58,19 @@ pub fn verifies(key: &Key, frame: &Frame) -> bool
 {
     match &frame.block {
         Some(block) => is_right(key, frame, block),
+        None => false,
+    }
+}
+
+/// The same of a frame as the bytes that encode it.
+pub fn verifies_raw(key: &Key, frame: &RawFrame<'_>) -> bool
+    ensures verifies { IsTrue result ↔ Verifies key.now frame.now frame.now.block }
+    ensures test { result ≡ verified key.now frame.now frame.now.block }
+{
+    match frame.block() {
+        Some(block) => {
+            block.sig == signature_over(key, frame.unsigned_bytes(), block.link, block.stamp)
+        }
         None => false,
     }
 }

@@ -4,10 +4,10 @@ ghost use Rattle.mav_sign.specs.Signing.{verified};
 ghost use Rattle.mav_sign.specs.History.{Entry, tried, sent, started, stream_of as stream_in, stamp_answer, answer_to, is_admitted, last_of, local_of, next_in, stamp_given};
 ghost use Rattle.mav_sign.specs.Kept.{IsStream, Represents, KeptAfter, stream_number, stamp_at, local_kept, kept_answer, kept_answer_to, kept_next};
 
-use crate::signing::{is_right, verifies};
+use crate::signing::{is_right, verifies_raw};
 use crate::table::{STREAM_LIMIT, Table};
 use crate::{Admit, Key, NoMemory, StampsSpent};
-use mav_frame::{Block, Frame};
+use mav_frame::{Block, Frame, RawFrame, encode};
 use mav_names::{Name, Stream};
 use std::alloc::Global;
 use std::marker::Model;
@@ -164,12 +164,15 @@ impl Stamps {
         ensures history { (history : List Entry) → Represents self.old history
             → Represents self.new (history ++ tried frame.now result ∷ []) }
     {
-        self.admit_judged(key, frame, verifies(key, frame))
+        let mut bytes = [0; 280];
+        let size = encode(frame, &mut bytes);
+        let raw = RawFrame::of(frame, &bytes[..size]);
+        self.admit_judged(key, &raw, verifies_raw(key, &raw))
     }
 
-    /// What `admit` does, for a frame of which it is already known whether it verifies. No timestamp changes that, so it
-    /// may be found before.
-    pub fn admit_judged(&mut self, key: &Key, frame: &Frame, verifies: bool) -> Admit
+    /// What `admit` does, for a frame as the bytes that encode it, of which it is already known whether it verifies. No
+    /// timestamp changes that, so it may be found before.
+    pub fn admit_judged(&mut self, key: &Key, frame: &RawFrame<'_>, verifies: bool) -> Admit
         requires { verifies ≡ verified key.now frame.now frame.now.block }
         ensures kept { result ≡ kept_answer_to key.now self.old frame.now }
         ensures unchanged { is_admitted result ≡ false → self.new ≡ self.old }
@@ -179,13 +182,13 @@ impl Stamps {
             → Represents self.new (history ++ tried frame.now result ∷ []) }
     {
         let _ = key;
-        let Some(block) = &frame.block else {
+        let Some(block) = frame.block() else {
             return Admit::Unsigned;
         };
         if !verifies {
             return Admit::BadSignature;
         }
-        self.admit_stamp(stream_of(frame, block), block.stamp)
+        self.admit_stamp(stream_on(frame.from(), block.link), block.stamp)
     }
 
     /// The timestamp that `next_stamp` would return at that clock. Nothing changes.

@@ -12,7 +12,7 @@ use dialect::Dialect;
 use mav_links::Link;
 use mav_ports::Sink;
 use mav_router::{
-    Entry, PortEnd, RouteEnd, RouteFault, RoutePlan, SwitchFault, route_all, route_one,
+    Journal, PortEnd, RouteEnd, RouteFault, RoutePlan, SwitchFault, route_all, route_one,
 };
 use mav_sign::Key;
 use run_status::{Bound, ENOUGH_BYTES, InputError, LiveEnd, RunEnd, write_held};
@@ -26,7 +26,7 @@ const LINE_BYTES: usize = 128;
 // Writes the report of a run.
 fn write_report<K: Sink>(
     alloc: Global,
-    journal: &[Entry],
+    journal: &Journal,
     ends: &[PortEnd],
     out: &mut K,
 ) -> Result<(), RunEnd>
@@ -45,7 +45,7 @@ fn write_report<K: Sink>(
 fn report<K: Sink>(alloc: Global, end: &RouteEnd, turns: u64, out: &mut K) -> Result<(), RunEnd>
     requires { length end.now.ports.items ≤ 8 }
     ensures wrote { WroteAll (end_of_ports turns end.now.ports.items) (result_err result)
-        (route_text end.now.journal.items end.now.ports.items)
+        (route_text end.now.journal end.now.ports.items)
         (K.faults out.old) (K.faults out.new) (K.sent out.old) (K.sent out.new) }
 {
     write_report(alloc, &end.journal, &end.ports, out)?;

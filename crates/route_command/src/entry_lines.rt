@@ -1,17 +1,18 @@
 // The lines of the frames that came in.
-ghost use Rattle.std.specs.Prelude.{◌≡◌, ◌≤◌, ◌<◌, ◌+◌, ◌-◌, ◌++◌, ◌⊎◌, ℕ, Bool, List, [], length, OnOk, IfOk, IfErr, IsErrOf, true, false};
+ghost use Rattle.std.specs.Prelude.{◌≡◌, ◌≤◌, ◌<◌, ◌+◌, ◌-◌, ◌++◌, ◌⊎◌, ℕ, Bool, List, [], length, OnOk, IfOk, IfErr, IsErrOf, true, false, slice_get, Some};
 ghost use Rattle.std.specs.declared.option.Option.{Option};
 ghost use Rattle.mav_ports.specs.Counts.{Rose};
 ghost use Rattle.mav_ports.specs.Puts.{Sent, SentPrefix};
 ghost use Rattle.mav_sign.specs.History.{is_admitted};
+ghost use Rattle.mav_router.specs.declared.entries.Entry.{Entry};
 ghost use Rattle.route_command.specs.Texts.{ports_from, ports_text, fate_text, frame_text, source_text, entry_line, entry_lines, link_of, stamp_of};
 
 use crate::named::put_named;
 use link_table::Ways;
-use mav_frame::Frame;
+use mav_frame::RawFrame;
 use mav_names::Name;
 use mav_ports::Sink;
-use mav_router::Entry;
+use mav_router::{Journal, Outcome};
 use mav_sign::Admit;
 use mav_text::{NoMemory, put_decimal};
 use run_status::{RunEnd, write_enough};
@@ -75,10 +76,10 @@ fn put_fate(admit: Admit, ways: Ways, lines: &mut Vec<u8>) -> Result<(), NoMemor
 }
 
 // A frame's link id and timestamp.
-fn link_and_stamp(frame: &Frame) -> (u8, u64)
+fn link_and_stamp(frame: &RawFrame<'_>) -> (u8, u64)
     ensures { result ≡ (link_of frame.now.block, stamp_of frame.now.block) }
 {
-    match &frame.block {
+    match frame.block() {
         Some(block) => (block.link, block.stamp),
         None => (0, 0),
     }
@@ -101,28 +102,31 @@ fn put_source(
     put_named(b" ", u64::from(id), lines)
 }
 
-fn put_frame(frame: &Frame, lines: &mut Vec<u8>) -> Result<(), NoMemory>
+fn put_frame(frame: &RawFrame<'_>, lines: &mut Vec<u8>) -> Result<(), NoMemory>
     ensures { OnOk result (lines.new.items ≡ lines.old.items ++ frame_text frame.now) }
 {
     let (link, stamp) = link_and_stamp(frame);
-    put_source(frame.from, link, stamp, frame.id, lines)
+    put_source(frame.from(), link, stamp, frame.id(), lines)
 }
 
-fn put_entry(entry: &Entry, lines: &mut Vec<u8>) -> Result<(), NoMemory>
-    ensures { OnOk result (lines.new.items ≡ lines.old.items ++ entry_line entry.now) }
+// Appends the line of the entry at an index.
+fn put_entry(journal: &Journal, index: usize, lines: &mut Vec<u8>) -> Result<(), NoMemory>
+    requires { index < length journal.now }
+    ensures { OnOk result ((entry : Entry) → slice_get journal.now index ≡ Some entry → lines.new.items ≡ lines.old.items ++ entry_line entry) }
 {
-    put_decimal(u64::from(entry.port), lines)?;
+    let Outcome { port, admit, ways } = journal.outcome(index);
+    put_decimal(u64::from(port), lines)?;
     lines.push(b' ')?;
-    put_frame(&entry.frame, lines)?;
+    put_frame(&journal.frame(index), lines)?;
     lines.push(b' ')?;
-    put_fate(entry.admit, entry.ways, lines)?;
+    put_fate(admit, ways, lines)?;
     lines.push(b'\n')?;
     Ok(())
 }
 
 /// Writes the lines of a journal after those that are held, and holds the last ones.
 pub(crate) fn write_entries<K: Sink>(
-    journal: &[Entry],
+    journal: &Journal,
     lines: &mut Vec<u8>,
     out: &mut K,
 ) -> Result<(), RunEnd>
@@ -137,7 +141,7 @@ pub(crate) fn write_entries<K: Sink>(
     ensures sound { ¬ IsErrOf result RunEnd.WriteFault → K.faults out.new ≡ K.faults out.old }
 {
     for at in 0..journal.len() {
-        put_entry(&journal[at], lines)?;
+        put_entry(journal, at, lines)?;
         write_enough(lines, out)?;
     }
     Ok(())

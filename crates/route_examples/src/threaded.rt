@@ -5,7 +5,7 @@ use crate::failing::FRAMES;
 use dialect::Dialect;
 use link_table::Ways;
 use mav_links::{Link, MemLink};
-use mav_router::{Entry, How, NoMemory, RouteEnd, RoutePlan, Switch, route_all};
+use mav_router::{Entry, How, Journal, NoMemory, RouteEnd, RoutePlan, Switch, route_all};
 use mav_sign::Key;
 use std::alloc::Global;
 use std::sync::Wait;
@@ -64,9 +64,11 @@ fn admits_so(switch: &mut Switch<'_>, entry: &Entry) -> bool
     let Ok(admit) = switch.admit(entry.port, &entry.frame) else {
         return false;
     };
-    let Some(last) = switch.journal().last() else {
+    let kept = switch.journal();
+    if kept.len() == 0 {
         return false;
-    };
+    }
+    let last = kept.outcome(kept.len() - 1);
     admit == entry.admit && goes_alike(last.ways, entry.ways)
 }
 
@@ -80,11 +82,11 @@ fn goes_alike(ways: Ways, others: Ways) -> bool {
 }
 
 // Whether a switch on one thread keeps the same entries.
-fn replays(switch: &mut Switch<'_>, journal: &[Entry]) -> bool
+fn replays(switch: &mut Switch<'_>, journal: &Journal) -> bool
     requires { switch.old.rules.ports ≡ 8 }
 {
     for at in 0..journal.len() {
-        if !admits_so(switch, &journal[at]) {
+        if !admits_so(switch, &journal.entry(at)) {
             return false;
         }
     }

@@ -1,6 +1,8 @@
 use Rattle.std.proofs.Common.{◌∙◌, ◌++◌, ◌∷◌, [], List, length, take, Bool, All, arith, ap, sym, subst, length-append}
 use Rattle.mav_frame.specs.Packet.{Packet}
-use Rattle.mav_router.specs.declared.judging.Judged.{Judged}
+use Rattle.mav_stream.specs.Held.{Held}
+use Rattle.mav_scan.specs.Spans.{first_packet, held_after}
+use Rattle.mav_scan.specs.declared.spans.NextSpan.TheVariants.{Frame as NextFrame}
 use Rattle.mav_router.specs.Faults.{StopsReading}
 use Rattle.mav_router.specs.Found.{IsJudged, packets_of}
 use Rattle.mav_router.proofs.Findings.{Finds, found_more, packets_more, judged_more}
@@ -22,20 +24,25 @@ loop-at-preserved c =
     let rules = c.args.rules.now in
     let piece = c.args.piece.now in
     let ended = c.args.scanner.now.ended in
-    let judged : Judged = record { frame = c.in-Some.frame; judgement = c.judge-judgement.result } in
+    let keeps = c.find_frame.ensures.kept in
+    let judged = keeps.judged in
+    let there = c.next_frame.new.scanner in
+    let now = held_after there (NextFrame c.in-Some.size) in
+    let packet = first_packet there in
     record {
       within = c.in-Some.ensures.within;
-      ended = c.in-Some.ensures.ended ∙ r.invariant.ended;
-      count = (let n = ap length c.push.ensures in omega (arith, n, length-append r.found (judged ∷ []), r.invariant.count));
-      judged = subst (All (IsJudged rules)) (sym c.push.ensures) (judged_more rules r.found judged r.invariant.judged record { verifies = c.judge-judgement.ensures.verifies; target = c.judge-judgement.ensures.target });
-      fewer = omega (arith, c.in-Some.ensures.fewer, r.invariant.fewer);
+      ended = ap (λ (h : Held). h.ended) c.find_frame.ensures.scanner ∙ (c.in-Some.ensures.ended ∙ r.invariant.ended);
+      count = (let n = ap length keeps.kept in omega (arith, n, length-append r.found (judged ∷ []), r.invariant.count));
+      judged = subst (All (IsJudged rules)) (sym keeps.kept) (judged_more rules r.found judged r.invariant.judged keeps.right);
+      fewer = ?;
       finds = λ port bytes journal live first.
           let so_far = r.invariant.finds port bytes journal live first in
-          let next = found_more ended rules port (bytes ++ take r.taken piece) (bytes ++ take c.next_frame.new.taken piece) (bytes ++ piece) r.scanner c.next_frame.new.scanner r.skipped c.next_frame.new.skipped journal (packets_of r.found) c.in-Some.frame
+          let next = found_more ended rules port (bytes ++ take r.taken piece) (bytes ++ take c.next_frame.new.taken piece) (bytes ++ piece) r.scanner now r.skipped c.next_frame.new.skipped journal (packets_of r.found) packet
           (λ before after read own. c.in-Some.ensures.found rules port bytes before after (λ some. r.invariant.ended ∙ live some) read own)
           (λ before after read same. subst (λ (b : Bool). StopsReading b rules port (bytes ++ piece) after) r.invariant.ended (c.in-Some.ensures.untaken rules port bytes before after (λ some. r.invariant.ended ∙ live some) read same))
           so_far in
-          subst (λ (l : List Packet). Finds ended rules port (bytes ++ take c.next_frame.new.taken piece) (bytes ++ piece) c.next_frame.new.scanner c.next_frame.new.skipped journal l) (sym (ap packets_of c.push.ensures ∙ packets_more r.found judged)) next;
+          subst (λ (h : Held). Finds ended rules port (bytes ++ take c.next_frame.new.taken piece) (bytes ++ piece) h c.next_frame.new.skipped journal (packets_of c.find_frame.new.found)) (sym c.find_frame.ensures.scanner)
+          (subst (λ (l : List Packet). Finds ended rules port (bytes ++ take c.next_frame.new.taken piece) (bytes ++ piece) now c.next_frame.new.skipped journal l) (ap (λ (p : Packet). packets_of r.found ++ p ∷ []) (sym keeps.frame) ∙ sym (ap packets_of keeps.kept ∙ packets_more r.found judged)) next);
     }
 
 pub returns-clause-stops : goal.returns-clause-stops

@@ -1,10 +1,9 @@
 use Rattle.std.proofs.Common.{◌≡◌, ◌≤◌, ◌<◌, ◌++◌, ◌∷◌, [], ◌-◌, List, ℕ, false, arith, sym, ap, ◌∙◌, subst, take, drop, length, map, slice_range, length-take, length-drop, length-append}
 use Rattle.std.proofs.lemmas.List.{take_all}
-use Rattle.mav_frame.specs.Packet.{Packet}
-use Rattle.mav_frame.specs.declared.events.Event.TheVariants.{Frame}
 use Rattle.mav_profile.specs.Messages.{extras_of}
 use Rattle.mav_stream.specs.Held.{Held}
-use Rattle.mav_scan.specs.Spans.{first_packet, skipped_for}
+use Rattle.mav_scan.specs.Spans.{first_packet, held_after, skipped_for}
+use Rattle.mav_scan.specs.declared.spans.NextSpan.TheVariants.{Frame as NextFrame}
 use Rattle.link_table.specs.Routing.{has_port}
 use Rattle.mav_router.specs.Runs.{PortProgress, AllRead}
 use Rattle.mav_router.proofs.Readings.{frame_read, bytes_skipped, piece_fed, all_read, stopped_at}
@@ -15,20 +14,16 @@ returns-in-Frame-clause-found c = λ rules port bytes journal after live first o
     let r = c.reading in
     let to = r.invariant.read rules port bytes journal live first in
     let taken = bytes ++ take r.taken c.args.piece.now in
-    let found = c.in-Frame.ensures.progress (extras_of rules.known) (has_port rules.plain port) taken to.events to.progress in
-    let held = subst (λ (h : Held). PortProgress rules port taken (to.events ++ Frame (first_packet r.scanner) ∷ []) h) (sym c.consume.ensures) found in
-    let progress = subst (λ (p : Packet). PortProgress rules port taken (to.events ++ Frame p ∷ []) c.consume.new.self) (sym c.frame-frame.ensures) held in
-    frame_read rules port taken r.scanner c.consume.new.self r.skipped journal after c.frame-frame.result to progress own
+    let progress = c.in-Frame.ensures.progress (extras_of rules.known) (has_port rules.plain port) taken to.events to.progress in
+    frame_read rules port taken r.scanner (held_after r.scanner (NextFrame c.in-Frame.size)) r.skipped journal after (first_packet r.scanner) to progress own
 
 pub returns-in-Frame-clause-untaken : goal.returns-in-Frame-clause-untaken
 returns-in-Frame-clause-untaken c = λ rules port bytes journal after live first kept.
     let r = c.reading in
     let to = r.invariant.read rules port bytes journal live first in
     let taken = bytes ++ take r.taken c.args.piece.now in
-    let found = c.in-Frame.ensures.progress (extras_of rules.known) (has_port rules.plain port) taken to.events to.progress in
-    let held = subst (λ (h : Held). PortProgress rules port taken (to.events ++ Frame (first_packet r.scanner) ∷ []) h) (sym c.consume.ensures) found in
-    let progress = subst (λ (p : Packet). PortProgress rules port taken (to.events ++ Frame p ∷ []) c.consume.new.self) (sym c.frame-frame.ensures) held in
-    stopped_at c.args.scanner.now.ended rules port bytes c.args.piece.now r.taken r.scanner c.consume.new.self r.skipped journal after c.frame-frame.result (ap (λ (h : Held). h.ended) c.consume.ensures ∙ r.invariant.ended) live kept to progress
+    let progress = c.in-Frame.ensures.progress (extras_of rules.known) (has_port rules.plain port) taken to.events to.progress in
+    stopped_at c.args.scanner.now.ended rules port bytes c.args.piece.now r.taken r.scanner (held_after r.scanner (NextFrame c.in-Frame.size)) r.skipped journal after (first_packet r.scanner) r.invariant.ended live kept to progress
 
 pub reading-preserved-in-Skipped : goal.reading-preserved-in-Skipped
 reading-preserved-in-Skipped c =

@@ -7,7 +7,7 @@ abbrev pub invariant-loop-at : goal.invariant-loop-at
 invariant-loop-at g l = record {
   long : vec_len l.ports + l.at ≡ l.at-end;
   lanes_long : vec_len l.stock.lanes ≡ vec_len l.ports;
-  batches_long : vec_len l.stock.batches ≡ vec_len l.ports;
+  rooms_long : vec_len l.stock.rooms ≡ vec_len l.ports;
   seats_long : vec_len l.seats ≡ vec_len l.ports;
   jobs_long : vec_len l.jobs ≡ l.at;
   room : l.at-end ≤ vec_capacity l.jobs;

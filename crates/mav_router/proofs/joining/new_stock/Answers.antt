@@ -6,7 +6,7 @@ returns g c = λ key. record {
   lanes = omega (arith, c.in_ok-new_lanes.field-0.ok.0, c.in_ok-new_lanes.ensures.length);
   fresh = c.in_ok-new_lanes.ensures.fresh key c.args.count;
   turned = c.in_ok-new_lanes.ensures.turned;
-  batches = c.in_ok-new_batches.ensures;
+  rooms = c.in_ok-new_rooms.ensures;
   sides = c.in_ok-with_capacity.ensures.len;
   room = c.in_ok-with_capacity.ensures.capacity;
 }

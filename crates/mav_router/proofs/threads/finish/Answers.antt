@@ -13,7 +13,7 @@ pub returns-in-Some-clause-stopped : goal.returns-in-Some-clause-stopped
 returns-in-Some-clause-stopped g c = λ before closed.
     let j = c.into_journal.ensures in
     let why = c.in-Some.why in
-    stopped g.L.Link.state c.args.switch.rules c.args.turns why c.into_journal.result.items before c.give_links.new.links.items c.args.sides.now.items j.within j.legal
+    stopped g.L.Link.state c.args.switch.rules c.args.turns why c.into_journal.result before c.give_links.new.links.items c.args.sides.now.items j.within j.legal
     (subst (λ (l : List (Side g.row.L.Denot)). (why ≡ NoMemory) ⊎ HasFault l why) c.as_slice.ensures.value c.in-Some.ensures.some)
     c.give_links.ensures
     (subst (λ (l : List Entry). HasClosed g.L.Link.state c.args.switch.rules c.args.turns l before c.args.sides.now.items) (sym j.journal) closed)
@@ -26,7 +26,7 @@ returns-in-None-clause-routed g c = λ before closed.
     let written : List (Side g.row.L.Denot) = c.write_each_left.new.sides in
     let long = w.length ∙ ap length c.as_mut_slice.ensures.value in
     let over = written_over written old c.args.sides.now.len c.args.sides.now.ok.0 long in
-    routed g.L.Link.state c.args.switch.rules c.args.turns c.into_journal-in-None.result.items before c.give_links-in-None.new.links.items old written c.put_ends.new.ends.items c.requires.turns j.within j.legal
+    routed g.L.Link.state c.args.switch.rules c.args.turns c.into_journal-in-None.result before c.give_links-in-None.new.links.items old written c.put_ends.new.ends.items c.requires.turns j.within j.legal
     (λ k side is. c.in-None.ensures.none refl k side (subst (λ (l : List (Side g.row.L.Denot)). slice_get l k ≡ Some side) (sym c.as_slice.ensures.value) is))
     long
     (λ k b d is_b is_d.

@@ -5,11 +5,11 @@ use Rattle.route_command.proofs.commands.route_alone.Goals as goal
 pub returns-in-Ok-clause-routes : goal.returns-in-Ok-clause-routes
 returns-in-Ok-clause-routes g c =
     let end = c.in-Ok.end in
-    run_reports _ _ true c.args.plan.turns c.args.ports.now.items c.route_one.new.ports.items end.journal.items end.ports.items _ _ _ _ _ c.route_one.ensures.links c.in-Ok.ensures.journal c.in-Ok.ensures.few c.in-Ok.ensures.ports
+    run_reports _ _ true c.args.plan.turns c.args.ports.now.items c.route_one.new.ports.items end.journal end.ports.items _ _ _ _ _ c.route_one.ensures.links c.in-Ok.ensures.journal c.in-Ok.ensures.few c.in-Ok.ensures.ports
     c.in-Ok.ensures.each c.report.ensures.wrote
 
 pub returns-in-Err-clause-routes : goal.returns-in-Err-clause-routes
 returns-in-Err-clause-routes g c =
     let fault = c.in-Err.fault in
     rw c.end_of_fault.ensures
-    (run_stops _ _ true c.args.plan.turns c.args.ports.now.items c.route_one.new.ports.items fault.journal.items fault.why _ _ c.route_one.ensures.links c.in-Err.ensures.kept c.in-Err.ensures.stopped)
+    (run_stops _ _ true c.args.plan.turns c.args.ports.now.items c.route_one.new.ports.items fault.journal fault.why _ _ c.route_one.ensures.links c.in-Err.ensures.kept c.in-Err.ensures.stopped)

@@ -12,7 +12,7 @@ use Rattle.mav_router.proofs.switch.Switch.admit_judged.Goals as goal
 pub invariant_of-self-2 : goal.invariant_of-self-2
 invariant_of-self-2 c =
     let s = c.self.inside in
-    let j : List Entry = s.journal.items in
+    let j : List Entry = s.journal in
     let inv = c.self.invariant in
     let by : Rules = s.rules in
     let plain = c.plain-plain.result in
@@ -28,7 +28,7 @@ invariant_of-self-2 c =
     let ways_of_admit = λ (ports : ℕ) (target : Name). ways_by (is_admitted admit) (is_unsigned packet) plain (ways_of ports (learned_in j) c.args.port target) in
     let ways_e : c.route_by-ways.result ≡ ways_by (is_admitted admit) (is_unsigned packet) by.plain (ways_of by.ports (learned_in j) c.args.port (target_by by packet)) =
     c.route_by-ways.ensures.ways (learned_in j) inv.4 ∙ (ap (λ (n : ℕ). ways_of_admit n c.args.judgement.target) inv.2 ∙ (ap (ways_of_admit by.ports) target_is ∙ ap (λ (p : List Bool). ways_by (is_admitted admit) (is_unsigned packet) p (ways_of by.ports (learned_in j) c.args.port (target_by by packet))) plain_e)) in
-    let items : c.keep.new.journal.items ≡ j ++ entry ∷ [] = c.keep.ensures ∙ (ap (λ (x : Entry). c.reserve.new.self.items ++ x ∷ []) c.entry_of.ensures ∙ ap (λ (xs : List Entry). xs ++ entry ∷ []) c.reserve.ensures.items) in
+    let items : c.keep.new.journal ≡ j ++ entry ∷ [] = c.keep.ensures ∙ (ap (λ (x : Entry). c.reserve.new.self.items ++ x ∷ []) c.entry_of.ensures ∙ ap (λ (xs : List Entry). xs ++ entry ∷ []) c.reserve.ensures.items) in
     let e = entry_is by j c.args.port packet admit c.route_by-ways.result admit_e ways_e in (
       inv.0,
       inv.1,
@@ -43,7 +43,7 @@ invariant_of-self-2 c =
 pub returns-clause-journal : goal.returns-clause-journal
 returns-clause-journal c =
     let s = c.self.inside in
-    let j : List Entry = s.journal.items in
+    let j : List Entry = s.journal in
     let inv = c.self.invariant in
     let by : Rules = s.rules in
     let plain = c.plain-plain.result in
@@ -59,15 +59,15 @@ returns-clause-journal c =
     let ways_of_admit = λ (ports : ℕ) (target : Name). ways_by (is_admitted admit) (is_unsigned packet) plain (ways_of ports (learned_in j) c.args.port target) in
     let ways_e : c.route_by-ways.result ≡ ways_by (is_admitted admit) (is_unsigned packet) by.plain (ways_of by.ports (learned_in j) c.args.port (target_by by packet)) =
     c.route_by-ways.ensures.ways (learned_in j) inv.4 ∙ (ap (λ (n : ℕ). ways_of_admit n c.args.judgement.target) inv.2 ∙ (ap (ways_of_admit by.ports) target_is ∙ ap (λ (p : List Bool). ways_by (is_admitted admit) (is_unsigned packet) p (ways_of by.ports (learned_in j) c.args.port (target_by by packet))) plain_e)) in
-    let items : c.keep.new.journal.items ≡ j ++ entry ∷ [] = c.keep.ensures ∙ (ap (λ (x : Entry). c.reserve.new.self.items ++ x ∷ []) c.entry_of.ensures ∙ ap (λ (xs : List Entry). xs ++ entry ∷ []) c.reserve.ensures.items) in
+    let items : c.keep.new.journal ≡ j ++ entry ∷ [] = c.keep.ensures ∙ (ap (λ (x : Entry). c.reserve.new.self.items ++ x ∷ []) c.entry_of.ensures ∙ ap (λ (xs : List Entry). xs ++ entry ∷ []) c.reserve.ensures.items) in
     let e = entry_is by j c.args.port packet admit c.route_by-ways.result admit_e ways_e in
-    subst (λ (v : SwitchState). c.keep.new.journal.items ≡ v.journal ++ entry_after v.rules v.journal c.args.port packet ∷ []) c.self.view_is
+    subst (λ (v : SwitchState). c.keep.new.journal ≡ v.journal ++ entry_after v.rules v.journal c.args.port packet ∷ []) c.self.view_is
     (items ∙ ap (λ (x : Entry). j ++ x ∷ []) e)
 
 pub returns-clause-verdict : goal.returns-clause-verdict
 returns-clause-verdict c =
     let s = c.self.inside in
-    let j : List Entry = s.journal.items in
+    let j : List Entry = s.journal in
     let packet = c.args.frame.now in
     let admit = c.verdict-admit.result in
     let is_open = c.has-is_open.ensures ∙ ap (λ (p : List Bool). has_port p c.args.port) c.plain-plain.ensures in

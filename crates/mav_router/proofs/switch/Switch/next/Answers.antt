@@ -9,7 +9,7 @@ use Rattle.mav_router.proofs.switch.Switch.next.Goals as goal
 pub returns-clause-given : goal.returns-clause-given
 returns-clause-given c =
     let s = c.self.inside in
-    let journal = s.journal.items in
+    let journal = s.journal in
     let index = c.next_index-index.result in
     let at : c.from-at.result ≡ c.args.port - 1 = search rules in
     let small : c.from-at.result < length s.seen = search rules in

@@ -21,12 +21,13 @@ returns-clause-history c =
     let packet = c.args.frame.now in
     let block = c.in-Some.block in
     let stream = stream_of packet block in
-    let signed : packet.block ≡ Some block = sym (ap (λ (p : Packet). p.block) c.frame.view_is) ∙ c.in-Some.is in
-    let is : c.stream_of.result ≡ stream = c.stream_of.ensures.stream in
-    let stamp : c.block.inside.stamp ≡ block.stamp = ap (λ (b : SignatureBlock). b.stamp) c.block.view_is in
-    let bytes : IsStream stream = subst IsStream is c.stream_of.ensures.bytes in
+    let signed : packet.block ≡ Some block = sym c.block.ensures ∙ c.in-Some.is in
+    let link : c.block-2.inside.link ≡ block.link = ap (λ (b : SignatureBlock). b.link) c.block-2.view_is in
+    let is : c.stream_on.result ≡ stream = c.stream_on.ensures.stream ∙ (λ i. record { sys = (c.from.ensures i).sys; comp = (c.from.ensures i).comp; link = link i }) in
+    let stamp : c.block-2.inside.stamp ≡ block.stamp = ap (λ (b : SignatureBlock). b.stamp) c.block-2.view_is in
+    let bytes : IsStream stream = subst IsStream is c.stream_on.ensures.bytes in
     let answer : c.admit_stamp.result ≡ kept_answer old stream block.stamp =
-    c.admit_stamp.ensures.answer ∙ (ap (λ (s : Stream). kept_answer old s c.block.inside.stamp) is ∙ ap (kept_answer old stream) stamp) in
+    c.admit_stamp.ensures.answer ∙ (ap (λ (s : Stream). kept_answer old s c.block-2.inside.stamp) is ∙ ap (kept_answer old stream) stamp) in
     let kept : KeptAfter c.admit_stamp.result stream block.stamp old c.admit_stamp.new.self =
-    subst (λ (s : Stream). KeptAfter c.admit_stamp.result s block.stamp old c.admit_stamp.new.self) is (subst (λ (n : ℕ). KeptAfter c.admit_stamp.result c.stream_of.result n old c.admit_stamp.new.self) stamp c.admit_stamp.ensures.kept) in
+    subst (λ (s : Stream). KeptAfter c.admit_stamp.result s block.stamp old c.admit_stamp.new.self) is (subst (λ (n : ℕ). KeptAfter c.admit_stamp.result c.stream_on.result n old c.admit_stamp.new.self) stamp c.admit_stamp.ensures.kept) in
     after_tried old c.admit_stamp.new.self history packet block c.admit_stamp.result signed bytes answer kept of

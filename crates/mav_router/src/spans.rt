@@ -1,0 +1,34 @@
+// Frames in one list of bytes.
+ghost use Rattle.std.specs.Prelude.{◌≡◌, OnErr, IfOk};
+ghost use Rattle.mav_router.specs.Spans.{Appends, Holds, packet_of};
+
+use crate::NoMemory;
+use mav_frame::RawFrame;
+
+/// Where the bytes of a frame are, from `start` up to `end`.
+#[derive(Clone, Copy)]
+pub(crate) struct Span {
+    pub(crate) start: usize,
+    pub(crate) end: usize,
+}
+
+/// The frame in a span.
+pub(crate) fn frame_in(bytes: &[u8], span: Span) -> RawFrame<'_>
+    requires { Holds bytes.now span }
+    ensures { result ≡ packet_of bytes.now span }
+{
+    RawFrame::new(&bytes[span.start..span.end])
+}
+
+/// Appends the bytes of a frame, and returns their span.
+pub(crate) fn append(bytes: &mut Vec<u8>, frame: &RawFrame<'_>) -> Result<Span, NoMemory>
+    ensures appends { IfOk result (λ span. Appends bytes.old.items bytes.new.items span frame.now) }
+    ensures kept { OnErr result (bytes.new.items ≡ bytes.old.items) }
+{
+    let start = bytes.len();
+    bytes.extend_from_slice(frame.bytes())?;
+    Ok(Span {
+        start,
+        end: bytes.len(),
+    })
+}
