@@ -12,3 +12,4 @@ pub mod PartEnds
 pub mod Joined
 pub mod Moving
 pub mod Served
+pub mod HeldFrames

@@ -9,7 +9,8 @@ ghost use Rattle.mav_router.specs.Runs.{Reading, AllRead};
 
 use crate::hearing::next_frame;
 use crate::judging::{Judgement, judge};
-use crate::spans::{Span, frame_in};
+use crate::moves::put_last;
+use crate::spans::{Span, append_within, frame_in};
 use crate::{NoMemory, RouterRules};
 use mav_frame::RawFrame;
 use mav_scan::{NextSpan, Scanner};
@@ -78,11 +79,8 @@ impl FoundFrames {
         requires { length self.old < 128 }
         ensures { self.new ≡ self.old ++ (record { frame = frame.now; judgement = judgement }) ∷ [] }
     {
-        let start = self.bytes.len();
-        self.bytes.extend_from_slice(frame.bytes()).unwrap();
-        let end = self.bytes.len();
-        let span = Span { start, end };
-        self.items.push(FoundFrame { span, judgement }).unwrap();
+        let span = append_within(&mut self.bytes, frame);
+        put_last(&mut self.items, FoundFrame { span, judgement });
     }
 
     pub(crate) fn len(&self) -> usize
@@ -111,6 +109,7 @@ impl FoundFrames {
 // Takes the frame at the start of what a reader holds, and keeps it with its judgement.
 fn find_frame(rules: &RouterRules<'_>, scanner: &mut Scanner, size: usize, found: &mut FoundFrames)
     requires there { next_span scanner.old ≡ NextSpan.Frame size }
+    requires within { size ≤ length scanner.old.bytes }
     requires room { length found.old < 128 }
     ensures scanner { scanner.new ≡ held_after scanner.old (NextSpan.Frame size) }
     ensures kept { KeepsFound rules.now (first_packet scanner.old) found.old found.new }

@@ -5,6 +5,7 @@ ghost use Rattle.mav_sign.specs.declared.admission.Admit.TheVariants.{Unsigned};
 ghost use Rattle.mav_router.specs.declared.entries.Entry.{Entry};
 ghost use Rattle.mav_router.specs.declared.journal.Head.{Head};
 
+use crate::moves::put_last;
 use crate::spans::{Span, append, frame_in};
 use crate::{Entry, NoMemory};
 use link_table::Ways;
@@ -56,14 +57,18 @@ fn head_at(heads: &[Head], index: usize) -> Head
 }
 
 // Sets what became of the last frame.
-fn set_last(heads: &mut [Head], admit: Admit, ways: Ways)
-    requires { 0 < length heads.old }
-    ensures { (before : List Head) (last : Head) → heads.old ≡ before ++ last ∷ []
-        → heads.new ≡ before ++ (record last { outcome = record last.outcome { admit = admit; ways = ways } }) ∷ [] }
+fn set_last(heads: &mut Vec<Head>, admit: Admit, ways: Ways)
+    requires { 0 < length heads.old.items }
+    ensures { (before : List Head) (last : Head) → heads.old.items ≡ before ++ last ∷ []
+        → heads.new.items ≡ before ++ (record last { outcome = record last.outcome { admit = admit; ways = ways } }) ∷ [] }
 {
     let at = heads.len() - 1;
-    heads[at].outcome.admit = admit;
-    heads[at].outcome.ways = ways;
+    let head = head_at(heads, at);
+    let port = head.outcome.port;
+    heads[at] = Head {
+        span: head.span,
+        outcome: Outcome { port, admit, ways },
+    };
 }
 
 impl Journal {
@@ -126,7 +131,7 @@ impl Journal {
             admit: Admit::Unsigned,
             ways: Ways::none(),
         };
-        self.heads.push(Head { span, outcome }).unwrap();
+        put_last(&mut self.heads, Head { span, outcome });
         Ok(())
     }
 
@@ -136,6 +141,6 @@ impl Journal {
         ensures { (before : List Entry) (last : Entry) → self.old ≡ before ++ last ∷ []
             → self.new ≡ before ++ (record last { admit = admit; ways = ways }) ∷ [] }
     {
-        set_last(self.heads.as_mut_slice(), admit, ways);
+        set_last(&mut self.heads, admit, ways);
     }
 }

@@ -1,4 +1,4 @@
-use Rattle.std.proofs.Common.{◌∙◌, ◌++◌, ◌∷◌, [], List, length, take, Bool, All, arith, ap, sym, subst, length-append}
+use Rattle.std.proofs.Common.{◌∙◌, ◌++◌, ◌∷◌, [], List, length, take, Bool, All, arith, ap, sym, subst, length-append, length-drop}
 use Rattle.mav_frame.specs.Packet.{Packet}
 use Rattle.mav_stream.specs.Held.{Held}
 use Rattle.mav_scan.specs.Spans.{first_packet, held_after}
@@ -34,7 +34,7 @@ loop-at-preserved c =
       ended = ap (λ (h : Held). h.ended) c.find_frame.ensures.scanner ∙ (c.in-Some.ensures.ended ∙ r.invariant.ended);
       count = (let n = ap length keeps.kept in omega (arith, n, length-append r.found (judged ∷ []), r.invariant.count));
       judged = subst (All (IsJudged rules)) (sym keeps.kept) (judged_more rules r.found judged r.invariant.judged keeps.right);
-      fewer = ?;
+      fewer = (let short = ap (λ (h : Held). length h.bytes) c.find_frame.ensures.scanner in omega (arith, short, length-drop c.in-Some.size there.bytes, c.in-Some.ensures.size.0, c.in-Some.ensures.size.1, c.in-Some.ensures.fewer, r.invariant.fewer));
       finds = λ port bytes journal live first.
           let so_far = r.invariant.finds port bytes journal live first in
           let next = found_more ended rules port (bytes ++ take r.taken piece) (bytes ++ take c.next_frame.new.taken piece) (bytes ++ piece) r.scanner now r.skipped c.next_frame.new.skipped journal (packets_of r.found) packet

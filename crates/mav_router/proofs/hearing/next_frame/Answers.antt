@@ -32,14 +32,14 @@ reading-preserved-in-Skipped c =
     let run = take count r.scanner.bytes in
     record {
       within = r.invariant.within;
-      ended = ap (λ (h : Held). h.ended) c.consume-in-Skipped.ensures ∙ r.invariant.ended;
-      fewer = (let short = ap (λ (h : Held). length h.bytes) c.consume-in-Skipped.ensures in omega (arith, short, length-drop count r.scanner.bytes, r.invariant.fewer));
+      ended = ap (λ (h : Held). h.ended) c.consume.ensures ∙ r.invariant.ended;
+      fewer = (let short = ap (λ (h : Held). length h.bytes) c.consume.ensures in omega (arith, short, length-drop count r.scanner.bytes, r.invariant.fewer));
       read = λ rules port bytes journal live first.
           let to = r.invariant.read rules port bytes journal live first in
           let taken = bytes ++ take r.taken c.args.piece.now in
           let found = c.in-Skipped.ensures.progress (extras_of rules.known) (has_port rules.plain port) taken to.events to.progress in
-          let progress = subst (λ (h : Held). PortProgress rules port taken (to.events ++ map (skipped_for c.in-Skipped.field-0) run) h) (sym c.consume-in-Skipped.ensures) found in
-          bytes_skipped rules port taken run r.scanner c.consume-in-Skipped.new.self r.skipped c.saturating_add.result count journal c.in-Skipped.field-0 to progress (omega (arith, length-take count r.scanner.bytes, c.in-Skipped.ensures.within)) (omega (arith, c.saturating_add.ensures));
+          let progress = subst (λ (h : Held). PortProgress rules port taken (to.events ++ map (skipped_for c.in-Skipped.field-0) run) h) (sym c.consume.ensures) found in
+          bytes_skipped rules port taken run r.scanner c.consume.new.self r.skipped c.saturating_add.result count journal c.in-Skipped.field-0 to progress (omega (arith, length-take count r.scanner.bytes, c.in-Skipped.ensures.within)) (omega (arith, c.saturating_add.ensures));
     }
 
 pub returns-then-taken-piece-clause-all : goal.returns-then-taken-piece-clause-all

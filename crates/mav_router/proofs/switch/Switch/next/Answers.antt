@@ -15,8 +15,8 @@ returns-clause-given c =
     let small : c.from-at.result < length s.seen = search rules in
     let within : index < length journal = search rules in
     let entry = element journal index within in
-    let none = subst (λ (xs : List Entry). frames_to c.args.port (take index xs) ≡ frames_to c.args.port (take (slice_index s.seen c.from-at.result) xs)) c.deref.ensures.value c.next_index-index.ensures.none in
-    let goes = c.next_index-index.ensures.goes entry.0 (subst (λ (xs : List Entry). slice_get xs index ≡ Some entry.0) (sym c.deref.ensures.value) entry.1) in
+    let none = c.next_index-index.ensures.none in
+    let goes = c.next_index-index.ensures.goes entry.0 entry.1 in
     subst (λ (v : SwitchState). frames_to c.args.port (take (slice_index (slice_set s.seen c.from-at.result (index + 1)) (c.args.port - 1)) journal) ≡ given_to v c.args.port ++ frames_at v.journal (Some index)) c.self.view_is
     (given_next s.seen journal c.args.port c.from-at.result index entry.0 at small within (sym (get_or_from_slice_get journal index entry.0 entry.0 entry.1)) goes none
     ∙ ap (λ (f : List Packet). frames_to c.args.port (take (slice_index s.seen (c.args.port - 1)) journal) ++ f) (sym (frames_are journal index entry.0 entry.1)))
