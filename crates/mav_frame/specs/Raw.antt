@@ -1,5 +1,5 @@
 -- Frames as the bytes that encode them.
-use Rattle.std.specs.Prelude.{ℕ, ◌≡◌, ◌≤◌, ◌∷◌, ◌++◌, Bool, true, List, length}
+use Rattle.std.specs.Prelude.{ℕ, ◌≡◌, ◌∷◌, ◌++◌, Bool, true, List}
 use Rattle.mav_frame.specs.Numbers.{little_endian}
 use Rattle.mav_frame.specs.Packet.{Packet, FitsFrame}
 use Rattle.mav_frame.specs.Encoding.{checked_bytes, encoding, stx_of}

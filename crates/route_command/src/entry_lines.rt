@@ -1,10 +1,9 @@
 // The lines of the frames that came in.
-ghost use Rattle.std.specs.Prelude.{◌≡◌, ◌≤◌, ◌<◌, ◌+◌, ◌-◌, ◌++◌, ◌⊎◌, ℕ, Bool, List, [], length, OnOk, IfOk, IfErr, IsErrOf, true, false, slice_get, Some};
+ghost use Rattle.std.specs.Prelude.{◌≡◌, ◌≤◌, ◌<◌, ◌+◌, ◌-◌, ◌++◌, ◌⊎◌, ℕ, Bool, List, [], length, OnOk, IfOk, IfErr, IsErrOf, true, false};
 ghost use Rattle.std.specs.declared.option.Option.{Option};
 ghost use Rattle.mav_ports.specs.Counts.{Rose};
 ghost use Rattle.mav_ports.specs.Puts.{Sent, SentPrefix};
 ghost use Rattle.mav_sign.specs.History.{is_admitted};
-ghost use Rattle.mav_router.specs.declared.entries.Entry.{Entry};
 ghost use Rattle.route_command.specs.Texts.{ports_from, ports_text, fate_text, frame_text, source_text, entry_line, entry_lines, link_of, stamp_of};
 
 use crate::named::put_named;
@@ -109,17 +108,15 @@ fn put_frame(frame: &RawFrame<'_>, lines: &mut Vec<u8>) -> Result<(), NoMemory>
     put_source(frame.from(), link, stamp, frame.id(), lines)
 }
 
-// Appends the line of the entry at an index.
-fn put_entry(journal: &Journal, index: usize, lines: &mut Vec<u8>) -> Result<(), NoMemory>
-    requires { index < length journal.now }
-    ensures { OnOk result ((entry : Entry) → slice_get journal.now index ≡ Some entry → lines.new.items ≡ lines.old.items ++ entry_line entry) }
+// Appends the line of an entry.
+fn put_entry(outcome: Outcome, frame: &RawFrame<'_>, lines: &mut Vec<u8>) -> Result<(), NoMemory>
+    ensures { OnOk result (lines.new.items ≡ lines.old.items ++ entry_line (record { port = outcome.port; frame = frame.now; admit = outcome.admit; ways = outcome.ways })) }
 {
-    let Outcome { port, admit, ways } = journal.outcome(index);
-    put_decimal(u64::from(port), lines)?;
+    put_decimal(u64::from(outcome.port), lines)?;
     lines.push(b' ')?;
-    put_frame(&journal.frame(index), lines)?;
+    put_frame(frame, lines)?;
     lines.push(b' ')?;
-    put_fate(admit, ways, lines)?;
+    put_fate(outcome.admit, outcome.ways, lines)?;
     lines.push(b'\n')?;
     Ok(())
 }
@@ -141,7 +138,7 @@ pub(crate) fn write_entries<K: Sink>(
     ensures sound { ¬ IsErrOf result RunEnd.WriteFault → K.faults out.new ≡ K.faults out.old }
 {
     for at in 0..journal.len() {
-        put_entry(journal, at, lines)?;
+        put_entry(journal.outcome(at), &journal.frame(at), lines)?;
         write_enough(lines, out)?;
     }
     Ok(())

@@ -1,4 +1,4 @@
-use Rattle.std.proofs.Common.{rules, ◌≡◌, ℕ, ◌<◌, ◌≤◌, List, length, All, sym, ap, ◌∙◌, subst, arith}
+use Rattle.std.proofs.Common.{rules, ℕ, ◌<◌, ◌≤◌, List, length, All, sym, ap, ◌∙◌, subst, arith}
 use Rattle.mav_frame.specs.Packet.{Packet, FitsFrame}
 use Rattle.mav_frame.proofs.raw.fits.Goals as goal
 

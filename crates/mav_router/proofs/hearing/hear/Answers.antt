@@ -1,4 +1,4 @@
-use Rattle.std.proofs.Common.{ap, sym, ◌∙◌, ◌++◌, subst, Bool, List, ℕ, take}
+use Rattle.std.proofs.Common.{ap, sym, ◌∙◌, ◌++◌, subst, Bool, take}
 use Rattle.mav_stream.specs.Held.{Held}
 use Rattle.mav_scan.specs.Spans.{first_packet}
 use Rattle.mav_router.specs.Journal.{frames_from}

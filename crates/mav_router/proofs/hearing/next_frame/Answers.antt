@@ -1,4 +1,4 @@
-use Rattle.std.proofs.Common.{◌≡◌, ◌≤◌, ◌<◌, ◌++◌, ◌∷◌, [], ◌-◌, List, ℕ, false, arith, sym, ap, ◌∙◌, subst, take, drop, length, map, slice_range, length-take, length-drop, length-append}
+use Rattle.std.proofs.Common.{◌≡◌, ◌≤◌, ◌<◌, ◌++◌, ◌-◌, List, ℕ, false, arith, sym, ap, ◌∙◌, subst, take, drop, length, map, slice_range, length-take, length-drop, length-append}
 use Rattle.std.proofs.lemmas.List.{take_all}
 use Rattle.mav_profile.specs.Messages.{extras_of}
 use Rattle.mav_stream.specs.Held.{Held}

@@ -1,4 +1,4 @@
-use Rattle.std.proofs.Common.{◌≡◌, ◌-◌, ◌∙◌, ℕ, length, slice_get, Some, List, arith, subst}
+use Rattle.std.proofs.Common.{◌≡◌, ◌-◌, slice_get, Some, List, arith, subst}
 use Rattle.mav_router.specs.declared.journal.Head.{Head}
 use Rattle.mav_router.proofs.HeldFrames.{last_changed}
 use Rattle.mav_router.proofs.journal.set_last.Goals as goal

@@ -1,8 +1,7 @@
-use Rattle.std.proofs.Common.{◌≡◌, ◌<◌, ◌∙◌, ◌++◌, ◌∷◌, [], ap, sym, refl, subst, take, length, List, arith}
+use Rattle.std.proofs.Common.{◌<◌, ◌∙◌, ◌++◌, ◌∷◌, [], sym, refl, subst, take, length, arith}
 use Rattle.std.proofs.lemmas.Option.{get_or_from_slice_get}
-use Rattle.mav_frame.specs.Packet.{Packet}
 use Rattle.mav_router.specs.Journal.{Rules, entry_after}
-use Rattle.mav_router.specs.Found.{IsJudged, Judged, Keeps, packets_of}
+use Rattle.mav_router.specs.Found.{IsJudged, Keeps, packets_of}
 use Rattle.mav_router.proofs.Findings.{keeps_more, next_packet}
 use Rattle.mav_router.proofs.Journals.{element}
 use Rattle.mav_router.proofs.turns.admit_each.Goals as goal

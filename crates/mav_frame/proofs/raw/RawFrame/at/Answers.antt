@@ -1,6 +1,6 @@
-use Rattle.std.proofs.Common.{◌≡◌, ℕ, ◌≤◌, List, length, take, sym, arith, length-take}
+use Rattle.std.proofs.Common.{◌≡◌, ℕ, ◌≤◌, List, length, take, arith, length-take}
 use Rattle.mav_frame.specs.Looks.{is_old_at, packet_at}
-use Rattle.mav_frame.proofs.FoundEncoded.{IsBytes, once}
+use Rattle.mav_frame.proofs.FoundEncoded.{once}
 use Rattle.mav_frame.proofs.RawFrames.{found_frame}
 use Rattle.mav_frame.proofs.raw.RawFrame.at.Goals as goal
 

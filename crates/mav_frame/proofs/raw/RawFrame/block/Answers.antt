@@ -1,6 +1,6 @@
-use Rattle.std.proofs.Common.{◌≡◌, ◌+◌, ◌==◌, ℕ, List, Bool, true, false, Option, slice_index, sym, ap, ◌∙◌, arith}
+use Rattle.std.proofs.Common.{◌≡◌, ◌+◌, ◌==◌, ℕ, List, Bool, true, false, slice_index, sym, ap, ◌∙◌, arith}
 use Rattle.std.proofs.lemmas.Bool.Decides.{nat_tests}
-use Rattle.mav_frame.specs.Packet.{Packet, SignatureBlock}
+use Rattle.mav_frame.specs.Packet.{Packet}
 use Rattle.mav_frame.specs.Looks.{block_at, check_offset, is_old_at, packet_at}
 use Rattle.mav_frame.specs.Raw.{packet_in}
 use Rattle.mav_frame.proofs.EncodedFound.{skip}

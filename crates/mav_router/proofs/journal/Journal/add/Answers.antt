@@ -1,5 +1,4 @@
-use Rattle.std.proofs.Common.{◌≡◌, ◌∙◌, ◌++◌, ◌∷◌, [], List, Bool, refl, sym, ap, subst}
-use Rattle.link_table.specs.Routing.{no_ways}
+use Rattle.std.proofs.Common.{◌∙◌, ◌++◌, ◌∷◌, [], List, Bool, refl, sym, ap, subst}
 use Rattle.mav_frame.specs.Packet.{Packet}
 use Rattle.mav_sign.specs.declared.admission.Admit.TheVariants.{Unsigned}
 use Rattle.mav_router.specs.declared.entries.Entry.{Entry}

@@ -1,7 +1,6 @@
-use Rattle.std.proofs.Common.{rules, ◌≡◌, ◌<◌, ◌-◌, length, ◌++◌, sym, ap, ◌∙◌, subst, List, Some, take, slice_get, slice_index, slice_set, ◌+◌}
+use Rattle.std.proofs.Common.{rules, ◌≡◌, ◌<◌, ◌-◌, length, ◌++◌, sym, ap, ◌∙◌, subst, List, Some, take, slice_index, slice_set, ◌+◌}
 use Rattle.std.proofs.lemmas.Option.{get_or_from_slice_get}
 use Rattle.mav_frame.specs.Packet.{Packet}
-use Rattle.mav_router.specs.declared.entries.Entry.{Entry}
 use Rattle.mav_router.specs.Journal.{SwitchState, given_to, frames_to, frames_at}
 use Rattle.mav_router.proofs.Journals.{element, given_next, frames_are}
 use Rattle.mav_router.proofs.switch.Switch.next.Goals as goal

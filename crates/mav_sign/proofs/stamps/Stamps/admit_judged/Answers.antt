@@ -1,6 +1,6 @@
 use Rattle.std.proofs.Common.{◌≡◌, ℕ, Some, sym, ap, ◌∙◌, refl, subst}
 use Rattle.mav_names.specs.declared.names.Stream.{Stream}
-use Rattle.mav_frame.specs.Packet.{Packet, SignatureBlock}
+use Rattle.mav_frame.specs.Packet.{SignatureBlock}
 use Rattle.mav_sign.specs.History.{stream_of}
 use Rattle.mav_sign.specs.Kept.{IsStream, KeptAfter, kept_answer}
 use Rattle.mav_sign.specs.declared.admission.Admit.TheVariants.{Unsigned, BadSignature}
