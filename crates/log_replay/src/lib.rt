@@ -6,6 +6,5 @@
 
 mod replay;
 mod rows;
-mod window;
 
 pub use replay::Replay;

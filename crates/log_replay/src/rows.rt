@@ -3,21 +3,24 @@ ghost use Rattle.std.specs.Prelude.{◌≡◌, ◌<◌, ◌≤◌, ◌+◌, ◌+
 ghost use Rattle.mav_ports.specs.Gets.{given, GivesWithin};
 ghost use Rattle.log_replay.specs.Frames.{frames_left, log_frames, nothing_read, Gives, NoRowHeld};
 
-use crate::window::Window;
 use log_rows::{RowSpan, row_span};
 use mav_ports::Got;
+use mav_stream::Window;
 use std::marker::Model;
 use x25_check::Extras;
 
 // As many bytes as the time of a row has.
 const TIME_BYTES: usize = 8;
 
+// A piece of the log after the start of a row.
+const ROOM: usize = 4_384;
+
 /// A reader of a log that hands out the frames of its rows; `frame` is how many bytes at the start of the window are
 /// of a frame that isn't handed out whole.
 #[derive(Drop)]
 pub(crate) struct Rows {
     extras: Extras,
-    window: Window,
+    window: Window<ROOM>,
     frame: usize,
     ended: bool,
 }
@@ -39,7 +42,7 @@ impl Model for Rows {
 }
 
 // Removes what is before the next frame of a log, and returns the frame's length, or 0 if no row is held.
-fn next_frame(extras: &Extras, ended: bool, window: &mut Window) -> usize
+fn next_frame(extras: &Extras, ended: bool, window: &mut Window<ROOM>) -> usize
     ensures within { result ≤ length window.new }
     ensures left { (rest : List ℕ) → (ended ≡ true → rest ≡ []) → log_frames extras.now (window.old ++ rest)
         ≡ take result window.new ++ log_frames extras.now (drop result window.new ++ rest) }
@@ -150,7 +153,9 @@ impl Rows {
         ensures same { got ≡ Got.Failed → self.new ≡ self.old }
     {
         match got {
-            Got::Bytes(count) => self.window.append(&piece[..count]),
+            Got::Bytes(count) => {
+                let _count = self.window.append(&piece[..count]);
+            }
             Got::Idle => {}
             Got::End => self.ended = true,
             Got::Failed => return Got::Failed,

@@ -11,7 +11,6 @@ pub mod laws;
 mod reader;
 mod rows;
 mod spans;
-mod window;
 
 pub use reader::{LogNext, LogReader};
 pub use rows::{Row, put_row, row_at};

@@ -6,8 +6,8 @@ ghost use Rattle.log_rows.specs.LogNexts.{next_row, held_after, given_by, HasRoo
 
 use crate::rows::{Row, row_at};
 use crate::spans::{RowSpan, row_span};
-use crate::window::Window;
 use mav_frame::Why;
+use mav_stream::Window;
 use std::marker::Model;
 use x25_check::Extras;
 
@@ -19,12 +19,15 @@ pub enum LogNext {
     Need,
 }
 
+// As many bytes as the longest row has.
+const ROOM: usize = 288;
+
 /// A reader of one log, which contracts see as the bytes that it holds: those taken that are in no event yet, at most
 /// 288.
 #[derive(Drop)]
 pub struct LogReader {
     extras: Extras,
-    window: Window,
+    window: Window<ROOM>,
     ended: bool,
 }
 

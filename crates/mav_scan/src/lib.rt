@@ -6,7 +6,6 @@ mod scanner;
 mod skips;
 mod spans;
 mod table;
-mod window;
 
 pub use scanner::Scanner;
 pub use spans::NextSpan;

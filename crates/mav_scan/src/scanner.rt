@@ -12,11 +12,14 @@ use crate::NoMemory;
 use crate::skips::skipped_length;
 use crate::spans::NextSpan;
 use crate::table::ExtrasTable;
-use crate::window::Window;
 use mav_frame::{Frame, FrameCheck, RawFrame, Why, check_frame, frame_at};
+use mav_stream::Window;
 use std::alloc::Global;
 use std::marker::Model;
 use x25_check::Extras;
+
+// A piece of 65,536 bytes after the start of a frame.
+const ROOM: usize = 65_816;
 
 /// A reader of one stream, which contracts see as the bytes that it holds: those taken that are in no event yet, at
 /// most 65,816.
@@ -24,7 +27,7 @@ use x25_check::Extras;
 pub struct Scanner {
     table: ExtrasTable,
     reads_old: bool,
-    window: Window,
+    window: Box<Window<ROOM>>,
     ended: bool,
 }
 
@@ -33,7 +36,7 @@ impl Model for Scanner {
 
     ghost Value = { Held };
 
-    ghost view = { λ s. record { extras = s.table; reads_old = s.reads_old; bytes = s.window; ended = s.ended } };
+    ghost view = { λ s. record { extras = s.table; reads_old = s.reads_old; bytes = s.window.value; ended = s.ended } };
 }
 
 impl Scanner {
@@ -43,7 +46,7 @@ impl Scanner {
         ensures { IfOk result (λ scanner. scanner ≡ nothing_held extras old) }
     {
         let table = ExtrasTable::new(alloc, extras)?;
-        let window = Window::new(alloc)?;
+        let window = Box::new(alloc, Window::new())?;
         Ok(Scanner {
             table,
             reads_old: old,

@@ -1,4 +1,4 @@
-pub mod Windows
+mod Windows
 pub mod Steps
 pub mod Answers
 mod CallList

@@ -11,6 +11,7 @@ mod window;
 
 use mav_frame::{Frame, Why};
 pub use reader::Reader;
+pub use window::Window;
 
 /// A frame, a skipped byte and why no frame begins there, or the need for more bytes.
 #[derive(Clone, Copy)]

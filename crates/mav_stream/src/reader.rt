@@ -11,13 +11,16 @@ use mav_frame::{FrameCheck, Why, check_frame, frame_at};
 use std::marker::Model;
 use x25_check::Extras;
 
+// As many bytes as the longest frame has.
+const ROOM: usize = 280;
+
 /// A reader of one stream, which contracts see as the bytes that it holds: those taken that are in no event yet, at
 /// most 280.
 #[derive(Drop)]
 pub struct Reader {
     extras: Extras,
     reads_old: bool,
-    window: Window,
+    window: Window<ROOM>,
     ended: bool,
 }
 

@@ -14,5 +14,5 @@ at-requires c =
     let held = c.args.self.now in
     starts held c.self.inside.reads_old c.bytes.result.now c.args.size
     (ap (λ (h : Held). h.reads_old) c.self.view_is)
-    (c.bytes.ensures.list ∙ ap (λ (h : Held). h.bytes) c.self.view_is)
+    (c.bytes.ensures.list ∙ (c.deref.ensures ∙ ap (λ (h : Held). h.bytes) c.self.view_is))
     (record { extras = held.extras; found = frame_found held c.args.size (look_of held.extras held.reads_old held.bytes) refl c.requires })

@@ -3,7 +3,7 @@ use Rattle.mav_stream.proofs.Windows.{without_first}
 use Rattle.mav_stream.proofs.window.Window.remove.Goals as goal
 
 pub returns : goal.returns
-returns c =
+returns g c =
     let buffer = c.self.inside.buffer in let start : ℕ = c.self.inside.start in let end : ℕ = c.self.inside.end in
     let count : ℕ = c.args.count in
     let order = c.self.invariant.0 in
