@@ -6,7 +6,7 @@ use Rattle.mav_frame.specs.Looks.{id_at, packet_at}
 use Rattle.mav_frame.specs.declared.looks.Why.{Why}
 use Rattle.mav_frame.specs.declared.events.Event.{Event}
 use Rattle.mav_frame.specs.declared.events.Event.TheVariants.{Frame}
-use Rattle.mav_scan.specs.Spans.{skipped_for}
+use Rattle.mav_stream.specs.Spans.{skipped_for}
 use Rattle.mav_text.specs.FrameText.{skip_line, skip_lines}
 use Rattle.decode_command.specs.DecodeText.{event_size, frame_line, event_line, lines_from, bytes_in, frames_in, skips_in}
 

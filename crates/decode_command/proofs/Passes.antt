@@ -6,9 +6,9 @@ use Rattle.mav_frame.specs.declared.looks.Why.{Why}
 use Rattle.mav_frame.specs.declared.events.Event.{Event}
 use Rattle.mav_stream.specs.Held.{Held}
 use Rattle.mav_text.specs.FrameText.{skip_lines}
-use Rattle.mav_scan.specs.Spans.{span_events, span_size, skipped_for, IfFrame}
-use Rattle.mav_scan.specs.declared.spans.NextSpan.{NextSpan}
-use Rattle.mav_scan.specs.declared.spans.NextSpan.TheVariants.{Frame, Skipped, Need}
+use Rattle.mav_stream.specs.Spans.{span_events, span_size, skipped_for, IfFrame}
+use Rattle.mav_stream.specs.declared.spans.NextSpan.{NextSpan}
+use Rattle.mav_stream.specs.declared.spans.NextSpan.TheVariants.{Frame, Skipped, Need}
 use Rattle.decode_command.specs.declared.known.Known.{Known}
 use Rattle.decode_command.specs.DecodeText.{bytes_in, event_lines}
 use Rattle.decode_command.specs.Decodes.{Decoding, Halted, Gave, IsFrameOf, Puts, IsWithin, Stepped}

@@ -11,7 +11,7 @@ use Rattle.mav_frame.specs.declared.events.Event.{Event}
 use Rattle.mav_frame.specs.declared.events.Event.TheVariants.{Frame}
 use Rattle.mav_stream.specs.Held.{Held}
 use Rattle.mav_stream.specs.Progress.{Progress, IsWhole}
-use Rattle.mav_scan.specs.Spans.{skipped_for}
+use Rattle.mav_stream.specs.Spans.{skipped_for}
 use Rattle.decode_command.proofs.Parses.{final_is, incremental_is}
 use Rattle.log_rows.specs.LogEvents.{log_events}
 use Rattle.log_rows.specs.LogParse.{LogEvent, RowEvent, SkipEvent, LogParse}

@@ -2,14 +2,14 @@
 ghost use Rattle.std.specs.Prelude.{◌≡◌, ◌+◌, ◌*◌, ◌<◌, ◌≤◌, ◌^◌, ◌++◌, length, take, drop, true, OnOk, OnErr, IfOk};
 ghost use Rattle.mav_profile.specs.Messages.{extras_of};
 ghost use Rattle.mav_frame.specs.Encoding.{encoding};
-ghost use Rattle.mav_scan.specs.Spans.{first_packet};
+ghost use Rattle.mav_stream.specs.Spans.{first_packet};
 ghost use Rattle.mav_stream.specs.Held.{nothing_held};
 ghost use Rattle.log_rows.specs.Rows.{row_encoding};
 
 use crate::tellers::{Teller, discard};
 use dialect::Dialect;
 use mav_ports::NoMemory;
-use mav_scan::{NextSpan, Scanner};
+use mav_stream::{NextSpan, Scanner};
 use std::alloc::Global;
 use std::marker::Model;
 

@@ -9,7 +9,7 @@ ghost use Rattle.mav_log.specs.Tellers.{IsRowOf};
 use dialect::Dialect;
 use log_rows::{RowSpan, row_span};
 use mav_ports::NoMemory;
-use mav_scan::Scanner;
+use mav_stream::Scanner;
 use std::alloc::Global;
 use std::marker::Model;
 use x25_check::Extras;

@@ -9,7 +9,7 @@ use Rattle.mav_frame.specs.declared.events.Event.TheVariants.{Frame}
 use Rattle.mav_frame.specs.declared.looks.Why.{Why}
 use Rattle.mav_frame.proofs.LongerParse.{more_bytes_keep}
 use Rattle.mav_profile.specs.Messages.{extras_of}
-use Rattle.mav_scan.specs.Spans.{skipped_for}
+use Rattle.mav_stream.specs.Spans.{skipped_for}
 use Rattle.link_table.specs.Routing.{has_port}
 use Rattle.mav_stream.specs.Held.{Held}
 use Rattle.mav_sign.specs.Endpoints.{frames_of, frame_in}

@@ -3,7 +3,7 @@ ghost use Rattle.std.specs.Prelude.{◌≡◌, ◌<◌, ◌≤◌, ◌+◌, ◌-
 ghost use Rattle.mav_router.specs.declared.entries.Entry.{Entry};
 ghost use Rattle.mav_router.specs.Faults.{StopsReading};
 ghost use Rattle.mav_router.specs.Found.{IsJudged, Judged, KeepsFound, packets_of};
-ghost use Rattle.mav_scan.specs.Spans.{first_packet, held_after, next_span};
+ghost use Rattle.mav_stream.specs.Spans.{first_packet, held_after, next_span};
 ghost use Rattle.mav_router.specs.Journal.{frames_from};
 ghost use Rattle.mav_router.specs.Runs.{Reading, AllRead};
 
@@ -13,7 +13,7 @@ use crate::moves::put_last;
 use crate::spans::{Span, append_within, frame_in};
 use crate::{NoMemory, RouterRules};
 use mav_frame::RawFrame;
-use mav_scan::{NextSpan, Scanner};
+use mav_stream::{NextSpan, Scanner};
 use std::alloc::Global;
 use std::marker::Model;
 

@@ -2,12 +2,12 @@
 ghost use Rattle.std.specs.Prelude.{◌≡◌, ◌≤◌, ◌<◌, ◌+◌, ◌-◌, ◌*◌, ◌++◌, ◌∷◌, [], ℕ, List, length, take, false, OnOk, OnErr, OnSome, IfErr, IfSome, IfNone};
 ghost use Rattle.mav_router.specs.declared.entries.Entry.{Entry};
 ghost use Rattle.mav_router.specs.Journal.{Rules, Grows, entry_after, frames_from, given_to};
-ghost use Rattle.mav_scan.specs.Spans.{first_packet, held_after, next_span};
+ghost use Rattle.mav_stream.specs.Spans.{first_packet, held_after, next_span};
 ghost use Rattle.mav_router.specs.Runs.{Reading, AllRead};
 ghost use Rattle.mav_router.specs.Faults.{IsSwitchFault, StopsReading};
 
 use crate::{Switch, SwitchFault};
-use mav_scan::{NextSpan, Scanner};
+use mav_stream::{NextSpan, Scanner};
 
 /// How many bytes the next frame has that a port's reader finds, if it is fed what isn't taken yet of the piece. The frame
 /// is then at the start of what the reader holds. Bytes that are skipped are counted.

@@ -1,5 +1,5 @@
 // What a router keeps of a port.
-use mav_scan::Scanner;
+use mav_stream::Scanner;
 
 /// Its reader, whether it ended or a call failed, and its counts: `turns` is of the reads that gave bytes or returned
 /// Idle.

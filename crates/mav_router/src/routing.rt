@@ -16,8 +16,8 @@ use crate::{
 use dialect::Dialect;
 use link_table::Ways;
 use mav_links::Link;
-use mav_scan::Scanner;
 use mav_sign::Key;
+use mav_stream::Scanner;
 use std::alloc::Global;
 
 // How many bytes one read takes at most.

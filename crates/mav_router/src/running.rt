@@ -15,7 +15,7 @@ use crate::signals::Signals;
 use crate::turns::{admit_found, gather_waiting};
 use crate::{RouterRules, Switch, SwitchFault};
 use mav_links::Link;
-use mav_scan::Scanner;
+use mav_stream::Scanner;
 use std::sync::Wait;
 use turnstile::{Turn, TurnSeat};
 

@@ -2,3 +2,7 @@ mod Windows
 pub mod Steps
 pub mod Answers
 mod CallList
+mod Counts
+mod Lengths
+mod Skipped
+mod NextSpans

@@ -3,9 +3,9 @@ use Rattle.std.proofs.Common.{◌≡◌, ℕ, zero, suc, List, [], ◌∷◌, �
 use Rattle.x25_check.specs.Check.{after_byte}
 use Rattle.mav_frame.specs.declared.looks.Why.TheVariants.{NotStx, UnknownFlag, UnknownId, BadCheck, Short}
 use Rattle.mav_stream.specs.Held.{Held}
-use Rattle.mav_scan.specs.Spans.{next_span, held_after}
-use Rattle.mav_scan.specs.declared.spans.NextSpan.{NextSpan}
-use Rattle.mav_scan.specs.declared.spans.NextSpan.TheVariants.{Frame, Skipped, Need}
+use Rattle.mav_stream.specs.Spans.{next_span, held_after}
+use Rattle.mav_stream.specs.declared.spans.NextSpan.{NextSpan}
+use Rattle.mav_stream.specs.declared.spans.NextSpan.TheVariants.{Frame, Skipped, Need}
 use Rattle.wire_tests.proofs.Frames.{heartbeat_bytes, old_heartbeat_bytes}
 
 -- HEARTBEAT's CRC_EXTRA, and a message with the id 70,000

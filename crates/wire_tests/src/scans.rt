@@ -1,7 +1,7 @@
 // What is at the start of a stream that a scanner holds.
 
 use mav_frame::NoMemory;
-use mav_scan::{NextSpan, Scanner};
+use mav_stream::{NextSpan, Scanner};
 use std::alloc::Global;
 use std::test::Fail;
 use x25_check::Extras;

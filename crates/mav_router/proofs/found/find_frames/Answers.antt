@@ -1,8 +1,8 @@
 use Rattle.std.proofs.Common.{◌∙◌, ◌++◌, ◌∷◌, [], List, length, take, Bool, All, arith, ap, sym, subst, length-append, length-drop}
 use Rattle.mav_frame.specs.Packet.{Packet}
 use Rattle.mav_stream.specs.Held.{Held}
-use Rattle.mav_scan.specs.Spans.{first_packet, held_after}
-use Rattle.mav_scan.specs.declared.spans.NextSpan.TheVariants.{Frame as NextFrame}
+use Rattle.mav_stream.specs.Spans.{first_packet, held_after}
+use Rattle.mav_stream.specs.declared.spans.NextSpan.TheVariants.{Frame as NextFrame}
 use Rattle.mav_router.specs.Faults.{StopsReading}
 use Rattle.mav_router.specs.Found.{IsJudged, packets_of}
 use Rattle.mav_router.proofs.Findings.{Finds, found_more, packets_more, judged_more}

@@ -1,6 +1,6 @@
 use Rattle.std.proofs.Common.{ap, sym, ◌∙◌, ◌++◌, subst, Bool, take}
 use Rattle.mav_stream.specs.Held.{Held}
-use Rattle.mav_scan.specs.Spans.{first_packet}
+use Rattle.mav_stream.specs.Spans.{first_packet}
 use Rattle.mav_router.specs.Journal.{frames_from}
 use Rattle.mav_router.specs.Runs.{Reading}
 use Rattle.mav_router.specs.Faults.{StopsReading}

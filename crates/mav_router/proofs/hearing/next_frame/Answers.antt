@@ -2,8 +2,8 @@ use Rattle.std.proofs.Common.{◌≡◌, ◌≤◌, ◌<◌, ◌++◌, ◌-◌, 
 use Rattle.std.proofs.lemmas.List.{take_all}
 use Rattle.mav_profile.specs.Messages.{extras_of}
 use Rattle.mav_stream.specs.Held.{Held}
-use Rattle.mav_scan.specs.Spans.{first_packet, held_after, skipped_for}
-use Rattle.mav_scan.specs.declared.spans.NextSpan.TheVariants.{Frame as NextFrame}
+use Rattle.mav_stream.specs.Spans.{first_packet, held_after, skipped_for}
+use Rattle.mav_stream.specs.declared.spans.NextSpan.TheVariants.{Frame as NextFrame}
 use Rattle.link_table.specs.Routing.{has_port}
 use Rattle.mav_router.specs.Runs.{PortProgress, AllRead}
 use Rattle.mav_router.proofs.Readings.{frame_read, bytes_skipped, piece_fed, all_read, stopped_at}

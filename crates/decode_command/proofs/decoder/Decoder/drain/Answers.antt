@@ -2,7 +2,7 @@ use Rattle.std.proofs.Common.{◌≡◌, length, drop, refl, ap, ◌∙◌, arit
 use Rattle.mav_ports.specs.Counts.{Rose}
 use Rattle.std.proofs.lemmas.Result.{err_from_is_err_and}
 use Rattle.mav_stream.specs.Held.{Held}
-use Rattle.mav_scan.specs.Spans.{span_events, span_size}
+use Rattle.mav_stream.specs.Spans.{span_events, span_size}
 use Rattle.decode_command.specs.DecodeText.{bytes_in}
 use Rattle.decode_command.proofs.Steps.{drained_at_need}
 use Rattle.decode_command.proofs.Passes.{span_bytes}

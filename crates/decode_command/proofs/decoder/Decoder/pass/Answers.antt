@@ -1,6 +1,6 @@
 use Rattle.std.proofs.Common.{ℕ, drop, ap, ◌∙◌}
 use Rattle.std.proofs.lemmas.Result.{err_from_is_err_and}
-use Rattle.mav_scan.specs.Spans.{span_events, span_size}
+use Rattle.mav_stream.specs.Spans.{span_events, span_size}
 use Rattle.decode_command.proofs.Results.{on_ok, if_err}
 use Rattle.decode_command.proofs.Steps.{unput_halted}
 use Rattle.decode_command.proofs.Passes.{span_bytes, passed, passed_halted}

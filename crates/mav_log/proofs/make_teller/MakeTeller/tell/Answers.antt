@@ -4,7 +4,7 @@ use Rattle.mav_profile.specs.Messages.{extras_of}
 use Rattle.mav_frame.specs.Encoding.{encoding}
 use Rattle.mav_frame.specs.declared.events.Event.{Event}
 use Rattle.mav_frame.specs.declared.events.Event.TheVariants.{Frame}
-use Rattle.mav_scan.specs.Spans.{first_packet, skipped_for}
+use Rattle.mav_stream.specs.Spans.{first_packet, skipped_for}
 use Rattle.mav_stream.specs.Held.{Held}
 use Rattle.mav_stream.specs.Progress.{Progress, IsWhole}
 use Rattle.log_rows.specs.Rows.{row_encoding}

@@ -1,4 +1,0 @@
-mod Counts
-mod Lengths
-mod Skipped
-mod NextSpans

@@ -1,3 +1,0 @@
-pub mod Skips
-pub mod Spans
-pub mod Entries

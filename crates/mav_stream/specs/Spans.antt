@@ -1,0 +1,63 @@
+-- What is at the start of the bytes that a scanner holds.
+use Rattle.std.specs.Prelude.{ℕ, ◌&&◌, nat_lt, if◌then◌else◌, List, [], ◌∷◌, length, take, drop, map}
+use Rattle.mav_frame.specs.Packet.{Packet}
+use Rattle.mav_frame.specs.Looks.{is_old_at, look_of, packet_at}
+use Rattle.mav_frame.specs.declared.looks.Look.{Look}
+use Rattle.mav_frame.specs.declared.looks.Look.TheVariants.{Frame as Found, NotHere, More}
+use Rattle.mav_frame.specs.declared.looks.Why.{Why}
+use Rattle.mav_frame.specs.declared.looks.Why.TheVariants.{Short}
+use Rattle.mav_frame.specs.declared.events.Event.{Event}
+use Rattle.mav_frame.specs.declared.events.Event.TheVariants.{Frame as FrameEvent, Skipped as SkippedEvent}
+use Rattle.mav_stream.specs.Held.{Held}
+use Rattle.mav_stream.specs.Skips.{skipped_length}
+use Rattle.mav_stream.specs.declared.spans.NextSpan.{NextSpan}
+use Rattle.mav_stream.specs.declared.spans.NextSpan.TheVariants.{Frame, Skipped, Need}
+
+-- the frame at the start of the bytes
+abbrev pub first_packet : Held → Packet
+first_packet held = packet_at (is_old_at held.reads_old held.bytes) held.bytes
+
+-- the result of a look at the bytes; an incomplete frame is skipped once the input has ended
+abbrev pub span_by : Look → Held → NextSpan
+span_by (Found packet size) held = Frame size
+span_by (NotHere why) held = Skipped why (skipped_length why held.extras held.reads_old held.bytes)
+span_by (More lacking) held = if held.ended && nat_lt 0 (length held.bytes) then Skipped Short 1 else Need
+
+abbrev pub next_span : Held → NextSpan
+next_span held = span_by (look_of held.extras held.reads_old held.bytes) held
+
+-- the event of a byte that is skipped for that reason
+abbrev pub skipped_for : Why → ℕ → Event
+skipped_for why byte = SkippedEvent byte why
+
+-- the events at the start, and what is held after them
+abbrev pub span_events : Held → NextSpan → List Event
+span_events held (Frame size) = FrameEvent (first_packet held) ∷ []
+span_events held (Skipped why count) = map (skipped_for why) (take count held.bytes)
+span_events held Need = []
+
+abbrev pub span_size : NextSpan → ℕ
+span_size (Frame size) = size
+span_size (Skipped why count) = count
+span_size Need = 0
+
+abbrev pub held_after : Held → NextSpan → Held
+held_after held span = record held { bytes = drop (span_size span) held.bytes }
+
+-- at Need the events given are the whole parse
+abbrev pub IfNeed : NextSpan → Type 0 → Type 0
+IfNeed (Frame size) P = Unit {0}
+IfNeed (Skipped why count) P = Unit {0}
+IfNeed Need P = P
+
+-- a fact if the bytes of an event are at the start
+abbrev pub IfEvent : NextSpan → Type 0 → Type 0
+IfEvent (Frame size) P = P
+IfEvent (Skipped why count) P = P
+IfEvent Need P = Unit {0}
+
+-- a fact of a frame at the start, and of its length
+abbrev pub IfFrame : NextSpan → (ℕ → Type 0) → Type 0
+IfFrame (Frame size) P = P size
+IfFrame (Skipped why count) P = Unit {0}
+IfFrame Need P = Unit {0}
