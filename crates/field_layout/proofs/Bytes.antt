@@ -1,7 +1,9 @@
 -- The bytes of words: how many they are, and what a buffer keeps after them.
-use Rattle.std.proofs.Common.{◌≡◌, ℕ, zero, suc, ◌+◌, ◌-◌, ◌*◌, ◌/◌, ◌%◌, ◌<◌, List, [], ◌∷◌, ◌++◌, length, get_or, take, drop, set, replicate, sym, ap, ◌∙◌, refl, arith}
+use Rattle.std.proofs.Common.{◌≡◌, ℕ, zero, suc, ◌+◌, ◌-◌, ◌*◌, ◌/◌, ◌%◌, ◌<◌, ◌≤◌, List, [], ◌∷◌, ◌++◌, length, get_or, take, drop, set, replicate, sym, ap, ◌∙◌, refl, arith}
 use Rattle.std.specs.List.{flat_map}
 use Rattle.std.proofs.lemmas.List.{drop-set-lt, drop-drop, drop-replicate, length-append, append-nil, take_more}
+use Rattle.std.proofs.lemmas.Slice.{drop-put_mid}
+use borrow.Rule.Slice.PartMut.{put_mid}
 use Rattle.std.proofs.lemmas.List.Concat.{flat_map-append}
 use Rattle.field_layout.specs.Payload.{le_bytes}
 
@@ -27,6 +29,21 @@ pub zeros_behind : (bytes : List ℕ) (len byte : ℕ) → drop len bytes ≡ re
 zeros_behind bytes len byte before =
     let fewer : (255 - len) - 1 ≡ 255 - (len + 1) = omega arith in
     drop-set-lt (len + 1) bytes len byte (omega arith) ∙ (sym (drop-drop 1 len bytes) ∙ (ap (drop 1) before ∙ (drop-replicate 1 (255 - len) 0 ∙ ap (λ (n : ℕ). replicate n 0) fewer)))
+
+-- the zeros after a buffer's bytes, after a part more
+pub zeros_behind_part : (held part : List ℕ) (len n : ℕ) → len ≤ length held → length part ≡ n → drop len held ≡ replicate (255 - len) 0 → drop (len + n) (put_mid len ((len + n) - len) held part) ≡ replicate (255 - (len + n)) 0
+zeros_behind_part held part len n inside size before =
+    let fewer : (255 - len) - n ≡ 255 - (len + n) = omega arith in
+    let cut : drop n (replicate (255 - len) 0) ≡ replicate (255 - (len + n)) 0 = drop-replicate n (255 - len) 0 ∙ ap (λ (m : ℕ). replicate m 0) fewer in
+    let behind : drop (len + n) held ≡ replicate (255 - (len + n)) 0 = sym (drop-drop n len held) ∙ (ap (drop n) before ∙ cut) in
+    drop-put_mid len ((len + n) - len) held part (len + n) (omega arith) inside (omega arith) ∙ behind
+
+-- bytes are the words of one byte each
+pub bytes_as_words : (bytes : List ℕ) → ((k : ℕ) → get_or bytes k 0 < 256) → flat_map (le_bytes 1) bytes ≡ bytes
+bytes_as_words [] small = refl
+bytes_as_words (b ∷ bs) small =
+    let low : b % 256 ≡ b = omega (arith, small 0) in
+    ap (λ (x : ℕ). x ∷ flat_map (le_bytes 1) bs) low ∙ ap (λ (l : List ℕ). b ∷ l) (bytes_as_words bs (λ k. small (suc k)))
 
 -- the lowest byte of a word comes first
 pub le_bytes-first : (size k word : ℕ) → k < size → le_bytes (size - k) word ≡ word % 256 ∷ le_bytes (size - (k + 1)) (word / 256)

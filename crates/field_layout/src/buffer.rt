@@ -1,12 +1,12 @@
 // A payload as it is written.
-ghost use Rattle.std.specs.Prelude.{◌≡◌, ◌+◌, ◌*◌, ◌-◌, ◌<◌, ◌≤◌, [], ◌∷◌, ◌++◌, length, flat_map, replicate};
-ghost use Rattle.field_layout.specs.Payload.{le_bytes};
+ghost use Rattle.std.specs.Prelude.{◌≡◌, ◌+◌, ◌*◌, ◌-◌, ◌<◌, ◌≤◌, [], ◌∷◌, ◌++◌, length, flat_map, replicate, ℕ, slice_index};
+ghost use Rattle.field_layout.specs.Payload.{le_bytes, truncated};
 
 use std::marker::Model;
 
 /// The bytes of a payload so far, which contracts see as their list. The rest of the buffer is zeros.
 #[derive(Drop)]
-pub(crate) struct Buffer {
+pub struct Buffer {
     bytes: [u8; 255],
     len: usize,
 }
@@ -21,8 +21,20 @@ impl Model for Buffer {
     ghost invariant = { λ b. (b.len ≤ 255) × (drop b.len b.bytes ≡ replicate (255 - b.len) 0) };
 }
 
+// How many bytes of a payload are sent.
+fn truncated_len(payload: &[u8]) -> usize
+    ensures { result ≡ length (truncated payload.now) }
+{
+    let mut len = payload.len();
+    while len > 1 && payload[len - 1] == 0 {
+        len -= 1;
+    }
+    len
+}
+
 impl Buffer {
-    pub(crate) fn new() -> Buffer
+    /// Without a byte.
+    pub fn new() -> Buffer
         ensures { result ≡ [] }
     {
         Buffer {
@@ -61,17 +73,72 @@ impl Buffer {
         }
     }
 
+    /// Appends a byte.
+    pub fn put_u8(&mut self, byte: u8)
+        requires { length self.old + 1 ≤ 255 }
+        ensures bytes { self.new ≡ self.old ++ le_bytes 1 byte }
+        ensures len { length self.new ≡ length self.old + 1 }
+        ensures small { byte < 256 }
+    {
+        self.push(byte);
+    }
+
+    /// Appends the 2 bytes of a word, lowest first.
+    pub fn put_u16(&mut self, word: u16)
+        requires { length self.old + 2 ≤ 255 }
+        ensures bytes { self.new ≡ self.old ++ le_bytes 2 word }
+        ensures len { length self.new ≡ length self.old + 2 }
+        ensures small { word < 65536 }
+    {
+        self.push((word % 256) as u8);
+        self.push((word / 256) as u8);
+    }
+
+    /// Appends the 4 bytes of a word, lowest first.
+    pub fn put_u32(&mut self, word: u32)
+        requires { length self.old + 4 ≤ 255 }
+        ensures bytes { self.new ≡ self.old ++ le_bytes 4 word }
+        ensures len { length self.new ≡ length self.old + 4 }
+        ensures small { word < 4294967296 }
+    {
+        self.put_u16((word % 65536) as u16);
+        self.put_u16((word / 65536) as u16);
+    }
+
+    /// Appends the 8 bytes of a word, lowest first.
+    pub fn put_u64(&mut self, word: u64)
+        requires { length self.old + 8 ≤ 255 }
+        ensures bytes { self.new ≡ self.old ++ le_bytes 8 word }
+        ensures len { length self.new ≡ length self.old + 8 }
+        ensures small { word < 18446744073709551616 }
+    {
+        self.put_u32((word % 4294967296) as u32);
+        self.put_u32((word / 4294967296) as u32);
+    }
+
+    /// Appends bytes.
+    pub fn put_bytes(&mut self, bytes: &[u8])
+        requires { length self.old + length bytes.now ≤ 255 }
+        ensures bytes { self.new ≡ self.old ++ flat_map (le_bytes 1) bytes.now }
+        ensures len { length self.new ≡ length self.old + length bytes.now }
+        ensures small { (k : ℕ) → slice_index bytes.now k < 256 }
+    {
+        let end = self.len + bytes.len();
+        self.bytes[self.len..end].copy_from_slice(bytes);
+        self.len = end;
+    }
+
     /// Copies the payload out, with zeros after it.
-    pub(crate) fn copy_to(&self, out: &mut [u8; 255])
-        ensures { out.new ≡ self.now ++ replicate (255 - length self.now) 0 }
+    pub fn copy_to(&self, out: &mut [u8; 255])
+        ensures { out.new ≡ truncated self.now ++ replicate (255 - length (truncated self.now)) 0 }
     {
         *out = self.bytes;
     }
 
-    /// The bytes so far.
-    pub(crate) fn bytes(&self) -> &[u8]
-        ensures { result.now ≡ self.now }
+    /// How many bytes are sent: all but the zeros at the end, and at least the first.
+    pub fn truncated_len(&self) -> u8
+        ensures { result ≡ length (truncated self.now) }
     {
-        &self.bytes[..self.len]
+        truncated_len(&self.bytes[..self.len]) as u8
     }
 }

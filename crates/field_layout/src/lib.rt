@@ -17,6 +17,7 @@ mod ty;
 mod unpacking;
 mod values;
 
+pub use buffer::Buffer;
 pub use faults::LayoutFault;
 pub use fields::{Field, MessageDef};
 pub use label::Label;

@@ -21,17 +21,6 @@ fn serialise(layout: &Layout, values: &Values) -> Buffer
     payload
 }
 
-// How many bytes of a payload are kept: all but the zeros at its end, and at least the first.
-fn truncated_len(payload: &[u8]) -> usize
-    ensures { result ≡ length (truncated payload.now) }
-{
-    let mut len = payload.len();
-    while len > 1 && payload[len - 1] == 0 {
-        len -= 1;
-    }
-    len
-}
-
 /// Writes the payload of values that fit the layout into `out`, with zeros after it, and returns its length without
 /// the zeros at its end, which is at least 1 (MAVLink guide, Packet Serialization: Empty-Byte Payload Truncation).
 pub fn pack(layout: &Layout, values: &Values, out: &mut [u8; 255]) -> u8
@@ -42,5 +31,5 @@ pub fn pack(layout: &Layout, values: &Values, out: &mut [u8; 255]) -> u8
 {
     let payload = serialise(layout, values);
     payload.copy_to(out);
-    truncated_len(payload.bytes()) as u8
+    payload.truncated_len()
 }

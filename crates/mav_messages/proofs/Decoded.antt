@@ -1,30 +1,21 @@
 -- Words from bytes, and back.
-use Rattle.std.proofs.Common.{◌≡◌, ℕ, ℤ, zero, suc, ◌+◌, ◌*◌, ◌%◌, ◌^◌, ◌<◌, ◌≤◌, List, [], ◌∷◌, ◌++◌, length, get_or, take, drop, replicate, min, ◌-◌, sym, ap, ◌∙◌, refl, subst, arith, zero-add}
+use Rattle.std.proofs.Common.{◌≡◌, ℕ, ℤ, zero, suc, ◌+◌, ◌*◌, ◌^◌, ◌<◌, ◌≤◌, List, [], ◌∷◌, ◌++◌, length, get_or, take, drop, replicate, min, ◌-◌, sym, ap, ◌∙◌, subst, arith, zero-add}
 use Rattle.std.specs.Prelude.{All, false, if◌then◌else◌, ◌==◌}
 use Rattle.std.proofs.lemmas.Bool.Decides.{nat_tests}
-use Rattle.std.specs.List.{flat_map, AllZip}
+use Rattle.std.specs.List.{AllZip}
 use Rattle.std.proofs.lemmas.List.Elements.{All-from_get_or}
 use Rattle.std.specs.Int.{Width, cast_unsigned, cast_signed}
 use Rattle.std.proofs.lemmas.Int.{of_z-to_z, to_z-of_z}
-use Rattle.std.proofs.lemmas.List.{get_or_append_left, get_or-append_right, get_or-replicate, get_or_past, drop-drop, drop-replicate, ext_get_or, get_or-take, get_or-drop, length-drop, length-take-le}
-use Rattle.std.proofs.lemmas.Slice.{drop-put_mid}
-use borrow.Rule.Slice.PartMut.{put_mid}
+use Rattle.std.proofs.lemmas.List.{get_or_append_left, get_or-append_right, get_or-replicate, get_or_past, ext_get_or, get_or-take, get_or-drop, length-drop, length-take-le}
 use Rattle.std.proofs.lemmas.List.FromFn.{length-map-range_with_len, get_or-map-range_with_len}
 use Rattle.std.proofs.Math.Decide.{dec_lt}
 use mir.Val.{bits, SFits}
 use Rattle.field_layout.specs.declared.fields.Field.{Field}
 use Rattle.field_layout.specs.Types.{element_size}
 use Rattle.field_layout.specs.Definition.{Definition}
-use Rattle.field_layout.specs.Payload.{le_bytes, FieldFits, Represents}
+use Rattle.field_layout.specs.Payload.{FieldFits, Represents}
 use Rattle.field_layout.specs.Reading.{word_from, words_from}
 use Rattle.field_layout.proofs.Decoding.{decoded_all, decoded_represents, word_from_bound}
-
--- bytes are the words of one byte each
-pub bytes_as_words : (bytes : List ℕ) → ((k : ℕ) → get_or bytes k 0 < 256) → flat_map (le_bytes 1) bytes ≡ bytes
-bytes_as_words [] small = refl
-bytes_as_words (b ∷ bs) small =
-    let low : b % 256 ≡ b = omega (arith, small 0) in
-    ap (λ (x : ℕ). x ∷ flat_map (le_bytes 1) bs) low ∙ ap (λ (l : List ℕ). b ∷ l) (bytes_as_words bs (λ k. small (suc k)))
 
 -- a word of one byte is that byte
 pub word_of_byte : (payload : List ℕ) (at : ℕ) → word_from payload at 1 ≡ get_or payload at 0
@@ -104,12 +95,3 @@ padded_front payload part len front count k small =
       | yes inside ↦ padded_inside payload part len k front long inside
       | no outside ↦ padded_past payload part len k long (omega arith) (omega arith) small
     ]
-
--- ---- what a buffer keeps after the bytes that were appended
-
-pub zeros_behind_part : (held part : List ℕ) (len n : ℕ) → len ≤ length held → length part ≡ n → drop len held ≡ replicate (255 - len) 0 → drop (len + n) (put_mid len ((len + n) - len) held part) ≡ replicate (255 - (len + n)) 0
-zeros_behind_part held part len n inside size before =
-    let fewer : (255 - len) - n ≡ 255 - (len + n) = omega arith in
-    let cut : drop n (replicate (255 - len) 0) ≡ replicate (255 - (len + n)) 0 = drop-replicate n (255 - len) 0 ∙ ap (λ (m : ℕ). replicate m 0) fewer in
-    let behind : drop (len + n) held ≡ replicate (255 - (len + n)) 0 = sym (drop-drop n len held) ∙ (ap (drop n) before ∙ cut) in
-    drop-put_mid len ((len + n) - len) held part (len + n) (omega arith) inside (omega arith) ∙ behind

@@ -4,8 +4,8 @@ ghost use Rattle.field_layout.specs.Payload.{serialised, FitsLayout, Represents}
 ghost use Rattle.mav_profile.specs.Profile.{command_long_definition, command_ack_definition};
 ghost use Rattle.mav_messages.specs.Values.{command_long_values, command_ack_values};
 
-use crate::buffer::Buffer;
 use crate::words::{Padded, i32_at, u8_at, u16_at, u32_at};
+use field_layout::Buffer;
 
 /// COMMAND_LONG: a command with seven parameters, each the word of a float. `confirmation` counts its repetitions.
 #[derive(Clone, Copy)]

@@ -4,8 +4,8 @@ ghost use Rattle.field_layout.specs.Payload.{serialised, FitsLayout, Represents}
 ghost use Rattle.mav_profile.specs.Profile.{file_transfer_protocol_definition};
 ghost use Rattle.mav_messages.specs.Values.{file_transfer_protocol_values};
 
-use crate::buffer::Buffer;
 use crate::words::{Padded, bytes_at, u8_at};
+use field_layout::Buffer;
 
 /// FILE_TRANSFER_PROTOCOL: a request of MAVLink FTP, or its response.
 #[derive(Clone, Copy)]

@@ -5,7 +5,6 @@
 //! represents, whatever its length. All types are Copy, and nothing here allocates, sends or decides anything.
 #![tactic(auto)]
 
-mod buffer;
 mod codes;
 mod commands;
 mod files;

@@ -5,7 +5,6 @@ ghost use Rattle.field_layout.specs.Target.{target_of};
 ghost use Rattle.mav_messages.specs.Targets.{target_in};
 ghost use Rattle.mav_messages.specs.Messages.{definition_of, values_of, profile_definition};
 
-use crate::buffer::Buffer;
 use crate::words::{Padded, padded};
 use crate::{
     CommandAck, CommandLong, FileTransferProtocol, GlobalPositionInt, Heartbeat, MissionAck,
@@ -13,6 +12,7 @@ use crate::{
     MissionRequestInt, MissionRequestList, ParamRequestList, ParamRequestRead, ParamSet,
     ParamValue, Ping, Statustext,
 };
+use field_layout::Buffer;
 use mav_names::Name;
 
 /// A message of the profile, with its fields under their names (MAVLink common messages). `type` is a keyword, so that

@@ -4,8 +4,8 @@ ghost use Rattle.field_layout.specs.Payload.{serialised, FitsLayout, Represents}
 ghost use Rattle.mav_profile.specs.Profile.{mission_item_int_definition};
 ghost use Rattle.mav_messages.specs.Values.{mission_item_int_values};
 
-use crate::buffer::Buffer;
 use crate::words::{Padded, i32_at, u8_at, u16_at, u32_at};
+use field_layout::Buffer;
 
 /// MISSION_ITEM_INT: an item of a plan. `x` and `y` are latitude and longitude in degrees times 10^7; the parameters
 /// and `z` are words of floats.

@@ -4,8 +4,8 @@ ghost use Rattle.field_layout.specs.Payload.{serialised, FitsLayout, Represents}
 ghost use Rattle.mav_profile.specs.Profile.{mission_current_definition, mission_request_list_definition, mission_count_definition, mission_clear_all_definition, mission_item_reached_definition, mission_ack_definition, mission_request_int_definition};
 ghost use Rattle.mav_messages.specs.Values.{mission_current_values, mission_request_list_values, mission_count_values, mission_clear_all_values, mission_item_reached_values, mission_ack_values, mission_request_int_values};
 
-use crate::buffer::Buffer;
 use crate::words::{Padded, u8_at, u16_at};
+use field_layout::Buffer;
 
 /// MISSION_CURRENT: the number of the current item.
 #[derive(Clone, Copy)]

@@ -4,8 +4,8 @@ ghost use Rattle.field_layout.specs.Payload.{serialised, FitsLayout, Represents}
 ghost use Rattle.mav_profile.specs.Profile.{heartbeat_definition, ping_definition, global_position_int_definition, statustext_definition};
 ghost use Rattle.mav_messages.specs.Values.{heartbeat_values, ping_values, global_position_int_values, statustext_values};
 
-use crate::buffer::Buffer;
 use crate::words::{Padded, bytes_at, i16_at, i32_at, u8_at, u16_at, u32_at, u64_at};
+use field_layout::Buffer;
 
 /// HEARTBEAT: that a node is there, and what it is. `ty`, `autopilot`, `base_mode` and `system_status` have values of
 /// `MavType`, `MavAutopilot`, `MavModeFlag` and `MavState`.

@@ -1,7 +1,7 @@
 use Rattle.std.proofs.Common.{take, arith}
 use Rattle.std.proofs.lemmas.List.{length-take}
 use Rattle.field_layout.proofs.Truncation.{truncated_le}
-use Rattle.mav_messages.proofs.buffer.Buffer.truncated_len.Goals as goal
+use Rattle.field_layout.proofs.buffer.Buffer.truncated_len.Goals as goal
 
 pub overflow_cast-result : goal.overflow_cast-result
 overflow_cast-result c =

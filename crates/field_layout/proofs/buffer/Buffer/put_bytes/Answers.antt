@@ -3,8 +3,8 @@ use Rattle.std.specs.List.{flat_map}
 use Rattle.std.proofs.lemmas.List.{length-take}
 use Rattle.std.proofs.lemmas.Slice.{take-put_mid}
 use Rattle.field_layout.specs.Payload.{le_bytes}
-use Rattle.mav_messages.proofs.Decoded.{bytes_as_words, zeros_behind_part}
-use Rattle.mav_messages.proofs.buffer.Buffer.put_bytes.Goals as goal
+use Rattle.field_layout.proofs.Bytes.{bytes_as_words, zeros_behind_part}
+use Rattle.field_layout.proofs.buffer.Buffer.put_bytes.Goals as goal
 
 pub invariant_of-self : goal.invariant_of-self
 invariant_of-self c =

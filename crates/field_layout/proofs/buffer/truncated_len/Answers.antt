@@ -1,6 +1,6 @@
 use Rattle.std.proofs.Common.{◌∙◌, sym, ap, length, arith}
 use Rattle.field_layout.proofs.Truncation.{step_back, stop_other}
-use Rattle.field_layout.proofs.packing.truncated_len.Goals as goal
+use Rattle.field_layout.proofs.buffer.truncated_len.Goals as goal
 
 pub loop-len-preserved : goal.loop-len-preserved
 loop-len-preserved c =

@@ -1,7 +1,7 @@
 use Rattle.std.proofs.Common.{◌≡◌, ◌-◌, ◌++◌, ℕ, List, length, take, drop, replicate, sym, ap, ◌∙◌, arith, take-append-drop}
 use Rattle.std.proofs.lemmas.List.{length-take}
 use Rattle.field_layout.proofs.Truncation.{padded_same}
-use Rattle.mav_messages.proofs.buffer.Buffer.copy_to.Goals as goal
+use Rattle.field_layout.proofs.buffer.Buffer.copy_to.Goals as goal
 
 pub returns : goal.returns
 returns c =
