@@ -68,7 +68,7 @@ fn put_ports(line: &mut [u8; 128], at: usize, ways: Ways) -> usize
 
 // The code of a refusal, and 0 for an admitted frame.
 #[inline(always)]
-fn refusal(admit: Admit) -> u8
+fn refusal_code(admit: Admit) -> u8
     ensures few { result ≤ 6 }
     ensures code { (ways : List Bool) → is_admitted admit ≡ false → fate_text admit ways ≡ codes "refused " ++ (48 + result) ∷ [] }
 {
@@ -94,7 +94,7 @@ fn put_fate(line: &mut [u8; 128], at: usize, admit: Admit, ways: Ways) -> usize
         return put_ports(line, end, ways);
     }
     let end = put_part(line, at, b"refused ", 8);
-    put_part(line, end, &[b'0' + refusal(admit)], 1)
+    put_part(line, end, &[b'0' + refusal_code(admit)], 1)
 }
 
 // A frame's link id and timestamp.
