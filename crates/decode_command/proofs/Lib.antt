@@ -9,4 +9,3 @@ pub mod Ends
 pub mod Starts
 pub mod Stays
 pub mod Worked
-pub mod Verdicts

@@ -4,7 +4,7 @@ ghost use Rattle.std.specs.declared.option.Option.{Option};
 ghost use Rattle.mav_ports.specs.Counts.{Rose};
 ghost use Rattle.decode_command.specs.declared.known.Known.{Known};
 ghost use Rattle.mav_frame.specs.declared.events.Event.TheVariants.{Frame as FrameEvent};
-ghost use Rattle.mav_stream.specs.Spans.{first_packet, held_after, span_events, span_size, skipped_for, IfFrame};
+ghost use Rattle.mav_stream.specs.Spans.{first_packet, held_after, next_span, span_events, span_size, skipped_for, IfFrame};
 ghost use Rattle.mav_stream.specs.Held.{nothing_held};
 ghost use Rattle.mav_profile.specs.Messages.{extras_of};
 ghost use Rattle.decode_command.specs.DecodeText.{counts_line};
@@ -168,6 +168,7 @@ impl Decoder {
         requires within { IsWithin self.old 0 }
         requires size { span_size span ≤ length self.old.reader.bytes }
         requires frame { IfFrame span (IsFrameOf self.old.reader) }
+        requires next { next_span self.old.reader ≡ span }
         ensures done { OnOk result (Stepped (span_events self.old.reader span)
             (record self.old { reader = held_after self.old.reader span }) self.new
             (K.sent out.old) (K.sent out.new)) }
@@ -194,6 +195,7 @@ impl Decoder {
         requires within { IsWithin self.old 0 }
         requires size { span_size span ≤ length self.old.reader.bytes }
         requires frame { IfFrame span (IsFrameOf self.old.reader) }
+        requires next { next_span self.old.reader ≡ span }
         ensures lines { OnOk result
             (Puts (span_events self.old.reader span) self.old self.new) }
         ensures reader { self.new.reader ≡ self.old.reader }
@@ -210,14 +212,15 @@ impl Decoder {
         requires within { IsWithin self.old 0 }
         requires size { size ≤ length self.old.reader.bytes }
         requires frame { IsFrameOf self.old.reader size }
+        requires next { next_span self.old.reader ≡ NextSpan.Frame size }
         ensures line { OnOk result
             (PutsLine (FrameEvent (first_packet self.old.reader)) self.old self.new) }
         ensures reader { self.new.reader ≡ self.old.reader }
         ensures text { OnErr result (self.new.text.items ≡ self.old.text.items) }
     {
-        let frame = self.reader.bytes();
-        self.known
-            .put_frame(self.offset, frame, &mut self.chunk, &mut self.text)?;
+        let frame = self.reader.raw_frame(size);
+        let bytes = self.reader.bytes();
+        self.known.put_frame(self.offset, &frame, bytes, &mut self.chunk, &mut self.text)?;
         self.offset += size as u64;
         self.frames += 1;
         Ok(())

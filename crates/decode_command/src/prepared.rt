@@ -5,9 +5,9 @@ ghost use Rattle.mav_frame.specs.Looks.{id_at, is_old_at, frame_size_at, packet_
 ghost use Rattle.decode_command.specs.DecodeText.{frame_line, verdict_text};
 
 use crate::known::Known;
-use mav_frame::{OLD_STX, frame_at};
+use mav_frame::RawFrame;
 use mav_ports::NoMemory;
-use mav_sign::{Key, verifies};
+use mav_sign::{Key, verifies_raw};
 use mav_text::{Chunk, LineTemplates};
 use std::alloc::Global;
 use std::marker::Model;
@@ -29,18 +29,17 @@ impl Model for Prepared {
 
 // What comes after a frame's text: whether the signature of a signed frame is that of the key, and the line end.
 #[inline]
-fn ending(key: &Option<Key>, frame: &[u8]) -> &'static [u8]
-    requires { frame_size_at (is_old_at true frame.now) frame.now ≤ length frame.now }
-    ensures text { result.now ≡ verdict_text key.now (packet_at (is_old_at true frame.now) frame.now) (packet_at (is_old_at true frame.now) frame.now).block ++ 10 ∷ [] }
+fn ending(key: &Option<Key>, frame: &RawFrame<'_>) -> &'static [u8]
+    ensures text { result.now ≡ verdict_text key.now frame.now frame.now.block ++ 10 ∷ [] }
     ensures short { length result.now ≤ 16 }
 {
     let Some(key) = key else {
         return b"\n";
     };
-    if frame[0] == OLD_STX || frame[2] == 0 {
+    if !frame.has_block() {
         return b"\n";
     }
-    if verifies(key, &frame_at(true, frame)) {
+    if verifies_raw(key, frame) {
         b" good\n"
     } else {
         b" bad\n"
@@ -57,22 +56,24 @@ impl Prepared {
         })
     }
 
-    /// Appends the line of the frame at the start of some bytes, of either version.
+    /// Appends the line of a frame of either version, which stands at the start of some bytes.
     #[inline]
     pub(crate) fn put_frame(
         &self,
         offset: u64,
-        frame: &[u8],
+        frame: &RawFrame<'_>,
+        bytes: &[u8],
         chunk: &mut Chunk,
         text: &mut Vec<u8>,
     ) -> Result<(), NoMemory>
-        requires { frame_size_at (is_old_at true frame.now) frame.now ≤ length frame.now }
+        requires whole { frame_size_at (is_old_at true bytes.now) bytes.now ≤ length bytes.now }
+        requires same { frame.now ≡ packet_at (is_old_at true bytes.now) bytes.now }
         ensures ok { OnOk result (text.new.items ≡ text.old.items
-            ++ frame_line (definition_with (id_at (is_old_at true frame.now) frame.now) self.now.dialect) self.now.key offset (packet_at (is_old_at true frame.now) frame.now)) }
+            ++ frame_line (definition_with (id_at (is_old_at true bytes.now) bytes.now) self.now.dialect) self.now.key offset (packet_at (is_old_at true bytes.now) bytes.now)) }
         ensures err { OnErr result (text.new.items ≡ text.old.items) }
     {
         let ending = ending(&self.key, frame);
         self.templates
-            .put_line(true, offset, frame, ending, chunk, text)
+            .put_line(true, offset, bytes, ending, chunk, text)
     }
 }

@@ -45,12 +45,7 @@ pub(crate) fn append_enough(
 /// Puts the first `len` bytes of a part at an index, and returns the index after them. All of the part is copied, since
 /// a copy of fixed size is the fastest.
 #[inline(always)]
-pub(crate) fn put_part<const N: usize>(
-    chunk: &mut [u8; N],
-    at: usize,
-    part: &[u8],
-    len: usize,
-) -> usize
+pub fn put_part<const N: usize>(chunk: &mut [u8; N], at: usize, part: &[u8], len: usize) -> usize
     requires room { at + length part.now ≤ N }
     requires len { len ≤ length part.now }
     ensures index { result ≡ at + len }

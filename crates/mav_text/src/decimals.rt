@@ -9,7 +9,7 @@ use crate::small::small_digits;
 
 /// Puts the digits of a number below 256 at an index, and returns the index after them. Four bytes are written.
 #[inline(always)]
-pub(crate) fn put_small<const N: usize>(chunk: &mut [u8; N], at: usize, number: u8) -> usize
+pub fn put_small<const N: usize>(chunk: &mut [u8; N], at: usize, number: u8) -> usize
     requires { at + 4 ≤ N }
     ensures index { (at ≤ result) × (result ≤ at + 3) }
     ensures text { take result chunk.new ≡ take at chunk.old ++ decimal number }
@@ -85,7 +85,7 @@ pub(crate) fn put_middle<const N: usize>(chunk: &mut [u8; N], at: usize, number:
 
 /// Puts the digits of a number at an index, and returns the index after them.
 #[inline(always)]
-pub(crate) fn put_number<const N: usize>(chunk: &mut [u8; N], at: usize, number: u64) -> usize
+pub fn put_number<const N: usize>(chunk: &mut [u8; N], at: usize, number: u64) -> usize
     requires { at + 24 ≤ N }
     ensures index { (at ≤ result) × (result ≤ at + 20) }
     ensures text { take result chunk.new ≡ take at chunk.old ++ decimal number }

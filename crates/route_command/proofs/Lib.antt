@@ -1,3 +1,4 @@
+mod PortSteps
 pub mod Pieces
 pub mod Runs
 pub mod Reports

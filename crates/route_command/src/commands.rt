@@ -6,7 +6,7 @@ ghost use Rattle.mav_ports.specs.Puts.{SentPrefix};
 ghost use Rattle.route_command.specs.Texts.{route_text};
 ghost use Rattle.route_command.specs.Routes.{ports_of, rules_of, end_of_ports, end_of_fault, WroteAll, RoutesBeforeStatus};
 
-use crate::entry_lines::write_entries;
+use crate::entry_lines::{LINE_BYTES, write_entries};
 use crate::port_lines::{has_turns, put_ends};
 use dialect::Dialect;
 use mav_links::Link;
@@ -19,9 +19,6 @@ use run_status::{Bound, ENOUGH_BYTES, InputError, LiveEnd, RunEnd, write_held};
 use std::alloc::Global;
 use std::sync::Wait;
 use std::thread::Threads;
-
-// More than a line has.
-const LINE_BYTES: usize = 128;
 
 // Writes the report of a run.
 fn write_report<K: Sink>(

@@ -1,80 +1,104 @@
 // The lines of the frames that came in.
-ghost use Rattle.std.specs.Prelude.{◌≡◌, ◌≤◌, ◌<◌, ◌+◌, ◌-◌, ◌++◌, ◌⊎◌, ℕ, Bool, List, [], length, OnOk, IfOk, IfErr, IsErrOf, true, false};
+ghost use Rattle.std.specs.Prelude.{◌≡◌, ◌≤◌, ◌<◌, ◌+◌, ◌-◌, ◌∷◌, ◌++◌, ◌⊎◌, ℕ, Bool, List, [], codes, length, take, OnOk, IfErr, IsErrOf, true, false};
+ghost use Rattle.std.specs.Fmt.{decimal};
 ghost use Rattle.std.specs.declared.option.Option.{Option};
 ghost use Rattle.mav_ports.specs.Counts.{Rose};
 ghost use Rattle.mav_ports.specs.Puts.{Sent, SentPrefix};
 ghost use Rattle.mav_sign.specs.History.{is_admitted};
 ghost use Rattle.route_command.specs.Texts.{ports_from, ports_text, fate_text, frame_text, source_text, entry_line, entry_lines, link_of, stamp_of};
 
-use crate::named::put_named;
 use link_table::Ways;
 use mav_frame::RawFrame;
 use mav_names::Name;
 use mav_ports::Sink;
 use mav_router::{Journal, Outcome};
 use mav_sign::Admit;
-use mav_text::{NoMemory, put_decimal};
+use mav_text::{NoMemory, put_number, put_part, put_small};
 use run_status::{RunEnd, write_enough};
+
+/// More than a line has.
+pub(crate) const LINE_BYTES: usize = 128;
 
 // How many ports a router has at most.
 const MOST_PORTS: u8 = 8;
 
-// Appends a port of a list, and returns whether none stands there still.
-fn put_port(ways: Ways, port: u8, none: bool, lines: &mut Vec<u8>) -> Result<bool, NoMemory>
+// Puts a comma and a port, and returns the index after them if the port is in the set. They are always written, so that
+// no branch depends on the set.
+#[inline(always)]
+fn put_port(line: &mut [u8; 128], at: usize, ways: Ways, port: u8) -> usize
     requires from { 1 ≤ port }
     requires to { port ≤ 8 }
-    ensures { IfOk result (λ still. (count : ℕ) → lines.new.items ++ ports_from still ways (port + 1) count
-        ≡ lines.old.items ++ ports_from none ways port (count + 1)) }
+    requires room { at + 2 ≤ 128 }
+    ensures index { (at ≤ result) × (result ≤ at + 2) }
+    ensures text { (count : ℕ) → take result line.new ++ ports_from false ways (port + 1) count
+        ≡ take at line.old ++ ports_from false ways port (count + 1) }
 {
-    if !ways.has(port) {
-        return Ok(none);
-    }
-    if !none {
-        lines.push(b',')?;
-    }
-    put_decimal(u64::from(port), lines)?;
-    Ok(false)
+    let end = put_part(line, at, &[b',', b'0' + port], 2);
+    if ways.has(port) { end } else { at }
 }
 
-fn put_ports(ways: Ways, lines: &mut Vec<u8>) -> Result<(), NoMemory>
-    ensures { OnOk result (lines.new.items ≡ lines.old.items ++ ports_text ways) }
+// Puts the ports of a set with a comma before each.
+#[inline(always)]
+fn put_further_ports(line: &mut [u8; 128], at: usize, ways: Ways) -> usize
+    requires { at ≤ 100 }
+    ensures index { (at ≤ result) × (result ≤ at + 16) }
+    ensures text { take result line.new ≡ take at line.old ++ ports_from false ways 1 8 }
 {
-    let mut none = true;
-    for at in 0..MOST_PORTS {
-        none = put_port(ways, at + 1, none, lines)?;
+    let mut end = at;
+    for port in 0..MOST_PORTS {
+        end = put_port(line, end, ways, port + 1);
     }
-    if none {
-        lines.push(b'-')?;
-    }
-    Ok(())
+    end
 }
 
-// The text of a refusal.
-fn refusal(admit: Admit) -> &'static [u8]
-    ensures { (ways : List Bool) → is_admitted admit ≡ false → result.now ≡ fate_text admit ways }
+// Puts a space and the ports of a set, or a dash. The space stands where the first comma was.
+#[inline(always)]
+fn put_ports(line: &mut [u8; 128], at: usize, ways: Ways) -> usize
+    requires { at ≤ 100 }
+    ensures index { (at ≤ result) × (result ≤ at + 16) }
+    ensures text { take result line.new ≡ take at line.old ++ 32 ∷ ports_text ways }
+{
+    let end = put_further_ports(line, at, ways);
+    if end == at {
+        return put_part(line, at, b" -", 2);
+    }
+    line[at] = b' ';
+    end
+}
+
+// The code of a refusal, and 0 for an admitted frame.
+#[inline(always)]
+fn refusal_code(admit: Admit) -> u8
+    ensures few { result ≤ 6 }
+    ensures code { (ways : List Bool) → is_admitted admit ≡ false → fate_text admit ways ≡ codes "refused " ++ (48 + result) ∷ [] }
 {
     match admit {
-        Admit::Admitted => b"",
-        Admit::Unsigned => b"refused 1",
-        Admit::BadSignature => b"refused 2",
-        Admit::NotLater { .. } => b"refused 3",
-        Admit::TooOld { .. } => b"refused 4",
-        Admit::TooManyStreams => b"refused 5",
-        Admit::BelowFloor { .. } => b"refused 6",
+        Admit::Admitted => 0,
+        Admit::Unsigned => 1,
+        Admit::BadSignature => 2,
+        Admit::NotLater { .. } => 3,
+        Admit::TooOld { .. } => 4,
+        Admit::TooManyStreams => 5,
+        Admit::BelowFloor { .. } => 6,
     }
 }
 
-fn put_fate(admit: Admit, ways: Ways, lines: &mut Vec<u8>) -> Result<(), NoMemory>
-    ensures { OnOk result (lines.new.items ≡ lines.old.items ++ fate_text admit ways) }
+#[inline(always)]
+fn put_fate(line: &mut [u8; 128], at: usize, admit: Admit, ways: Ways) -> usize
+    requires { at ≤ 80 }
+    ensures index { (at ≤ result) × (result ≤ at + 18) }
+    ensures text { take result line.new ≡ take at line.old ++ fate_text admit ways }
 {
     if let Admit::Admitted = admit {
-        lines.extend_from_slice(b"to ")?;
-        return put_ports(ways, lines);
+        let end = put_part(line, at, b"to", 2);
+        return put_ports(line, end, ways);
     }
-    lines.extend_from_slice(refusal(admit))
+    let end = put_part(line, at, b"refused ", 8);
+    put_part(line, end, &[b'0' + refusal_code(admit)], 1)
 }
 
 // A frame's link id and timestamp.
+#[inline]
 fn link_and_stamp(frame: &RawFrame<'_>) -> (u8, u64)
     ensures { result ≡ (link_of frame.now.block, stamp_of frame.now.block) }
 {
@@ -84,41 +108,77 @@ fn link_and_stamp(frame: &RawFrame<'_>) -> (u8, u64)
     }
 }
 
-// Appends a frame's source, link id, timestamp and message id.
-fn put_source(
-    from: Name,
-    link: u8,
-    stamp: u64,
-    id: u32,
-    lines: &mut Vec<u8>,
-) -> Result<(), NoMemory>
-    ensures { OnOk result (lines.new.items ≡ lines.old.items ++ source_text from link stamp id) }
+// Puts a byte and a number below 256.
+#[inline(always)]
+fn put_small_after(line: &mut [u8; 128], at: usize, mark: u8, number: u8) -> usize
+    requires { at ≤ 100 }
+    ensures index { (at ≤ result) × (result ≤ at + 4) }
+    ensures text { take result line.new ≡ take at line.old ++ mark ∷ decimal number }
 {
-    put_decimal(u64::from(from.sys), lines)?;
-    put_named(b".", u64::from(from.comp), lines)?;
-    put_named(b"/", u64::from(link), lines)?;
-    put_named(b" ", stamp, lines)?;
-    put_named(b" ", u64::from(id), lines)
+    let end = put_part(line, at, &[mark], 1);
+    put_small(line, end, number)
 }
 
-fn put_frame(frame: &RawFrame<'_>, lines: &mut Vec<u8>) -> Result<(), NoMemory>
-    ensures { OnOk result (lines.new.items ≡ lines.old.items ++ frame_text frame.now) }
+// Puts a space and a number.
+#[inline(always)]
+fn put_number_after(line: &mut [u8; 128], at: usize, number: u64) -> usize
+    requires { at ≤ 100 }
+    ensures index { (at ≤ result) × (result ≤ at + 21) }
+    ensures text { take result line.new ≡ take at line.old ++ 32 ∷ decimal number }
+{
+    let end = put_part(line, at, b" ", 1);
+    put_number(line, end, number)
+}
+
+// Puts a frame's source, link id, timestamp and message id.
+#[inline(always)]
+fn put_source(line: &mut [u8; 128], at: usize, from: Name, link: u8, stamp: u64, id: u32) -> usize
+    requires { at ≤ 4 }
+    ensures index { (at ≤ result) × (result ≤ at + 54) }
+    ensures text { take result line.new ≡ take at line.old ++ source_text from link stamp id }
+{
+    let end = put_small(line, at, from.sys);
+    let end = put_small_after(line, end, b'.', from.comp);
+    let end = put_small_after(line, end, b'/', link);
+    let end = put_number_after(line, end, stamp);
+    put_number_after(line, end, u64::from(id))
+}
+
+#[inline(always)]
+fn put_frame(line: &mut [u8; 128], at: usize, frame: &RawFrame<'_>) -> usize
+    requires { at ≤ 4 }
+    ensures index { (at ≤ result) × (result ≤ at + 54) }
+    ensures text { take result line.new ≡ take at line.old ++ frame_text frame.now }
 {
     let (link, stamp) = link_and_stamp(frame);
-    put_source(frame.from(), link, stamp, frame.id(), lines)
+    put_source(line, at, frame.from(), link, stamp, frame.id())
 }
 
-// Appends the line of an entry.
-fn put_entry(outcome: Outcome, frame: &RawFrame<'_>, lines: &mut Vec<u8>) -> Result<(), NoMemory>
+// Puts the line of an entry at the start, and returns the index after it.
+#[inline(always)]
+fn put_line(line: &mut [u8; 128], outcome: Outcome, frame: &RawFrame<'_>) -> usize
+    ensures index { result ≤ 128 }
+    ensures text { take result line.new ≡ entry_line (record { port = outcome.port; frame = frame.now; admit = outcome.admit; ways = outcome.ways }) }
+{
+    let end = put_small(line, 0, outcome.port);
+    let end = put_part(line, end, b" ", 1);
+    let end = put_frame(line, end, frame);
+    let end = put_part(line, end, b" ", 1);
+    let end = put_fate(line, end, outcome.admit, outcome.ways);
+    put_part(line, end, b"\n", 1)
+}
+
+// Appends the line of an entry, which is put together in a buffer.
+fn put_entry(
+    outcome: Outcome,
+    frame: &RawFrame<'_>,
+    line: &mut [u8; 128],
+    lines: &mut Vec<u8>,
+) -> Result<(), NoMemory>
     ensures { OnOk result (lines.new.items ≡ lines.old.items ++ entry_line (record { port = outcome.port; frame = frame.now; admit = outcome.admit; ways = outcome.ways })) }
 {
-    put_decimal(u64::from(outcome.port), lines)?;
-    lines.push(b' ')?;
-    put_frame(frame, lines)?;
-    lines.push(b' ')?;
-    put_fate(outcome.admit, outcome.ways, lines)?;
-    lines.push(b'\n')?;
-    Ok(())
+    let end = put_line(line, outcome, frame);
+    lines.extend_from_slice(&line[..end])
 }
 
 /// Writes the lines of a journal after those that are held, and holds the last ones.
@@ -137,8 +197,9 @@ pub(crate) fn write_entries<K: Sink>(
     ensures rose { IsErrOf result RunEnd.WriteFault → Rose (K.faults out.old) (K.faults out.new) }
     ensures sound { ¬ IsErrOf result RunEnd.WriteFault → K.faults out.new ≡ K.faults out.old }
 {
+    let mut line = [0; LINE_BYTES];
     for at in 0..journal.len() {
-        put_entry(journal.outcome(at), &journal.frame(at), lines)?;
+        put_entry(journal.outcome(at), &journal.frame(at), &mut line, lines)?;
         write_enough(lines, out)?;
     }
     Ok(())
