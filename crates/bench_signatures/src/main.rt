@@ -7,9 +7,9 @@
 
 ghost use Rattle.std.specs.Prelude.{IsSome};
 
-use mav_frame::{Block, Frame};
+use mav_frame::{Block, Frame, RawFrame, encode};
 use mav_names::Name;
-use mav_sign::{Key, sign, verifies};
+use mav_sign::{Key, sign, verifies_raw};
 use sha2::{Digest, Sha256};
 use std::process::ExitCode;
 use std::{env, io};
@@ -39,15 +39,23 @@ fn frame_of(len: u8) -> Frame
     }
 }
 
-// Each has another sequence number, so that one of 256 is good.
+// One of 256 is good: the others are a frame with another sequence number.
 fn verify(count: u64, len: u8) -> u64 {
     let key = Key::new([7; 32]);
     let mut frame = frame_of(len);
     sign(&key, &mut frame, 0, 1);
+    let mut right = [0; 280];
+    let size = encode(&frame, &mut right);
+    let right = RawFrame::of(&frame, &right[..size]);
+    let mut other = frame;
+    other.seq = 1;
+    let mut wrong = [0; 280];
+    let size = encode(&other, &mut wrong);
+    let wrong = RawFrame::of(&other, &wrong[..size]);
     let mut good = 0u64;
     for turn in 0..count {
-        frame.seq = (turn % 256) as u8;
-        if verifies(&key, &frame) {
+        let tried = if turn % 256 == 0 { &right } else { &wrong };
+        if verifies_raw(&key, tried) {
             good = good.saturating_add(1);
         }
     }

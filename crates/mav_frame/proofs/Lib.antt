@@ -7,5 +7,6 @@ pub mod OneParse
 pub mod LongerParse
 pub mod EventsFound
 pub mod ParsedByFunction
+mod SignedBytes
 mod Versions
 pub mod RawFrames

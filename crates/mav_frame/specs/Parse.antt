@@ -1,5 +1,5 @@
 -- The parse of a whole stream into frames and skipped bytes. The Bool says that frames of MAVLink 1 are read too.
-use Rattle.std.specs.Prelude.{ℕ, ◌≡◌, ◌≢◌, ◌<◌, ◌≤◌, Bool, false, List, [], ◌∷◌, ◌++◌, length, slice_index, Some, None, IsSome}
+use Rattle.std.specs.Prelude.{ℕ, ◌≡◌, ◌≢◌, ◌<◌, ◌≤◌, Bool, false, List, [], ◌∷◌, ◌++◌, length, slice_index, Option, Some, None, IsSome}
 use Rattle.x25_check.specs.Extras.{extra_of}
 use Rattle.mav_frame.specs.Numbers.{number_at}
 use Rattle.mav_frame.specs.Packet.{Packet, FitsFrame}
@@ -56,6 +56,11 @@ SkipReason extras old b why = SkipReasonAs extras (is_old_at old b) b why
 abbrev pub EventAt : List (ℕ × ℕ) → Bool → Event → List ℕ → List ℕ → Type 0
 EventAt extras old (Frame packet) b rest = FitsFrame packet × IsSealed extras old packet × (b ≡ encoding packet ++ rest)
 EventAt extras old (Skipped byte why) b rest = (b ≡ byte ∷ rest) × NoFrame extras old b × SkipReason extras old b why
+
+-- the same, with the frame alone: what a skipped byte is, and why, isn't told
+abbrev pub FrontAt : List (ℕ × ℕ) → Bool → Option Packet → List ℕ → List ℕ → Type 0
+FrontAt extras old None b rest = (byte : ℕ) × (why : Why) × EventAt extras old (Skipped byte why) b rest
+FrontAt extras old (Some packet) b rest = EventAt extras old (Frame packet) b rest
 
 -- the final parse: every byte is in an event
 abbrev pub Final : List (ℕ × ℕ) → Bool → List Event → List ℕ → Type 0

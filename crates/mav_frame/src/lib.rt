@@ -23,7 +23,7 @@ pub use events::Event;
 pub use frames::{Block, Frame};
 pub use looks::{FrameCheck, Look, Why};
 pub use numbers::bytes_6;
-pub use parsing::{event_at, parse};
+pub use parsing::{event_at, front_at, parse};
 pub use raw::RawFrame;
 use std::alloc::AllocError;
 pub use tables::CrcExtras;

@@ -1,9 +1,9 @@
 // The final parse of a whole slice.
 ghost use Rattle.std.specs.Prelude.{◌<◌, ◌≤◌, length, drop, IfOk};
-ghost use Rattle.mav_frame.specs.Parse.{EventAt, Final};
+ghost use Rattle.mav_frame.specs.Parse.{EventAt, Final, FrontAt};
 
-use crate::checking::look;
-use crate::{Event, Look, NoMemory, Why};
+use crate::checking::{check_frame, look};
+use crate::{Event, FrameCheck, Look, NoMemory, RawFrame, Why};
 use std::alloc::Global;
 use x25_check::Extras;
 
@@ -36,5 +36,18 @@ pub fn event_at(extras: &Extras, old: bool, bytes: &[u8]) -> (Event, usize)
         Look::Frame(frame, size) => (Event::Frame(frame), size),
         Look::NotHere(why) => (Event::Skipped(bytes[0], why), 1),
         Look::More(_) => (Event::Skipped(bytes[0], Why::Short), 1),
+    }
+}
+
+/// The same without what is skipped and why: the frame at the start of the bytes, if there is one, as these bytes.
+pub fn front_at<'a>(extras: &Extras, old: bool, bytes: &'a [u8]) -> (Option<RawFrame<'a>>, usize)
+    requires { 0 < length bytes.now }
+    ensures size { (0 < result.1) × (result.1 ≤ length bytes.now) }
+    ensures front { FrontAt extras.now old result.0 bytes.now (drop result.1 bytes.now) }
+{
+    match check_frame(extras, old, bytes) {
+        FrameCheck::Whole(size) => (Some(RawFrame::at(old, bytes, size)), size),
+        FrameCheck::NotHere(_) => (None, 1),
+        FrameCheck::More(_) => (None, 1),
     }
 }

@@ -1,6 +1,7 @@
 // A frame as the bytes that encode it.
-ghost use Rattle.std.specs.Prelude.{◌≡◌, ◌≤◌, ◌<◌, length, is_some, All, IfSome};
+ghost use Rattle.std.specs.Prelude.{◌≡◌, ◌≤◌, ◌<◌, ◌∷◌, ◌++◌, length, is_some, All, IfSome, IsSome};
 ghost use Rattle.mav_frame.specs.Encoding.{encoding};
+ghost use Rattle.mav_frame.specs.Numbers.{little_endian};
 ghost use Rattle.mav_frame.specs.Packet.{FitsBlock, FitsFrame};
 ghost use Rattle.mav_frame.specs.Looks.{is_old_at, packet_at};
 ghost use Rattle.mav_frame.specs.Raw.{IsFrame, StartsFrame, packet_in, through_checksum};
@@ -11,6 +12,9 @@ use crate::checking::{
 use crate::{Block, Frame};
 use mav_names::Name;
 use std::marker::Model;
+
+// The bytes of a signature, the last of a signed frame.
+const SIGNATURE_BYTES: usize = 6;
 
 /// A frame as the bytes that encode it, which contracts see as its packet. Its parts are read where they stand (MAVLink
 /// guide, MAVLink 2 Packet Format and MAVLink 1 Packet Format).
@@ -105,11 +109,20 @@ impl<'a> RawFrame<'a> {
         self.bytes
     }
 
-    /// The bytes from STX through the checksum.
-    pub fn unsigned_bytes(&self) -> &'a [u8]
-        ensures { result.now ≡ through_checksum self.now }
+    /// What is signed after the key: the bytes from STX through the timestamp.
+    pub fn signed_bytes(&self) -> &'a [u8]
+        requires { IsSome self.now.block }
+        ensures { IfSome self.now.block (λ block. result.now ≡ through_checksum self.now ++ block.link ∷ little_endian 6 block.stamp) }
     {
-        &self.bytes[..offset_in(self.is_old(), self.bytes) + CHECK_BYTES]
+        &self.bytes[..self.bytes.len() - SIGNATURE_BYTES]
+    }
+
+    /// The six bytes of its signature.
+    pub fn signature(&self) -> &'a [u8]
+        requires { IsSome self.now.block }
+        ensures { IfSome self.now.block (λ block. result.now ≡ block.sig) }
+    {
+        &self.bytes[self.bytes.len() - SIGNATURE_BYTES..]
     }
 
     /// Whether it is a frame of MAVLink 1.

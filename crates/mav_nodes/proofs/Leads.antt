@@ -1,10 +1,10 @@
 -- A datagram, frame by frame: what was done so far, and what the rest of the datagram leads to.
-use Rattle.std.proofs.Common.{Bool, true, false, ◌≡◌, ℕ, suc, ◌+◌, ◌-◌, ◌<◌, List, [], ◌∷◌, ◌++◌, length, drop, get_or, slice_range, length-take, length-drop, Some, None, refl, sym, ap, ◌∙◌, subst, arith, append_assoc}
+use Rattle.std.proofs.Common.{Bool, true, false, ◌≡◌, ℕ, suc, ◌+◌, ◌-◌, ◌<◌, List, [], ◌∷◌, ◌++◌, length, drop, get_or, slice_range, length-take, length-drop, Option, Some, None, refl, sym, ap, ◌∙◌, subst, arith, append_assoc}
 use Rattle.std.specs.Prelude.{All, map}
 use Rattle.std.proofs.lemmas.List.{append-nil, drop-drop, map-append, take_all}
 use Rattle.std.proofs.lemmas.List.Elements.{All-nil, All-cons, All-drop}
 use Rattle.mav_frame.specs.Packet.{Packet}
-use Rattle.mav_frame.specs.Parse.{EventAt}
+use Rattle.mav_frame.specs.Parse.{EventAt, FrontAt}
 use Rattle.mav_frame.specs.FinalParse.{final_parse}
 use Rattle.mav_frame.specs.declared.events.Event.{Event}
 use Rattle.mav_frame.specs.declared.events.Event.TheVariants.{Frame, Skipped}
@@ -122,15 +122,15 @@ part_bytes bytes place small = All-drop (λ x. x < 256) place bytes (all_small b
     all_small [] h = All-nil (λ x. x < 256)
     all_small (x ∷ xs) h = All-cons (λ x. x < 256) x xs (h 0) (all_small xs (λ i. h (suc i)))
 
--- the event at an index of the datagram, by the part of it that was checked
-pub event_here : (known extras : List (ℕ × ℕ)) (bytes : List ℕ) (place size : ℕ) (seen event : Event) → known ≡ extras → seen ≡ event → EventAt known false seen (slice_range bytes place (length bytes)) (drop size (slice_range bytes place (length bytes))) → EventAt extras false event (drop place bytes) (drop (place + size) bytes)
-event_here known extras bytes place size seen event same is at =
+-- what is at an index of the datagram, by the part of it that was checked
+pub front_here : (known extras : List (ℕ × ℕ)) (bytes : List ℕ) (place size : ℕ) (seen front : Option Packet) → known ≡ extras → seen ≡ front → FrontAt known false seen (slice_range bytes place (length bytes)) (drop size (slice_range bytes place (length bytes))) → FrontAt extras false front (drop place bytes) (drop (place + size) bytes)
+front_here known extras bytes place size seen front same is at =
     let all : slice_range bytes place (length bytes) ≡ drop place bytes = take_all (length bytes - place) (drop place bytes) (omega (arith, length-drop place bytes)) in
     let on : drop size (drop place bytes) ≡ drop (place + size) bytes = drop-drop size place bytes in
-    let one = subst (λ (z : List (ℕ × ℕ)). EventAt z false seen (slice_range bytes place (length bytes)) (drop size (slice_range bytes place (length bytes)))) same at in
-    let two = subst (λ (z : Event). EventAt extras false z (slice_range bytes place (length bytes)) (drop size (slice_range bytes place (length bytes)))) is one in
-    let three = subst (λ (z : List ℕ). EventAt extras false event z (drop size z)) all two in
-    subst (λ (z : List ℕ). EventAt extras false event (drop place bytes) z) on three
+    let one = subst (λ (z : List (ℕ × ℕ)). FrontAt z false seen (slice_range bytes place (length bytes)) (drop size (slice_range bytes place (length bytes)))) same at in
+    let two = subst (λ (z : Option Packet). FrontAt extras false z (slice_range bytes place (length bytes)) (drop size (slice_range bytes place (length bytes)))) is one in
+    let three = subst (λ (z : List ℕ). FrontAt extras false front z (drop size z)) all two in
+    subst (λ (z : List ℕ). FrontAt extras false front (drop place bytes) z) on three
 
 -- how long the part is
 pub part_length : (bytes : List ℕ) (place : ℕ) → length (slice_range bytes place (length bytes)) ≡ length bytes - place

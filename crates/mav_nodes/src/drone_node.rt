@@ -305,8 +305,8 @@ impl DroneNode {
         ensures fault { IfErr result (λ fault. Fails fault (λ (node : DroneSide). IsDrone node self.old) (λ (node : DroneSide). drone_sims clock node)
             (HasFailed K.faults K.is_infallible keeper.old keeper.new)) }
     {
-        let mut news = Vec::new(self.alloc);
         let served = self.services.fly(self.alloc, &self.drone)?;
+        let mut news = Vec::new(self.alloc);
         node::say_served(
             &mut self.link,
             &self.drone,

@@ -8,6 +8,7 @@ ghost use Rattle.mav_messages.specs.Messages.{definition_of, values_of, profile_
 ghost use Rattle.mav_nodes.specs.Payloads.{plan_in, service_in, service_of as service_carried, ItemFits, ServiceFits};
 ghost use Rattle.mav_sign.specs.Endpoints.{HasProfile, HeardIs};
 ghost use Rattle.mav_sign.specs.History.{answer_to};
+ghost use Rattle.mav_sign.specs.Signing.{verified};
 ghost use Rattle.mav_sign.specs.Streams.{reader_of, ReadTo};
 ghost use Rattle.mav_frame.specs.declared.events.Event.{Event};
 ghost use Rattle.mav_nodes.specs.LowBounds.{bound_for, raised, raised_for, raised_if};
@@ -23,7 +24,7 @@ use crate::news::tell;
 use crate::steps::{Core, Step, tell_outcome, tell_plans};
 use crate::stores::save_bound;
 use crate::{News, NoMemory, NodeFault};
-use mav_frame::Frame;
+use mav_frame::{Frame, RawFrame};
 use mav_messages::Message;
 use mav_names::Stream;
 use mav_sign::{Admit, Endpoint, Heard, Key};
@@ -141,11 +142,11 @@ fn service_numbers_fit(message: &Message)
 }
 
 // The greatest timestamp that an admitted frame brings, if it is admitted.
-fn admitted_stamp(answer: Admit, frame: &Frame) -> Option<u64>
+fn admitted_stamp(answer: Admit, frame: &RawFrame<'_>) -> Option<u64>
     ensures small { IfSome result (λ stamp. stamp < 2 ^ 48) }
     ensures raises { (low : Option ℕ) → raised_if low answer frame.now.block ≡ raised_for low result }
 {
-    match (answer, &frame.block) {
+    match (answer, frame.block()) {
         (Admit::Admitted, Some(block)) => Some(block.stamp),
         _ => None,
     }
@@ -237,7 +238,7 @@ impl Link {
         ensures low { OnOk result (self.new ≡ record self.old { low = raised self.old.low stamp }) }
         ensures stored { OnOk result (Holds (K.contents keeper.old) (C.stored core.now) self.old.low → Holds (K.contents keeper.new) (C.stored core.now) self.new.low) }
         ensures settled { OnOk result (1 ≤ stamp → HoldsNearly (K.contents keeper.old) (C.stored core.now) self.old.low → Holds (K.contents keeper.new) (C.stored core.now) self.new.low) }
-        ensures reader { reader_of self.new.endpoint ≡ reader_of self.old.endpoint }
+        ensures endpoint { self.new.endpoint ≡ self.old.endpoint }
         ensures serves { Serves K.faults K.is_infallible keeper.old keeper.new }
         ensures fault { IfErr result (λ fault. HasFailedAt fault K.faults K.is_infallible keeper.old keeper.new) }
     {
@@ -253,18 +254,20 @@ impl Link {
     // Stores a bound for the frame's timestamp, if the frame will be admitted.
     fn raise_for<K: Keeper, C: Core>(
         &mut self,
-        frame: &Frame,
+        frame: &RawFrame<'_>,
+        verifies: bool,
         core: &C,
         keeper: &mut K,
     ) -> Result<(), NodeFault>
+        requires { verifies ≡ verified self.old.endpoint.key frame.now frame.now.block }
         ensures low { OnOk result ((link : LinkState) → IsLink link self.old
             → self.new ≡ record self.old { low = raised_if self.old.low (answer_to link.key link.history frame.now) frame.now.block }) }
         ensures stored { OnOk result (Holds (K.contents keeper.old) (C.stored core.now) self.old.low → Holds (K.contents keeper.new) (C.stored core.now) self.new.low) }
-        ensures reader { reader_of self.new.endpoint ≡ reader_of self.old.endpoint }
+        ensures endpoint { self.new.endpoint ≡ self.old.endpoint }
         ensures serves { Serves K.faults K.is_infallible keeper.old keeper.new }
         ensures fault { IfErr result (λ fault. HasFailedAt fault K.faults K.is_infallible keeper.old keeper.new) }
     {
-        match admitted_stamp(self.endpoint.test(frame), frame) {
+        match admitted_stamp(self.endpoint.test_judged(frame, verifies), frame) {
             Some(stamp) => self.raise(stamp, core, keeper),
             None => Ok(()),
         }
@@ -273,7 +276,7 @@ impl Link {
     // Tries one frame.
     fn take<K: Keeper, C: Core>(
         &mut self,
-        frame: &Frame,
+        frame: &RawFrame<'_>,
         core: &C,
         keeper: &mut K,
     ) -> Result<Heard, NodeFault>
@@ -284,15 +287,16 @@ impl Link {
         ensures serves { Serves K.faults K.is_infallible keeper.old keeper.new }
         ensures fault { IfErr result (λ fault. HasFailedAt fault K.faults K.is_infallible keeper.old keeper.new) }
     {
-        self.raise_for(frame, core, keeper)?;
-        Ok(self.endpoint.take(frame))
+        let verifies = self.endpoint.verifies(frame);
+        self.raise_for(frame, verifies, core, keeper)?;
+        Ok(self.endpoint.take_judged(frame, verifies))
     }
 
     /// Tries one frame, and returns the message that it carries for the node. The store has a bound for its timestamp before it is
     /// admitted.
     pub(crate) fn hear<K: Keeper, C: Core>(
         &mut self,
-        frame: &Frame,
+        frame: &RawFrame<'_>,
         core: &C,
         keeper: &mut K,
     ) -> Result<Tried, NodeFault>
@@ -423,16 +427,16 @@ impl Link {
 }
 
 // The result of a frame, by what was received in it.
-fn result_of(frame: &Frame, heard: &Heard) -> Tried
+fn result_of(frame: &RawFrame<'_>, heard: &Heard) -> Tried
     ensures { (link : LinkState) → HeardIs link.key link.history frame.now heard.now → IsTried link frame.now result }
 {
     match heard {
         Heard::Message(from, message) => {
-            let len = usize::from(frame.len);
-            let payload = &frame.payload[..len];
-            match plan_of(frame.id, payload, message) {
+            let id = frame.id();
+            let payload = frame.payload();
+            match plan_of(id, payload, message) {
                 Some(plan) => Tried::Plan(*from, plan),
-                None => match service_of(frame.id, payload, message) {
+                None => match service_of(id, payload, message) {
                     Some(service) => Tried::Service(*from, service),
                     None => Tried::Other,
                 },

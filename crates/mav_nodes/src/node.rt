@@ -17,7 +17,7 @@ use crate::services::{Served, Services};
 use crate::steps::Core;
 use crate::stores::save_step;
 use crate::{News, NodeFault};
-use mav_frame::{Event, Frame, event_at};
+use mav_frame::{RawFrame, encode, front_at};
 use mav_messages::Message;
 use mav_names::Stream;
 use plan_items::PlanMsg;
@@ -106,7 +106,7 @@ fn hear<K: Keeper, C: Core, V: Services<C>>(
     core: &mut C,
     services: &mut V,
     keeper: &mut K,
-    frame: &Frame,
+    frame: &RawFrame<'_>,
     clock: u64,
     news: &mut Vec<News>,
 ) -> Result<bool, NodeFault>
@@ -159,12 +159,12 @@ pub(crate) fn receive<K: Keeper, C: Core, V: Services<C>>(
     let mut news = Vec::new(alloc);
     let mut place = 0;
     while place < datagram.len() {
-        let (event, size) = event_at(link.extras(), false, &datagram[place..]);
-        match event {
-            Event::Frame(frame) => {
+        let (front, size) = front_at(link.extras(), false, &datagram[place..]);
+        match front {
+            Some(frame) => {
                 hear(link, core, services, keeper, &frame, clock, &mut news)?;
             }
-            Event::Skipped(_, _) => {}
+            None => {}
         }
         place += size;
     }
@@ -199,7 +199,10 @@ pub(crate) fn part<K: Keeper, C: Core, V: Services<C>>(
         let Some(frame) = frame else {
             return Ok((place, news));
         };
-        hear(link, core, services, keeper, &frame, clock, &mut news)?;
+        let mut bytes = [0; 280];
+        let encoded = encode(&frame, &mut bytes);
+        let raw = RawFrame::of(&frame, &bytes[..encoded]);
+        hear(link, core, services, keeper, &raw, clock, &mut news)?;
     }
 }
 

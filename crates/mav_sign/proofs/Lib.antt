@@ -1,4 +1,3 @@
-mod Fronts
 pub mod Histories
 mod Keeping
 pub mod Profiles

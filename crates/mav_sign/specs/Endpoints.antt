@@ -20,7 +20,7 @@ use Rattle.mav_sign.specs.declared.heard.Heard.{Heard}
 use Rattle.mav_sign.specs.declared.heard.Heard.TheVariants.{Message as HeardMessage, Other, Dropped}
 use Rattle.mav_sign.specs.Signing.{Verifies}
 use Rattle.mav_sign.specs.History.{Entry, tried, stream_of, answer_to}
-use Rattle.mav_sign.specs.Kept.{Kept, Represents}
+use Rattle.mav_sign.specs.Kept.{Kept, Represents, kept_answer_to}
 
 -- the table has the CRC_EXTRA of each message of the profile
 abbrev pub HasProfile : List (ℕ × ℕ) → Type 0
@@ -60,6 +60,13 @@ HeardIs key history packet heard = AnswerIs (answer_to key history packet) packe
 -- the history with a frame tried
 abbrev pub after_frame : List ℕ → List Entry → Packet → List Entry
 after_frame key history packet = history ++ tried packet (answer_to key history packet) ∷ []
+
+-- an endpoint takes a frame: by what its verifier keeps, and by each history that this represents
+pub record Takes (old new : EndpointState) (packet : Packet) (reported : Heard) : Type 0 where
+  pub kept : AnswerIs (kept_answer_to old.key old.stamps packet) packet packet.block reported
+  pub heard : (history : List Entry) → Represents old.stamps history → HeardIs old.key history packet reported
+  pub history : (history : List Entry) → Represents old.stamps history → Represents new.stamps (after_frame old.key history packet)
+  pub same : new ≡ record old { stamps = new.stamps }
 
 -- what is reported of frames, one after another
 abbrev pub HeardAll : List ℕ → List Entry → List Packet → List Heard → Type 0

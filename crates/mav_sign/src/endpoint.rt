@@ -3,16 +3,17 @@ ghost use Rattle.std.specs.Prelude.{◌≡◌, ℕ, ◌+◌, ◌*◌, ◌%◌, �
 ghost use Rattle.x25_check.specs.Extras.{extra_of};
 ghost use Rattle.mav_messages.specs.Messages.{definition_of};
 ghost use Rattle.mav_sign.specs.History.{Entry, sent, started, answer_to, stamp_given, next_in, greatest_stamp};
+ghost use Rattle.mav_sign.specs.Signing.{verified};
 ghost use Rattle.mav_sign.specs.Kept.{Represents, kept_answer_to, kept_next};
 ghost use Rattle.mav_frame.specs.declared.events.Event.{Event};
 ghost use Rattle.mav_stream.specs.Progress.{Progress};
 ghost use Rattle.mav_sign.specs.Streams.{reader_of, ReadTo, PartHeard};
-ghost use Rattle.mav_sign.specs.Endpoints.{HasProfile, AdmittedIs, AnswerIs, new_endpoint, HeardIs, after_frame, Told, FrontHeard, Received, FramesOf, FrameOf, SentFrame};
+ghost use Rattle.mav_sign.specs.Endpoints.{HasProfile, AdmittedIs, AnswerIs, new_endpoint, HeardIs, after_frame, Takes, Told, FrontHeard, Received, FramesOf, FrameOf, SentFrame};
 
 use crate::reading::{LEAST_FRAME_BYTES, append_frames, read_frame};
-use crate::stamps::stream_of;
-use crate::{Admit, Heard, Key, NoMemory, Stamps, StampsSpent, sign};
-use mav_frame::{Block, Frame, Look, look};
+use crate::stamps::stream_on;
+use crate::{Admit, Heard, Key, NoMemory, Stamps, StampsSpent, sign, verifies_raw};
+use mav_frame::{Block, Frame, Look, RawFrame, encode, look};
 use mav_messages::Message;
 use mav_names::{Name, Stream};
 use mav_stream::Reader;
@@ -45,13 +46,13 @@ impl Model for Endpoint {
 }
 
 // What an admitted frame carries.
-fn message_of(stream: Stream, frame: &Frame) -> Heard
+fn message_of(stream: Stream, frame: &RawFrame<'_>) -> Heard
     ensures { AdmittedIs stream frame.now result }
 {
-    let len = usize::from(frame.len);
-    match Message::read(frame.id, &frame.payload[..len]) {
+    let id = frame.id();
+    match Message::read(id, frame.payload()) {
         Some(message) => Heard::Message(stream, message),
-        None => Heard::Other(stream, frame.id),
+        None => Heard::Other(stream, id),
     }
 }
 
@@ -112,6 +113,23 @@ impl Endpoint {
         self.stamps.test(&self.key, frame)
     }
 
+    /// Whether the frame verifies under its key.
+    pub fn verifies(&self, frame: &RawFrame<'_>) -> bool
+        ensures { result ≡ verified self.now.key frame.now frame.now.block }
+    {
+        verifies_raw(&self.key, frame)
+    }
+
+    /// What `test` does, for a frame of which it is already known whether it verifies.
+    pub fn test_judged(&self, frame: &RawFrame<'_>, verifies: bool) -> Admit
+        requires { verifies ≡ verified self.now.key frame.now frame.now.block }
+        ensures kept { result ≡ kept_answer_to self.now.key self.now.stamps frame.now }
+        ensures answer { (history : List Entry) → Represents self.now.stamps history
+            → result ≡ answer_to self.now.key history frame.now }
+    {
+        self.stamps.test_judged(&self.key, frame, verifies)
+    }
+
     /// The timestamp that `send` would give its frame at that clock. Nothing changes. Doesn't allocate.
     pub fn ahead(&self, clock: u64) -> Result<u64, StampsSpent>
         ensures kept { result ≡ stamp_given (kept_next self.now.stamps clock) }
@@ -133,9 +151,24 @@ impl Endpoint {
             → Represents self.new.stamps (after_frame self.old.key history frame.now) }
         ensures same { self.new ≡ record self.old { stamps = self.new.stamps } }
     {
-        let answer = self.stamps.admit(&self.key, frame);
-        match (answer, &frame.block) {
-            (Admit::Admitted, Some(block)) => message_of(stream_of(frame, block), frame),
+        let mut bytes = [0; 280];
+        let size = encode(frame, &mut bytes);
+        let raw = RawFrame::of(frame, &bytes[..size]);
+        let verifies = self.verifies(&raw);
+        self.take_judged(&raw, verifies)
+    }
+
+    /// What `take` does, for a frame as the bytes that encode it, of which it is already known whether it verifies.
+    pub fn take_judged(&mut self, frame: &RawFrame<'_>, verifies: bool) -> Heard
+        requires { verifies ≡ verified self.old.key frame.now frame.now.block }
+        ensures { Takes self.old self.new frame.now result }
+    {
+        let answer = self.stamps.admit_judged(&self.key, frame, verifies);
+        match (answer, frame.block()) {
+            (Admit::Admitted, Some(block)) => message_of(
+                stream_on(frame.from(), block.link),
+                frame,
+            ),
             _ => Heard::Dropped(answer),
         }
     }

@@ -1,13 +1,13 @@
 // What a verifier keeps: the timestamps that it admitted and sent.
 ghost use Rattle.std.specs.Prelude.{◌≡◌, ◌+◌, ◌<◌, ◌^◌, ◌++◌, ◌∷◌, [], List, max, false, Some, IfOk, OnErr};
 ghost use Rattle.mav_sign.specs.Signing.{verified};
-ghost use Rattle.mav_sign.specs.History.{Entry, tried, sent, started, stream_of as stream_in, stamp_answer, answer_to, is_admitted, last_of, local_of, next_in, stamp_given};
+ghost use Rattle.mav_sign.specs.History.{Entry, tried, sent, started, stamp_answer, answer_to, is_admitted, last_of, local_of, next_in, stamp_given};
 ghost use Rattle.mav_sign.specs.Kept.{IsStream, Represents, KeptAfter, stream_number, stamp_at, local_kept, kept_answer, kept_answer_to, kept_next};
 
-use crate::signing::{is_right, verifies_raw};
+use crate::signing::verifies_raw;
 use crate::table::{STREAM_LIMIT, Table};
 use crate::{Admit, Key, NoMemory, StampsSpent};
-use mav_frame::{Block, Frame, RawFrame, encode};
+use mav_frame::{Frame, RawFrame, encode};
 use mav_names::{Name, Stream};
 use std::alloc::Global;
 use std::marker::Model;
@@ -39,21 +39,13 @@ impl Model for Stamps {
     ghost invariant = { λ s. (s.accepted < 2 ^ 48) × (s.previous < 2 ^ 48) };
 }
 
-// The stream of that node and link.
-fn stream_on(node: Name, link: u8) -> Stream
+/// The stream of that node and link.
+pub(crate) fn stream_on(node: Name, link: u8) -> Stream
     ensures stream { result ≡ record { sys = node.sys; comp = node.comp; link = link } }
     ensures bytes { IsStream result }
 {
     let Name { sys, comp } = node;
     Stream { sys, comp, link }
-}
-
-// The stream of a signed frame.
-pub(crate) fn stream_of(frame: &Frame, block: &Block) -> Stream
-    ensures stream { result ≡ stream_in frame.now block.now }
-    ensures bytes { IsStream result }
-{
-    stream_on(frame.from, block.link)
 }
 
 impl Stamps {
@@ -146,13 +138,27 @@ impl Stamps {
         ensures kept { result ≡ kept_answer_to key.now self.now frame.now }
         ensures answer { (history : List Entry) → Represents self.now history → result ≡ answer_to key.now history frame.now }
     {
-        let Some(block) = &frame.block else {
+        let mut bytes = [0; 280];
+        let size = encode(frame, &mut bytes);
+        let raw = RawFrame::of(frame, &bytes[..size]);
+        self.test_judged(key, &raw, verifies_raw(key, &raw))
+    }
+
+    /// What `test` does, for a frame as the bytes that encode it, of which it is already known whether it verifies. No
+    /// timestamp changes that, so it may be found before.
+    pub fn test_judged(&self, key: &Key, frame: &RawFrame<'_>, verifies: bool) -> Admit
+        requires { verifies ≡ verified key.now frame.now frame.now.block }
+        ensures kept { result ≡ kept_answer_to key.now self.now frame.now }
+        ensures answer { (history : List Entry) → Represents self.now history → result ≡ answer_to key.now history frame.now }
+    {
+        let _ = key;
+        let Some(block) = frame.block() else {
             return Admit::Unsigned;
         };
-        if !is_right(key, frame, block) {
+        if !verifies {
             return Admit::BadSignature;
         }
-        self.answer(stream_of(frame, block), block.stamp)
+        self.answer(stream_on(frame.from(), block.link), block.stamp)
     }
 
     /// Tries a frame, and keeps its timestamp if it is admitted.
@@ -170,8 +176,7 @@ impl Stamps {
         self.admit_judged(key, &raw, verifies_raw(key, &raw))
     }
 
-    /// What `admit` does, for a frame as the bytes that encode it, of which it is already known whether it verifies. No
-    /// timestamp changes that, so it may be found before.
+    /// What `admit` does, for a frame of which it is already known whether it verifies.
     pub fn admit_judged(&mut self, key: &Key, frame: &RawFrame<'_>, verifies: bool) -> Admit
         requires { verifies ≡ verified key.now frame.now frame.now.block }
         ensures kept { result ≡ kept_answer_to key.now self.old frame.now }

@@ -1,6 +1,5 @@
-use Rattle.std.proofs.Common.{ℕ, ◌+◌, ◌≤◌, length, drop, length-drop, refl, sym, ◌∙◌, arith, Bool, List, subst}
+use Rattle.std.proofs.Common.{ℕ, ◌+◌, ◌≤◌, length, drop, length-drop, refl, sym, ◌∙◌, arith, Bool, List, Some, None, subst}
 use Rattle.std.proofs.lemmas.Result.{err_from_is_err_and}
-use Rattle.mav_frame.specs.declared.events.Event.TheVariants.{Frame, Skipped}
 use Rattle.mav_nodes.specs.declared.faults.NodeFault.{NodeFault}
 use Rattle.mav_nodes.specs.Stores.{IsKept, HasFailed}
 use Rattle.mav_nodes.specs.Steps.{Side, hears, receives_keeping}
@@ -8,12 +7,12 @@ use Rattle.mav_nodes.specs.Cores.{IsNode, rules_of}
 use Rattle.mav_nodes.specs.Promises.{FailsKeeping}
 use Rattle.mav_nodes.proofs.StoreCalls.{serves_same, serves_both, failed_then, then_failed}
 use Rattle.mav_nodes.proofs.Keeping.{kept_so, receive_fails}
-use Rattle.mav_nodes.proofs.Leads.{leads_at_first, leads_past, leads_on, leads_to_none, leads_whole, event_here, part_bytes, part_length}
-use Rattle.mav_nodes.proofs.node.receive.Goals.{in-Frame+in_ok-hear-in-Frame, in-Skipped}
+use Rattle.mav_nodes.proofs.Leads.{leads_at_first, leads_past, leads_on, leads_to_none, leads_whole, front_here, part_bytes, part_length}
+use Rattle.mav_nodes.proofs.node.receive.Goals.{in-Some+in_ok-hear-in-Some, in-None}
 use Rattle.mav_nodes.proofs.node.receive.Goals as goal
 
-pub returns-in_err-hear-in-Frame-clause-fault : goal.returns-in_err-hear-in-Frame-clause-fault
-returns-in_err-hear-in-Frame-clause-fault g c =
+pub returns-in_err-hear-in-Some-clause-fault : goal.returns-in_err-hear-in-Some-clause-fault
+returns-in_err-hear-in-Some-clause-fault g c =
     let p = err_from_is_err_and c.from_residual.result c.from_residual.ensures.1 in
     let faults = g.K.Keeper.faults in
     let sure = g.K.Keeper.is_infallible in
@@ -22,8 +21,8 @@ returns-in_err-hear-in-Frame-clause-fault g c =
     let now = c.hear.new.keeper in
     let bytes = c.args.datagram.now in
     let place = c.loop-place.place in
-    let size = c.event_at-event.result.1 in
-    let frame = c.in-Frame.frame in
+    let size = c.front_at-front.result.1 in
+    let frame = c.in-Some.frame in
     let small : (i : ℕ) → _ = λ i. (c.type_inv.datagram i).fits in
     let F = HasFailed faults sure then now in
     let G = HasFailed faults sure old now in
@@ -34,39 +33,39 @@ returns-in_err-hear-in-Frame-clause-fault g c =
     (λ node is.
     let l = c.loop-place.invariant.leads node is in
     let same = c.extras.ensures ∙ l.is.link.end.extras in
-    let at = event_here c.extras.result.now l.node.link.extras bytes place size c.event_at-event.result.0 (Frame frame) same c.in-Frame.is c.event_at-event.ensures.event in
+    let at = front_here c.extras.result.now l.node.link.extras bytes place size c.front_at-front.result.0 (Some frame) same c.in-Some.is c.front_at-front.ensures.front in
     (l.node, l.is, leads_to_none (rules_of g.C.Core.taken g.V.Services.noted g.V.Services.served) c.args.clock (total node) (drop place bytes) (drop (place + size) bytes) (λ n. IsNode n c.loop-place.link c.loop-place.core c.loop-place.services) (HasFailed faults sure old then) F G c.loop-place.news.items frame l (part_bytes bytes place small) (part_bytes bytes (place + size) small) at (λ failed. failed_then faults sure old then now failed c.hear.ensures.serves) f))
-    (subst (λ (fault : NodeFault). FailsKeeping fault (λ (node : Side g.row.C.Denot g.row.V.Denot). IsNode node c.loop-place.link c.loop-place.core c.loop-place.services) (λ (kept : Bool) (node : Side g.row.C.Denot g.row.V.Denot). hears (rules_of g.C.Core.taken g.V.Services.noted g.V.Services.served kept) c.args.clock frame node) (λ kept. IsKept kept F) F) (sym p.2) c.in_err-hear-in-Frame.ensures.fault))
+    (subst (λ (fault : NodeFault). FailsKeeping fault (λ (node : Side g.row.C.Denot g.row.V.Denot). IsNode node c.loop-place.link c.loop-place.core c.loop-place.services) (λ (kept : Bool) (node : Side g.row.C.Denot g.row.V.Denot). hears (rules_of g.C.Core.taken g.V.Services.noted g.V.Services.served kept) c.args.clock frame node) (λ kept. IsKept kept F) F) (sym p.2) c.in_err-hear-in-Some.ensures.fault))
 
 pub loop-place-preserved : goal.loop-place-preserved
 loop-place-preserved g c =
     let bytes = c.args.datagram.now in
     let place = c.loop-place.place in
-    let size = c.event_at-event.result.1 in
+    let size = c.front_at-front.result.1 in
     let faults = g.K.Keeper.faults in
     let sure = g.K.Keeper.is_infallible in
     let old = c.args.keeper.now in
     let then = c.loop-place.keeper in
     let small : (i : ℕ) → _ = λ i. (c.type_inv.datagram i).fits in
-    let within : place + size ≤ length bytes = omega (arith, c.event_at-event.ensures.size.1, part_length bytes place, c.loop-place.invariant.within) in
-    elim c.match-event.branch [
-      | in-Frame+in_ok-hear-in-Frame w ↦
+    let within : place + size ≤ length bytes = omega (arith, c.front_at-front.ensures.size.1, part_length bytes place, c.loop-place.invariant.within) in
+    elim c.match-front.branch [
+      | in-Some+in_ok-hear-in-Some w ↦
           let now = w.hear.new.keeper in
           rw (w.link-is, w.core-is, w.services-is, w.keeper-is, w.news-is) (record {
             within = within;
             serves = serves_both faults sure old then now c.loop-place.invariant.serves w.hear.ensures.serves;
-            stored = λ held. w.in_ok-hear-in-Frame.ensures.stored (c.loop-place.invariant.stored held);
+            stored = λ held. w.in_ok-hear-in-Some.ensures.stored (c.loop-place.invariant.stored held);
             reader = w.hear.ensures.reader ∙ c.loop-place.invariant.reader;
             leads = λ node is.
                 let l = c.loop-place.invariant.leads node is in
                 let same = c.extras.ensures ∙ l.is.link.end.extras in
-                let at = event_here c.extras.result.now l.node.link.extras bytes place size c.event_at-event.result.0 (Frame w.in-Frame.frame) same w.in-Frame.is c.event_at-event.ensures.event in
-                leads_on (rules_of g.C.Core.taken g.V.Services.noted g.V.Services.served) c.args.clock (λ (keeps : List Bool). receives_keeping (rules_of g.C.Core.taken g.V.Services.noted g.V.Services.served) c.args.clock keeps bytes node) (drop place bytes) (drop (place + size) bytes) (λ n. IsNode n c.loop-place.link c.loop-place.core c.loop-place.services) (λ n. IsNode n w.hear.new.link w.hear.new.core w.hear.new.services) (HasFailed faults sure old then) (HasFailed faults sure old now) c.loop-place.news.items w.hear.new.news.items w.in-Frame.frame w.in_ok-hear-in-Frame.field-0 l (part_bytes bytes place small) (part_bytes bytes (place + size) small) at
+                let at = front_here c.extras.result.now l.node.link.extras bytes place size c.front_at-front.result.0 (Some w.in-Some.frame) same w.in-Some.is c.front_at-front.ensures.front in
+                leads_on (rules_of g.C.Core.taken g.V.Services.noted g.V.Services.served) c.args.clock (λ (keeps : List Bool). receives_keeping (rules_of g.C.Core.taken g.V.Services.noted g.V.Services.served) c.args.clock keeps bytes node) (drop place bytes) (drop (place + size) bytes) (λ n. IsNode n c.loop-place.link c.loop-place.core c.loop-place.services) (λ n. IsNode n w.hear.new.link w.hear.new.core w.hear.new.services) (HasFailed faults sure old then) (HasFailed faults sure old now) c.loop-place.news.items w.hear.new.news.items w.in-Some.frame w.in_ok-hear-in-Some.field-0 l (part_bytes bytes place small) (part_bytes bytes (place + size) small) at
                 (λ failed. failed_then faults sure old then now failed w.hear.ensures.serves)
-                (kept_so w.in_ok-hear-in-Frame.field-0 (then_failed faults sure old then now c.loop-place.invariant.serves) w.in_ok-hear-in-Frame.ensures.unkept)
-                (w.in_ok-hear-in-Frame.ensures.done l.node l.is);
+                (kept_so w.in_ok-hear-in-Some.field-0 (then_failed faults sure old then now c.loop-place.invariant.serves) w.in_ok-hear-in-Some.ensures.unkept)
+                (w.in_ok-hear-in-Some.ensures.done l.node l.is);
           })
-      | in-Skipped w ↦
+      | in-None w ↦
           rw (w.link-is, w.core-is, w.services-is, w.keeper-is, w.news-is) (record {
             within = within;
             serves = c.loop-place.invariant.serves;
@@ -75,8 +74,8 @@ loop-place-preserved g c =
             leads = λ node is.
                 let l = c.loop-place.invariant.leads node is in
                 let same = c.extras.ensures ∙ l.is.link.end.extras in
-                let at = event_here c.extras.result.now l.node.link.extras bytes place size c.event_at-event.result.0 (Skipped w.in-Skipped.field-0 w.in-Skipped.field-1) same w.in-Skipped.is c.event_at-event.ensures.event in
-                leads_past (rules_of g.C.Core.taken g.V.Services.noted g.V.Services.served) c.args.clock (λ (keeps : List Bool). receives_keeping (rules_of g.C.Core.taken g.V.Services.noted g.V.Services.served) c.args.clock keeps bytes node) (drop place bytes) (drop (place + size) bytes) (λ n. IsNode n c.loop-place.link c.loop-place.core c.loop-place.services) (HasFailed faults sure old then) c.loop-place.news.items w.in-Skipped.field-0 w.in-Skipped.field-1 l (part_bytes bytes place small) (part_bytes bytes (place + size) small) at;
+                let at = front_here c.extras.result.now l.node.link.extras bytes place size c.front_at-front.result.0 None same w.in-None.is c.front_at-front.ensures.front in
+                leads_past (rules_of g.C.Core.taken g.V.Services.noted g.V.Services.served) c.args.clock (λ (keeps : List Bool). receives_keeping (rules_of g.C.Core.taken g.V.Services.noted g.V.Services.served) c.args.clock keeps bytes node) (drop place bytes) (drop (place + size) bytes) (λ n. IsNode n c.loop-place.link c.loop-place.core c.loop-place.services) (HasFailed faults sure old then) c.loop-place.news.items at.0 at.1 l (part_bytes bytes place small) (part_bytes bytes (place + size) small) at.2;
           })
     ]
 

@@ -7,6 +7,7 @@ use Rattle.mav_sign.specs.declared.admission.StampsSpent.{StampsSpent as SpentSt
 use Rattle.mav_sign.specs.History.{sent, next_in, greatest_stamp, stamp_given}
 use Rattle.mav_sign.specs.Kept.{Represents}
 use Rattle.mav_sign.specs.Endpoints.{EndpointState}
+use Rattle.mav_sign.specs.Streams.{reader_of}
 use Rattle.mav_nodes.specs.declared.faults.NodeFault.{NodeFault}
 use Rattle.mav_nodes.specs.declared.faults.NodeFault.TheVariants.{StampsSpent, Store, NoMemory}
 use Rattle.mav_nodes.specs.declared.news.News.{News}
@@ -73,7 +74,7 @@ returns-in_err-raise g c =
     rw (p.1, p.2) (record {
       sent = tt;
       stored = tt;
-      reader = c.raise.ensures.reader;
+      reader = ap reader_of c.raise.ensures.endpoint;
       serves = c.raise.ensures.serves;
       fault = fails_at g.K.Keeper.faults g.K.Keeper.is_infallible c.args.keeper.now c.raise.new.keeper (λ (link : Link). IsLink link c.args.self.now) (λ (link : Link). sends c.args.clock c.args.message.now link) _ c.in_err-raise.ensures.fault;
     })
@@ -90,7 +91,7 @@ returns g c =
       sent = on_ok c.transmit.result (λ did link is.
           link_sent c.args.clock c.args.message.now link old bound c.transmit.new.self c.in_ok-stamp.stamp c.args.news.now.items c.transmit.new.news.items is (c.in_ok-stamp.ensures.answer link.history (subst (λ (e : EndpointState). Represents e.stamps link.history) (sym view) is.end.history)) c.in_ok-raise.ensures.low c.transmit.ensures.low (did link (subst (IsEnd link) (sym end) is.end))) c.transmit.ensures.sent;
       stored = always c.transmit.result (λ held. subst (Holds (g.K.Keeper.contents c.raise.new.keeper) (g.C.Core.stored c.args.core.now)) (sym c.transmit.ensures.low) (c.in_ok-raise.ensures.settled c.in_ok-stamp.ensures.some held));
-      reader = c.transmit.ensures.reader ∙ c.raise.ensures.reader;
+      reader = c.transmit.ensures.reader ∙ ap reader_of c.raise.ensures.endpoint;
       serves = c.raise.ensures.serves;
       fault = if_err c.transmit.result (λ fault. fails_so fault (λ (link : Link). IsEnd link bound.endpoint) (λ (link : Link). sends c.args.clock c.args.message.now link) ⊥ (λ (link : Link). IsLink link old) (λ (link : Link). sends c.args.clock c.args.message.now link) (HasFailed faults sure c.args.keeper.now c.raise.new.keeper) (λ never. absurd never) (λ link is. (link, subst (IsEnd link) (sym end) is.end, λ none. none))) c.transmit.ensures.fault;
     }

@@ -36,22 +36,22 @@ tried_so link frame old raised inside after low is view view_low bound same hist
 pub returns-in_err-raise_for : goal.returns-in_err-raise_for
 returns-in_err-raise_for g c =
     let p = err_from_is_err_and c.from_residual.result c.from_residual.ensures.1 in
-    rw (p.1, p.2) (record { heard = tt; link = tt; stored = tt; reader = c.raise_for.ensures.reader; serves = c.raise_for.ensures.serves; fault = c.in_err-raise_for.ensures.fault })
+    rw (p.1, p.2) (record { heard = tt; link = tt; stored = tt; reader = ap reader_of c.raise_for.ensures.endpoint; serves = c.raise_for.ensures.serves; fault = c.in_err-raise_for.ensures.fault })
 
 pub returns : goal.returns
 returns g c =
     let old = c.args.self.now in
     let raised = c.raise_for.new.self in
     let frame = c.args.frame.now in
-    let view = ap (λ (v : LinkView). v.endpoint) c.self.view_is in
-    let low = ap (λ (v : LinkView). v.low) c.self.view_is in
+    let view = ap (λ (v : LinkView). v.endpoint) c.self-2.view_is in
+    let low = ap (λ (v : LinkView). v.low) c.self-2.view_is in
     record {
       heard = λ link is.
-          let end = end_then link old _ raised c.self.inside.endpoint is view (c.in_ok-raise_for.ensures.low link is) in
-          subst (λ (key : List ℕ). HeardIs key link.history frame c.take.result) end.key (c.take.ensures.heard link.history end.history);
-      link = λ link is. tried_so link frame old raised c.self.inside.endpoint c.take.new.self c.self.inside.low is view low (c.in_ok-raise_for.ensures.low link is) c.take.ensures.same c.take.ensures.history;
+          let end = end_then link old _ raised c.self-2.inside.endpoint is view (c.in_ok-raise_for.ensures.low link is) in
+          subst (λ (key : List ℕ). HeardIs key link.history frame c.take_judged.result) end.key (c.take_judged.ensures.heard link.history end.history);
+      link = λ link is. tried_so link frame old raised c.self-2.inside.endpoint c.take_judged.new.self c.self-2.inside.low is view low (c.in_ok-raise_for.ensures.low link is) c.take_judged.ensures.same c.take_judged.ensures.history;
       stored = λ held. subst (Holds (g.K.Keeper.contents c.raise_for.new.keeper) (g.C.Core.stored c.args.core.now)) (sym low) (c.in_ok-raise_for.ensures.stored held);
-      reader = ap reader_of c.take.ensures.same ∙ (ap reader_of view ∙ c.raise_for.ensures.reader);
+      reader = ap reader_of c.take_judged.ensures.same ∙ (ap reader_of view ∙ ap reader_of c.raise_for.ensures.endpoint);
       serves = c.raise_for.ensures.serves;
       fault = tt;
     }
