@@ -9,13 +9,6 @@ run_over-requires g c = (
       (links_asked (map string_bytes c.args.words.now) c.args.wanted.now _ c.requires.wants c.requires.links asked asks, stores_asked (map string_bytes c.args.words.now) c.args.wanted.now _ c.requires.wants (rw (c.in-Some.is, c.in_ok-push-in-Some.ensures.items, c.new-stores.ensures.items) refl) asked asks)),
 )
 
-pub run_over-requires-in-Some-2 : goal.run_over-requires-in-Some-2
-run_over-requires-in-Some-2 g c = (
-  c.type_bounds.sync-R,
-  (λ asked asks.
-      (links_asked (map string_bytes c.args.words.now) c.args.wanted.now _ c.requires.wants c.requires.links asked asks, stores_asked (map string_bytes c.args.words.now) c.args.wanted.now _ c.requires.wants (rw (c.in-Some-2.is, c.in_ok-push-in-Some-2.ensures.items, c.new-stores.ensures.items) refl) asked asks)),
-)
-
 pub run_over-requires-in-None : goal.run_over-requires-in-None
 run_over-requires-in-None g c = (
   c.type_bounds.sync-R,

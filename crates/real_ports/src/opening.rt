@@ -1,8 +1,12 @@
-// The ports that the words name. One that can't be opened fails at each call.
+// The ports that words name.
+ghost use Rattle.std.specs.Prelude.{◌≡◌, IfOk};
+ghost use Rattle.real_ports.specs.Opened.{just_opened};
+
+use crate::{NoMemory, RealLink};
+use command_line::{Files, FilesKind, Port, Socket, SocketKind, Target};
 use log_replay::Replay;
-use mav_links::{ClosingStream, FileLink, TcpLink, UdpLink};
+use mav_links::{ClosingStream, FileLink, Link, TcpLink, UdpLink};
 use mav_profile::profile_extras;
-use station_cli::{Files, Socket, SocketKind};
 use std::alloc::AllocError;
 use std::fs::File;
 use std::io::ErrorKind;
@@ -10,24 +14,21 @@ use std::net::{SocketAddr, TcpListener, TcpStream, ToSocketAddrs, UdpSocket};
 use std::time::Duration;
 use std::{fs, io};
 
-// How long a read waits for bytes: a router on one thread reads its ports in turn, and one with threads writes to a port only
-// between its reads.
-const WAIT_OF_A_ROUTER_MILLISECONDS: u64 = 10;
-
-const WAIT_MILLISECONDS: u64 = 250;
-
-/// How long a read of a port that these words name waits.
-pub fn wait_of(words: &[String]) -> Duration {
-    match words {
-        [command, ..] if command.as_str() == "route" => {
-            Duration::from_millis(WAIT_OF_A_ROUTER_MILLISECONDS)
-        }
-        _ => Duration::from_millis(WAIT_MILLISECONDS),
+/// Opens a port, whose reads wait so long. A file that is written is made empty. One that can't be opened fails at each call.
+pub fn open_link(rt: &HostRuntime, port: &Port, wait: Duration) -> Result<RealLink, NoMemory>
+    ensures opened { IfOk result (λ link. ⟦<RealLink as Link>⟧.state link ≡ just_opened) }
+{
+    match &port.target {
+        Target::Files(files) => files_link(rt, files),
+        Target::Socket(socket) => match socket.kind {
+            SocketKind::Tcp | SocketKind::Listen => stream_link(rt, socket, wait),
+            SocketKind::Udp | SocketKind::UdpListen => datagrams_link(rt, socket, wait),
+        },
     }
 }
 
 // What was made, or nothing if that failed for another cause than want of memory.
-fn made<T: Drop>(attempt: io::Result<T>) -> Result<Option<T>, AllocError> {
+fn made<T: Drop>(attempt: io::Result<T>) -> Result<Option<T>, NoMemory> {
     match attempt {
         Ok(value) => Ok(Some(value)),
         Err(error) if error.kind() == ErrorKind::OutOfMemory => Err(AllocError),
@@ -35,20 +36,27 @@ fn made<T: Drop>(attempt: io::Result<T>) -> Result<Option<T>, AllocError> {
     }
 }
 
-/// The link over two files. The one that is written is made empty.
-pub fn file_link(rt: &HostRuntime, files: &Files) -> Result<FileLink<File, File>, AllocError> {
+// Over two files, of which the second is made empty.
+fn two_files(rt: &HostRuntime, files: &Files) -> Result<FileLink<File, File>, NoMemory>
+    ensures opened { IfOk result (λ link. ⟦<FileLink<File, File> as Link>⟧.state link ≡ just_opened) }
+{
     let input = made(fs::open(rt, files.input.as_str()))?;
     let output = made(fs::create(rt, files.output.as_str()))?;
     Ok(FileLink::new(input, output))
 }
 
-/// The link that plays the telemetry log in the file that is read, with the messages of the profile.
-pub fn replay_link(
-    rt: &HostRuntime,
-    files: &Files,
-) -> Result<Replay<FileLink<File, File>>, AllocError> {
-    let link = file_link(rt, files)?;
-    Ok(Replay::new(link, profile_extras(rt.alloc())?))
+// Over two files, or playing the log in the first with the messages of the profile.
+fn files_link(rt: &HostRuntime, files: &Files) -> Result<RealLink, NoMemory>
+    ensures opened { IfOk result (λ link. ⟦<RealLink as Link>⟧.state link ≡ just_opened) }
+{
+    let link = two_files(rt, files)?;
+    match files.kind {
+        FilesKind::File => Ok(RealLink::Files(link)),
+        FilesKind::Replay => {
+            let extras = profile_extras(rt.alloc())?;
+            Ok(RealLink::Log(Replay::new(link, extras)))
+        }
+    }
 }
 
 // Small writes are sent at once.
@@ -69,17 +77,15 @@ fn accept(rt: &HostRuntime, socket: &Socket, wait: Duration) -> io::Result<Closi
     prepare(stream, wait)
 }
 
-/// The link over a TCP connection: one that is made, or the first that comes.
-pub fn tcp_link(
-    rt: &HostRuntime,
-    socket: &Socket,
-    wait: Duration,
-) -> Result<TcpLink<ClosingStream>, AllocError> {
+// Over a TCP connection: one that is made, or the first that comes.
+fn stream_link(rt: &HostRuntime, socket: &Socket, wait: Duration) -> Result<RealLink, NoMemory>
+    ensures opened { IfOk result (λ link. ⟦<RealLink as Link>⟧.state link ≡ just_opened) }
+{
     let stream = match socket.kind {
         SocketKind::Listen => accept(rt, socket, wait),
         _ => connect(rt, socket, wait),
     };
-    Ok(TcpLink::new(made(stream)?))
+    Ok(RealLink::Stream(TcpLink::new(made(stream)?)))
 }
 
 fn bind(rt: &HostRuntime, host: &str, number: u16, wait: Duration) -> io::Result<UdpSocket> {
@@ -105,9 +111,11 @@ fn to_peer(
     Ok(Some((bind(rt, host, 0, wait)?, peer)))
 }
 
-/// The link over a UDP socket: to one peer, or to its latest sender.
-pub fn udp_link(rt: &HostRuntime, socket: &Socket, wait: Duration) -> Result<UdpLink, AllocError> {
-    match socket.kind {
+// Over a UDP socket: to one peer, or to its latest sender.
+fn datagrams_link(rt: &HostRuntime, socket: &Socket, wait: Duration) -> Result<RealLink, NoMemory>
+    ensures opened { IfOk result (λ link. ⟦<RealLink as Link>⟧.state link ≡ just_opened) }
+{
+    let link = match socket.kind {
         SocketKind::UdpListen => {
             let bound = made(bind(rt, socket.host.as_str(), socket.number, wait))?;
             UdpLink::new(rt.alloc(), bound, None)
@@ -116,5 +124,6 @@ pub fn udp_link(rt: &HostRuntime, socket: &Socket, wait: Duration) -> Result<Udp
             Some(Some((bound, peer))) => UdpLink::new(rt.alloc(), Some(bound), Some(peer)),
             _ => UdpLink::new(rt.alloc(), None, None),
         },
-    }
+    };
+    Ok(RealLink::Datagrams(link?))
 }
