@@ -4,8 +4,8 @@
 ghost use Rattle.std.specs.Prelude.{◌≡◌, map, string_bytes, length};
 ghost use Rattle.command_line.specs.Built.{built};
 ghost use Rattle.command_line.specs.Grammar.{Asked, Asks};
-ghost use Rattle.station_cli.specs.Routing.{AreAsked};
-ghost use Rattle.station_cli.specs.Wants.{Wants, keepers_asked};
+ghost use Rattle.line_commands.specs.Routing.{AreAsked};
+ghost use Rattle.line_commands.specs.Wants.{Wants, keepers_asked};
 
 use mav_links::Link;
 use mav_ports::{StdClock, StdSink, StdSource};
