@@ -4,82 +4,26 @@
 ghost use Rattle.std.specs.Prelude.{◌≡◌, map, string_bytes, length};
 ghost use Rattle.command_line.specs.Built.{built};
 ghost use Rattle.command_line.specs.Grammar.{Asked, Asks};
-ghost use Rattle.station_cli.specs.Routing.{AreAsked};
-ghost use Rattle.station_cli.specs.Wants.{Wants, keepers_asked};
-
-mod ports;
+ghost use Rattle.line_commands.specs.Routing.{AreAsked};
+ghost use Rattle.line_commands.specs.Wants.{Wants, keepers_asked};
 
 use mav_links::Link;
 use mav_ports::{StdClock, StdSink, StdSource};
-use plan_store::FailKeeper;
-use ports::{file_link, replay_link, tcp_link, udp_link, wait_of};
-use slot_store::FileStore;
-use station_cli::{FilesKind, Inputs, SocketKind, Store, Target, Wanted, WantedFault, run, wanted};
+use real_ports::{Reader, open_input, open_link, open_store, wait_of, words_of};
+use station_cli::{Inputs, Store, Wanted, WantedFault, run, wanted};
 use std::alloc::AllocError;
-use std::fs::File;
-use std::io::{ErrorKind, Read, Stdin};
+use std::io;
 use std::process::ExitCode;
 use std::sync::Wait;
 use std::thread::Threads;
-use std::{env, fs, io};
 
 const NO_MEMORY: u8 = 7;
 
-/// What an input is read from.
-#[derive(Drop)]
-enum Reader {
-    File(File),
-    Stdin(Stdin),
-}
-
-impl Read for Reader {
-    fn read(&mut self, buf: &mut [u8]) -> io::Result<usize> {
-        match self {
-            Reader::File(file) => file.read(buf),
-            Reader::Stdin(stdin) => stdin.read(buf),
-        }
-    }
-}
-
-// The words after the program's name; none if one of them isn't UTF-8, which no command takes.
-fn words_of(rt: &HostRuntime) -> Result<Vec<String>, AllocError> {
-    let mut words = Vec::new(rt.alloc());
-    match env::args(rt) {
-        Ok(args) => {
-            for word in args.skip(1) {
-                words.push(word)?;
-            }
-        }
-        Err(error) if error.kind() == ErrorKind::OutOfMemory => return Err(AllocError),
-        Err(_) => (),
-    }
-    Ok(words)
-}
-
-// The file of that name, or standard input for `-`. One that can't be opened fails at each read.
-fn open(rt: &HostRuntime, name: &str) -> Result<StdSource<Reader>, AllocError> {
-    if name == "-" {
-        return Ok(StdSource::new(Some(Reader::Stdin(rt.stdin()))));
-    }
-    match fs::open(rt, name) {
-        Ok(file) => Ok(StdSource::new(Some(Reader::File(file)))),
-        Err(error) if error.kind() == ErrorKind::OutOfMemory => Err(AllocError),
-        Err(_) => Ok(StdSource::new(None)),
-    }
-}
-
-fn open_named(rt: &HostRuntime, name: &Option<String>) -> Result<StdSource<Reader>, AllocError> {
-    match name {
-        Some(name) => open(rt, name.as_str()),
-        None => Ok(StdSource::new(None)),
-    }
-}
-
 fn inputs_of(rt: &HostRuntime, wanted: &Wanted) -> Result<Inputs<StdSource<Reader>>, AllocError> {
     Ok(Inputs {
-        main: open_named(rt, &wanted.main)?,
-        defs: open_named(rt, &wanted.defs)?,
-        key: open_named(rt, &wanted.key)?,
+        main: open_input(rt, &wanted.main)?,
+        defs: open_input(rt, &wanted.defs)?,
+        key: open_input(rt, &wanted.key)?,
     })
 }
 
@@ -116,29 +60,13 @@ fn run_ports<R: Threads + Wait + Sync>(
     let wait = wait_of(words);
     let mut ports: Vec<Box<dyn Link>> = Vec::new(rt.alloc());
     for port in &wanted.ports {
-        match &port.target {
-            Target::Files(files) => match files.kind {
-                FilesKind::File => {
-                    ports.push(Box::new(rt.alloc(), file_link(rt, files)?)?)?;
-                }
-                FilesKind::Replay => {
-                    ports.push(Box::new(rt.alloc(), replay_link(rt, files)?)?)?;
-                }
-            },
-            Target::Socket(socket) => match socket.kind {
-                SocketKind::Tcp | SocketKind::Listen => {
-                    ports.push(Box::new(rt.alloc(), tcp_link(rt, socket, wait)?)?)?;
-                }
-                SocketKind::Udp | SocketKind::UdpListen => {
-                    ports.push(Box::new(rt.alloc(), udp_link(rt, socket, wait)?)?)?;
-                }
-            },
-        }
+        let link = open_link(rt, port, wait)?;
+        ports.push(Box::new(rt.alloc(), link)?)?;
     }
     run_stores(rt, threads, words, wanted, inputs, &mut ports)
 }
 
-// The store that the words name, if they name one: a file, and not standard input, which is `-` and fails at each call.
+// The store that the words name, if they name one.
 fn run_stores<R: Threads + Wait + Sync>(
     rt: &HostRuntime,
     threads: &R,
@@ -152,13 +80,9 @@ fn run_stores<R: Threads + Wait + Sync>(
 {
     let mut stores: Vec<Store> = Vec::new(rt.alloc());
     match &wanted.store {
-        Some(name) if name.as_str() == "-" => {
-            stores.push(Box::new(rt.alloc(), FailKeeper::new())?)?;
-            Ok(run_over(rt, threads, words, inputs, ports, &mut stores))
-        }
         Some(name) => {
-            let keeper = FileStore::open(rt, name.as_str())?;
-            stores.push(Box::new(rt.alloc(), keeper)?)?;
+            let store = open_store(rt, name.as_str())?;
+            stores.push(Box::new(rt.alloc(), store)?)?;
             Ok(run_over(rt, threads, words, inputs, ports, &mut stores))
         }
         None => Ok(run_over(rt, threads, words, inputs, ports, &mut stores)),

@@ -3,7 +3,3 @@ pub mod Grows
 pub mod Steps
 pub mod Stays
 pub mod Endings
-pub mod Worked
-pub mod Theorem
-pub mod Completeness
-pub mod Playable

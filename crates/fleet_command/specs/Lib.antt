@@ -1,5 +1,2 @@
 pub mod Plays
 pub mod Spec
-pub mod Theorem
-pub mod Completeness
-pub mod Examples

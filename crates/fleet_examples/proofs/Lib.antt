@@ -4,3 +4,5 @@ pub mod Restarts
 pub mod TwoDrones
 pub mod Noise
 pub mod Reportings
+pub mod OneItem
+pub mod Playable

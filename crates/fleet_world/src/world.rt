@@ -20,7 +20,6 @@ use std::alloc::Global;
 use std::marker::Model;
 
 /// The nodes of a scenario, the frames that they sent, and the draft of a plan. Contracts say which state it is in.
-#[derive(Drop)]
 pub struct World {
     pub(crate) alloc: Global,
     pub(crate) fleet: Fleet,
@@ -29,6 +28,21 @@ pub struct World {
     pub(crate) draft: Plan,
     pub(crate) restarts: u64,
     frames: bool,
+}
+
+// By hand, so that whoever drops a world proves one call.
+impl Drop for World {
+    fn drop(self) {
+        let World {
+            alloc: _,
+            fleet: _fleet,
+            sent: _sent,
+            given: _,
+            draft: _draft,
+            restarts: _,
+            frames: _,
+        } = self;
+    }
 }
 
 impl Model for World {

@@ -13,9 +13,10 @@ use Rattle.run_status.specs.Runs.{port_outcome, RunBeforeStatus}
 use Rattle.fleet_world.specs.Scenario.{whole_report, played}
 use Rattle.fleet_command.specs.Spec.{fleet_spec, reported_error}
 use Rattle.fleet_command.proofs.Stays.{fleet_steady}
-use Rattle.make_command.specs.Generator.{scenario_text}
-use Rattle.make_command.specs.Spec.{generated, make_text, make_spec}
-use Rattle.make_command.proofs.Generated.{generated_done}
+use Rattle.scenario_maker.specs.Generator.{scenario_text}
+use Rattle.scenario_maker.specs.Generated.{generated}
+use Rattle.make_command.specs.Spec.{make_text, make_spec}
+use Rattle.scenario_maker.proofs.Generated.{generated_done}
 
 -- all bytes were taken, if nothing is left
 taken_whole : (bytes taken : List ℕ) (left : Option (List ℕ)) → Some bytes ≡ prepend_known taken left → IsSpent left → taken ≡ bytes

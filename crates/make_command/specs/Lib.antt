@@ -1,4 +1,2 @@
-pub mod Generator
-pub mod Sums
 pub mod Spec
 pub mod Theorem

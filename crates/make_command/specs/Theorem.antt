@@ -2,9 +2,9 @@
 use Rattle.std.specs.Prelude.{ℕ, ◌≡◌, true, None}
 use Rattle.key_file.specs.KeyText.{default_key}
 use Rattle.fleet_world.specs.Authentic.{Authentic}
-use Rattle.fleet_command.specs.Theorem.{MainTheorem}
-use Rattle.make_command.specs.Generator.{scenario_text}
-use Rattle.make_command.specs.Spec.{generated}
+use Rattle.fleet_theorem.specs.Theorem.{MainTheorem}
+use Rattle.scenario_maker.specs.Generator.{scenario_text}
+use Rattle.scenario_maker.specs.Generated.{generated}
 
 pub record GeneratedTheorem (number : ℕ) : Type 0 where
   -- it is played to its end: there is no reason against any of its lines, and it keeps to all limits

@@ -3,17 +3,17 @@ ghost use Rattle.std.specs.Prelude.{◌≡◌, ⊤, Some, [], false, IfOk, IsErr
 ghost use Rattle.std.specs.Result.{result_err};
 ghost use Rattle.run_status.specs.Runs.{RunBeforeStatus, port_outcome};
 ghost use Rattle.fleet_world.specs.Scenario.{whole_report};
-ghost use Rattle.make_command.specs.Sums.{sums_text};
-ghost use Rattle.make_command.specs.Spec.{generated, make_spec};
+ghost use Rattle.scenario_maker.specs.Sums.{sums_text};
+ghost use Rattle.scenario_maker.specs.Generated.{generated};
+ghost use Rattle.make_command.specs.Spec.{make_spec};
 ghost use Rattle.make_command.specs.Theorem.{GeneratedTheorem};
 
 use crate::report_sink::ReportSink;
-use crate::scenario::scenario_text;
-use crate::sums::sums_text;
 use fleet_command::fleet;
 use key_file::default_key;
 use mav_ports::{NoMemory, Sink, SureSource, write_all};
 use run_status::RunEnd;
+use scenario_maker::{scenario_text, sums_text};
 use std::alloc::{AllocError, Global};
 
 /// Plays the scenario that a number gives, and writes the sums of its report. Why the run halted, if it did, isn't

@@ -13,15 +13,15 @@ use Rattle.command_line.specs.Grammar.{Asked, Asks, Bare}
 use Rattle.run_status.specs.Runs.{CommandSpec, end_of, output_of as output_by}
 use Rattle.run_status.specs.Endings.{code_of}
 use Rattle.key_file.specs.KeyText.{default_key}
-use Rattle.fleet_command.specs.Examples.{one_item, the_key, IsInstalledOnce}
-use Rattle.fleet_command.proofs.Theorem.{theorem_of}
-use Rattle.fleet_command.proofs.Worked.{one_item_authentic, installed_once}
-use Rattle.fleet_command.proofs.Playable.{one_item_playable}
+use Rattle.fleet_examples.specs.OneItem.{one_item, the_key, IsInstalledOnce}
+use Rattle.fleet_theorem.proofs.Theorem.{theorem_of}
+use Rattle.fleet_examples.proofs.OneItem.{one_item_authentic, installed_once}
+use Rattle.fleet_examples.proofs.Playable.{one_item_playable}
 use Rattle.command_line.specs.Names.{port_words}
-use Rattle.station_cli.specs.Routing.{AreAsked}
-use Rattle.station_cli.specs.Wants.{keepers_asked}
-use Rattle.station_cli.proofs.Same.{same_asked}
-use Rattle.station_cli.specs.Seen.{Input, Output, input_of, output_of, around, promised_over}
+use Rattle.line_commands.specs.Routing.{AreAsked}
+use Rattle.line_commands.specs.Wants.{keepers_asked}
+use Rattle.line_commands.proofs.Same.{same_asked}
+use Rattle.line_commands.specs.Seen.{Input, Output, input_of, output_of, around, promised_over}
 use Rattle.station_cli.specs.Fleets.{CarriesOver, FleetsComplete}
 
 never : false ≡ true → ⊥

@@ -7,7 +7,7 @@ use Rattle.x25_check.specs.Check as check
 use Rattle.plan_items.specs.Validation.{item_fault, whole_fault, plan_fault}
 use Rattle.run_status.specs.Endings.{code_of}
 use Rattle.run_status.specs.Runs.{output_of, end_of}
-use Rattle.fleet_command.proofs.Worked.{spec}
+use Rattle.fleet_examples.proofs.OneItem.{spec}
 use Rattle.run_tests.specs.Restarts.{restart_between, restart_between_report}
 
 pub restart_output : output_of spec (end_of (spec.stop true restart_between)) true restart_between ≡ restart_between_report

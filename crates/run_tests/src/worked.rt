@@ -3,7 +3,7 @@ ghost use Rattle.std.specs.Prelude.{◌≡◌, ◌∷◌, ◌⊎◌, [], true, f
 ghost use Rattle.std.specs.Prelude.{string_bytes, IfOk};
 ghost use Rattle.decode_command.specs.Examples.{one_heartbeat, one_heartbeat_text};
 ghost use Rattle.dialect_command.specs.Examples.{profile_layouts};
-ghost use Rattle.fleet_command.specs.Examples.{one_item, one_item_installed, IsInstalledOnce};
+ghost use Rattle.fleet_examples.specs.OneItem.{one_item, one_item_installed, IsInstalledOnce};
 ghost use Rattle.run_tests.specs.Restarts.{restart_between, restart_between_report};
 
 use mav_ports::{MemClock, Sink, Source, SureSink, SureSource};

@@ -1,12 +1,5 @@
 pub mod Usages
-pub mod Same
-pub mod Decoded
 pub mod Scenarios
 pub mod Completes
-pub mod Routed
-pub mod Flown
-pub mod Stationed
 pub mod Made
-pub mod Logged
-pub mod Links
 pub mod Told

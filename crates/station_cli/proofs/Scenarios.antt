@@ -8,11 +8,11 @@ use Rattle.key_file.specs.KeyText.{default_key, key_or_default}
 use Rattle.key_file.proofs.Stays.{key_steady}
 use Rattle.fleet_command.specs.Spec.{fleet_spec}
 use Rattle.fleet_command.proofs.Stays.{fleet_steady}
-use Rattle.fleet_command.proofs.Theorem.{carried}
-use Rattle.station_cli.specs.Seen.{Input, Output, input_of, around, before_status_over, promised_over}
-use Rattle.station_cli.specs.Decoding.{KeyIs}
+use Rattle.fleet_theorem.proofs.Theorem.{carried}
+use Rattle.line_commands.specs.Seen.{Input, Output, input_of, around, before_status_over, promised_over}
+use Rattle.line_commands.specs.Decoding.{KeyIs}
 use Rattle.station_cli.specs.Fleets.{or_default, Fleets, CarriesOver, FleetsCarry}
-use Rattle.station_cli.proofs.Decoded.{after_key, took_nothing, unmade}
+use Rattle.line_commands.proofs.Decoded.{after_key, took_nothing, unmade}
 
 -- the key was read, or none was named, and then the main input was played
 pub fleets_behind : (named_key frames : Bool) (runs : CommandSpec → Input → Type 0) (halted : Type 0) (key main : Input) (k : Option (List ℕ)) (used : List ℕ) (printed : Bool) → KeyIs named_key key k → used ≡ or_default k → printed ≡ frames → runs (fleet_spec used printed) main → Fleets named_key frames runs halted key main

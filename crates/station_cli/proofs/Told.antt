@@ -20,27 +20,28 @@ use Rattle.dialect_command.proofs.Stays.{reading_steady, telling_steady}
 use Rattle.fence_command.specs.Spec.{fence_spec}
 use Rattle.fence_command.proofs.Stays.{fence_steady}
 use Rattle.make_command.specs.Spec.{make_spec}
-use Rattle.make_command.proofs.Generated.{generated_theorem}
+use Rattle.make_command.proofs.Theorem.{generated_theorem}
 use Rattle.route_command.specs.Promises.{RoutePromises}
 use Rattle.route_command.specs.Routes.{RoutesBeforeStatus}
 use Rattle.route_command.proofs.Reports.{reported as route_reported}
-use Rattle.station_cli.specs.Doing.{Surroundings, surroundings, Dialects, Does, LeavesAlone, before_status, once_told}
+use Rattle.line_commands.specs.Dialects.{Dialects}
+use Rattle.station_cli.specs.Doing.{Surroundings, surroundings, Does, LeavesAlone, before_status, once_told}
 use Rattle.station_cli.specs.Fleets.{Fleets}
-use Rattle.station_cli.specs.Flying.{Devices, Flown}
+use Rattle.line_commands.specs.Flying.{Devices, Flown}
 use Rattle.station_cli.specs.Promised.{RunPromises}
-use Rattle.station_cli.specs.Reported.{Reported}
-use Rattle.station_cli.specs.Routing.{AllEnded, router_of}
-use Rattle.station_cli.specs.Seen.{Input, Output, input_of, no_input, before_status_over, promised_over}
-use Rattle.station_cli.specs.Stationing.{Stationed, file_asked}
+use Rattle.line_commands.specs.Reported.{Reported}
+use Rattle.line_commands.specs.Routing.{AllEnded, router_of}
+use Rattle.line_commands.specs.Seen.{Input, Output, input_of, no_input, before_status_over, promised_over}
+use Rattle.line_commands.specs.Stationing.{Stationed, file_asked}
 use Rattle.station_cli.proofs.Completes.{fleets_complete}
-use Rattle.station_cli.proofs.Decoded.{unmade, reported_over, decodes_reported, decodes_unread}
-use Rattle.station_cli.proofs.Flown.{drone_reported, ran_reported}
-use Rattle.station_cli.proofs.Logged.{logs_reported, logs_unread}
+use Rattle.line_commands.proofs.Decoded.{unmade, reported_over, decodes_reported, decodes_unread}
+use Rattle.line_commands.proofs.Flown.{drone_reported, ran_reported}
+use Rattle.line_commands.proofs.Logged.{logs_reported, logs_unread}
 use Rattle.station_cli.proofs.Made.{make_steady, makes_on, unmade_number}
-use Rattle.station_cli.proofs.Routed.{routing_reported, ports_wait, key_unread}
-use Rattle.station_cli.proofs.Same.{same_asked}
+use Rattle.line_commands.proofs.Routed.{routing_reported, ports_wait, key_unread}
+use Rattle.line_commands.proofs.Same.{same_asked}
 use Rattle.station_cli.proofs.Scenarios.{fleets_reported, fleets_carry, fleets_unread}
-use Rattle.station_cli.proofs.Stationed.{station_reported}
+use Rattle.line_commands.proofs.Stationed.{station_reported}
 use Rattle.station_cli.proofs.Usages.{words_reported, halted_code, usage_ended, five_only}
 
 -- the same words leave the same alone

@@ -1,5 +1,5 @@
 -- What each command does, and how it is told.
-use Rattle.std.specs.Prelude.{◌≡◌, ◌≢◌, ℕ, Bool, true, false, IsErr, Option, Result}
+use Rattle.std.specs.Prelude.{◌≡◌, ◌≢◌, ℕ, false, IsErr, Option, Result}
 use Rattle.std.specs.Result.{result_err}
 use Rattle.run_status.specs.declared.run_ends.RunEnd.{RunEnd}
 use Rattle.run_status.specs.Runs.{CommandSpec}
@@ -8,21 +8,21 @@ use Rattle.command_line.specs.declared.commands.Command.TheVariants.{Fleet, Dial
 use Rattle.command_line.specs.declared.commands.OptionName.TheVariants.{Frames, Key, Defs, File}
 use Rattle.command_line.specs.Forms.{has_given, reads_file}
 use Rattle.command_line.specs.Grammar.{Asked}
-use Rattle.dialect_command.specs.Spec.{dialect_spec, profile_spec}
 use Rattle.fence_command.specs.Spec.{fence_spec}
 use Rattle.make_command.specs.Spec.{make_spec}
 use Rattle.route_command.specs.Promises.{RoutePromises}
 use Rattle.route_command.specs.Routes.{Ports, RoutesBeforeStatus}
-use Rattle.station_cli.specs.Decoding.{Decodes}
+use Rattle.line_commands.specs.Decoding.{Decodes}
+use Rattle.line_commands.specs.Dialects.{Dialects}
 use Rattle.station_cli.specs.Fleets.{Fleets}
-use Rattle.station_cli.specs.Flying.{Devices, Flown}
-use Rattle.station_cli.specs.Logging.{Logs}
+use Rattle.line_commands.specs.Flying.{Devices, Flown}
+use Rattle.line_commands.specs.Logging.{Logs}
 use Rattle.station_cli.specs.Making.{Makes}
-use Rattle.station_cli.specs.Reported.{Reported}
-use Rattle.station_cli.specs.Routing.{Routing, WithGivenKey, router_of}
-use Rattle.station_cli.specs.Seen.{Input, Output, no_input, before_status_over, promised_over}
-use Rattle.station_cli.specs.Stationing.{Stationed, Stationing, file_asked}
-use Rattle.station_cli.specs.Wants.{keepers_asked}
+use Rattle.line_commands.specs.Reported.{Reported}
+use Rattle.line_commands.specs.Routing.{Routing, WithGivenKey, router_of}
+use Rattle.line_commands.specs.Seen.{Input, Output, no_input, before_status_over, promised_over}
+use Rattle.line_commands.specs.Stationing.{Stationed, Stationing, file_asked}
+use Rattle.line_commands.specs.Wants.{keepers_asked}
 
 -- how a run is told: before the text of its status is written, or after it
 pub record Telling : Type 1 where
@@ -72,11 +72,6 @@ surroundings key defs main devices same_ports same_keepers same_clock = record {
   same_keepers = same_keepers;
   same_clock = same_clock;
 }
-
--- `dialect --defs F`, over the definitions, and `dialect`, over no input
-abbrev pub Dialects : (named_defs : Bool) → (CommandSpec → Input → Type 0) → Input → Type 0
-Dialects true runs defs = runs dialect_spec defs
-Dialects false runs defs = runs profile_spec no_input
 
 -- `log show [--defs F] FILE`, `log filter [--defs F] SYS FILE` and `log make [--defs F] START FILE`: the run halts at the
 -- definitions, with nothing written of them and the main input unread; or they are read, if the words name them, and the

@@ -4,10 +4,10 @@ use Rattle.std.specs.declared.option.Option.{Option}
 use Rattle.key_file.specs.KeyText.{default_key, key_or_default}
 use Rattle.run_status.specs.Runs.{CommandSpec}
 use Rattle.fleet_command.specs.Spec.{fleet_spec}
-use Rattle.fleet_command.specs.Theorem.{Carries}
-use Rattle.fleet_command.specs.Completeness.{NoFault, Completes}
-use Rattle.station_cli.specs.Seen.{Input, Output, around, promised_over}
-use Rattle.station_cli.specs.Decoding.{WithKey}
+use Rattle.fleet_theorem.specs.Theorem.{Carries}
+use Rattle.fleet_theorem.specs.Completeness.{NoFault, Completes}
+use Rattle.line_commands.specs.Seen.{Input, Output, around, promised_over}
+use Rattle.line_commands.specs.Decoding.{WithKey}
 
 -- the key of all nodes: the one that is named, or the default
 abbrev pub or_default : Option (List ℕ) → List ℕ

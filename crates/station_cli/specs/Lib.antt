@@ -1,14 +1,5 @@
-pub mod Wants
 pub mod Usage
-pub mod Seen
-pub mod Decoding
 pub mod Fleets
-pub mod Routing
 pub mod Making
-pub mod Logging
-pub mod Flying
-pub mod Reported
-pub mod Ordering
-pub mod Stationing
 pub mod Doing
 pub mod Promised

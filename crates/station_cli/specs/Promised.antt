@@ -9,8 +9,8 @@ use Rattle.make_command.specs.Theorem.{GeneratedTheorem}
 use Rattle.station_cli.specs.Doing.{Surroundings, Does, LeavesAlone, once_told}
 use Rattle.station_cli.specs.Fleets.{FleetsCarry, FleetsComplete}
 use Rattle.station_cli.specs.Making.{Makes}
-use Rattle.station_cli.specs.Routing.{AllEnded}
-use Rattle.station_cli.specs.Seen.{Output}
+use Rattle.line_commands.specs.Routing.{AllEnded}
+use Rattle.line_commands.specs.Seen.{Output}
 use Rattle.station_cli.specs.Usage.{UsageReported}
 
 -- a run over these words, with its inputs, ports, stores and clock, its output and its status

@@ -4,13 +4,12 @@ ghost use Rattle.std.specs.Result.{result_err};
 ghost use Rattle.command_line.specs.Forms.{has_given};
 ghost use Rattle.command_line.specs.Lines.{given_of};
 ghost use Rattle.station_cli.specs.Fleets.{Fleets, or_default};
-ghost use Rattle.station_cli.specs.Seen.{input_of, output_of, before_status_over};
+ghost use Rattle.line_commands.specs.Seen.{input_of, output_of, before_status_over};
 
-use crate::keys::named_key;
-use crate::wants::Inputs;
 use command_line::{Line, OptionName};
 use fleet_command::fleet;
 use key_file::default_key;
+use line_commands::{Inputs, named_key};
 use mav_ports::{Sink, Source};
 use mav_sign::Key;
 use run_status::RunEnd;

@@ -6,21 +6,10 @@
 //! are of no command. Nothing here opens a file or ends a process, and only a `route` of `run` waits.
 #![tactic(auto)]
 
-mod decoding;
 mod fleets;
-mod flying;
-mod keys;
-mod logging;
 mod making;
-mod ordering;
-mod routers;
-mod routing;
 mod runs;
-mod stationing;
-mod wants;
-mod words;
 
 pub use command_line::{Files, FilesKind, Port, Socket, SocketKind, Target, WantedFault};
+pub use line_commands::{Inputs, Store, Wanted, wanted};
 pub use runs::{run, run_alone};
-pub use wants::{Inputs, Store, Wanted};
-pub use words::wanted;

@@ -7,25 +7,21 @@ ghost use Rattle.command_line.specs.Grammar.{Asked, Asks, AskNothing};
 ghost use Rattle.command_line.specs.Lines.{given_of, asked_by, LineSays};
 ghost use Rattle.command_line.specs.Nodes.{NodeSays};
 ghost use Rattle.live_node.specs.Runs.{stores_of};
-ghost use Rattle.station_cli.specs.Doing.{Dialects, Does, LeavesAlone, before_status, surroundings};
-ghost use Rattle.station_cli.specs.Flying.{devices};
+ghost use Rattle.station_cli.specs.Doing.{Does, LeavesAlone, before_status, surroundings};
+ghost use Rattle.line_commands.specs.Flying.{devices};
 ghost use Rattle.station_cli.specs.Promised.{RunPromises};
-ghost use Rattle.station_cli.specs.Routing.{AreAsked};
-ghost use Rattle.station_cli.specs.Seen.{input_of, output_of, before_status_over};
-ghost use Rattle.station_cli.specs.Wants.{keepers_asked};
+ghost use Rattle.line_commands.specs.Routing.{AreAsked};
+ghost use Rattle.line_commands.specs.Seen.{input_of, output_of, before_status_over};
+ghost use Rattle.line_commands.specs.Wants.{keepers_asked};
 
-use crate::decoding::run_decode;
 use crate::fleets::run_fleet;
-use crate::flying::run_drone;
-use crate::logging::run_log;
 use crate::making::run_make;
-use crate::routers::{Alone, Router, Threaded};
-use crate::routing::run_route;
-use crate::stationing::run_station;
-use crate::wants::{Inputs, Store};
 use command_line::{Command, Line, OptionName, Task, WantedFault, read};
-use dialect_command::{dialect, profile};
 use fence_command::fence;
+use line_commands::{
+    Alone, Inputs, Router, Store, Threaded, run_decode, run_dialect, run_drone, run_log, run_route,
+    run_station,
+};
 use mav_links::Link;
 use mav_ports::{Clock, Sink, Source};
 use plan_store::Keeper;
@@ -34,31 +30,12 @@ use std::alloc::Global;
 use std::sync::Wait;
 use std::thread::Threads;
 
-// Runs `dialect`: over the definitions if the line names them, else over the profile.
-fn run_dialect<S: Source, K: Sink>(
-    alloc: Global,
-    named: bool,
-    defs: &mut S,
-    out: &mut K,
-) -> Result<(), RunEnd>
-    ensures does { Dialects named (before_status_over (output_of K.faults K.sent out.old out.new) (result_err result))
-        (input_of S.has_ended S.faults S.idles S.left defs.old defs.new) }
-    ensures unread { named ≡ false → defs.new ≡ defs.old }
-    ensures sound { ¬ IsErrOf result RunEnd.WriteFault → K.faults out.new ≡ K.faults out.old }
-{
-    if named {
-        dialect(alloc, defs, out)
-    } else {
-        profile(alloc, out)
-    }
-}
-
-// Runs the command of a line, `route` by this router. Why it halted, if it did, isn't written.
+// Runs the command of a line, `route` by this router; a station takes the task. Why it halted, if it did, isn't written.
 fn run_line<T: Router, S: Source, K: Sink, C: Clock>(
     router: &T,
     alloc: Global,
     line: &Line,
-    task: Option<Task>,
+    task: &mut Option<Task>,
     inputs: &mut Inputs<S>,
     ports: &mut Vec<Box<dyn Link>>,
     keepers: &mut Vec<Store>,
@@ -69,7 +46,7 @@ fn run_line<T: Router, S: Source, K: Sink, C: Clock>(
     requires fits { Fits built line.now.command (map given_of line.now.settings.items)
         (map string_bytes line.now.words.items) }
     requires says { LineSays line.now }
-    requires node { NodeSays line.now.command (map string_bytes line.now.words.items) line.now.ports.items line.now.system task }
+    requires node { NodeSays line.now.command (map string_bytes line.now.words.items) line.now.ports.items line.now.system task.old }
     requires links { AreAsked (length ports.old.items) (asked_by line.now) }
     requires stores { length keepers.old.items ≡ keepers_asked (asked_by line.now) }
     ensures does { Does (before_status (output_of K.faults K.sent out.old out.new) result)
@@ -103,7 +80,7 @@ fn run_line<T: Router, S: Source, K: Sink, C: Clock>(
         Command::LogFilter => run_log(alloc, line, inputs, out),
         Command::LogMake => run_log(alloc, line, inputs, out),
         Command::Drone => run_drone(alloc, line, &mut inputs.key, ports, keepers, out, clock),
-        Command::Station => match task {
+        Command::Station => match task.take() {
             Some(task) => run_station(alloc, line, task, inputs, ports, keepers, out, clock),
             None => unreachable!("a station has a task"),
         },
@@ -155,9 +132,9 @@ fn run_words<T: Router, S: Source, K: Sink, C: Clock>(
         Err(WantedFault::Usage) => return Err(RunEnd::Usage),
         Err(WantedFault::NoMemory) => return Err(RunEnd::NoMemory),
     };
-    let task = line.task.take();
+    let mut task = line.task.take();
     run_line(
-        router, alloc, &line, task, inputs, ports, keepers, out, clock,
+        router, alloc, &line, &mut task, inputs, ports, keepers, out, clock,
     )
 }
 

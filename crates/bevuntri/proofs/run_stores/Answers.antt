@@ -1,5 +1,5 @@
 use Rattle.std.proofs.Common.{refl, map, string_bytes}
-use Rattle.station_cli.proofs.Links.{links_asked, stores_asked}
+use Rattle.line_commands.proofs.Links.{links_asked, stores_asked}
 use Rattle.bevuntri.proofs.run_stores.Goals as goal
 
 pub run_over-requires : goal.run_over-requires
@@ -7,13 +7,6 @@ run_over-requires g c = (
   c.type_bounds.sync-R,
   (λ asked asks.
       (links_asked (map string_bytes c.args.words.now) c.args.wanted.now _ c.requires.wants c.requires.links asked asks, stores_asked (map string_bytes c.args.words.now) c.args.wanted.now _ c.requires.wants (rw (c.in-Some.is, c.in_ok-push-in-Some.ensures.items, c.new-stores.ensures.items) refl) asked asks)),
-)
-
-pub run_over-requires-in-Some-2 : goal.run_over-requires-in-Some-2
-run_over-requires-in-Some-2 g c = (
-  c.type_bounds.sync-R,
-  (λ asked asks.
-      (links_asked (map string_bytes c.args.words.now) c.args.wanted.now _ c.requires.wants c.requires.links asked asks, stores_asked (map string_bytes c.args.words.now) c.args.wanted.now _ c.requires.wants (rw (c.in-Some-2.is, c.in_ok-push-in-Some-2.ensures.items, c.new-stores.ensures.items) refl) asked asks)),
 )
 
 pub run_over-requires-in-None : goal.run_over-requires-in-None

@@ -1,6 +1,6 @@
 use Rattle.std.proofs.Common.{◌≡◌, ◌∙◌, Some, IfOk, ap, subst}
 use Rattle.std.specs.Result.{result_err}
-use Rattle.make_command.specs.Sums.{sums_text}
+use Rattle.scenario_maker.specs.Sums.{sums_text}
 use Rattle.make_command.proofs.Runs.{never_stops, never_live, reports_all, report_is}
 use Rattle.make_command.proofs.making.generated_sums.Goals as goal
 

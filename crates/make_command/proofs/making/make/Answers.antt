@@ -2,7 +2,7 @@ use Rattle.std.proofs.Common.{◌∙◌}
 use Rattle.std.proofs.lemmas.Result.{err_from_is_err_and}
 use Rattle.run_status.proofs.RunsBeforeStatus.{before_status_nothing}
 use Rattle.make_command.specs.Spec.{make_spec}
-use Rattle.make_command.proofs.Generated.{generated_theorem}
+use Rattle.make_command.proofs.Theorem.{generated_theorem}
 use Rattle.make_command.proofs.Runs.{made, unmade}
 use Rattle.make_command.proofs.making.make.Goals as goal
 

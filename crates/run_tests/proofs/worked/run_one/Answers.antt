@@ -6,9 +6,9 @@ use Rattle.decode_command.proofs.Worked.{script as decoding, one_heartbeat_code,
 use Rattle.dialect_command.specs.Spec.{profile_spec}
 use Rattle.dialect_command.specs.Examples.{profile_layouts}
 use Rattle.dialect_command.proofs.Worked.{profile_output}
-use Rattle.fleet_command.specs.Examples.{one_item, one_item_installed}
-use Rattle.fleet_command.proofs.Worked.{spec as playing, one_item_code, one_item_output}
-use Rattle.station_cli.specs.Seen.{no_input}
+use Rattle.fleet_examples.specs.OneItem.{one_item, one_item_installed}
+use Rattle.fleet_examples.proofs.OneItem.{spec as playing, one_item_code, one_item_output}
+use Rattle.line_commands.specs.Seen.{no_input}
 use Rattle.run_tests.specs.Restarts.{restart_between, restart_between_report}
 use Rattle.run_tests.proofs.Restarted.{restart_code, restart_output}
 use Rattle.run_tests.proofs.Plainly.{names_nothing, asked, asked_dialect, asks_fleet, asks_decode, asks_dialect, sure_input, sure, awake, status_reported, text_reported, installed_reported, completed_reported}

@@ -1,0 +1,10 @@
+pub mod Wants
+pub mod Seen
+pub mod Decoding
+pub mod Dialects
+pub mod Routing
+pub mod Logging
+pub mod Flying
+pub mod Reported
+pub mod Ordering
+pub mod Stationing

@@ -1,0 +1,55 @@
+-- What is read of the inputs that a line of `route` names, and in which order, and what its router does after that.
+use Rattle.std.specs.Prelude.{◌≡◌, ◌⊎◌, ℕ, zero, suc, Bool, true, false, List, [], ◌∷◌, length, map}
+use Rattle.field_layout.specs.Definition.{Definition}
+use Rattle.mav_profile.specs.Profile.{profile_definitions}
+use Rattle.mav_links.specs.Links.{LinkState}
+use Rattle.run_status.specs.Runs.{CommandSpec}
+use Rattle.key_file.specs.Spec.{given_key_spec, HoldsGivenKey, TookAtMost}
+use Rattle.dialect_command.specs.Reads.{Holds}
+use Rattle.command_line.specs.declared.commands.OptionName.TheVariants.{One}
+use Rattle.command_line.specs.Forms.{has_given}
+use Rattle.command_line.specs.Grammar.{Asked}
+use Rattle.command_line.specs.Names.{port_words, turns_asked}
+use Rattle.command_line.specs.PortTexts.{is_marked}
+use Rattle.route_command.specs.Routes.{Ports, ports_of, rules_of}
+use Rattle.line_commands.specs.Seen.{Input}
+use Rattle.line_commands.specs.Decoding.{WithDefinitions}
+
+-- the key is read first: the run halts at it and reads nothing else, or it goes on with it
+abbrev pub WithGivenKey : (CommandSpec → Input → Type 0) → (halted others : Type 0) → Input → (List ℕ → Type 0) → Type 0
+WithGivenKey runs halted others key next =
+    (runs given_key_spec key × halted × TookAtMost 67 key.left_before key.left_after × others)
+    ⊎ ((bytes : List ℕ) × HoldsGivenKey key.spent key.left_before key.left_after bytes × next bytes)
+
+-- then the definitions, if they are named; a run that halts at either leaves the ports as they were; and then the router runs
+abbrev pub Routing : (named_defs : Bool) → (CommandSpec → Input → Type 0) → (halted unmoved : Type 0) → (List ℕ → List Definition → Type 0) → (key defs : Input) → Type 0
+Routing named_defs runs halted unmoved routed key defs =
+    WithGivenKey runs halted (defs.unread × unmoved) key (λ bytes. WithDefinitions named_defs runs halted unmoved defs (λ ds. routed bytes ds))
+
+-- so many flags: those given, and then none
+abbrev pub pad : ℕ → List Bool → List Bool
+pad zero flags = []
+pad (suc n) [] = false ∷ pad n []
+pad (suc n) (flag ∷ flags) = flag ∷ pad n flags
+
+-- which of eight ports are open: those whose words begin with `open:`
+abbrev pub open_ports : List (List ℕ) → List Bool
+open_ports words = pad 8 (map is_marked words)
+
+-- the router that a line asks for, by a key and definitions, before and after its run
+abbrev pub router_of : {A : Type 0} → (A → LinkState) → Asked → (before after : List A) → List ℕ → List Definition → Ports
+router_of state asked before after key known =
+    ports_of state (rules_of key known (open_ports asked.plain) (length before)) (has_given One asked.settings) (turns_asked asked.settings) before after
+
+-- the definitions that were read, or those of the profile
+abbrev pub KnownIs : Bool → Input → List Definition → Type 0
+KnownIs false defs ds = (ds ≡ profile_definitions) × defs.unread
+KnownIs true defs ds = Holds defs.spent defs.left_before defs.left_after ds
+
+-- each input that a line of `route` names was read to its end
+abbrev pub AllEnded : Bool → (key defs : Input) → Type 0
+AllEnded named_defs key defs = key.spent × (named_defs ≡ true → defs.spent)
+
+-- as many links as the words name ports
+abbrev pub AreAsked : ℕ → Asked → Type 0
+AreAsked links asked = links ≡ length (port_words asked.command asked.plain)

@@ -1,0 +1,101 @@
+// The commands on logs, with the definitions that their line names.
+ghost use Rattle.std.specs.Prelude.{◌≡◌, true, false, map, string_bytes, IsErr, IsErrOf};
+ghost use Rattle.std.specs.Result.{result_err};
+ghost use Rattle.command_line.specs.Forms.{has_given};
+ghost use Rattle.command_line.specs.Lines.{given_of, LineSays};
+ghost use Rattle.line_commands.specs.Logging.{Logs, log_spec};
+ghost use Rattle.line_commands.specs.Seen.{input_of, output_of, before_status_over};
+
+use crate::wants::Inputs;
+use command_line::{Command, Line, OptionName};
+use dialect::Dialect;
+use dialect_command::read_definitions;
+use mav_log::{run_filter, run_make, run_show};
+use mav_ports::{Sink, Source};
+use run_status::RunEnd;
+use std::alloc::Global;
+
+// Runs the command over the main input.
+fn log_by<S: Source, K: Sink>(
+    alloc: Global,
+    line: &Line,
+    known: Dialect,
+    main: &mut S,
+    out: &mut K,
+) -> Result<(), RunEnd>
+    requires says { LineSays line.now }
+    ensures runs { before_status_over (output_of K.faults K.sent out.old out.new) (result_err result)
+        (log_spec line.now.command known line.now.number)
+        (input_of S.has_ended S.faults S.idles S.left main.old main.new) }
+    ensures sound { ¬ IsErrOf result RunEnd.WriteFault → K.faults out.new ≡ K.faults out.old }
+{
+    match line.command {
+        Command::LogFilter => run_filter(alloc, known, line.number as u8, main, out),
+        Command::LogMake => run_make(alloc, known, line.number, main, out),
+        _ => run_show(alloc, known, main, out),
+    }
+}
+
+// Reads the definitions, and runs the command by them.
+fn log_named<S: Source, K: Sink>(
+    alloc: Global,
+    line: &Line,
+    inputs: &mut Inputs<S>,
+    out: &mut K,
+) -> Result<(), RunEnd>
+    requires says { LineSays line.now }
+    ensures logs { Logs line.now.command (map string_bytes line.now.words.items) true
+        (before_status_over (output_of K.faults K.sent out.old out.new) (result_err result)) (IsErr result)
+        (input_of S.has_ended S.faults S.idles S.left inputs.old.defs inputs.new.defs)
+        (input_of S.has_ended S.faults S.idles S.left inputs.old.main inputs.new.main) }
+    ensures unread_key { inputs.new.key ≡ inputs.old.key }
+    ensures sound { ¬ IsErrOf result RunEnd.WriteFault → K.faults out.new ≡ K.faults out.old }
+{
+    let known = read_definitions(alloc, &mut inputs.defs)?;
+    log_by(alloc, line, known, &mut inputs.main, out)
+}
+
+// Runs the command by the profile.
+fn log_unnamed<S: Source, K: Sink>(
+    alloc: Global,
+    line: &Line,
+    inputs: &mut Inputs<S>,
+    out: &mut K,
+) -> Result<(), RunEnd>
+    requires says { LineSays line.now }
+    ensures logs { Logs line.now.command (map string_bytes line.now.words.items) false
+        (before_status_over (output_of K.faults K.sent out.old out.new) (result_err result)) (IsErr result)
+        (input_of S.has_ended S.faults S.idles S.left inputs.old.defs inputs.new.defs)
+        (input_of S.has_ended S.faults S.idles S.left inputs.old.main inputs.new.main) }
+    ensures unread_defs { inputs.new.defs ≡ inputs.old.defs }
+    ensures unread_key { inputs.new.key ≡ inputs.old.key }
+    ensures sound { ¬ IsErrOf result RunEnd.WriteFault → K.faults out.new ≡ K.faults out.old }
+{
+    let known = Dialect::profile(alloc)?;
+    log_by(alloc, line, known, &mut inputs.main, out)
+}
+
+/// Shows, filters or makes a log. Why the run halted, if it did, isn't written.
+pub fn run_log<S: Source, K: Sink>(
+    alloc: Global,
+    line: &Line,
+    inputs: &mut Inputs<S>,
+    out: &mut K,
+) -> Result<(), RunEnd>
+    requires says { LineSays line.now }
+    ensures logs { Logs line.now.command (map string_bytes line.now.words.items)
+        (has_given OptionName.Defs (map given_of line.now.settings.items))
+        (before_status_over (output_of K.faults K.sent out.old out.new) (result_err result)) (IsErr result)
+        (input_of S.has_ended S.faults S.idles S.left inputs.old.defs inputs.new.defs)
+        (input_of S.has_ended S.faults S.idles S.left inputs.old.main inputs.new.main) }
+    ensures unread_defs { has_given OptionName.Defs (map given_of line.now.settings.items) ≡ false
+        → inputs.new.defs ≡ inputs.old.defs }
+    ensures unread_key { inputs.new.key ≡ inputs.old.key }
+    ensures sound { ¬ IsErrOf result RunEnd.WriteFault → K.faults out.new ≡ K.faults out.old }
+{
+    if line.has(OptionName::Defs) {
+        log_named(alloc, line, inputs, out)
+    } else {
+        log_unnamed(alloc, line, inputs, out)
+    }
+}

@@ -1,9 +1,0 @@
-use Rattle.std.proofs.Common.{◌≡◌, ◌+◌, ◌≤◌, drop, map}
-use Rattle.make_command.specs.Sums.{frames_in}
-use Rattle.make_command.proofs.lines.frames_in.Given as goal
-
-abbrev pub invariant-loop-line : goal.invariant-loop-line
-invariant-loop-line l = record {
-  few : l.count ≤ l.line-index;
-  rest : l.count + frames_in (map (λ line. line.now) (drop l.line-index l.lines)) ≡ frames_in (map (λ line. line.now) l.lines);
-}

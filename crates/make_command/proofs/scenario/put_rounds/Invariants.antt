@@ -1,7 +1,0 @@
-use Rattle.std.proofs.Common.{◌≡◌, ◌++◌, ◌+◌, ◌-◌, string_bytes}
-use Rattle.make_command.specs.Generator.{lines_from, rounds, text_of}
-use Rattle.make_command.proofs.scenario.put_rounds.Given as goal
-
-abbrev pub invariant-loop-index : goal.invariant-loop-index
-invariant-loop-index l =
-    string_bytes l.text ++ text_of (lines_from (rounds - l.index) (l.index + 1) l.state) ≡ string_bytes l.initial.text ++ text_of (lines_from rounds 1 l.number)

@@ -1,0 +1,3 @@
+pub mod Generator
+pub mod Sums
+pub mod Generated
