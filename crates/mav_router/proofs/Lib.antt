@@ -13,3 +13,5 @@ pub mod Joined
 pub mod Moving
 pub mod Served
 pub mod HeldFrames
+pub mod Pages
+pub mod Admissions

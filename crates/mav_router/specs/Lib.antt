@@ -11,3 +11,6 @@ pub mod Parts
 pub mod Crews
 pub mod Threads
 pub mod Spans
+pub mod PageState
+pub mod Pages
+pub mod Admitting

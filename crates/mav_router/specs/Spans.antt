@@ -3,7 +3,7 @@ use Rattle.std.specs.Prelude.{ℕ, ◌≡◌, ◌+◌, ◌≤◌, List, ◌++◌
 use Rattle.mav_frame.specs.Packet.{Packet}
 use Rattle.mav_frame.specs.Raw.{IsFrame, packet_in}
 use Rattle.mav_router.specs.declared.spans.Span.{Span}
-use Rattle.mav_router.specs.declared.journal.Head.{Head}
+use Rattle.mav_router.specs.declared.page.Head.{Head}
 use Rattle.mav_router.specs.declared.entries.Entry.{Entry}
 use Rattle.mav_router.specs.declared.found.FoundFrame.{FoundFrame}
 use Rattle.mav_router.specs.Found.{Judged}

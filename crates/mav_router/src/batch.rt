@@ -1,9 +1,13 @@
 // What waits for a port, put together to be written at once.
-ghost use Rattle.std.specs.Prelude.{◌≡◌, ◌≤◌, ◌<◌, ◌+◌, ◌++◌, ℕ, [], length, take, true, false, IfOk};
+ghost use Rattle.std.specs.Prelude.{◌≡◌, ◌≤◌, ◌<◌, ◌+◌, ◌++◌, ℕ, [], length, take, true, false, IfOk, List};
 ghost use Rattle.mav_frame.specs.Encoding.{encoding};
 ghost use Rattle.mav_router.specs.Journal.{frames_to};
+ghost use Rattle.mav_frame.specs.Packet.{Packet};
+ghost use Rattle.mav_router.specs.declared.entries.Entry.{Entry};
 ghost use Rattle.mav_router.specs.Batches.{Gathered};
+ghost use Rattle.mav_router.specs.Pages.{GathersTo, end_of_page};
 
+use crate::sealed::SealedPage;
 use crate::switch::next_index;
 use crate::{Journal, NoMemory};
 use mav_frame::RawFrame;
@@ -47,7 +51,7 @@ impl Batch {
         &self.bytes
     }
 
-    fn clear(&mut self)
+    pub(crate) fn clear(&mut self)
         ensures { self.new ≡ [] }
     {
         self.bytes.clear();
@@ -91,5 +95,46 @@ impl Batch {
             *from = index + 1;
         }
         false
+    }
+
+    // Appends frames that go out at the port, of the entries of a page from `at` on, as many as surely fit. Moves `at` past
+    // the entries that were looked through, and returns whether these were all.
+    fn gather_entries(&mut self, page: &SealedPage, port: u8, at: &mut usize) -> bool
+        requires from { 1 ≤ port }
+        requires to { port ≤ 8 }
+        requires within { at.old ≤ length page.now.entries }
+        ensures within { at.new ≤ length page.now.entries }
+        ensures all { result ≡ true → at.new ≡ length page.now.entries }
+        ensures gathered { (first given : List Packet) → Gathered first (given ++ frames_to port (take at.old page.now.entries)) self.old
+            → Gathered first (given ++ frames_to port (take at.new page.now.entries)) self.new }
+    {
+        while *at < page.len() {
+            if !self.has_room() {
+                return false;
+            }
+            if page.outcome(*at).ways.has(port) {
+                self.push(&page.frame(*at));
+            }
+            *at += 1;
+        }
+        true
+    }
+
+    /// The same of the entries of a page from `from` on, by their indices in the journal.
+    pub(crate) fn gather_page(&mut self, page: &SealedPage, port: u8, from: &mut usize) -> bool
+        requires from { 1 ≤ port }
+        requires to { port ≤ 8 }
+        ensures gathered { (before after : List Entry) (first : List Packet) → length before ≡ page.now.start → page.now.start ≤ from.old
+            → GathersTo false port (before ++ (page.now.entries ++ after)) (end_of_page page.now) from.old first self.old
+            → GathersTo result port (before ++ (page.now.entries ++ after)) (end_of_page page.now) from.new first self.new }
+    {
+        let start = page.start();
+        if *from < start || *from >= page.end() {
+            return true;
+        }
+        let mut at = *from - start;
+        let all = self.gather_entries(page, port, &mut at);
+        *from = start + at;
+        all
     }
 }

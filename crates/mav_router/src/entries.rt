@@ -13,6 +13,14 @@ pub struct Entry {
     pub ways: Ways,
 }
 
+/// The port that a frame came in at, its verdict, and the ports that it goes to.
+#[derive(Clone, Copy)]
+pub struct Outcome {
+    pub port: u8,
+    pub admit: Admit,
+    pub ways: Ways,
+}
+
 /// Why a switch takes no more frames.
 #[derive(Clone, Copy)]
 pub enum SwitchFault {

@@ -9,6 +9,7 @@ use crate::lane::Lane;
 use crate::moves::{put_last, take_first};
 use crate::parts::{Halt, Part, Room, Side};
 use crate::routing::new_lanes;
+use crate::shared::SharedPages;
 use crate::signals::Signals;
 use crate::{NoMemory, RouterRules, Switch};
 use dialect::Dialect;
@@ -27,7 +28,12 @@ pub(crate) struct Stock<L> {
 fn new_room(alloc: Global) -> Result<Room, NoMemory> {
     let batch = Batch::new(alloc)?;
     let found = FoundFrames::new(alloc)?;
-    Ok(Room { batch, found })
+    let shared = SharedPages::new(alloc)?;
+    Ok(Room {
+        batch,
+        found,
+        shared,
+    })
 }
 
 fn new_rooms(alloc: Global, count: usize) -> Result<Vec<Room>, NoMemory>

@@ -1,74 +1,89 @@
 // The journal of a router.
-ghost use Rattle.std.specs.Prelude.{◌≡◌, ◌<◌, ◌++◌, ◌∷◌, [], List, length, slice_get, Some, OnOk, OnErr};
-ghost use Rattle.link_table.specs.Routing.{no_ways};
-ghost use Rattle.mav_sign.specs.declared.admission.Admit.TheVariants.{Unsigned};
+ghost use Rattle.std.specs.Prelude.{◌≡◌, ◌<◌, ◌≤◌, ◌+◌, ◌-◌, ◌++◌, ◌∷◌, [], List, length, replicate, slice_get, Some, true, IfOk, IfErr, OnOk, OnErr, IsErrOf, vec_len, vec_capacity};
+ghost use Rattle.mav_sign.specs.Signing.{verified};
 ghost use Rattle.mav_router.specs.declared.entries.Entry.{Entry};
-ghost use Rattle.mav_router.specs.declared.journal.Head.{Head};
+ghost use Rattle.mav_router.specs.Admitting.{Judges, entry_by};
+ghost use Rattle.mav_router.specs.Faults.{IsSwitchFault};
+ghost use Rattle.mav_router.specs.Pages.{entries_in_pages, AreIndexed, IsIn, IsWindow};
 
+use crate::admitting::admit_in;
+use crate::entries::Outcome;
+use crate::judging::Judgement;
 use crate::moves::put_last;
-use crate::spans::{Span, append, frame_in};
-use crate::{Entry, NoMemory};
-use link_table::Ways;
+use crate::page::Page;
+use crate::sealed::SealedPage;
+use crate::shared::SharedPages;
+use crate::{Entry, NoMemory, RouterRules, SwitchFault};
+use link_table::LinkTable;
 use mav_frame::RawFrame;
-use mav_sign::Admit;
+use mav_sign::Stamps;
 use std::alloc::Global;
 use std::marker::Model;
+use std::mem;
 
-/// The port that a frame came in at, its verdict, and the ports that it goes to.
-#[derive(Clone, Copy)]
-pub struct Outcome {
-    pub port: u8,
-    pub admit: Admit,
-    pub ways: Ways,
-}
+// A journal has at most so many entries.
+const ENTRY_LIMIT: usize = 1_000_000;
 
-// An entry without the bytes of its frame.
-#[derive(Clone, Copy)]
-struct Head {
-    span: Span,
-    outcome: Outcome,
-}
-
-/// The entries of a router, which contracts see as their list. Their frames are kept as the bytes that came in, one after
-/// another.
+/// The entries of a router, which contracts see as their list. They stand in pages: those that were sealed never change
+/// again, so that other threads read them while the last one grows.
 #[derive(Drop)]
 pub struct Journal {
-    bytes: Vec<u8>,
-    heads: Vec<Head>,
+    sealed: Vec<SealedPage>,
+    // For each sealed entry the number of its page.
+    page_of: Vec<u32>,
+    last: Page,
+    alloc: Global,
 }
 
 impl Model for Journal {
-    ghost use Rattle.std.specs.Prelude.{List};
+    ghost use Rattle.std.specs.Prelude.{List, ◌+◌, ◌++◌, ◌≤◌, length};
     ghost use Rattle.mav_router.specs.declared.entries.Entry.{Entry};
-    ghost use Rattle.mav_router.specs.Spans.{entries_of, AreHeld};
+    ghost use Rattle.mav_router.specs.Pages.{entries_in_pages, AreIndexed};
 
     ghost Value = { List Entry };
 
-    ghost view = { λ j. entries_of j.bytes.items j.heads.items };
+    ghost view = { λ j. entries_in_pages j.sealed.items ++ j.last };
 
-    ghost invariant = { λ j. AreHeld j.bytes.items j.heads.items };
+    ghost invariant = { λ j. AreIndexed j.sealed.items j.page_of.items
+        × (length j.page_of.items + length j.last ≤ 1000000) };
 }
 
-fn head_at(heads: &[Head], index: usize) -> Head
-    requires { index < length heads.now }
-    ensures { slice_get heads.now index ≡ Some result }
+// Allocates room for one more page of so many entries.
+fn reserve_page(
+    sealed: &mut Vec<SealedPage>,
+    page_of: &mut Vec<u32>,
+    count: usize,
+) -> Result<(), NoMemory>
+    ensures sealed { sealed.new.items ≡ sealed.old.items }
+    ensures page_of { page_of.new.items ≡ page_of.old.items }
+    ensures room { OnOk result (vec_len sealed.new < vec_capacity sealed.new) }
+    ensures entry_room { OnOk result (vec_len page_of.new + count ≤ vec_capacity page_of.new) }
 {
-    heads[index]
+    sealed.reserve(1)?;
+    page_of.reserve(count)
 }
 
-// Sets what became of the last frame.
-fn set_last(heads: &mut Vec<Head>, admit: Admit, ways: Ways)
-    requires { 0 < length heads.old.items }
-    ensures { (before : List Head) (last : Head) → heads.old.items ≡ before ++ last ∷ []
-        → heads.new.items ≡ before ++ (record last { outcome = record last.outcome { admit = admit; ways = ways } }) ∷ [] }
+// Appends the number of a page for each of its entries.
+fn put_numbers(page_of: &mut Vec<u32>, number: u32, count: usize)
+    requires { vec_len page_of.old + count ≤ vec_capacity page_of.old }
+    ensures { page_of.new.items ≡ page_of.old.items ++ replicate count number }
 {
-    let at = heads.len() - 1;
-    let head = head_at(heads, at);
-    let port = head.outcome.port;
-    heads[at] = Head {
-        span: head.span,
-        outcome: Outcome { port, admit, ways },
-    };
+    for at in 0..count {
+        let _ = at;
+        put_last(page_of, number);
+    }
+}
+
+// The sealed page with this entry.
+fn page_with<'a>(sealed: &'a [SealedPage], page_of: &[u32], index: usize) -> &'a SealedPage
+    requires within { index < length page_of.now }
+    requires indexed { AreIndexed sealed.now page_of.now }
+    ensures inside { IsIn result.now index }
+    ensures entry { (entry : Entry) → slice_get (entries_in_pages sealed.now) index ≡ Some entry
+        → slice_get result.now.entries (index - result.now.start) ≡ Some entry }
+{
+    let number = page_of[index];
+    &sealed[number as usize]
 }
 
 impl Journal {
@@ -76,8 +91,10 @@ impl Journal {
         ensures { result ≡ [] }
     {
         Journal {
-            bytes: Vec::new(alloc),
-            heads: Vec::new(alloc),
+            sealed: Vec::new(alloc),
+            page_of: Vec::new(alloc),
+            last: Page::new(alloc),
+            alloc,
         }
     }
 
@@ -85,7 +102,7 @@ impl Journal {
     pub fn len(&self) -> usize
         ensures { result ≡ length self.now }
     {
-        self.heads.len()
+        self.page_of.len() + self.last.len()
     }
 
     /// The frame of the entry at an index, from 0.
@@ -93,7 +110,12 @@ impl Journal {
         requires { index < length self.now }
         ensures { (entry : Entry) → slice_get self.now index ≡ Some entry → result ≡ entry.frame }
     {
-        frame_in(&self.bytes, head_at(&self.heads, index).span)
+        let before = self.page_of.len();
+        if index >= before {
+            return self.last.frame(index - before);
+        }
+        let sealed = page_with(&self.sealed, &self.page_of, index);
+        sealed.frame(index - sealed.start())
     }
 
     /// What became of it.
@@ -102,7 +124,12 @@ impl Journal {
         ensures { (entry : Entry) → slice_get self.now index ≡ Some entry
             → result ≡ record { port = entry.port; admit = entry.admit; ways = entry.ways } }
     {
-        head_at(&self.heads, index).outcome
+        let before = self.page_of.len();
+        if index >= before {
+            return self.last.outcome(index - before);
+        }
+        let sealed = page_with(&self.sealed, &self.page_of, index);
+        sealed.outcome(index - sealed.start())
     }
 
     /// The entry at an index, from 0.
@@ -119,28 +146,69 @@ impl Journal {
         }
     }
 
-    /// Appends a frame that came in at a port. Until `judge_last` it counts as refused.
-    pub(crate) fn add(&mut self, port: u8, frame: &RawFrame<'_>) -> Result<(), NoMemory>
-        ensures added { OnOk result (self.new ≡ self.old ++ (record { port = port; frame = frame.now; admit = Unsigned; ways = no_ways }) ∷ []) }
-        ensures unchanged { OnErr result (self.new ≡ self.old) }
+    /// Appends the entry of a frame that came in at a port and was judged by these rules.
+    pub(crate) fn admit(
+        &mut self,
+        rules: &RouterRules<'_>,
+        stamps: &mut Stamps,
+        table: &mut LinkTable,
+        port: u8,
+        frame: &RawFrame<'_>,
+        judgement: Judgement,
+    ) -> Result<Outcome, SwitchFault>
+        requires from { 1 ≤ port }
+        requires to { port ≤ table.old.ports }
+        requires few { port ≤ 8 }
+        requires verifies { judgement.verifies ≡ verified rules.now.key frame.now frame.now.block }
+        ensures entry { IfOk result (λ outcome. self.new ≡ self.old ++ entry_by frame.now outcome ∷ []) }
+        ensures judges { IfOk result (λ outcome. Judges rules.now port frame.now judgement.target stamps.old stamps.new table.old table.new outcome) }
+        ensures few { OnOk result (length self.new ≤ 1_000_000) }
+        ensures unchanged { OnErr result ((self.new ≡ self.old) × (stamps.new ≡ stamps.old) × (table.new ≡ table.old)) }
+        ensures full { length self.old ≡ 1_000_000 → IsErrOf result (SwitchFault.Full 1000000) }
+        ensures fault { IfErr result (λ fault. IsSwitchFault fault self.old) }
     {
-        self.heads.reserve(1)?;
-        let span = append(&mut self.bytes, frame)?;
-        let outcome = Outcome {
-            port,
-            admit: Admit::Unsigned,
-            ways: Ways::none(),
-        };
-        put_last(&mut self.heads, Head { span, outcome });
-        Ok(())
+        if self.len() >= ENTRY_LIMIT {
+            return Err(SwitchFault::Full { entries: 1_000_000 });
+        }
+        match admit_in(&mut self.last, rules, stamps, table, port, frame, judgement) {
+            Ok(outcome) => Ok(outcome),
+            Err(_) => Err(SwitchFault::NoMemory),
+        }
     }
 
-    /// Sets the verdict on the last frame, and the ports that it goes to.
-    pub(crate) fn judge_last(&mut self, admit: Admit, ways: Ways)
-        requires { 0 < length self.old }
-        ensures { (before : List Entry) (last : Entry) → self.old ≡ before ++ last ∷ []
-            → self.new ≡ before ++ (record last { admit = admit; ways = ways }) ∷ [] }
+    /// Seals the entries that were appended since the last time, so that they can be shared. If memory is out they stay as
+    /// they are.
+    pub(crate) fn seal(&mut self)
+        ensures { self.new ≡ self.old }
     {
-        set_last(&mut self.heads, admit, ways);
+        let count = self.last.len();
+        let Ok(()) = reserve_page(&mut self.sealed, &mut self.page_of, count) else {
+            return;
+        };
+        let number = self.sealed.len();
+        if count == 0 || number >= ENTRY_LIMIT {
+            return;
+        }
+        let page = mem::replace(&mut self.last, Page::new(self.alloc));
+        match SealedPage::new(self.alloc, self.page_of.len(), page) {
+            Ok(sealed) => {
+                put_numbers(&mut self.page_of, number as u32, count);
+                put_last(&mut self.sealed, sealed);
+            }
+            Err(page) => self.last = page,
+        }
+    }
+
+    /// Shares sealed pages from that of an index on, as many as there is room for, in place of what was shared. Returns
+    /// whether no more are sealed.
+    pub(crate) fn share(&self, from: usize, shared: &mut SharedPages) -> bool
+        requires { from ≤ length self.now }
+        ensures { IsWindow self.now from shared.new }
+    {
+        shared.clear();
+        if from >= self.page_of.len() {
+            return true;
+        }
+        shared.take(&self.sealed, self.page_of[from] as usize)
     }
 }

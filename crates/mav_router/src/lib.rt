@@ -10,6 +10,7 @@
 //! to it (`running`), and has the switch admit in one turn the frames that it found and judged before (`turns`).
 #![tactic(auto)]
 
+mod admitting;
 mod batch;
 mod closing;
 mod crew;
@@ -26,11 +27,14 @@ mod lane;
 mod lanes;
 pub mod laws;
 mod moves;
+mod page;
 mod parts;
 mod rounds;
 mod routing;
 mod rules;
 mod running;
+mod sealed;
+mod shared;
 mod signals;
 mod spans;
 mod switch;
@@ -39,9 +43,9 @@ mod together;
 mod turns;
 
 pub use ends::{How, PortEnd, RouteEnd, RouteFault, RoutePlan};
-pub use entries::{Entry, SwitchFault};
+pub use entries::{Entry, Outcome, SwitchFault};
 pub use history::SwitchEvent;
-pub use journal::{Journal, Outcome};
+pub use journal::Journal;
 pub use routing::{route_links, route_one};
 pub use rules::RouterRules;
 use std::alloc::AllocError;

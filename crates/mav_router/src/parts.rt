@@ -2,6 +2,7 @@
 use crate::batch::Batch;
 use crate::found::FoundFrames;
 use crate::lane::Lane;
+use crate::shared::SharedPages;
 use crate::{Switch, SwitchFault};
 use mav_links::Link;
 use turnstile::TurnSeat;
@@ -22,6 +23,7 @@ pub(crate) enum Halt {
 pub(crate) struct Room {
     pub(crate) batch: Batch,
     pub(crate) found: FoundFrames,
+    pub(crate) shared: SharedPages,
 }
 
 /// A port with its link, without its seat: `taken` is how many entries of the journal were looked through for it.

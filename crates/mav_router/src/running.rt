@@ -12,7 +12,7 @@ use crate::lanes::{read_lane, write_batch};
 use crate::parts::{Halt, Part};
 use crate::routing::{PIECE, is_live};
 use crate::signals::Signals;
-use crate::turns::{admit_found, gather_waiting};
+use crate::turns::{admit_found, share_waiting};
 use crate::{RouterRules, Switch, SwitchFault};
 use mav_links::Link;
 use mav_stream::Scanner;
@@ -110,17 +110,21 @@ fn write_some<'a, R: Wait, L: Link>(
     ensures turned { (turns : ℕ) → HadTurns part.old.side.lane turns → HadTurns part.new.side.lane turns }
 {
     let side = &mut part.side;
-    let all = gather_waiting(
+    let shared = share_waiting(
         rt,
         turn,
         rules,
         &mut part.seat,
         part.port,
-        &mut side.taken,
-        &mut side.room.batch,
+        side.taken,
+        &mut side.room.shared,
     );
+    let gathered = side
+        .room
+        .shared
+        .gather(part.port, &mut side.taken, &mut side.room.batch);
     write_batch(&mut side.lane, &mut side.link, side.room.batch.bytes());
-    all
+    shared & gathered
 }
 
 // Writes until nothing waits for the port, unless it failed or fails.

@@ -21,9 +21,6 @@ use mav_sign::{Admit, Key, Stamps};
 use std::alloc::Global;
 use std::marker::Model;
 
-// A journal has at most so many entries.
-const ENTRY_LIMIT: usize = 1_000_000;
-
 /// It admits the frames that come in at the ports of a router, keeps an entry of each, and gives each port the frames
 /// that go out there, in the order in which they came in.
 #[derive(Drop)]
@@ -55,73 +52,6 @@ impl<'a> Model for Switch<'a> {
         × IsJournal s.rules [] s.journal
         × ((k : ℕ) → slice_index s.seen k ≤ length s.journal)
         × (length s.journal ≤ 1000000) };
-}
-
-// The verdict on a frame at a port that is open or not.
-fn verdict(
-    stamps: &mut Stamps,
-    key: &Key,
-    is_open: bool,
-    frame: &RawFrame<'_>,
-    verifies: bool,
-) -> Admit
-    requires { verifies ≡ verified key.now frame.now frame.now.block }
-    ensures verdict { (history : List Tried) → Represents stamps.old history
-        → result ≡ verdict_on key.now is_open history frame.now }
-    ensures history { (history : List Tried) → Represents stamps.old history
-        → Represents stamps.new (history ++ listed (tried_as frame.now result)) }
-{
-    if frame.has_block() {
-        return stamps.admit_judged(key, frame, verifies);
-    }
-    if is_open {
-        Admit::Admitted
-    } else {
-        Admit::Unsigned
-    }
-}
-
-// The ports that an admitted frame goes to, which teaches where its sender is.
-fn route(table: &mut LinkTable, plain: Ways, port: u8, target: Name, frame: &RawFrame<'_>) -> Ways
-    requires from { 1 ≤ port }
-    requires to { port ≤ table.old.ports }
-    ensures ports { table.new.ports ≡ table.old.ports }
-    ensures ways { (learned : List Learned) → StandsFor table.old learned
-        → result ≡ ways_by true (is_unsigned frame.now) plain (ways_of table.old.ports learned port target) }
-    ensures learned { (learned : List Learned) → StandsFor table.old learned
-        → StandsFor table.new (learned ++ listed (learned_at true port frame.now.from)) }
-{
-    let ways = table.ways(port, target);
-    table.learn(port, frame.from());
-    if frame.has_block() {
-        ways
-    } else {
-        ways.common(plain)
-    }
-}
-
-// The ports that a frame goes to by its verdict.
-fn route_by(
-    table: &mut LinkTable,
-    admit: Admit,
-    plain: Ways,
-    port: u8,
-    target: Name,
-    frame: &RawFrame<'_>,
-) -> Ways
-    requires from { 1 ≤ port }
-    requires to { port ≤ table.old.ports }
-    ensures ports { table.new.ports ≡ table.old.ports }
-    ensures ways { (learned : List Learned) → StandsFor table.old learned
-        → result ≡ ways_by (is_admitted admit) (is_unsigned frame.now) plain (ways_of table.old.ports learned port target) }
-    ensures learned { (learned : List Learned) → StandsFor table.old learned
-        → StandsFor table.new (learned ++ listed (learned_at (is_admitted admit) port frame.now.from)) }
-{
-    if let Admit::Admitted = admit {
-        route(table, plain, port, target, frame)
-    } else {
-        Ways::none()
-    }
 }
 
 // The index of the next entry that goes out at the port, or the number of entries.
@@ -228,19 +158,17 @@ impl<'a> Switch<'a> {
         ensures full { length self.old.journal ≡ 1_000_000 → IsErrOf result (SwitchFault.Full 1000000) }
         ensures fault { IfErr result (λ fault. IsSwitchFault fault self.old.journal) }
     {
-        if self.journal.len() >= ENTRY_LIMIT {
-            return Err(SwitchFault::Full { entries: 1_000_000 });
+        match self.journal.admit(
+            &self.rules,
+            &mut self.stamps,
+            &mut self.table,
+            port,
+            frame,
+            judgement,
+        ) {
+            Ok(outcome) => Ok(outcome.admit),
+            Err(fault) => Err(fault),
         }
-        let Ok(()) = self.journal.add(port, frame) else {
-            return Err(SwitchFault::NoMemory);
-        };
-        let plain = self.rules.plain();
-        let is_open = plain.has(port);
-        let key = self.rules.key();
-        let admit = verdict(&mut self.stamps, key, is_open, frame, judgement.verifies);
-        let ways = route_by(&mut self.table, admit, plain, port, judgement.target, frame);
-        self.journal.judge_last(admit, ways);
-        Ok(admit)
     }
 
     /// The next frame that goes out at the port and wasn't taken yet.
@@ -296,6 +224,13 @@ impl<'a> Switch<'a> {
         let all = batch.gather(&self.journal, port, &mut from);
         self.seen[at] = from;
         all
+    }
+
+    /// Seals the entries that were added since the last time, so that their pages can be shared.
+    pub(crate) fn seal(&mut self)
+        ensures { self.new ≡ self.old }
+    {
+        self.journal.seal();
     }
 
     // How many entries there are.

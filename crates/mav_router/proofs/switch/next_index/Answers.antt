@@ -2,7 +2,7 @@ use Rattle.std.proofs.Common.{arith, ◌≡◌, ◌<◌, ◌∙◌, ap, sym, len
 use Rattle.std.proofs.lemmas.Option.{slice_get_past, get_or_from_slice_get}
 use Rattle.link_table.specs.Routing.{has_port}
 use Rattle.mav_router.specs.declared.entries.Entry.{Entry}
-use Rattle.mav_router.specs.declared.journal.Outcome.{Outcome}
+use Rattle.mav_router.specs.declared.entries.Outcome.{Outcome}
 use Rattle.mav_router.proofs.Journals.{element, passed_over}
 use Rattle.mav_router.proofs.switch.next_index.Goals as goal
 

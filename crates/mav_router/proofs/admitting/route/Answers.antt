@@ -2,7 +2,7 @@ use Rattle.std.proofs.Common.{◌≡◌, ◌∙◌, ap, sym, Bool, true, false}
 use Rattle.link_table.specs.Routing.{common_ways, ways_of}
 use Rattle.mav_router.specs.Journal.{ways_by, is_unsigned}
 use Rattle.mav_router.proofs.Journals.{none_if_not, some_if}
-use Rattle.mav_router.proofs.switch.route.Goals as goal
+use Rattle.mav_router.proofs.admitting.route.Goals as goal
 
 pub returns-then-has_block-clause-ways : goal.returns-then-has_block-clause-ways
 returns-then-has_block-clause-ways c = λ learned of.

@@ -2,11 +2,11 @@ use Rattle.std.proofs.Common.{◌≡◌, ◌∙◌, ◌<◌, ◌++◌, ◌∷◌
 use Rattle.std.proofs.lemmas.List.{length-map, map-append}
 use Rattle.mav_frame.specs.Packet.{Packet}
 use Rattle.mav_router.specs.declared.entries.Entry.{Entry}
-use Rattle.mav_router.specs.declared.journal.Head.{Head}
+use Rattle.mav_router.specs.declared.page.Head.{Head}
 use Rattle.mav_router.specs.declared.spans.Span.{Span}
 use Rattle.mav_router.specs.Spans.{AreHeld, entries_of, entry_of}
 use Rattle.mav_router.proofs.HeldFrames.{all_last, last_parted, last_same}
-use Rattle.mav_router.proofs.journal.Journal.judge_last.Goals as goal
+use Rattle.mav_router.proofs.page.Page.judge_last.Goals as goal
 
 abbrev span_of : Head → Span
 span_of head = head.span

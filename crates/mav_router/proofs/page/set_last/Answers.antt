@@ -1,7 +1,7 @@
 use Rattle.std.proofs.Common.{◌≡◌, ◌-◌, slice_get, Some, List, arith, subst}
-use Rattle.mav_router.specs.declared.journal.Head.{Head}
+use Rattle.mav_router.specs.declared.page.Head.{Head}
 use Rattle.mav_router.proofs.HeldFrames.{last_changed}
-use Rattle.mav_router.proofs.journal.set_last.Goals as goal
+use Rattle.mav_router.proofs.page.set_last.Goals as goal
 
 pub returns : goal.returns
 returns c = λ before last is.

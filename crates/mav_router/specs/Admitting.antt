@@ -1,0 +1,26 @@
+-- What a switch makes of a frame, beside its entry.
+use Rattle.std.specs.Prelude.{ℕ, ◌≡◌, List, ◌++◌}
+use Rattle.mav_names.specs.declared.names.Name.{Name}
+use Rattle.mav_frame.specs.Packet.{Packet}
+use Rattle.mav_sign.specs.History.{Entry as Tried, is_admitted}
+use Rattle.mav_sign.specs.Kept.{Kept, Represents}
+use Rattle.mav_sign.specs.Streams.{listed}
+use Rattle.link_table.specs.Routing.{Learned, ways_of, has_port}
+use Rattle.link_table.specs.Table.{Masks, Represents as StandsFor}
+use Rattle.mav_router.specs.declared.entries.Entry.{Entry}
+use Rattle.mav_router.specs.declared.entries.Outcome.{Outcome}
+use Rattle.mav_router.specs.Journal.{Rules, verdict_on, tried_as, is_unsigned, ways_by, learned_at}
+
+-- the entry of a frame with this outcome
+abbrev pub entry_by : Packet → Outcome → Entry
+entry_by packet outcome = record { port = outcome.port; frame = packet; admit = outcome.admit; ways = outcome.ways }
+
+-- the verdict is that after any history that the verifier represents, and so are the ports after any nodes that the table
+-- does; afterwards both represent one try more
+pub record Judges (rules : Rules) (port : ℕ) (packet : Packet) (target : Name) (stamps later : Kept) (table taught : Masks) (outcome : Outcome) : Type 0 where
+  pub port_is : outcome.port ≡ port
+  pub verdict : (history : List Tried) → Represents stamps history → outcome.admit ≡ verdict_on rules.key (has_port rules.plain port) history packet
+  pub history : (history : List Tried) → Represents stamps history → Represents later (history ++ listed (tried_as packet outcome.admit))
+  pub ports : taught.ports ≡ table.ports
+  pub ways : (learned : List Learned) → StandsFor table learned → outcome.ways ≡ ways_by (is_admitted outcome.admit) (is_unsigned packet) rules.plain (ways_of table.ports learned port target)
+  pub learned : (learned : List Learned) → StandsFor table learned → StandsFor taught (learned ++ listed (learned_at (is_admitted outcome.admit) port packet.from))

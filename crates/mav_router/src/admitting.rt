@@ -1,0 +1,114 @@
+// Frames that are admitted one after another.
+ghost use Rattle.std.specs.Prelude.{◌≡◌, ◌≤◌, ◌++◌, ◌∷◌, [], List, true, IfOk, OnErr};
+ghost use Rattle.mav_sign.specs.Streams.{listed};
+ghost use Rattle.mav_sign.specs.History.{Entry as Tried, is_admitted};
+ghost use Rattle.mav_sign.specs.Kept.{Represents};
+ghost use Rattle.mav_sign.specs.Signing.{verified};
+ghost use Rattle.link_table.specs.Routing.{Learned, ways_of};
+ghost use Rattle.link_table.specs.Table.{Represents as StandsFor};
+ghost use Rattle.mav_router.specs.Journal.{verdict_on, tried_as, is_unsigned, ways_by, learned_at};
+ghost use Rattle.mav_router.specs.Admitting.{Judges, entry_by};
+
+use crate::entries::Outcome;
+use crate::judging::Judgement;
+use crate::page::Page;
+use crate::{NoMemory, RouterRules};
+use link_table::{LinkTable, Ways};
+use mav_frame::RawFrame;
+use mav_names::Name;
+use mav_sign::{Admit, Key, Stamps};
+
+// The verdict on a frame at a port that is open or not.
+fn verdict(
+    stamps: &mut Stamps,
+    key: &Key,
+    is_open: bool,
+    frame: &RawFrame<'_>,
+    verifies: bool,
+) -> Admit
+    requires { verifies ≡ verified key.now frame.now frame.now.block }
+    ensures verdict { (history : List Tried) → Represents stamps.old history
+        → result ≡ verdict_on key.now is_open history frame.now }
+    ensures history { (history : List Tried) → Represents stamps.old history
+        → Represents stamps.new (history ++ listed (tried_as frame.now result)) }
+{
+    if frame.has_block() {
+        return stamps.admit_judged(key, frame, verifies);
+    }
+    if is_open {
+        Admit::Admitted
+    } else {
+        Admit::Unsigned
+    }
+}
+
+// The ports that an admitted frame goes to, which teaches where its sender is.
+fn route(table: &mut LinkTable, plain: Ways, port: u8, target: Name, frame: &RawFrame<'_>) -> Ways
+    requires from { 1 ≤ port }
+    requires to { port ≤ table.old.ports }
+    ensures ports { table.new.ports ≡ table.old.ports }
+    ensures ways { (learned : List Learned) → StandsFor table.old learned
+        → result ≡ ways_by true (is_unsigned frame.now) plain (ways_of table.old.ports learned port target) }
+    ensures learned { (learned : List Learned) → StandsFor table.old learned
+        → StandsFor table.new (learned ++ listed (learned_at true port frame.now.from)) }
+{
+    let ways = table.ways(port, target);
+    table.learn(port, frame.from());
+    if frame.has_block() {
+        ways
+    } else {
+        ways.common(plain)
+    }
+}
+
+// The ports that a frame goes to by its verdict.
+fn route_by(
+    table: &mut LinkTable,
+    admit: Admit,
+    plain: Ways,
+    port: u8,
+    target: Name,
+    frame: &RawFrame<'_>,
+) -> Ways
+    requires from { 1 ≤ port }
+    requires to { port ≤ table.old.ports }
+    ensures ports { table.new.ports ≡ table.old.ports }
+    ensures ways { (learned : List Learned) → StandsFor table.old learned
+        → result ≡ ways_by (is_admitted admit) (is_unsigned frame.now) plain (ways_of table.old.ports learned port target) }
+    ensures learned { (learned : List Learned) → StandsFor table.old learned
+        → StandsFor table.new (learned ++ listed (learned_at (is_admitted admit) port frame.now.from)) }
+{
+    if let Admit::Admitted = admit {
+        route(table, plain, port, target, frame)
+    } else {
+        Ways::none()
+    }
+}
+
+/// Appends a frame that came in at a port and was judged by these rules to a page, with its verdict and the ports that it
+/// goes to.
+pub(crate) fn admit_in(
+    page: &mut Page,
+    rules: &RouterRules<'_>,
+    stamps: &mut Stamps,
+    table: &mut LinkTable,
+    port: u8,
+    frame: &RawFrame<'_>,
+    judgement: Judgement,
+) -> Result<Outcome, NoMemory>
+    requires from { 1 ≤ port }
+    requires to { port ≤ table.old.ports }
+    requires few { port ≤ 8 }
+    requires verifies { judgement.verifies ≡ verified rules.now.key frame.now frame.now.block }
+    ensures entry { IfOk result (λ outcome. page.new ≡ page.old ++ entry_by frame.now outcome ∷ []) }
+    ensures judges { IfOk result (λ outcome. Judges rules.now port frame.now judgement.target stamps.old stamps.new table.old table.new outcome) }
+    ensures unchanged { OnErr result ((page.new ≡ page.old) × (stamps.new ≡ stamps.old) × (table.new ≡ table.old)) }
+{
+    page.add(port, frame)?;
+    let plain = rules.plain();
+    let is_open = plain.has(port);
+    let admit = verdict(stamps, rules.key(), is_open, frame, judgement.verifies);
+    let ways = route_by(table, admit, plain, port, judgement.target, frame);
+    page.judge_last(admit, ways);
+    Ok(Outcome { port, admit, ways })
+}
