@@ -1,11 +1,11 @@
 -- What a frame's entry is, and what holds of a switch after it.
-use Rattle.std.proofs.Common.{◌≡◌, ◌∙◌, ◌≤◌, ◌<◌, ◌++◌, ◌∷◌, [], ℕ, List, Bool, length, slice_index, sym, ap, subst, arith, length-append}
+use Rattle.std.proofs.Common.{◌≡◌, ◌∙◌, ◌++◌, ◌∷◌, [], ℕ, List, Bool, sym, ap, subst}
 use Rattle.mav_names.specs.declared.names.Name.{Name}
 use Rattle.mav_frame.specs.Packet.{Packet}
-use Rattle.mav_sign.specs.History.{Entry as Tried, is_admitted}
+use Rattle.mav_sign.specs.History.{is_admitted}
 use Rattle.mav_sign.specs.Kept.{Kept, Represents}
 use Rattle.mav_sign.specs.Streams.{listed}
-use Rattle.link_table.specs.Routing.{Learned, ways_of, has_port}
+use Rattle.link_table.specs.Routing.{ways_of, has_port}
 use Rattle.link_table.specs.Table.{Masks, Represents as StandsFor}
 use Rattle.mav_router.specs.declared.entries.Entry.{Entry}
 use Rattle.mav_router.specs.declared.entries.Outcome.{Outcome}

@@ -1,8 +1,5 @@
-use Rattle.std.proofs.Common.{◌≡◌, ◌∙◌, ℕ, List, length, take, ap, sym, subst}
-use Rattle.turnstile.specs.Participants.{Participant}
+use Rattle.std.proofs.Common.{ℕ, List, take, sym, subst}
 use Rattle.mav_frame.specs.Packet.{Packet}
-use Rattle.mav_links.specs.Links.{LinkState}
-use Rattle.mav_router.specs.declared.entries.Entry.{Entry}
 use Rattle.mav_router.specs.declared.history.SwitchEvent.{SwitchEvent}
 use Rattle.mav_router.specs.Journal.{frames_to}
 use Rattle.mav_router.specs.Batches.{Joins}

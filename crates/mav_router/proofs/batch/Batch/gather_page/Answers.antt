@@ -1,9 +1,7 @@
-use Rattle.std.proofs.Common.{◌≡◌, ◌∙◌, ◌+◌, ◌-◌, ◌≤◌, ◌++◌, ℕ, List, true, length, take, sym, ap, subst, arith, length-append}
+use Rattle.std.proofs.Common.{◌≡◌, ◌∙◌, ◌+◌, ◌-◌, ◌≤◌, ◌++◌, ℕ, List, length, take, sym, ap, subst, arith, length-append}
 use Rattle.mav_frame.specs.Packet.{Packet}
-use Rattle.mav_router.specs.declared.entries.Entry.{Entry}
 use Rattle.mav_router.specs.Journal.{frames_to}
 use Rattle.mav_router.specs.Batches.{Gathered}
-use Rattle.mav_router.specs.Pages.{end_of_page}
 use Rattle.mav_router.proofs.Pages.{frames_within}
 use Rattle.mav_router.proofs.batch.Batch.gather_page.Goals as goal
 

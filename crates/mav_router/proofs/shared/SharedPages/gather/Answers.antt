@@ -1,4 +1,4 @@
-use Rattle.std.proofs.Common.{◌≡◌, ◌<◌, ◌+◌, Bool, List, length, take, refl, sym, subst, arith}
+use Rattle.std.proofs.Common.{◌<◌, ◌+◌, Bool, List, length, take, refl, sym, subst, arith}
 use Rattle.std.proofs.lemmas.Option.{slice_get_read}
 use Rattle.mav_router.specs.PageState.{PageState}
 use Rattle.mav_router.specs.Journal.{frames_to}

@@ -1,6 +1,5 @@
-use Rattle.std.proofs.Common.{◌∙◌, ◌++◌, ◌∷◌, [], List, refl, sym, ap, arith}
+use Rattle.std.proofs.Common.{◌∙◌, ◌++◌, ◌∷◌, [], refl, sym, arith}
 use Rattle.std.proofs.lemmas.Option.{slice_get_read}
-use Rattle.mav_router.specs.PageState.{PageState}
 use Rattle.mav_router.proofs.Pages.{shares_more}
 use Rattle.mav_router.proofs.shared.SharedPages.take.Goals as goal
 

@@ -1,4 +1,4 @@
-use Rattle.std.proofs.Common.{◌≡◌, ◌∙◌, ◌≤◌, ◌++◌, ◌∷◌, [], ℕ, List, length, slice_index, sym, ap, subst, arith, length-append}
+use Rattle.std.proofs.Common.{◌∙◌, ◌∷◌, [], List, length, sym, ap, subst, arith, length-append}
 use Rattle.mav_sign.specs.Kept.{Kept}
 use Rattle.link_table.specs.Table.{Masks}
 use Rattle.mav_router.specs.declared.entries.Entry.{Entry}
