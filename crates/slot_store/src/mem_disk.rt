@@ -1,10 +1,10 @@
 // A disk in memory.
-ghost use Rattle.std.specs.Prelude.{◌≡◌, ◌⊎◌, ◌<◌, ◌≤◌, ◌+◌, ◌^◌, ⊤, ℕ, List, [], ◌∷◌, ◌++◌, Some, None, ◌%◌, if◌then◌else◌, false, length, drop, IfOk, OnOk, OnErr};
+ghost use Rattle.std.specs.Prelude.{◌≡◌, ◌<◌, ◌≤◌, ◌+◌, ◌^◌, ⊤, ℕ, List, [], ◌∷◌, ◌++◌, Some, None, ◌%◌, if◌then◌else◌, false, length, IfOk, OnOk, OnErr};
 ghost use Rattle.std.proofs.Common.{inl, refl};
 ghost use Rattle.mav_ports.specs.Calls.{call_after};
 ghost use Rattle.mav_ports.specs.Counts.{next_count};
-ghost use Rattle.slot_store.specs.Disks.{bytes_at, SameOutside, Writes, Tears, LeavesNoMore, LeavesAlone, Elapses, CountsDiskFault};
-ghost use Rattle.slot_store.specs.MemDisks.{IsImage, HadBeen, IsRecorded, drawn, drawn_byte, next_state, only_image, own_image, fails_at};
+ghost use Rattle.slot_store.specs.Disks.{bytes_at, SameOutside, Writes, Tears, LeavesNoMore, LeavesAlone, CountsDiskFault};
+ghost use Rattle.slot_store.specs.MemDisks.{IsImage, IsRecorded, LeftSince, TimePasses, drawn, drawn_byte, next_state, only_image, own_image, fails_at};
 
 use crate::unsynced::{Moment, Range, is_covered};
 use crate::{Disk, DiskFault};
@@ -208,7 +208,7 @@ impl Disk for MemDisk {
 
     ghost moment = { λ d. length d.past.items };
 
-    ghost left_since = { λ d t c. IsImage d.bytes.items d.ranges.items c ⊎ HadBeen (drop t d.past.items) c };
+    ghost left_since = { λ d t c. LeftSince d.bytes.items d.ranges.items d.past.items t c };
 
     ghost faults = { λ d. d.faults };
 
@@ -229,10 +229,8 @@ impl Disk for MemDisk {
         ensures bytes { OnOk result (out.new ≡ bytes_at at (length out.old) self.old.bytes.items) }
         ensures seen { self.new.bytes.items ≡ self.old.bytes.items }
         ensures crash { LeavesNoMore (IsImage self.old.bytes.items self.old.ranges.items) (IsImage self.new.bytes.items self.new.ranges.items) }
-        ensures time { Elapses (length self.old.past.items) (length self.new.past.items)
-            (λ t c. IsImage self.old.bytes.items self.old.ranges.items c ⊎ HadBeen (drop t self.old.past.items) c)
-            (λ t c. IsImage self.new.bytes.items self.new.ranges.items c ⊎ HadBeen (drop t self.new.past.items) c)
-            (IsImage self.new.bytes.items self.new.ranges.items) }
+        ensures time { TimePasses self.old.bytes.items self.old.ranges.items self.old.past.items
+            self.new.bytes.items self.new.ranges.items self.new.past.items }
         ensures extent { length self.new.bytes.items ≡ length self.old.bytes.items }
         ensures faults { CountsDiskFault result self.old.faults self.new.faults }
         ensures call { self.new.call ≡ call_after self.old.call }
@@ -252,10 +250,8 @@ impl Disk for MemDisk {
         ensures written { OnOk result (Writes at bytes.now self.old.bytes.items self.new.bytes.items) }
         ensures unwritten { OnErr result (self.new.bytes.items ≡ self.old.bytes.items) }
         ensures crash { Tears at (length bytes.now) (IsImage self.old.bytes.items self.old.ranges.items) (IsImage self.new.bytes.items self.new.ranges.items) }
-        ensures time { Elapses (length self.old.past.items) (length self.new.past.items)
-            (λ t c. IsImage self.old.bytes.items self.old.ranges.items c ⊎ HadBeen (drop t self.old.past.items) c)
-            (λ t c. IsImage self.new.bytes.items self.new.ranges.items c ⊎ HadBeen (drop t self.new.past.items) c)
-            (IsImage self.new.bytes.items self.new.ranges.items) }
+        ensures time { TimePasses self.old.bytes.items self.old.ranges.items self.old.past.items
+            self.new.bytes.items self.new.ranges.items self.new.past.items }
         ensures extent { length self.new.bytes.items ≡ length self.old.bytes.items }
         ensures faults { CountsDiskFault result self.old.faults self.new.faults }
         ensures call { self.new.call ≡ call_after self.old.call }
@@ -276,10 +272,8 @@ impl Disk for MemDisk {
         ensures durable { OnOk result (LeavesAlone self.new.bytes.items (IsImage self.new.bytes.items self.new.ranges.items)) }
         ensures seen { OnOk result (self.new.bytes.items ≡ self.old.bytes.items) }
         ensures crash { LeavesNoMore (IsImage self.old.bytes.items self.old.ranges.items) (IsImage self.new.bytes.items self.new.ranges.items) }
-        ensures time { Elapses (length self.old.past.items) (length self.new.past.items)
-            (λ t c. IsImage self.old.bytes.items self.old.ranges.items c ⊎ HadBeen (drop t self.old.past.items) c)
-            (λ t c. IsImage self.new.bytes.items self.new.ranges.items c ⊎ HadBeen (drop t self.new.past.items) c)
-            (IsImage self.new.bytes.items self.new.ranges.items) }
+        ensures time { TimePasses self.old.bytes.items self.old.ranges.items self.old.past.items
+            self.new.bytes.items self.new.ranges.items self.new.past.items }
         ensures extent { length self.new.bytes.items ≡ length self.old.bytes.items }
         ensures faults { CountsDiskFault result self.old.faults self.new.faults }
         ensures call { self.new.call ≡ call_after self.old.call }
