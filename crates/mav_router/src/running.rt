@@ -19,6 +19,9 @@ use mav_stream::Scanner;
 use std::sync::Wait;
 use turnstile::{Turn, TurnSeat};
 
+// While reads give whole pieces, what waits for the port is written after each fourth one.
+const MOST_PUT_OFF: u32 = 3;
+
 // Feeds a piece to the port's reader, and has the switch admit the frames that are found, as many in a turn as are kept.
 // Bytes that are skipped are counted.
 fn hear_in_turns<'a, R: Wait>(
@@ -151,7 +154,35 @@ fn write_part<'a, R: Wait, L: Link>(
     unreachable!()
 }
 
-// Reads a port at most so many times, and writes after each read what waits for it.
+// Whether a read gave as many bytes as it asked for, by the counts of bytes before and after it: then more are likely there.
+fn is_whole_piece(before: u64, after: u64) -> bool {
+    after - before.min(after) >= PIECE as u64
+}
+
+// Writes what waits for the port after a read, unless that gave a whole piece and not too many writes in a row were put off.
+// `before` is the count of bytes before the read. Returns how many writes in a row are put off now.
+fn write_or_put_off<'a, R: Wait, L: Link>(
+    rt: &R,
+    turn: &Turn<Switch<'a>>,
+    rules: &RouterRules<'_>,
+    part: &mut Part<'a, L>,
+    before: u64,
+    put_off: u32,
+) -> u32
+    requires ready { IsReady turn.now rules.now part.old }
+    ensures ready { IsReady turn.now rules.now part.new }
+    ensures port { part.new.port ≡ part.old.port }
+    ensures so_far { (first : LinkState) → PartSoFar L.state rules.now first part.old → PartSoFar L.state rules.now first part.new }
+    ensures turned { (turns : ℕ) → HadTurns part.old.side.lane turns → HadTurns part.new.side.lane turns }
+{
+    if put_off < MOST_PUT_OFF && is_whole_piece(before, part.side.lane.read) {
+        return put_off + 1;
+    }
+    write_part(rt, turn, rules, part);
+    0
+}
+
+// Reads a port at most so many times, and writes what waits for it.
 fn read_turns<'a, R: Wait, L: Link>(
     rt: &R,
     turn: &Turn<Switch<'a>>,
@@ -167,6 +198,7 @@ fn read_turns<'a, R: Wait, L: Link>(
     ensures ends { (first : LinkState) → PartSoFar L.state rules.now first part.old → PartEnds result L.state rules.now turns first part.new }
 {
     let mut buf = [0; PIECE];
+    let mut put_off = 0;
     for turned in 0..turns {
         let _ = turned;
         if !is_live(&part.side.lane) {
@@ -175,11 +207,12 @@ fn read_turns<'a, R: Wait, L: Link>(
         if signals.is_stopped() {
             return Halt::Stopped;
         }
+        let before = part.side.lane.read;
         if let Err(fault) = read_part(rt, turn, rules, part, &mut buf) {
             signals.stop();
             return Halt::Fault(fault);
         }
-        write_part(rt, turn, rules, part);
+        put_off = write_or_put_off(rt, turn, rules, part, before, put_off);
     }
     Halt::Done
 }

@@ -18,7 +18,7 @@ const TICKETS: usize = 0;
 const TURNS: usize = 1;
 
 // A participant polls so often without a pause, and from then on sleeps between two polls until a turn is passed on.
-const POLLS_WITHOUT_SLEEP: u32 = 100;
+const POLLS_WITHOUT_SLEEP: u32 = 1000;
 
 #[derive(Drop)]
 pub(crate) struct TicketLock<V: Journaled> {

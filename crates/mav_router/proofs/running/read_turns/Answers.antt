@@ -5,7 +5,7 @@ pub loop-turned-preserved : goal.loop-turned-preserved
 loop-turned-preserved g c =
     let i = c.loop-turned.invariant in
     let r = c.read_part.ensures in
-    let w = c.write_part.ensures in
+    let w = c.write_or_put_off-put_off.ensures in
     record {
       ready = w.ready;
       port = w.port ∙ (r.port ∙ i.port);
