@@ -51,7 +51,7 @@ impl<V: Journaled + Drop> Turn<V> {
         Ok((Turn { lock }, all))
     }
 
-    /// Waits for this participant's turn, and gives the value. It polls a hundred times without a pause, and from then on
+    /// Waits for this participant's turn, and gives the value. It polls a thousand times without a pause, and from then on
     /// sleeps between two polls until a turn is passed on.
     pub fn enter<R: Wait>(&self, rt: &R, seat: &mut TurnSeat<V>) -> Held<V>
         requires { CanEnter self.now seat.old }
