@@ -1,22 +1,11 @@
 -- The lines of a scenario are read as those of any input.
 use Rattle.std.proofs.Common.{◌≡◌, ◌∙◌, ℕ, ◌+◌, Bool, true, false, List, [], ◌∷◌, refl, ap, length, Some, None, Option}
-use Rattle.std.specs.List.{slice_split}
 use Rattle.scenario_lines.specs.declared.faults.Reason.TheVariants.{Long}
-use Rattle.fleet_world.specs.Scenario.{Played, ScenarioError, Bad, Too_many_lines, is_newline, but_last, last_part, whole_lines, unfinished, line_played, lines_played, last_played, rest_played, unless_stopped, at_start, played}
-use Rattle.line_input.specs.FileLines.{but_last as all_but_last, last_part as part_at_end, whole_lines as lines_of, unfinished as rest_of}
+use Rattle.fleet_world.specs.Scenario.{Played, ScenarioError, Bad, Too_many_lines, line_played, lines_played, last_played, rest_played, unless_stopped, at_start, played}
+use Rattle.scenario_lines.specs.FileLines.{whole_lines, unfinished}
 use Rattle.line_input.specs.LineRules.{unless_stopped as unless, lines_read, last_read, rest_read, bytes_read}
 use Rattle.line_input.proofs.Lines.{Stopping, bytes_read_reads}
 use Rattle.fleet_command.specs.Plays.{scenario_rules, plays}
-
-but_last_same : (parts : List (List ℕ)) → but_last parts ≡ all_but_last parts
-but_last_same [] = refl
-but_last_same (part ∷ []) = refl
-but_last_same (part ∷ next ∷ more) = ap (λ rest. part ∷ rest) (but_last_same (next ∷ more))
-
-last_part_same : (parts : List (List ℕ)) → last_part parts ≡ part_at_end parts
-last_part_same [] = refl
-last_part_same (part ∷ []) = refl
-last_part_same (part ∷ next ∷ more) = last_part_same (next ∷ more)
 
 unless_same : (stop : Option ScenarioError) (p next : Played) → unless_stopped stop p next ≡ unless stop p next
 unless_same None p next = refl
@@ -36,12 +25,6 @@ rest_same : (ended : Bool) (p : Played) (number : ℕ) (part : List ℕ) → res
 rest_same true p number part = last_same p number part
 rest_same false p number part = refl
 
--- what is read of the bytes from lines and a rest on
-abbrev over : Bool → Played → List (List ℕ) → List ℕ → Played
-over ended start lines rest =
-    let end = lines_read scenario_rules start 1 lines in
-    unless end.stop end (rest_read scenario_rules ended end (length lines + 1) rest)
-
 pub played_read : (key : List ℕ) (ended : Bool) (bytes : List ℕ) → played key ended bytes ≡ bytes_read scenario_rules (at_start key) ended bytes
 played_read key ended bytes =
     let lines = whole_lines bytes in
@@ -50,8 +33,6 @@ played_read key ended bytes =
     unless_same end.stop end (rest_played ended end (length lines + 1) rest)
     ∙ ap (unless end.stop end) (rest_same ended end (length lines + 1) rest)
     ∙ ap (λ (q : Played). unless q.stop q (rest_read scenario_rules ended q (length lines + 1) rest)) (lines_same (at_start key) 1 lines)
-    ∙ ap (λ ls. over ended (at_start key) ls rest) (but_last_same (slice_split is_newline bytes))
-    ∙ ap (over ended (at_start key) (lines_of bytes)) (last_part_same (slice_split is_newline bytes))
 
 pub scenario_stops : Stopping scenario_rules
 scenario_stops = record { many = λ p. (Too_many_lines, refl); long = λ p number. (Bad number Long, refl) }

@@ -17,7 +17,8 @@ use Rattle.fleet_world.specs.declared.faults.WorldFault.{WorldFault}
 use Rattle.fleet_world.specs.declared.faults.WorldFault.TheVariants.{Limit, Node, NoMemory as NoWorldMemory}
 use Rattle.fleet_world.specs.Promises.{IsStep, IsStepError}
 use Rattle.fleet_world.specs.Steps.{Step, StepError, At_limit, Stamps_spent, after_line, closing_text}
-use Rattle.fleet_world.specs.Scenario.{Played, ScenarioError, Bad, Too_many_lines, Not_done, most_lines, stopped, goes_on, judged, without_cr, line_played, last_played, at_start, played, report_of, whole_report}
+use Rattle.fleet_world.specs.Scenario.{Played, ScenarioError, Bad, Too_many_lines, Not_done, stopped, goes_on, judged, line_played, last_played, at_start, played, report_of, whole_report}
+use Rattle.scenario_lines.specs.FileLines.{most_lines, without_cr}
 use Rattle.run_status.specs.declared.run_ends.RunEnd.{RunEnd}
 use Rattle.run_status.specs.declared.run_ends.RunEnd.TheVariants.{Usage, Stopped, ReadFault, WriteFault, NoMemory, TurnsSpent, Live}
 use Rattle.run_status.specs.declared.input_errors.InputError.{InputError}

@@ -7,7 +7,8 @@ use Rattle.fleet_world.specs.WorldView.{WorldView, IsState}
 use Rattle.scenario_lines.specs.declared.faults.Reason.TheVariants.{Long}
 use Rattle.scenario_lines.specs.Reasons.{reason_against}
 use Rattle.fleet_world.specs.WorldState.{context_of}
-use Rattle.fleet_world.specs.Scenario.{most_lines, whole_report, Played, ScenarioError, Bad, Too_many_lines, stopped, judged, played, report_of}
+use Rattle.fleet_world.specs.Scenario.{whole_report, Played, ScenarioError, Bad, Too_many_lines, stopped, judged, played, report_of}
+use Rattle.scenario_lines.specs.FileLines.{most_lines}
 use Rattle.line_input.specs.LineRules.{LineRules}
 use Rattle.line_input.specs.ByteByByte.{reads}
 use Rattle.run_status.specs.declared.run_ends.RunEnd.{RunEnd}

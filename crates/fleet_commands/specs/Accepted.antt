@@ -10,7 +10,8 @@ use Rattle.scenario_lines.specs.declared.lines.Line.{Line}
 use Rattle.scenario_lines.specs.declared.lines.Line.TheVariants.{Blank, Drone as DroneLine, Station as StationLine, Item as OneItem, Items, Empty, Begin, Cancel, Clear, Get, Command, Params, Heartbeat, Deliver, Flow, Noise, Tick, Clock, Restart, Sim, WhereIs}
 use Rattle.fleet_world.specs.WorldState.{WorldState, Node, Drone, Station, is_station_named}
 use Rattle.fleet_world.specs.Steps.{Step, StepError, after_line}
-use Rattle.fleet_world.specs.Scenario.{Played, at_start, line_played, lines_played, whole_lines, unfinished, without_cr}
+use Rattle.fleet_world.specs.Scenario.{Played, at_start, line_played, lines_played}
+use Rattle.scenario_lines.specs.FileLines.{whole_lines, unfinished, without_cr}
 use Rattle.fleet_world.specs.Authentic.{line_done, UnlessStopped, Authentic}
 use Rattle.fleet_commands.specs.Lines.{lines_begun}
 

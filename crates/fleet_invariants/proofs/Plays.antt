@@ -10,7 +10,8 @@ use Rattle.scenario_lines.specs.Grammar.{line_of, most_line_bytes}
 use Rattle.scenario_lines.specs.Reasons.{reason_against}
 use Rattle.fleet_world.specs.WorldState.{empty_state, context_of}
 use Rattle.fleet_world.specs.Steps.{Step, StepError, after_line}
-use Rattle.fleet_world.specs.Scenario.{ScenarioError, Bad, Too_many_lines, Played, most_lines, whole_lines, unfinished, without_cr, stopped, goes_on, judged, line_played, unless_stopped, lines_played, at_start, last_played, rest_played}
+use Rattle.fleet_world.specs.Scenario.{ScenarioError, Bad, Too_many_lines, Played, stopped, goes_on, judged, line_played, unless_stopped, lines_played, at_start, last_played, rest_played}
+use Rattle.scenario_lines.specs.FileLines.{most_lines, whole_lines, unfinished, without_cr}
 use Rattle.fleet_world.specs.Authentic.{line_read, line_done, AuthenticDone, UnlessStopped, AuthenticLines, AuthenticLast}
 use Rattle.fleet_invariants.specs.Sound.{Sound}
 use Rattle.fleet_invariants.specs.Kept.{KeepsLine}

@@ -8,7 +8,8 @@ use Rattle.scenario_lines.specs.Words.{words_of, word_at}
 use Rattle.scenario_lines.specs.Grammar.{line_from, line_of, is_blank, most_line_bytes}
 use Rattle.scenario_lines.specs.Reasons.{reason_against}
 use Rattle.fleet_world.specs.WorldState.{WorldState, context_of}
-use Rattle.fleet_world.specs.Scenario.{ScenarioError, Played, most_lines, whole_lines, unfinished, without_cr, line_played, lines_played, at_start}
+use Rattle.fleet_world.specs.Scenario.{ScenarioError, Played, line_played, lines_played, at_start}
+use Rattle.scenario_lines.specs.FileLines.{most_lines, whole_lines, unfinished, without_cr}
 use Rattle.fleet_world.specs.Authentic.{AuthenticLine, line_read, line_done, AuthenticDone, UnlessStopped, AuthenticLines, AuthenticLast}
 use Rattle.fleet_invariants.specs.Laws.{is_noise, EveryQuietAuthentic}
 use Rattle.fleet_invariants.proofs.Tests.{by_test, differ}

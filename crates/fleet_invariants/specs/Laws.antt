@@ -22,7 +22,8 @@ use Rattle.scenario_lines.specs.Reasons.{reason_against}
 use Rattle.scenario_lines.specs.Permits.{IsPermitted}
 use Rattle.fleet_world.specs.WorldState.{WorldState, Node, Drone, Station, stream_of, context_of}
 use Rattle.fleet_world.specs.Steps.{node_receives, node_beats, node_ticks, node_does, as_station, given_to, given_from, given_to_all, flows, calls, after_line, Stamps_spent, node_flies}
-use Rattle.fleet_world.specs.Scenario.{Played, Not_done, played, lines_played, whole_lines, unfinished, without_cr}
+use Rattle.fleet_world.specs.Scenario.{Played, Not_done, played, lines_played}
+use Rattle.scenario_lines.specs.FileLines.{whole_lines, unfinished, without_cr}
 use Rattle.fleet_world.specs.Authentic.{AuthenticBytes, AuthenticLine, AuthenticLines, Authentic}
 use Rattle.fleet_invariants.specs.Sound.{IsSent, Sound}
 use Rattle.fleet_invariants.specs.Kept.{Known, Heard, OutcomeReads, Keeps, KeepsLine, LineFits}

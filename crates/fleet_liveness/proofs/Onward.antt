@@ -10,7 +10,8 @@ use Rattle.scenario_lines.specs.Reasons.{reason_against}
 use Rattle.fleet_report.specs.Events.{Event}
 use Rattle.fleet_world.specs.WorldState.{context_of}
 use Rattle.fleet_world.specs.Steps.{Step, StepError, after_line}
-use Rattle.fleet_world.specs.Scenario.{Played, ScenarioError, Bad, Too_many_lines, Not_done, stopped, goes_on, judged, line_played, last_played, rest_played, unless_stopped, lines_played, without_cr, most_lines}
+use Rattle.fleet_world.specs.Scenario.{Played, ScenarioError, Bad, Too_many_lines, Not_done, stopped, goes_on, judged, line_played, last_played, rest_played, unless_stopped, lines_played}
+use Rattle.scenario_lines.specs.FileLines.{without_cr, most_lines}
 use Rattle.fleet_invariants.proofs.Tests.{by_test}
 
 -- a line that didn't stop the scenario was done

@@ -14,7 +14,8 @@ use Rattle.scenario_lines.specs.declared.lines.Line.TheVariants.{Blank, Drone, S
 use Rattle.scenario_lines.specs.Grammar.{line_of, most_line_bytes}
 use Rattle.scenario_lines.specs.Reasons.{reason_against}
 use Rattle.fleet_world.specs.WorldState.{WorldState, context_of}
-use Rattle.fleet_world.specs.Scenario.{ScenarioError, Played, at_start, line_played, lines_played, most_lines, whole_lines, unfinished, without_cr}
+use Rattle.fleet_world.specs.Scenario.{ScenarioError, Played, at_start, line_played, lines_played}
+use Rattle.scenario_lines.specs.FileLines.{most_lines, whole_lines, unfinished, without_cr}
 
 -- one of these frames has the same bytes
 abbrev pub WasSent : List Packet → Packet → Type 0

@@ -1,40 +1,14 @@
 -- A scenario's bytes as lines, and what the lines lead to: the state, the report, and why it stopped.
-use Rattle.std.specs.Prelude.{ℕ, ◌+◌, ◌-◌, ◌==◌, nat_lt, Bool, true, false, if◌then◌else◌, List, [], ◌∷◌, ◌++◌, length, take, slice_index, Option, Some, None, Ok, Err}
+use Rattle.std.specs.Prelude.{ℕ, ◌+◌, nat_lt, Bool, true, false, if◌then◌else◌, List, [], ◌∷◌, ◌++◌, length, Option, Some, None, Ok, Err}
 use Rattle.std.specs.declared.result.Result.{Result}
-use Rattle.std.specs.List.{slice_split}
 use Rattle.scenario_lines.specs.declared.faults.Reason.{Reason}
 use Rattle.scenario_lines.specs.declared.faults.Reason.TheVariants.{Long}
+use Rattle.scenario_lines.specs.FileLines.{most_lines, whole_lines, unfinished, without_cr}
 use Rattle.scenario_lines.specs.Grammar.{line_of, most_line_bytes}
 use Rattle.scenario_lines.specs.Reasons.{reason_against}
 use Rattle.fleet_report.specs.Events.{Event, events_text}
 use Rattle.fleet_world.specs.WorldState.{WorldState, empty_state, context_of}
 use Rattle.fleet_world.specs.Steps.{Step, StepError, after_line, closing_text}
-
--- lines end with LF
-abbrev pub is_newline : ℕ → Bool
-is_newline b = b == 10
-
--- the parts but the last, and the last
-abbrev pub but_last : List (List ℕ) → List (List ℕ)
-but_last [] = []
-but_last (part ∷ []) = []
-but_last (part ∷ next ∷ more) = part ∷ but_last (next ∷ more)
-
-abbrev pub last_part : List (List ℕ) → List ℕ
-last_part [] = []
-last_part (part ∷ []) = part
-last_part (part ∷ next ∷ more) = last_part (next ∷ more)
-
--- the whole lines of some bytes, without their LF, and the bytes after the last LF
-abbrev pub whole_lines : List ℕ → List (List ℕ)
-whole_lines bytes = but_last (slice_split is_newline bytes)
-
-abbrev pub unfinished : List ℕ → List ℕ
-unfinished bytes = last_part (slice_split is_newline bytes)
-
--- a CR before the LF is no part of what the line says
-abbrev pub without_cr : List ℕ → List ℕ
-without_cr raw = if slice_index raw (length raw - 1) == 13 then take (length raw - 1) raw else raw
 
 -- why a scenario stops before its end
 pub data ScenarioError : Type 0 where
@@ -46,9 +20,6 @@ pub record Played : Type 0 where
   pub state : WorldState
   pub events : List Event
   pub stop : Option ScenarioError
-
-abbrev pub most_lines : ℕ
-most_lines = 100000
 
 -- line `number`, whose bytes are `text`: what happened up to it, and then its own step
 abbrev pub stopped : Played → ScenarioError → Played

@@ -2,7 +2,7 @@
 use Rattle.std.proofs.Common.{ℕ, ◌+◌, Bool, true, false, List, [], ◌∷◌, ◌++◌, length, Some, None, Option, cond, ltb, eqb}
 use Rattle.std.proofs.lemmas.Bool.{cond_both}
 use Rattle.scenario_lines.specs.Grammar.{most_line_bytes}
-use Rattle.line_input.specs.FileLines.{whole_lines, unfinished, without_cr, most_lines}
+use Rattle.scenario_lines.specs.FileLines.{whole_lines, unfinished, without_cr, most_lines}
 use Rattle.line_input.specs.LineRules.{LineRules, unless_stopped, line_read, lines_read, part_read, rest_read, bytes_read}
 use Rattle.line_input.specs.ByteByByte.{reads}
 

@@ -5,7 +5,7 @@ use Rattle.std.proofs.lemmas.List.Elements.{All-nil, All-push}
 use Rattle.std.proofs.lemmas.List.Splits.{slice_split_none, slice_split_at}
 use Rattle.std.specs.List.{slice_split, onto_first}
 use Rattle.scenario_lines.specs.Grammar.{most_line_bytes}
-use Rattle.line_input.specs.FileLines.{is_newline, but_last, last_part, whole_lines, unfinished, most_lines}
+use Rattle.scenario_lines.specs.FileLines.{is_newline, but_last, last_part, whole_lines, unfinished, most_lines}
 use Rattle.line_input.specs.LineRules.{LineRules, unless_stopped, lines_read, line_read, last_read, part_read, rest_read, bytes_read}
 use Rattle.line_input.specs.ByteByByte.{reads}
 

@@ -8,7 +8,7 @@ use Rattle.run_status.specs.declared.input_errors.InputError.{InputError}
 use Rattle.run_status.specs.declared.input_errors.InputError.TheVariants.{AtLimit}
 use Rattle.run_status.specs.declared.run_ends.RunEnd.{RunEnd}
 use Rattle.run_status.specs.declared.run_ends.RunEnd.TheVariants.{Usage, Stopped, ReadFault, WriteFault, NoMemory, TurnsSpent, Live}
-use Rattle.line_input.specs.FileLines.{most_lines}
+use Rattle.scenario_lines.specs.FileLines.{most_lines}
 use Rattle.line_input.specs.LineRules.{LineRules, unless_stopped, line_read, part_read, rest_read}
 use Rattle.line_input.specs.Takers.{Says, Read, going, rules_of, bad_line}
 use Rattle.line_input.specs.declared.held.HeldLine.{HeldLine}

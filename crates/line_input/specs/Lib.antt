@@ -1,4 +1,3 @@
-pub mod FileLines
 pub mod LineRules
 pub mod Takers
 pub mod ByteByByte

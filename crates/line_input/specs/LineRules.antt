@@ -1,7 +1,7 @@
 -- Bytes that are read line by line, whatever the lines lead to.
 use Rattle.std.specs.Prelude.{ℕ, ◌+◌, nat_lt, Bool, true, false, if◌then◌else◌, List, [], ◌∷◌, length, Option, Some, None}
 use Rattle.scenario_lines.specs.Grammar.{most_line_bytes}
-use Rattle.line_input.specs.FileLines.{whole_lines, unfinished, without_cr, most_lines}
+use Rattle.scenario_lines.specs.FileLines.{whole_lines, unfinished, without_cr, most_lines}
 
 -- what lines do: `R` is what those so far led to, `E` why they stop
 pub record LineRules (R E : Type 0) : Type 0 where

@@ -1,6 +1,6 @@
 // Bytes that are cut into lines as they come.
 ghost use Rattle.std.specs.Prelude.{◌≡◌, ◌∷◌, []};
-ghost use Rattle.line_input.specs.FileLines.{without_cr};
+ghost use Rattle.scenario_lines.specs.FileLines.{without_cr};
 ghost use Rattle.line_input.specs.LineRules.{last_read};
 ghost use Rattle.line_input.specs.Takers.{going, judged, rules_of};
 ghost use Rattle.line_input.specs.ByteByByte.{Leads, Feeds, long_line};

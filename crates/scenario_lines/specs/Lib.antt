@@ -5,3 +5,4 @@ pub mod Reasons
 pub mod Permits
 pub mod Faults
 pub mod Readings
+pub mod FileLines

@@ -6,7 +6,8 @@ use Rattle.std.proofs.lemmas.List.Splits.{slice_split_at}
 use Rattle.key_file.specs.KeyText.{default_key}
 use Rattle.fleet_world.specs.WorldState.{Node}
 use Rattle.fleet_world.specs.Authentic.{AuthenticLines, Authentic}
-use Rattle.fleet_world.specs.Scenario.{Played, is_newline, but_last, last_part, whole_lines, unfinished, without_cr, unless_stopped, lines_played, at_start, rest_played}
+use Rattle.fleet_world.specs.Scenario.{Played, unless_stopped, lines_played, at_start, rest_played}
+use Rattle.scenario_lines.specs.FileLines.{is_newline, but_last, last_part, whole_lines, unfinished, without_cr}
 use Rattle.fleet_invariants.specs.Laws.{is_noise}
 use Rattle.fleet_invariants.specs.Sound.{Sound}
 use Rattle.fleet_invariants.proofs.Lists.{nowhere, some_is}

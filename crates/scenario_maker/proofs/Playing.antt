@@ -14,7 +14,8 @@ use Rattle.scenario_lines.specs.Permits.{IsPermitted}
 use Rattle.scenario_lines.specs.Reasons.{reason_against}
 use Rattle.fleet_world.specs.WorldState.{WorldState, context_of}
 use Rattle.fleet_world.specs.Steps.{Step, StepError, At_limit, Stamps_spent, after_line}
-use Rattle.fleet_world.specs.Scenario.{Not_done, Played, most_lines, without_cr, goes_on, judged, line_played, unless_stopped, lines_played}
+use Rattle.fleet_world.specs.Scenario.{Not_done, Played, goes_on, judged, line_played, unless_stopped, lines_played}
+use Rattle.scenario_lines.specs.FileLines.{most_lines, without_cr}
 use Rattle.fleet_invariants.specs.Kept.{LineFits}
 use Rattle.fleet_invariants.proofs.Tests.{both_true}
 use Rattle.fleet_invariants.proofs.Restated.{sound_restated}

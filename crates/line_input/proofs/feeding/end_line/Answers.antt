@@ -1,6 +1,6 @@
 use Rattle.std.proofs.Common.{◌≤◌, ◌∙◌, arith, length, ap, refl}
 use Rattle.std.proofs.lemmas.Result.{err_from_is_err_and}
-use Rattle.line_input.specs.FileLines.{without_cr}
+use Rattle.scenario_lines.specs.FileLines.{without_cr}
 use Rattle.line_input.proofs.Steps.{line_many_halts, line_halts, line_fed}
 use Rattle.line_input.proofs.feeding.end_line.Goals as goal
 

@@ -3,7 +3,8 @@ use Rattle.std.proofs.lemmas.Bool.{lt-ltb, le-ltb}
 use Rattle.std.proofs.lemmas.Result.{err_from_is_err_and}
 use Rattle.scenario_lines.specs.Reasons.{reason_against}
 use Rattle.fleet_world.specs.WorldState.{context_of}
-use Rattle.fleet_world.specs.Scenario.{Played, Too_many_lines, stopped, judged, report_of, without_cr, line_played}
+use Rattle.fleet_world.specs.Scenario.{Played, Too_many_lines, stopped, judged, report_of, line_played}
+use Rattle.scenario_lines.specs.FileLines.{without_cr}
 use Rattle.fleet_command.specs.Plays.{Holds, HaltedAt}
 use Rattle.fleet_command.proofs.player.Player.end_line.Goals as goal
 

@@ -1,4 +1,4 @@
--- The bytes of a file as lines.
+-- The bytes of a scenario, or of another file that is read line by line, as lines.
 use Rattle.std.specs.Prelude.{ℕ, ◌-◌, ◌==◌, Bool, if◌then◌else◌, List, [], ◌∷◌, length, take, slice_index}
 use Rattle.std.specs.List.{slice_split}
 
@@ -28,5 +28,6 @@ unfinished bytes = last_part (slice_split is_newline bytes)
 abbrev pub without_cr : List ℕ → List ℕ
 without_cr raw = if slice_index raw (length raw - 1) == 13 then take (length raw - 1) raw else raw
 
+-- how many lines are read at most
 abbrev pub most_lines : ℕ
 most_lines = 100000
