@@ -9,7 +9,7 @@ use Rattle.std.proofs.lemmas.List.Elements.{All-nil, All-cons}
 use Rattle.plan_items.specs.declared.items.Item.{Item}
 use Rattle.plan_ranges.specs.Ranges.{ItemInRange}
 use Rattle.scenario_lines.specs.Reasons.{is_too_great, leaves_range}
-use Rattle.fleet_world.specs.Steps.{items_from}
+use Rattle.scenario_lines.specs.ItemRows.{items_from}
 
 test_small : (n : ℕ) → nat_le (2 ^ 31) n ≡ false → n < 2 ^ 31
 test_small n e = grind (arith, nat_tests)

@@ -27,7 +27,8 @@ use Rattle.scenario_lines.specs.LineContext as context
 use Rattle.scenario_lines.specs.Grammar.{against, first_reason}
 use Rattle.fleet_world.specs.WorldState.{WorldState, Node, Drone, Station, node_name, names_of, stream_of, is_station_named, drones_in, stations_in}
 use Rattle.fleet_world.specs.declared.locations.Location.{Location}
-use Rattle.fleet_world.specs.Steps.{Step, StepError, rests, most_drones, most_stations, most_restarts, starts_again, restart_line, node_receives, node_beats, node_ticks, node_does, as_station, station_line, orders, upload_begins, orders_at, orders_found, orders_to, begins, cancels, clears, gets, asks, command_busy, params_busy, commands, lists_params, delivers, items_from, after_line, location_in, locates_as}
+use Rattle.scenario_lines.specs.ItemRows.{items_from}
+use Rattle.fleet_world.specs.Steps.{Step, StepError, rests, most_drones, most_stations, most_restarts, starts_again, restart_line, node_receives, node_beats, node_ticks, node_does, as_station, station_line, orders, upload_begins, orders_at, orders_found, orders_to, begins, cancels, clears, gets, asks, command_busy, params_busy, commands, lists_params, delivers, after_line, location_in, locates_as}
 use Rattle.fleet_invariants.specs.Sound.{link_of, Sound}
 use Rattle.fleet_invariants.specs.Kept.{StepKeeps, Keeps, names_joined, KeepsLine}
 use Rattle.fleet_invariants.specs.Laws.{EveryLineKeeps}

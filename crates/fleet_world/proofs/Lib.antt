@@ -8,7 +8,6 @@ pub mod Lookups
 pub mod Found
 pub mod Reporting
 pub mod NewsReports
-pub mod DraftItems
 pub mod WorldCalls
 pub mod Leading
 pub mod Ordering

@@ -1,10 +1,9 @@
 -- What a scenario line does to the world: the state after it and its events, or why it isn't done.
-use Rattle.std.specs.Prelude.{ℕ, pos, zero, suc, ◌+◌, ◌-◌, ◌+ℤ◌, nat_lt, nat_le, if◌then◌else◌, List, [], ◌∷◌, ◌++◌, length, slice_get, slice_set, position, Option, Some, None, Ok, Err}
+use Rattle.std.specs.Prelude.{ℕ, zero, suc, ◌+◌, ◌-◌, nat_lt, nat_le, if◌then◌else◌, List, [], ◌∷◌, ◌++◌, length, slice_get, slice_set, position, Option, Some, None, Ok, Err}
 use Rattle.std.specs.declared.result.Result.{Result}
 use Rattle.mav_names.specs.declared.names.Name.{Name}
 use Rattle.mav_frame.specs.Packet.{Packet}
 use Rattle.mav_frame.specs.Encoding.{encoding}
-use Rattle.plan_items.specs.declared.items.Item.{Item}
 use Rattle.plan_items.specs.Kinds.{number_of}
 use Rattle.plan_upload.specs.Kinds.{clear_number}
 use Rattle.plan_upload.specs.declared.faults.OpFault.{OpFault}
@@ -18,6 +17,7 @@ use Rattle.mav_nodes.specs.Restarts.{drone_restarts}
 use Rattle.mav_nodes.specs.Nodes.{DroneSide, StationSide, new_drone, drone_receives, drone_beats, drone_ticks, drone_sims, new_station, station_receives, station_beats, station_ticks, station_begins, station_cancels, station_clears, station_gets, station_commands, station_lists_params}
 use Rattle.scenario_lines.specs.declared.lines.Line.{Line}
 use Rattle.scenario_lines.specs.declared.lines.Line.TheVariants.{Blank, Drone as DroneLine, Station as StationLine, Item as OneItem, Items, Empty, Begin, Cancel, Clear, Get, Command, Params, Heartbeat, Deliver, Flow, Noise, Tick, Clock, Restart, Sim, WhereIs}
+use Rattle.scenario_lines.specs.ItemRows.{items_from}
 use Rattle.fleet_report.specs.Events.{Event, Sent, Installed, Emptied, Dropped, Missing, Restarted, Refused, Ended, Command_ended, Params_ended, Param_given, Command_refused, Params_refused, Reached, Captured, Located, plan_text}
 use Rattle.fleet_world.specs.declared.locations.Location.{Location}
 use Rattle.fleet_world.specs.declared.faults.Bound.{Bound}
@@ -297,11 +297,6 @@ lists_params s station drone =
     (station_lists_params s.clock (stream_of drone) node))
 
 -- ---- lines
-
--- n items, the i-th from 0 with the x of the first plus i
-abbrev pub items_from : ℕ → Item → ℕ → List Item
-items_from zero first i = []
-items_from (suc n) first i = record first { x = first.x +ℤ pos i } ∷ items_from n first (i + 1)
 
 -- one node more
 abbrev pub joins : WorldState → Node → Result Step StepError

@@ -7,7 +7,6 @@
 
 mod calls;
 mod closing;
-mod drafts;
 mod events;
 mod faults;
 mod fleet;

@@ -9,14 +9,13 @@ ghost use Rattle.fleet_world.specs.Steps.{after_line};
 ghost use Rattle.fleet_world.specs.Promises.{WorldOutcome, Quietly, IsStepError};
 
 use crate::calls::Call;
-use crate::drafts::put_items;
 use crate::fleet::stream;
 use crate::{Bound, World, WorldFault};
 use fleet_report::Report;
 use mav_names::Name;
 use mav_nodes::Order;
 use plan_items::{Item, Plan};
-use scenario_lines::Line;
+use scenario_lines::{Line, put_items};
 
 const MOST_DRONES: usize = 16;
 

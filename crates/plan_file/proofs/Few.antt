@@ -9,12 +9,13 @@ use Rattle.scenario_lines.specs.LineContext.{context_of}
 use Rattle.scenario_lines.specs.Words.{words_of, word_at}
 use Rattle.scenario_lines.specs.Grammar.{line_of, is_blank, form_of, most_line_bytes, most_draft, first_reason, against}
 use Rattle.scenario_lines.specs.Reasons.{is_item_word, words_reason, item_reason_against, leaves_range}
+use Rattle.scenario_lines.specs.ItemRows.{items_from}
 use Rattle.scenario_lines.specs.Permits.{IsPermitted}
 use Rattle.scenario_lines.proofs.Permitted.{read_is_permitted}
 use Rattle.plan_items.specs.declared.items.Item.{Item}
 use Rattle.line_input.specs.Takers.{Read, going, judged, rules_of, file_read}
 use Rattle.line_input.proofs.Keeps.{bytes_keep}
-use Rattle.plan_file.specs.Spec.{items_from, items_in, items_said, items_say, HoldsItems}
+use Rattle.plan_file.specs.Spec.{items_in, items_said, items_say, HoldsItems}
 
 -- ---- a line of a file is one of scenarios
 

@@ -1,5 +1,5 @@
 -- A file of items: what its lines say, and the items that they give.
-use Rattle.std.specs.Prelude.{ℕ, zero, suc, ◌+◌, List, [], ◌∷◌, ◌++◌, length, pos, ◌+ℤ◌, Option, Some, None, Ok, Err}
+use Rattle.std.specs.Prelude.{ℕ, List, [], ◌∷◌, ◌++◌, length, Option, Some, None, Ok, Err}
 use Rattle.std.specs.declared.result.Result.{Result}
 use Rattle.plan_items.specs.declared.items.Item.{Item}
 use Rattle.plan_items.specs.declared.plans.Plan.{Plan}
@@ -8,14 +8,10 @@ use Rattle.scenario_lines.specs.declared.faults.Reason.{Reason}
 use Rattle.scenario_lines.specs.declared.lines.Line.{Line}
 use Rattle.scenario_lines.specs.declared.lines.Line.TheVariants.{Blank, Drone, Station, Item as OneItem, Items, Empty, Begin, Cancel, Clear, Get, Command, Params, Heartbeat, Deliver, Flow, Noise, Tick, Clock as ClockLine, Restart, Sim, WhereIs}
 use Rattle.scenario_lines.specs.Grammar.{line_of}
+use Rattle.scenario_lines.specs.ItemRows.{items_from}
 use Rattle.scenario_lines.specs.Reasons.{item_reason_against}
 use Rattle.run_status.specs.Runs.{CommandSpec}
 use Rattle.line_input.specs.Takers.{Says, lines_spec, HoldsLines}
-
--- n items, the i-th from 0 with the x of the first plus i
-abbrev pub items_from : ℕ → Item → ℕ → List Item
-items_from zero first i = []
-items_from (suc n) first i = record first { x = first.x +ℤ pos i } ∷ items_from n first (i + 1)
 
 -- the items that a line adds; in a file of items no line but these two adds any
 abbrev pub items_in : Line → List Item

@@ -1,16 +1,15 @@
 // What one line of a file adds to a plan.
-ghost use Rattle.std.specs.Prelude.{◌≡◌, ◌≤◌, ◌++◌, ◌+ℤ◌, [], pos, false, length, Some, None, OnOk, OnErr, IfErr, FitsSigned};
-ghost use Rattle.std.specs.Int.{w32};
+ghost use Rattle.std.specs.Prelude.{◌≡◌, ◌++◌, [], length, Some, None, OnOk, OnErr, IfErr};
 ghost use Rattle.plan_items.specs.Plans.{items_of};
 ghost use Rattle.scenario_lines.specs.LineContext.{context_of};
 ghost use Rattle.scenario_lines.specs.Permits.{IsPermitted};
 ghost use Rattle.scenario_lines.specs.Faults.{IfBad};
 ghost use Rattle.scenario_lines.specs.Grammar.{line_of};
-ghost use Rattle.scenario_lines.specs.Reasons.{leaves_range, item_reason_against};
-ghost use Rattle.plan_file.specs.Spec.{items_from, items_in};
+ghost use Rattle.scenario_lines.specs.Reasons.{item_reason_against};
+ghost use Rattle.plan_file.specs.Spec.{items_in};
 
-use plan_items::{Item, NoMemory, Plan};
-use scenario_lines::{Line, LineFault, read_item_line};
+use plan_items::{NoMemory, Plan};
+use scenario_lines::{Line, LineFault, put_items, read_item_line};
 use std::alloc::Global;
 
 /// Adds the items of a line, which may be blank, or says what is wrong with it. A plan has at most 2,000 items.
@@ -38,27 +37,4 @@ fn add(plan: &mut Plan, line: Line) -> Result<(), NoMemory>
         Line::Items { n, first } => put_items(plan, n, first),
         _ => Ok(()),
     }
-}
-
-// Adds `count` items, the i-th from 0 with the x of the first plus i.
-fn put_items(plan: &mut Plan, count: u64, first: Item) -> Result<(), NoMemory>
-    requires few { count ≤ 2000 }
-    requires fits { leaves_range count first ≡ false }
-    ensures { OnOk result (items_of plan.new ≡ items_of plan.old ++ items_from count first 0) }
-{
-    for i in 0..count {
-        plan.push(moved(first, i))?;
-    }
-    Ok(())
-}
-
-// An item `by` units to the north.
-fn moved(item: Item, by: u64) -> Item
-    requires few { by ≤ 2000 }
-    requires fits { FitsSigned w32 (item.x +ℤ pos by) }
-    ensures { result ≡ record item { x = item.x +ℤ pos by } }
-{
-    let mut moved = item;
-    moved.x += by as i32;
-    moved
 }

@@ -9,3 +9,4 @@ pub mod FirstWords
 pub mod ItemForms
 pub mod WholeLines
 pub mod Permitted
+mod ItemRows

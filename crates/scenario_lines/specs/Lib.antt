@@ -6,3 +6,4 @@ pub mod Permits
 pub mod Faults
 pub mod Readings
 pub mod FileLines
+pub mod ItemRows

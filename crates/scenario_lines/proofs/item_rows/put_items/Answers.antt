@@ -1,9 +1,9 @@
 use Rattle.std.proofs.Common.{◌+◌, ◌-◌, ◌++◌, [], ◌∷◌, List, ap, ◌∙◌}
 use Rattle.plan_items.specs.declared.items.Item.{Item}
 use Rattle.plan_items.specs.Plans.{items_of}
-use Rattle.plan_file.specs.Spec.{items_from}
-use Rattle.plan_file.proofs.DraftItems.{items_from-one}
-use Rattle.plan_file.proofs.item_lines.put_items.Goals as goal
+use Rattle.scenario_lines.specs.ItemRows.{items_from}
+use Rattle.scenario_lines.proofs.ItemRows.{items_from-one}
+use Rattle.scenario_lines.proofs.item_rows.put_items.Goals as goal
 
 pub loop-i-preserved : goal.loop-i-preserved
 loop-i-preserved c =

@@ -1,7 +1,0 @@
-use Rattle.std.proofs.Common.{◌≡◌, ◌++◌, ◌-◌}
-use Rattle.plan_items.specs.Plans.{items_of}
-use Rattle.fleet_world.specs.Steps.{items_from}
-use Rattle.fleet_world.proofs.drafts.put_items.Given as goal
-
-abbrev pub invariant-loop-i : goal.invariant-loop-i
-invariant-loop-i l = items_of l.plan ++ items_from (l.count - l.i) l.first l.i ≡ items_of l.initial.plan ++ items_from l.count l.first 0
