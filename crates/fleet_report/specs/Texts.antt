@@ -10,7 +10,7 @@ use Rattle.plan_items.specs.declared.messages.PlanMsg.TheVariants.{Count, Reques
 use Rattle.plan_upload.specs.declared.faults.OpFault.{OpFault}
 use Rattle.plan_upload.specs.declared.faults.OpFault.TheVariants.{Busy, EmptyPlan, PingsSpent, NotFit, NoMemory}
 use Rattle.plan_upload.specs.Plans.{every_kind}
-use Rattle.plan_upload.specs.Station.{Told, Told_installed, Told_not_installed, Told_unknown, Told_cleared, Told_got, Told_ended}
+use Rattle.plan_upload.specs.Station.{Told, Told_installed, Told_not_installed, Told_unknown, Told_cleared, Told_got, Told_ended, addressee}
 use Rattle.field_layout.specs.Definition.{Definition, all_fields}
 use Rattle.field_layout.specs.Target.{is_target}
 use Rattle.field_layout.specs.CharText.{quoted_text}
@@ -50,15 +50,6 @@ said (Give to seq kind item) = codes "ITEM " ++ kind_text kind ++ space ++ decim
 said (Ack to code kind) = codes "ACK " ++ decimal code ++ space ++ kind_text kind
 said (Listing to kind) = codes "LIST " ++ kind_text kind
 said (Clear to kind) = codes "CLEAR " ++ kind_text kind
-
-abbrev pub addressee : PlanMsg → Name
-addressee (Ping to usec seq) = to
-addressee (Count to count kind) = to
-addressee (Request to seq kind) = to
-addressee (Give to seq kind item) = to
-addressee (Ack to code kind) = to
-addressee (Listing to kind) = to
-addressee (Clear to kind) = to
 
 -- whom it is for
 abbrev pub to_text : Name → List ℕ

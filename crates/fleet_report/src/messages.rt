@@ -2,12 +2,13 @@
 ghost use Rattle.std.specs.Prelude.{◌≡◌, Some};
 ghost use Rattle.mav_messages.specs.Messages.{definition_of};
 ghost use Rattle.fleet_report.specs.Parts.{word, numbers_text};
-ghost use Rattle.fleet_report.specs.Texts.{said, addressee, target_field, target_text, message_text};
+ghost use Rattle.fleet_report.specs.Texts.{said, target_field, target_text, message_text};
 
 use crate::texts::{KindText, NameText};
 use mav_messages::Message;
 use mav_names::Name;
 use plan_items::PlanMsg;
+use plan_upload::receiver;
 use std::fmt;
 
 // The name that a message of the mission protocol is printed by.
@@ -65,21 +66,6 @@ impl fmt::Display for SaidText {
 
     fn fmt<W: fmt::Write>(&self, f: &mut fmt::Formatter<W>) -> fmt::Result {
         write!(f, "{} {}", word_of(&self.0), NumbersText(self.0))
-    }
-}
-
-// Whom a message of the mission protocol is for.
-fn addressee_of(message: &PlanMsg) -> Name
-    ensures { result ≡ addressee message.now }
-{
-    match *message {
-        PlanMsg::Ping { to, .. }
-        | PlanMsg::Count { to, .. }
-        | PlanMsg::Request { to, .. }
-        | PlanMsg::Item { to, .. }
-        | PlanMsg::Ack { to, .. }
-        | PlanMsg::List { to, .. }
-        | PlanMsg::Clear { to, .. } => to,
     }
 }
 
@@ -157,7 +143,7 @@ impl fmt::Display for MessageText {
 
     fn fmt<W: fmt::Write>(&self, f: &mut fmt::Formatter<W>) -> fmt::Result {
         match self.0.to_plan() {
-            Some(plan) => write!(f, "{} to {}", SaidText(plan), NameText(addressee_of(&plan))),
+            Some(plan) => write!(f, "{} to {}", SaidText(plan), NameText(receiver(&plan))),
             None => write!(f, "{}{}", name_of(&self.0), ToText(target_of(&self.0))),
         }
     }

@@ -32,6 +32,7 @@ pub fn is_for_autopilot(sys: u8, to: Name) -> bool
     to.sys == sys && (to.comp == AUTOPILOT || to.comp == 0)
 }
 
+/// Whom a plan message is for.
 pub fn receiver(msg: &PlanMsg) -> Name
     ensures { result ≡ addressee msg.now }
 {

@@ -21,6 +21,7 @@ mod synced;
 mod uploads;
 mod verdicts;
 
+pub use addresses::receiver;
 pub use changes::Change;
 pub use drone::Drone;
 pub use faults::{BeginFault, OpFault};
