@@ -133,26 +133,7 @@ impl Command {
     pub(crate) fn is_option_built(self, name: OptionName) -> bool
         ensures { result ≡ is_option_built self name }
     {
-        match self {
-            Command::Fleet => matches!(name, OptionName::Frames | OptionName::Key),
-            Command::Dialect | Command::LogShow | Command::LogFilter | Command::LogMake => {
-                matches!(name, OptionName::Defs)
-            }
-            Command::Decode => matches!(name, OptionName::Defs | OptionName::Key),
-            Command::Route => matches!(
-                name,
-                OptionName::Key | OptionName::Defs | OptionName::One | OptionName::Turns
-            ),
-            Command::Drone => matches!(
-                name,
-                OptionName::Key | OptionName::Store | OptionName::Turns
-            ),
-            Command::Station => matches!(
-                name,
-                OptionName::Key | OptionName::Ticks | OptionName::File
-            ),
-            Command::Make | Command::Fence => false,
-        }
+        self.has_option(name)
     }
 
     /// Whether it needs a key.
