@@ -1,6 +1,5 @@
 -- How names, kinds, messages, items and causes are printed.
-use Rattle.std.specs.Prelude.{ℕ, ℤ, ◌+◌, ◌/◌, ◌%◌, ◌==◌, if◌then◌else◌, Bool, List, [], ◌∷◌, ◌++◌, length, codes, Option, Some, None}
-use Rattle.std.specs.List.{list_any}
+use Rattle.std.specs.Prelude.{ℕ, ℤ, ◌+◌, ◌/◌, ◌%◌, ◌==◌, if◌then◌else◌, List, [], ◌∷◌, ◌++◌, length, codes, Option, Some, None}
 use Rattle.std.specs.Fmt.{decimal, signed_decimal}
 use Rattle.hex.specs.Hex.{encode_lower}
 use Rattle.mav_names.specs.declared.names.Name.{Name}
@@ -11,13 +10,11 @@ use Rattle.plan_upload.specs.declared.faults.OpFault.{OpFault}
 use Rattle.plan_upload.specs.declared.faults.OpFault.TheVariants.{Busy, EmptyPlan, PingsSpent, NotFit, NoMemory}
 use Rattle.plan_upload.specs.Plans.{every_kind}
 use Rattle.plan_upload.specs.Station.{Told, Told_installed, Told_not_installed, Told_unknown, Told_cleared, Told_got, Told_ended, addressee}
-use Rattle.field_layout.specs.Definition.{Definition, all_fields}
-use Rattle.field_layout.specs.Target.{is_target}
 use Rattle.field_layout.specs.CharText.{quoted_text}
 use Rattle.mav_messages.specs.declared.messages.Message.{Message}
 use Rattle.mav_messages.specs.Messages.{definition_of, values_of}
 use Rattle.mav_messages.specs.Plans.{plan_of}
-use Rattle.mav_messages.specs.Targets.{target_in}
+use Rattle.mav_messages.specs.Targets.{target_field}
 use Rattle.param_proto.specs.declared.params.Param.{Param}
 use Rattle.mav_sign.specs.declared.admission.Admit.{Admit}
 use Rattle.mav_sign.specs.declared.admission.Admit.TheVariants.{Admitted, Unsigned, BadSignature, BelowFloor, NotLater, TooOld, TooManyStreams}
@@ -58,21 +55,13 @@ to_text name = codes " to " ++ name_text name
 abbrev pub plan_message_text : PlanMsg → List ℕ
 plan_message_text m = said m ++ to_text (addressee m)
 
--- a message has target fields, base or extension
-abbrev pub has_target : Definition → Bool
-has_target def = list_any (is_target (codes "target_system")) (all_fields def)
-
--- whom a message is for, if it has target fields
-abbrev pub target_field : Message → Option Name
-target_field m = if has_target (definition_of m) then Some (target_in (definition_of m) (values_of m)) else None
-
 abbrev pub target_text : Option Name → List ℕ
 target_text None = []
 target_text (Some name) = to_text name
 
 -- any other message by its name in the definitions, and whom it is for
 abbrev pub other_message_text : Message → List ℕ
-other_message_text m = (definition_of m).name ++ target_text (target_field m)
+other_message_text m = (definition_of m).name ++ target_text (target_field (definition_of m) (values_of m))
 
 abbrev pub carried_text : Message → Option PlanMsg → List ℕ
 carried_text m (Some plan) = plan_message_text plan

@@ -2,7 +2,7 @@
 ghost use Rattle.std.specs.Prelude.{◌≡◌, Some};
 ghost use Rattle.mav_messages.specs.Messages.{definition_of};
 ghost use Rattle.fleet_report.specs.Parts.{word, numbers_text};
-ghost use Rattle.fleet_report.specs.Texts.{said, target_field, target_text, message_text};
+ghost use Rattle.fleet_report.specs.Texts.{said, target_text, message_text};
 
 use crate::texts::{KindText, NameText};
 use mav_messages::Message;
@@ -96,29 +96,6 @@ fn name_of(message: &Message) -> &'static str
     }
 }
 
-// Whom a message is for, if it has target fields.
-fn target_of(message: &Message) -> Option<Name>
-    ensures { result ≡ target_field message.now }
-{
-    let (sys, comp) = match message {
-        Message::Ping(m) => (m.target_system, m.target_component),
-        Message::ParamRequestRead(m) => (m.target_system, m.target_component),
-        Message::ParamRequestList(m) => (m.target_system, m.target_component),
-        Message::ParamSet(m) => (m.target_system, m.target_component),
-        Message::MissionRequestList(m) => (m.target_system, m.target_component),
-        Message::MissionCount(m) => (m.target_system, m.target_component),
-        Message::MissionClearAll(m) => (m.target_system, m.target_component),
-        Message::MissionAck(m) => (m.target_system, m.target_component),
-        Message::MissionRequestInt(m) => (m.target_system, m.target_component),
-        Message::MissionItemInt(m) => (m.target_system, m.target_component),
-        Message::CommandLong(m) => (m.target_system, m.target_component),
-        Message::CommandAck(m) => (m.target_system, m.target_component),
-        Message::FileTransferProtocol(m) => (m.target_system, m.target_component),
-        _ => return None,
-    };
-    Some(Name { sys, comp })
-}
-
 // Whom a message is for, after its name.
 #[derive(Drop)]
 struct ToText(Option<Name>);
@@ -144,7 +121,7 @@ impl fmt::Display for MessageText {
     fn fmt<W: fmt::Write>(&self, f: &mut fmt::Formatter<W>) -> fmt::Result {
         match self.0.to_plan() {
             Some(plan) => write!(f, "{} to {}", SaidText(plan), NameText(receiver(&plan))),
-            None => write!(f, "{}{}", name_of(&self.0), ToText(target_of(&self.0))),
+            None => write!(f, "{}{}", name_of(&self.0), ToText(self.0.target_field())),
         }
     }
 }

@@ -2,7 +2,7 @@
 ghost use Rattle.std.specs.Prelude.{◌≡◌, ℕ, ◌-◌, ◌<◌, List, ◌++◌, [], length, option_map, replicate, IfSome};
 ghost use Rattle.field_layout.specs.Payload.{serialised, truncated, FitsLayout, Represents};
 ghost use Rattle.field_layout.specs.Target.{target_of};
-ghost use Rattle.mav_messages.specs.Targets.{target_in};
+ghost use Rattle.mav_messages.specs.Targets.{target_field, target_in};
 ghost use Rattle.mav_messages.specs.Messages.{definition_of, values_of, profile_definition};
 
 use crate::words::{Padded, padded};
@@ -159,9 +159,9 @@ impl Message {
         Message::read_padded(id, &padded(payload))
     }
 
-    // The target by the fields.
-    pub(crate) fn target_fields(&self) -> Name
-        ensures { result ≡ target_in (definition_of self.now) (values_of self.now) }
+    /// The node that the message is for, by its fields `target_system` and `target_component`; None if it has none.
+    pub fn target_field(&self) -> Option<Name>
+        ensures { result ≡ target_field (definition_of self.now) (values_of self.now) }
     {
         let (sys, comp) = match self {
             Message::Ping(m) => (m.target_system, m.target_component),
@@ -177,14 +177,19 @@ impl Message {
             Message::CommandLong(m) => (m.target_system, m.target_component),
             Message::CommandAck(m) => (m.target_system, m.target_component),
             Message::FileTransferProtocol(m) => (m.target_system, m.target_component),
-            Message::Heartbeat(_)
-            | Message::ParamValue(_)
-            | Message::GlobalPositionInt(_)
-            | Message::MissionCurrent(_)
-            | Message::MissionItemReached(_)
-            | Message::Statustext(_) => (0, 0),
+            _ => return None,
         };
-        Name { sys, comp }
+        Some(Name { sys, comp })
+    }
+
+    // The same, with zeros for fields that are absent.
+    pub(crate) fn target_or_zeros(&self) -> Name
+        ensures { result ≡ target_in (definition_of self.now) (values_of self.now) }
+    {
+        match self.target_field() {
+            Some(name) => name,
+            None => Name { sys: 0, comp: 0 },
+        }
     }
 
     /// The node that the message is for: its fields `target_system` and `target_component`, each 0 if it is absent
@@ -193,6 +198,6 @@ impl Message {
         ensures { (payload : List ℕ) → Represents (definition_of self.now) payload (values_of self.now)
             → result ≡ target_of (definition_of self.now) payload }
     {
-        self.target_fields()
+        self.target_or_zeros()
     }
 }

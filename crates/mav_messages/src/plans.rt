@@ -106,7 +106,7 @@ impl Message {
         ensures plan { result ≡ plan_of self.now }
         ensures back { IfSome result (λ plan. message_of_plan plan ≡ self.now) }
     {
-        let to = self.target_fields();
+        let to = self.target_or_zeros();
         Some(match self {
             Message::MissionCount(m) => PlanMsg::Count {
                 to,

@@ -4,4 +4,4 @@ use Rattle.mav_messages.proofs.Naming.{targets_agree}
 use Rattle.mav_messages.proofs.messages.Message.target.Goals as goal
 
 pub returns : goal.returns
-returns c = λ payload of. c.target_fields.ensures ∙ targets_agree (definition_of c.args.self.now) payload (values_of c.args.self.now) of
+returns c = λ payload of. c.target_or_zeros.ensures ∙ targets_agree (definition_of c.args.self.now) payload (values_of c.args.self.now) of
