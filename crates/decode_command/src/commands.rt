@@ -1,8 +1,7 @@
 // The command `decode`.
 ghost use Rattle.std.specs.Prelude.{◌≡◌, ◌<◌, ◌≤◌, ◌+◌, [], true, false, length, IsErrOf};
 ghost use Rattle.std.specs.Result.{result_err};
-ghost use Rattle.mav_ports.specs.Gets.{IsSpent};
-ghost use Rattle.run_status.specs.Runs.{RunBeforeStatus, port_outcome};
+ghost use Rattle.run_status.specs.Seen.{before_status_over, input_of, output_of};
 ghost use Rattle.mav_profile.specs.Profile.{profile_definitions};
 ghost use Rattle.decode_command.specs.Decodes.{Drained, IsNew, IsWithin};
 ghost use Rattle.decode_command.specs.Spec.{decode_spec, most_input_bytes};
@@ -28,11 +27,8 @@ pub fn decode_by<S: Source, K: Sink>(
     main: &mut S,
     out: &mut K,
 ) -> Result<(), RunEnd>
-    ensures untold { RunBeforeStatus (decode_spec known) (port_outcome
-        (S.has_ended main.new × IsSpent (S.left main.new)) (S.faults main.old) (S.faults main.new)
-        (S.idles main.old) (S.idles main.new) (K.faults out.old) (K.faults out.new))
-        (S.left main.old) (S.left main.new) (K.sent out.old) (K.sent out.new)
-        (result_err result) }
+    ensures untold { before_status_over (output_of K.faults K.sent out.old out.new) (result_err result)
+        (decode_spec known) (input_of S.has_ended S.faults S.idles S.left main.old main.new) }
     ensures sound { ¬ IsErrOf result RunEnd.WriteFault → K.faults out.new ≡ K.faults out.old }
 {
     let mut decoder = Decoder::new(alloc, known)?;
@@ -47,11 +43,8 @@ fn decode_pieces<S: Source, K: Sink>(
     out: &mut K,
 ) -> Result<(), RunEnd>
     requires { IsNew decoder.old }
-    ensures untold { RunBeforeStatus (decode_spec decoder.old.known) (port_outcome
-        (S.has_ended main.new × IsSpent (S.left main.new)) (S.faults main.old) (S.faults main.new)
-        (S.idles main.old) (S.idles main.new) (K.faults out.old) (K.faults out.new))
-        (S.left main.old) (S.left main.new) (K.sent out.old) (K.sent out.new)
-        (result_err result) }
+    ensures untold { before_status_over (output_of K.faults K.sent out.old out.new) (result_err result)
+        (decode_spec decoder.old.known) (input_of S.has_ended S.faults S.idles S.left main.old main.new) }
     ensures sound { ¬ IsErrOf result RunEnd.WriteFault → K.faults out.new ≡ K.faults out.old }
 {
     decoder.make_room()?;
@@ -72,11 +65,8 @@ fn decode_all<S: Source, K: Sink>(
     requires still { decoder.old.reader.ended ≡ false }
     requires empty { decoder.old.text.items ≡ [] }
     ensures untold { Drained decoder.old.known [] decoder.old (K.sent out.old) (K.sent out.old)
-        → RunBeforeStatus (decode_spec decoder.old.known) (port_outcome
-        (S.has_ended main.new × IsSpent (S.left main.new)) (S.faults main.old) (S.faults main.new)
-        (S.idles main.old) (S.idles main.new) (K.faults out.old) (K.faults out.new))
-        (S.left main.old) (S.left main.new) (K.sent out.old) (K.sent out.new)
-        (result_err result) }
+        → before_status_over (output_of K.faults K.sent out.old out.new) (result_err result)
+        (decode_spec decoder.old.known) (input_of S.has_ended S.faults S.idles S.left main.old main.new) }
     ensures sound { ¬ IsErrOf result RunEnd.WriteFault → K.faults out.new ≡ K.faults out.old }
 {
     let mut left = MOST_INPUT_BYTES;
@@ -104,12 +94,8 @@ pub fn decode<S: Source, K: Sink>(
     main: &mut S,
     out: &mut K,
 ) -> Result<(), RunEnd>
-    ensures untold { RunBeforeStatus
-        (decode_spec (record { dialect = profile_definitions; key = key })) (port_outcome
-        (S.has_ended main.new × IsSpent (S.left main.new)) (S.faults main.old) (S.faults main.new)
-        (S.idles main.old) (S.idles main.new) (K.faults out.old) (K.faults out.new))
-        (S.left main.old) (S.left main.new) (K.sent out.old) (K.sent out.new)
-        (result_err result) }
+    ensures untold { before_status_over (output_of K.faults K.sent out.old out.new) (result_err result)
+        (decode_spec (record { dialect = profile_definitions; key = key })) (input_of S.has_ended S.faults S.idles S.left main.old main.new) }
     ensures sound { ¬ IsErrOf result RunEnd.WriteFault → K.faults out.new ≡ K.faults out.old }
 {
     let dialect = Dialect::profile(alloc)?;

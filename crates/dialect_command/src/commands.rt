@@ -1,8 +1,8 @@
 // The command `dialect`.
-ghost use Rattle.std.specs.Prelude.{◌≡◌, ⊤, Some, [], OnOk, IsErrOf};
+ghost use Rattle.std.specs.Prelude.{◌≡◌, OnOk, IsErrOf};
 ghost use Rattle.std.specs.Result.{result_err};
 ghost use Rattle.mav_ports.specs.Gets.{IsSpent};
-ghost use Rattle.run_status.specs.Runs.{RunBeforeStatus, port_outcome};
+ghost use Rattle.run_status.specs.Seen.{before_status_over, input_of, no_input, output_of};
 ghost use Rattle.dialect_command.specs.Ends.{Told, Refused, IsTooLong};
 ghost use Rattle.dialect_command.specs.Spec.{dialect_spec, profile_spec};
 
@@ -20,12 +20,8 @@ pub fn dialect<S: Source, K: Sink>(
     definitions: &mut S,
     out: &mut K,
 ) -> Result<(), RunEnd>
-    ensures untold { RunBeforeStatus dialect_spec (port_outcome
-        (S.has_ended definitions.new × IsSpent (S.left definitions.new))
-        (S.faults definitions.old) (S.faults definitions.new)
-        (S.idles definitions.old) (S.idles definitions.new) (K.faults out.old) (K.faults out.new))
-        (S.left definitions.old) (S.left definitions.new) (K.sent out.old) (K.sent out.new)
-        (result_err result) }
+    ensures untold { before_status_over (output_of K.faults K.sent out.old out.new) (result_err result)
+        dialect_spec (input_of S.has_ended S.faults S.idles S.left definitions.old definitions.new) }
     // It is done if the input holds definitions, and all of their text was written.
     ensures done { OnOk result (Told (S.has_ended definitions.new × IsSpent (S.left definitions.new))
         (S.left definitions.old) (S.left definitions.new) (K.sent out.old) (K.sent out.new)) }
@@ -45,8 +41,8 @@ pub fn dialect<S: Source, K: Sink>(
 
 /// Writes the layouts of the profile, as a command over an input without bytes would.
 pub fn profile<K: Sink>(alloc: Global, out: &mut K) -> Result<(), RunEnd>
-    ensures untold { RunBeforeStatus profile_spec (port_outcome ⊤ 0 0 0 0 (K.faults out.old) (K.faults out.new))
-        (Some []) (Some []) (K.sent out.old) (K.sent out.new) (result_err result) }
+    ensures untold { before_status_over (output_of K.faults K.sent out.old out.new) (result_err result)
+        profile_spec no_input }
     ensures sound { ¬ IsErrOf result RunEnd.WriteFault → K.faults out.new ≡ K.faults out.old }
 {
     let dialect = Dialect::profile(alloc)?;

@@ -3,9 +3,8 @@ ghost use Rattle.std.specs.Prelude.{◌≡◌, ◌⊎◌, OnOk, IfErr, IsErrOf};
 ghost use Rattle.std.specs.Result.{result_err};
 ghost use Rattle.std.specs.Io.KnownBytes.{append_known};
 ghost use Rattle.mav_ports.specs.Counts.{Rose};
-ghost use Rattle.mav_ports.specs.Gets.{IsSpent};
 ghost use Rattle.mav_ports.specs.Puts.{SentPrefix};
-ghost use Rattle.run_status.specs.Runs.{RunBeforeStatus, port_outcome};
+ghost use Rattle.run_status.specs.Seen.{before_status_over, input_of, output_of};
 ghost use Rattle.fence_command.specs.Files.{state_of};
 ghost use Rattle.fence_command.specs.FenceText.{fence_text};
 ghost use Rattle.fence_command.specs.Spec.{fence_spec};
@@ -21,11 +20,8 @@ use std::alloc::Global;
 /// Reads a file to its end, and writes what its fence says of its mission and of the flight. Why the run halted, if it did,
 /// isn't written.
 pub fn fence<S: Source, K: Sink>(alloc: Global, main: &mut S, out: &mut K) -> Result<(), RunEnd>
-    ensures before_status { RunBeforeStatus fence_spec (port_outcome
-        (S.has_ended main.new × IsSpent (S.left main.new)) (S.faults main.old) (S.faults main.new)
-        (S.idles main.old) (S.idles main.new) (K.faults out.old) (K.faults out.new))
-        (S.left main.old) (S.left main.new) (K.sent out.old) (K.sent out.new)
-        (result_err result) }
+    ensures before_status { before_status_over (output_of K.faults K.sent out.old out.new) (result_err result)
+        fence_spec (input_of S.has_ended S.faults S.idles S.left main.old main.new) }
     ensures sound { ¬ IsErrOf result RunEnd.WriteFault → K.faults out.new ≡ K.faults out.old }
 {
     let file = read_file(alloc, main)?;

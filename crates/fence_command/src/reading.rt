@@ -1,8 +1,7 @@
 // A file as an input gives it.
-ghost use Rattle.std.specs.Prelude.{◌≡◌, ℕ, List, Some, IfOk, IfErr};
-ghost use Rattle.std.specs.declared.option.Option.{Option};
+ghost use Rattle.std.specs.Prelude.{◌≡◌, IfOk, IfErr};
 ghost use Rattle.mav_ports.specs.Gets.{IsSpent};
-ghost use Rattle.run_status.specs.Runs.{RunBeforeStatus, port_outcome};
+ghost use Rattle.run_status.specs.Seen.{halted_over, input_of};
 ghost use Rattle.fence_command.specs.FenceFile.{empty_file};
 ghost use Rattle.fence_command.specs.Files.{state_of};
 ghost use Rattle.fence_command.specs.Spec.{HoldsFile, fence_spec};
@@ -61,10 +60,8 @@ impl FenceLines {
 pub(crate) fn read_file<S: Source>(alloc: Global, input: &mut S) -> Result<FenceFile, RunEnd>
     ensures holds { IfOk result (HoldsFile (S.has_ended input.new × IsSpent (S.left input.new))
         (S.left input.old) (S.left input.new)) }
-    ensures halts { IfErr result (λ run_end. (refusals : ℕ) (sent : Option (List ℕ))
-        → RunBeforeStatus fence_spec (port_outcome (S.has_ended input.new × IsSpent (S.left input.new))
-        (S.faults input.old) (S.faults input.new) (S.idles input.old) (S.idles input.new)
-        refusals refusals) (S.left input.old) (S.left input.new) sent sent (Some run_end)) }
+    ensures halts { IfErr result (halted_over fence_spec
+        (input_of S.has_ended S.faults S.idles S.left input.old input.new)) }
 {
     let mut lines = FenceLines::new(alloc);
     read_lines(alloc, input, &mut lines)?;

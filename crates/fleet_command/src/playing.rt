@@ -1,8 +1,7 @@
 // The command `fleet`: one scenario.
 ghost use Rattle.std.specs.Prelude.{◌≡◌, ◌<◌, ℕ, Bool, List, [], length, IsErrOf};
 ghost use Rattle.std.specs.Result.{result_err};
-ghost use Rattle.mav_ports.specs.Gets.{IsSpent};
-ghost use Rattle.run_status.specs.Runs.{RunBeforeStatus, port_outcome};
+ghost use Rattle.run_status.specs.Seen.{before_status_over, input_of, output_of};
 ghost use Rattle.fleet_command.specs.Plays.{Reading};
 ghost use Rattle.fleet_command.specs.Spec.{fleet_spec};
 
@@ -25,11 +24,8 @@ pub fn fleet<S: Source, K: Sink>(
     main: &mut S,
     out: &mut K,
 ) -> Result<(), RunEnd>
-    ensures before_status { RunBeforeStatus (fleet_spec key frames) (port_outcome
-        (S.has_ended main.new × IsSpent (S.left main.new)) (S.faults main.old) (S.faults main.new)
-        (S.idles main.old) (S.idles main.new) (K.faults out.old) (K.faults out.new))
-        (S.left main.old) (S.left main.new) (K.sent out.old) (K.sent out.new)
-        (result_err result) }
+    ensures before_status { before_status_over (output_of K.faults K.sent out.old out.new) (result_err result)
+        (fleet_spec key frames) (input_of S.has_ended S.faults S.idles S.left main.old main.new) }
     ensures sound { ¬ IsErrOf result RunEnd.WriteFault → K.faults out.new ≡ K.faults out.old }
 {
     let mut player = Player::new(alloc, key, frames)?;
@@ -47,11 +43,8 @@ fn play<S: Source, K: Sink>(
     requires { 0 < length buf.old }
     ensures before_status { (key : List ℕ) (frames : Bool) → Reading key frames [] player.old.world player.old.number player.old.line.items
         (K.sent out.old) (K.sent out.old)
-        → RunBeforeStatus (fleet_spec key frames) (port_outcome
-        (S.has_ended main.new × IsSpent (S.left main.new)) (S.faults main.old) (S.faults main.new)
-        (S.idles main.old) (S.idles main.new) (K.faults out.old) (K.faults out.new))
-        (S.left main.old) (S.left main.new) (K.sent out.old) (K.sent out.new)
-        (result_err result) }
+        → before_status_over (output_of K.faults K.sent out.old out.new) (result_err result)
+        (fleet_spec key frames) (input_of S.has_ended S.faults S.idles S.left main.old main.new) }
     ensures sound { ¬ IsErrOf result RunEnd.WriteFault → K.faults out.new ≡ K.faults out.old }
 {
     loop {

@@ -1,9 +1,9 @@
 // A key as an input gives it.
-ghost use Rattle.std.specs.Prelude.{◌≡◌, ◌≤◌, ℕ, List, Some, take, IfOk, IfErr, IsErrOf};
+ghost use Rattle.std.specs.Prelude.{◌≡◌, ◌≤◌, ℕ, List, take, IfOk, IfErr, IsErrOf};
 ghost use Rattle.std.specs.declared.option.Option.{Option};
 ghost use Rattle.std.specs.Io.KnownBytes.{prepend_known};
 ghost use Rattle.mav_ports.specs.Gets.{IsSpent};
-ghost use Rattle.run_status.specs.Runs.{RunBeforeStatus, port_outcome};
+ghost use Rattle.run_status.specs.Seen.{halted_over, input_of};
 ghost use Rattle.key_file.specs.Spec.{spec_by, key_spec, given_key_spec, most_key_bytes, HoldsKey, HoldsGivenKey, TookAtMost};
 
 use crate::texts::{key_of, key_or_default};
@@ -20,10 +20,8 @@ const BAD_KEY: RunEnd = RunEnd::Stopped(InputError::Bad(Place::Key, Reason::Key)
 pub fn read_key<S: Source>(input: &mut S) -> Result<Key, RunEnd>
     ensures holds { IfOk result (HoldsKey (S.has_ended input.new × IsSpent (S.left input.new))
         (S.left input.old) (S.left input.new)) }
-    ensures halts { IfErr result (λ run_end. (refusals : ℕ) (sent : Option (List ℕ))
-        → RunBeforeStatus key_spec (port_outcome (S.has_ended input.new × IsSpent (S.left input.new))
-        (S.faults input.old) (S.faults input.new) (S.idles input.old) (S.idles input.new)
-        refusals refusals) (S.left input.old) (S.left input.new) sent sent (Some run_end)) }
+    ensures halts { IfErr result (halted_over key_spec
+        (input_of S.has_ended S.faults S.idles S.left input.old input.new)) }
     ensures within { TookAtMost 67 (S.left input.old) (S.left input.new) }
     ensures memory { ¬ IsErrOf result RunEnd.NoMemory }
 {
@@ -39,10 +37,8 @@ pub fn read_key<S: Source>(input: &mut S) -> Result<Key, RunEnd>
 pub fn read_given_key<S: Source>(input: &mut S) -> Result<Key, RunEnd>
     ensures holds { IfOk result (HoldsGivenKey (S.has_ended input.new × IsSpent (S.left input.new))
         (S.left input.old) (S.left input.new)) }
-    ensures halts { IfErr result (λ run_end. (refusals : ℕ) (sent : Option (List ℕ))
-        → RunBeforeStatus given_key_spec (port_outcome (S.has_ended input.new × IsSpent (S.left input.new))
-        (S.faults input.old) (S.faults input.new) (S.idles input.old) (S.idles input.new)
-        refusals refusals) (S.left input.old) (S.left input.new) sent sent (Some run_end)) }
+    ensures halts { IfErr result (halted_over given_key_spec
+        (input_of S.has_ended S.faults S.idles S.left input.old input.new)) }
     ensures within { TookAtMost 67 (S.left input.old) (S.left input.new) }
     ensures memory { ¬ IsErrOf result RunEnd.NoMemory }
 {
@@ -60,10 +56,8 @@ fn read_all<S: Source>(input: &mut S, buf: &mut [u8; PIECE_BYTES]) -> Result<usi
     ensures taken { IfOk result (λ count.
         S.left input.old ≡ prepend_known (take count buf.new) (S.left input.new)) }
     ensures at_end { IfOk result (λ _. S.has_ended input.new × IsSpent (S.left input.new)) }
-    ensures halts { IfErr result (λ run_end. (read : List ℕ → Option (List ℕ)) (refusals : ℕ) (sent : Option (List ℕ))
-        → RunBeforeStatus (spec_by read) (port_outcome (S.has_ended input.new × IsSpent (S.left input.new))
-        (S.faults input.old) (S.faults input.new) (S.idles input.old) (S.idles input.new)
-        refusals refusals) (S.left input.old) (S.left input.new) sent sent (Some run_end)) }
+    ensures halts { IfErr result (λ run_end. (read : List ℕ → Option (List ℕ)) → halted_over (spec_by read)
+        (input_of S.has_ended S.faults S.idles S.left input.old input.new) run_end) }
     ensures within { TookAtMost 67 (S.left input.old) (S.left input.new) }
     ensures memory { ¬ IsErrOf result RunEnd.NoMemory }
 {

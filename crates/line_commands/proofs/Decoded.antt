@@ -18,7 +18,7 @@ use Rattle.dialect_command.specs.Spec.{definitions_spec}
 use Rattle.dialect_command.proofs.Stays.{reading_steady}
 use Rattle.decode_command.specs.Spec.{decode_spec}
 use Rattle.decode_command.proofs.Stays.{decode_steady}
-use Rattle.line_commands.specs.Seen.{Input, input_of, around, before_status_over, promised_over}
+use Rattle.run_status.specs.Seen.{Input, input_of, around, before_status_over, promised_over}
 use Rattle.line_commands.specs.Decoding.{WithKey, DecodesWith, Decodes, KeyIs}
 
 -- the key was read, or none was named, and then the run went on

@@ -27,7 +27,7 @@ use Rattle.live_node.specs.declared.drones.DronePlan.{DronePlan}
 use Rattle.live_node.specs.Ports.{FaultsBy}
 use Rattle.live_node.specs.Runs.{Outside, outside, Stores}
 use Rattle.live_node.specs.Drones.{IsDroneEnd, DroneRuns}
-use Rattle.line_commands.specs.Seen.{Input, Output}
+use Rattle.run_status.specs.Seen.{Input, Output}
 use Rattle.line_commands.specs.Routing.{WithGivenKey}
 use Rattle.line_commands.specs.Flying.{Flown, RunsOver, StoredRun, Devices}
 use Rattle.line_commands.specs.Reported.{Reported}

@@ -30,7 +30,7 @@ use Rattle.command_line.specs.PortTexts.{is_marked, port_text}
 use Rattle.command_line.proofs.PortWords.{mark_of}
 use Rattle.route_command.specs.Routes.{ports_of, rules_of, RoutesBeforeStatus}
 use Rattle.route_command.proofs.Runs.{stops_as}
-use Rattle.line_commands.specs.Seen.{Input, input_of, before_status_over}
+use Rattle.run_status.specs.Seen.{Input, input_of, before_status_over}
 use Rattle.line_commands.specs.Decoding.{WithDefinitions}
 use Rattle.line_commands.specs.Routing.{Routing, pad, router_of, KnownIs, AllEnded}
 use Rattle.line_commands.proofs.Decoded.{took_nothing, unmade}

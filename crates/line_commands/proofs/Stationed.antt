@@ -33,7 +33,7 @@ use Rattle.live_node.specs.declared.stations.StationPlan.{StationPlan}
 use Rattle.live_node.specs.Ports.{FaultsBy}
 use Rattle.live_node.specs.Runs.{outside, Stores}
 use Rattle.live_node.specs.Stations.{IsStationEnd, StationRuns}
-use Rattle.line_commands.specs.Seen.{Input, Output}
+use Rattle.run_status.specs.Seen.{Input, Output}
 use Rattle.line_commands.specs.Flying.{Devices}
 use Rattle.line_commands.specs.Ordering.{Contents, OrdersFor}
 use Rattle.line_commands.specs.Stationing.{Stationed, Stationing, FileSort, No_file, Of_items, Of_bytes, sort_of, asks_files, file_asked, HaltsAt, ContentsAre, WithFile, drone_stream}

@@ -8,7 +8,7 @@ use Rattle.key_file.specs.Spec.{key_spec, HoldsKey, TookAtMost}
 use Rattle.dialect_command.specs.Reads.{Holds}
 use Rattle.dialect_command.specs.Spec.{definitions_spec}
 use Rattle.decode_command.specs.Spec.{decode_spec}
-use Rattle.line_commands.specs.Seen.{Input}
+use Rattle.run_status.specs.Seen.{Input}
 
 -- a key that is named is read first: the run halts at it and reads nothing else, or it goes on with the key; without one
 -- it goes on at once

@@ -11,7 +11,7 @@ use Rattle.live_node.specs.declared.drones.DronePlan.{DronePlan}
 use Rattle.live_node.specs.Ports.{FaultsBy}
 use Rattle.live_node.specs.Runs.{Outside, outside, Stores}
 use Rattle.live_node.specs.Drones.{IsDroneEnd, DroneRuns, NewDroneRuns}
-use Rattle.line_commands.specs.Seen.{Output}
+use Rattle.run_status.specs.Seen.{Output}
 
 -- SYS PORT, and how often the port may be read
 pub record DroneOf (asked : Asked) (plan : DronePlan) : Type 0 where

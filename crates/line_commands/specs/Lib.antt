@@ -1,5 +1,4 @@
 pub mod Wants
-pub mod Seen
 pub mod Decoding
 pub mod Dialects
 pub mod Routing

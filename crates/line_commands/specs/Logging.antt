@@ -6,7 +6,7 @@ use Rattle.command_line.specs.declared.commands.Command.TheVariants.{LogFilter, 
 use Rattle.command_line.specs.Lines.{NumberSays}
 use Rattle.run_status.specs.Runs.{CommandSpec}
 use Rattle.mav_log.specs.Spec.{show_spec, filter_spec, make_spec}
-use Rattle.line_commands.specs.Seen.{Input}
+use Rattle.run_status.specs.Seen.{Input}
 use Rattle.line_commands.specs.Decoding.{WithDefinitions}
 
 -- what the command does with its main input, by these definitions and its number

@@ -4,7 +4,7 @@ use Rattle.std.specs.Result.{result_err}
 use Rattle.run_status.specs.declared.run_ends.RunEnd.{RunEnd}
 use Rattle.run_status.specs.Endings.{code_of}
 use Rattle.run_status.specs.StatusText.{WritesStatus}
-use Rattle.line_commands.specs.Seen.{Output}
+use Rattle.run_status.specs.Seen.{Output}
 
 -- what ran ended so, and then the text of its status was written, by which this is the status
 pub record Reported (Ran : Output → Option RunEnd → Type 0) (out : Output) (code : ℕ) : Type 0 where

@@ -12,7 +12,7 @@ use Rattle.command_line.specs.Grammar.{Asked}
 use Rattle.command_line.specs.Names.{port_words, turns_asked}
 use Rattle.command_line.specs.PortTexts.{is_marked}
 use Rattle.route_command.specs.Routes.{Ports, ports_of, rules_of}
-use Rattle.line_commands.specs.Seen.{Input}
+use Rattle.run_status.specs.Seen.{Input}
 use Rattle.line_commands.specs.Decoding.{WithDefinitions}
 
 -- the key is read first: the run halts at it and reads nothing else, or it goes on with it

@@ -22,7 +22,7 @@ use Rattle.live_node.specs.Stations.{IsStationEnd, StationRuns}
 use Rattle.line_commands.specs.Flying.{Alone, Devices}
 use Rattle.line_commands.specs.Ordering.{Contents, OrdersFor}
 use Rattle.line_commands.specs.Routing.{WithGivenKey}
-use Rattle.line_commands.specs.Seen.{Input, Output}
+use Rattle.run_status.specs.Seen.{Input, Output}
 
 -- SYS COMP DRONE PORT OP.., how long the station waits, and how often the port may be read
 pub record StationOf (asked : Asked) (plan : StationPlan) (task : Task) : Type 0 where

@@ -2,7 +2,7 @@
 ghost use Rattle.std.specs.Prelude.{◌≡◌, false, IsErrOf};
 ghost use Rattle.std.specs.Result.{result_err};
 ghost use Rattle.line_commands.specs.Dialects.{Dialects};
-ghost use Rattle.line_commands.specs.Seen.{input_of, output_of, before_status_over};
+ghost use Rattle.run_status.specs.Seen.{input_of, output_of, before_status_over};
 
 use dialect_command::{dialect, profile};
 use mav_ports::{Sink, Source};

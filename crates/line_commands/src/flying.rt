@@ -7,7 +7,7 @@ ghost use Rattle.command_line.specs.Nodes.{DroneSays};
 ghost use Rattle.live_node.specs.Runs.{stores_of};
 ghost use Rattle.line_commands.specs.Flying.{Flown, devices};
 ghost use Rattle.line_commands.specs.Routing.{WithGivenKey};
-ghost use Rattle.line_commands.specs.Seen.{input_of, output_of, before_status_over};
+ghost use Rattle.run_status.specs.Seen.{input_of, output_of, before_status_over};
 
 use crate::wants::Store;
 use command_line::{Line, OptionName};

@@ -5,7 +5,7 @@ ghost use Rattle.command_line.specs.Forms.{has_given};
 ghost use Rattle.command_line.specs.Lines.{given_of};
 ghost use Rattle.key_file.specs.Spec.{key_spec, TookAtMost};
 ghost use Rattle.line_commands.specs.Decoding.{KeyIs};
-ghost use Rattle.line_commands.specs.Seen.{Output, input_of, before_status_over};
+ghost use Rattle.run_status.specs.Seen.{Output, input_of, before_status_over};
 
 use command_line::{Line, OptionName};
 use key_file::read_key;

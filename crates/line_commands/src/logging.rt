@@ -4,7 +4,7 @@ ghost use Rattle.std.specs.Result.{result_err};
 ghost use Rattle.command_line.specs.Forms.{has_given};
 ghost use Rattle.command_line.specs.Lines.{given_of, LineSays};
 ghost use Rattle.line_commands.specs.Logging.{Logs, log_spec};
-ghost use Rattle.line_commands.specs.Seen.{input_of, output_of, before_status_over};
+ghost use Rattle.run_status.specs.Seen.{input_of, output_of, before_status_over};
 
 use crate::wants::Inputs;
 use command_line::{Command, Line, OptionName};

@@ -8,7 +8,7 @@ ghost use Rattle.command_line.specs.PortTexts.{port_text};
 ghost use Rattle.dialect_command.specs.Reads.{Halts, of_input};
 ghost use Rattle.route_command.specs.Routes.{RoutesBeforeStatus};
 ghost use Rattle.line_commands.specs.Routing.{Routing, router_of, open_ports, KnownIs};
-ghost use Rattle.line_commands.specs.Seen.{input_of, output_of, before_status_over};
+ghost use Rattle.run_status.specs.Seen.{input_of, output_of, before_status_over};
 
 use crate::routers::Router;
 use crate::wants::Inputs;

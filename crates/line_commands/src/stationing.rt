@@ -10,7 +10,7 @@ ghost use Rattle.live_node.specs.Runs.{stores_of};
 ghost use Rattle.line_commands.specs.Flying.{devices};
 ghost use Rattle.line_commands.specs.Ordering.{contents_of};
 ghost use Rattle.line_commands.specs.Stationing.{Stationed, Stationing, Of_items, Of_bytes, sort_of, file_asked, HaltsAt, ContentsAre};
-ghost use Rattle.line_commands.specs.Seen.{input_of, output_of, before_status_over};
+ghost use Rattle.run_status.specs.Seen.{input_of, output_of, before_status_over};
 
 use crate::ordering::{Contents, order_of};
 use crate::wants::{Inputs, Store};

@@ -1,7 +1,7 @@
 // The command `make`.
-ghost use Rattle.std.specs.Prelude.{◌≡◌, ⊤, Some, [], false, IfOk, IsErrOf};
+ghost use Rattle.std.specs.Prelude.{◌≡◌, false, IfOk, IsErrOf};
 ghost use Rattle.std.specs.Result.{result_err};
-ghost use Rattle.run_status.specs.Runs.{RunBeforeStatus, port_outcome};
+ghost use Rattle.run_status.specs.Seen.{before_status_over, no_input, output_of};
 ghost use Rattle.fleet_world.specs.Scenario.{whole_report};
 ghost use Rattle.scenario_maker.specs.Sums.{sums_text};
 ghost use Rattle.scenario_maker.specs.Generated.{generated};
@@ -19,8 +19,8 @@ use std::alloc::{AllocError, Global};
 /// Plays the scenario that a number gives, and writes the sums of its report. Why the run halted, if it did, isn't
 /// written.
 pub fn make<K: Sink>(alloc: Global, number: u32, out: &mut K) -> Result<(), RunEnd>
-    ensures before_status { RunBeforeStatus (make_spec number) (port_outcome ⊤ 0 0 0 0 (K.faults out.old) (K.faults out.new))
-        (Some []) (Some []) (K.sent out.old) (K.sent out.new) (result_err result) }
+    ensures before_status { before_status_over (output_of K.faults K.sent out.old out.new) (result_err result)
+        (make_spec number) no_input }
     ensures sound { ¬ IsErrOf result RunEnd.WriteFault → K.faults out.new ≡ K.faults out.old }
     // The scenario of every number is authentic and played to its end, so it has the theorem of `fleet`.
     ensures theorem { GeneratedTheorem number }

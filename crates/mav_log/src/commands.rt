@@ -1,8 +1,7 @@
 // The commands over logs.
 ghost use Rattle.std.specs.Prelude.{◌≡◌, ◌≤◌, IsErrOf};
 ghost use Rattle.std.specs.Result.{result_err};
-ghost use Rattle.mav_ports.specs.Gets.{IsSpent};
-ghost use Rattle.run_status.specs.Runs.{RunBeforeStatus, port_outcome};
+ghost use Rattle.run_status.specs.Seen.{before_status_over, input_of, output_of};
 ghost use Rattle.mav_log.specs.Spec.{show_spec, filter_spec, make_spec};
 
 use crate::filter_teller::Filter;
@@ -22,11 +21,8 @@ pub fn run_show<S: Source, K: Sink>(
     main: &mut S,
     out: &mut K,
 ) -> Result<(), RunEnd>
-    ensures untold { RunBeforeStatus (show_spec known) (port_outcome
-        (S.has_ended main.new × IsSpent (S.left main.new)) (S.faults main.old) (S.faults main.new)
-        (S.idles main.old) (S.idles main.new) (K.faults out.old) (K.faults out.new))
-        (S.left main.old) (S.left main.new) (K.sent out.old) (K.sent out.new)
-        (result_err result) }
+    ensures untold { before_status_over (output_of K.faults K.sent out.old out.new) (result_err result)
+        (show_spec known) (input_of S.has_ended S.faults S.idles S.left main.old main.new) }
     ensures sound { ¬ IsErrOf result RunEnd.WriteFault → K.faults out.new ≡ K.faults out.old }
 {
     let mut show = Show::new(alloc, known)?;
@@ -43,11 +39,8 @@ pub fn run_filter<S: Source, K: Sink>(
     main: &mut S,
     out: &mut K,
 ) -> Result<(), RunEnd>
-    ensures untold { RunBeforeStatus (filter_spec known sys) (port_outcome
-        (S.has_ended main.new × IsSpent (S.left main.new)) (S.faults main.old) (S.faults main.new)
-        (S.idles main.old) (S.idles main.new) (K.faults out.old) (K.faults out.new))
-        (S.left main.old) (S.left main.new) (K.sent out.old) (K.sent out.new)
-        (result_err result) }
+    ensures untold { before_status_over (output_of K.faults K.sent out.old out.new) (result_err result)
+        (filter_spec known sys) (input_of S.has_ended S.faults S.idles S.left main.old main.new) }
     ensures sound { ¬ IsErrOf result RunEnd.WriteFault → K.faults out.new ≡ K.faults out.old }
 {
     let mut filter = Filter::new(alloc, known, sys)?;
@@ -65,11 +58,8 @@ pub fn run_make<S: Source, K: Sink>(
     out: &mut K,
 ) -> Result<(), RunEnd>
     requires { start ≤ 4000000000000000 }
-    ensures untold { RunBeforeStatus (make_spec known start) (port_outcome
-        (S.has_ended main.new × IsSpent (S.left main.new)) (S.faults main.old) (S.faults main.new)
-        (S.idles main.old) (S.idles main.new) (K.faults out.old) (K.faults out.new))
-        (S.left main.old) (S.left main.new) (K.sent out.old) (K.sent out.new)
-        (result_err result) }
+    ensures untold { before_status_over (output_of K.faults K.sent out.old out.new) (result_err result)
+        (make_spec known start) (input_of S.has_ended S.faults S.idles S.left main.old main.new) }
     ensures sound { ¬ IsErrOf result RunEnd.WriteFault → K.faults out.new ≡ K.faults out.old }
 {
     let mut make = Make::new(alloc, known, start)?;

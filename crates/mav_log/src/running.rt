@@ -4,9 +4,8 @@ ghost use Rattle.std.specs.declared.option.Option.{Option};
 ghost use Rattle.std.specs.Result.{result_err};
 ghost use Rattle.std.specs.Io.KnownBytes.{append_known};
 ghost use Rattle.mav_ports.specs.Counts.{Rose};
-ghost use Rattle.mav_ports.specs.Gets.{IsSpent};
 ghost use Rattle.mav_ports.specs.Puts.{SentPrefix};
-ghost use Rattle.run_status.specs.Runs.{RunBeforeStatus, port_outcome};
+ghost use Rattle.run_status.specs.Seen.{before_status_over, input_of, output_of};
 ghost use Rattle.mav_log.specs.Tellings.{Tells, ToldAll, telling_spec};
 
 use crate::tellers::Teller;
@@ -140,11 +139,8 @@ fn run_pieces<T: Teller, S: Source, K: Sink>(
     requires empty { text.old.items ≡ [] }
     requires new { T.has_told teller.old false [] [] }
     requires nothing { (T.telling teller.old).told false [] ≡ [] }
-    ensures untold { RunBeforeStatus (telling_spec (T.telling teller.old)) (port_outcome
-        (S.has_ended main.new × IsSpent (S.left main.new)) (S.faults main.old) (S.faults main.new)
-        (S.idles main.old) (S.idles main.new) (K.faults out.old) (K.faults out.new))
-        (S.left main.old) (S.left main.new) (K.sent out.old) (K.sent out.new)
-        (result_err result) }
+    ensures untold { before_status_over (output_of K.faults K.sent out.old out.new) (result_err result)
+        (telling_spec (T.telling teller.old)) (input_of S.has_ended S.faults S.idles S.left main.old main.new) }
     ensures sound { ¬ IsErrOf result RunEnd.WriteFault → K.faults out.new ≡ K.faults out.old }
 {
     let mut left = MOST_INPUT_BYTES;
@@ -190,11 +186,8 @@ pub(crate) fn run_teller<T: Teller, S: Source, K: Sink>(
     requires load { T.load teller.old ≡ 0 }
     requires new { T.has_told teller.old false [] [] }
     requires nothing { (T.telling teller.old).told false [] ≡ [] }
-    ensures untold { RunBeforeStatus (telling_spec (T.telling teller.old)) (port_outcome
-        (S.has_ended main.new × IsSpent (S.left main.new)) (S.faults main.old) (S.faults main.new)
-        (S.idles main.old) (S.idles main.new) (K.faults out.old) (K.faults out.new))
-        (S.left main.old) (S.left main.new) (K.sent out.old) (K.sent out.new)
-        (result_err result) }
+    ensures untold { before_status_over (output_of K.faults K.sent out.old out.new) (result_err result)
+        (telling_spec (T.telling teller.old)) (input_of S.has_ended S.faults S.idles S.left main.old main.new) }
     ensures sound { ¬ IsErrOf result RunEnd.WriteFault → K.faults out.new ≡ K.faults out.old }
 {
     let mut text = text_with_room(alloc)?;

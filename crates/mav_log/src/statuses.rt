@@ -1,7 +1,6 @@
 // The commands over logs, with the text of their status.
 ghost use Rattle.std.specs.Prelude.{◌≤◌};
-ghost use Rattle.mav_ports.specs.Gets.{IsSpent};
-ghost use Rattle.run_status.specs.Runs.{Promises, port_outcome};
+ghost use Rattle.run_status.specs.Seen.{input_of, output_of, promised_over};
 ghost use Rattle.mav_log.specs.Spec.{show_spec, filter_spec, make_spec};
 
 use crate::commands::{run_filter, run_make, run_show};
@@ -12,10 +11,8 @@ use std::alloc::Global;
 
 /// Prints the rows of a log as `run_show` does, and then the text of the status, which it returns.
 pub fn show<S: Source, K: Sink>(alloc: Global, known: Dialect, main: &mut S, out: &mut K) -> u8
-    ensures { Promises (show_spec known) (port_outcome
-        (S.has_ended main.new × IsSpent (S.left main.new)) (S.faults main.old) (S.faults main.new)
-        (S.idles main.old) (S.idles main.new) (K.faults out.old) (K.faults out.new))
-        (S.left main.old) (S.left main.new) (K.sent out.old) (K.sent out.new) result }
+    ensures { promised_over (output_of K.faults K.sent out.old out.new) result
+        (show_spec known) (input_of S.has_ended S.faults S.idles S.left main.old main.new) }
 {
     let ended = run_show(alloc, known, main, out);
     code_of(write_status(alloc, ended, out))
@@ -29,10 +26,8 @@ pub fn filter<S: Source, K: Sink>(
     main: &mut S,
     out: &mut K,
 ) -> u8
-    ensures { Promises (filter_spec known sys) (port_outcome
-        (S.has_ended main.new × IsSpent (S.left main.new)) (S.faults main.old) (S.faults main.new)
-        (S.idles main.old) (S.idles main.new) (K.faults out.old) (K.faults out.new))
-        (S.left main.old) (S.left main.new) (K.sent out.old) (K.sent out.new) result }
+    ensures { promised_over (output_of K.faults K.sent out.old out.new) result
+        (filter_spec known sys) (input_of S.has_ended S.faults S.idles S.left main.old main.new) }
 {
     let ended = run_filter(alloc, known, sys, main, out);
     code_of(write_status(alloc, ended, out))
@@ -47,10 +42,8 @@ pub fn make<S: Source, K: Sink>(
     out: &mut K,
 ) -> u8
     requires { start ≤ 4000000000000000 }
-    ensures { Promises (make_spec known start) (port_outcome
-        (S.has_ended main.new × IsSpent (S.left main.new)) (S.faults main.old) (S.faults main.new)
-        (S.idles main.old) (S.idles main.new) (K.faults out.old) (K.faults out.new))
-        (S.left main.old) (S.left main.new) (K.sent out.old) (K.sent out.new) result }
+    ensures { promised_over (output_of K.faults K.sent out.old out.new) result
+        (make_spec known start) (input_of S.has_ended S.faults S.idles S.left main.old main.new) }
 {
     let ended = run_make(alloc, known, start, main, out);
     code_of(write_status(alloc, ended, out))

@@ -1,8 +1,7 @@
 // A plan as an input gives it.
-ghost use Rattle.std.specs.Prelude.{◌≡◌, ◌≤◌, ℕ, List, [], length, Some, IfOk, IfErr};
-ghost use Rattle.std.specs.declared.option.Option.{Option};
+ghost use Rattle.std.specs.Prelude.{◌≡◌, ◌≤◌, List, [], length, IfOk, IfErr};
 ghost use Rattle.mav_ports.specs.Gets.{IsSpent};
-ghost use Rattle.run_status.specs.Runs.{RunBeforeStatus, port_outcome};
+ghost use Rattle.run_status.specs.Seen.{halted_over, input_of};
 ghost use Rattle.plan_items.specs.Plans.{items_of};
 ghost use Rattle.plan_file.specs.Spec.{HoldsPlan, plan_spec};
 
@@ -62,10 +61,8 @@ pub fn read_plan<S: Source>(alloc: Global, input: &mut S) -> Result<Plan, RunEnd
     ensures holds { IfOk result (HoldsPlan (S.has_ended input.new × IsSpent (S.left input.new))
         (S.left input.old) (S.left input.new)) }
     ensures few { IfOk result (λ plan. length (items_of plan) ≤ 2000) }
-    ensures halts { IfErr result (λ run_end. (refusals : ℕ) (sent : Option (List ℕ))
-        → RunBeforeStatus plan_spec (port_outcome (S.has_ended input.new × IsSpent (S.left input.new))
-        (S.faults input.old) (S.faults input.new) (S.idles input.old) (S.idles input.new)
-        refusals refusals) (S.left input.old) (S.left input.new) sent sent (Some run_end)) }
+    ensures halts { IfErr result (halted_over plan_spec
+        (input_of S.has_ended S.faults S.idles S.left input.old input.new)) }
 {
     let mut lines = ItemLines::new(alloc);
     read_lines(alloc, input, &mut lines)?;

@@ -3,6 +3,7 @@ ghost use Rattle.std.specs.Prelude.{◌≡◌, ◌<◌, ◌≤◌, ◌+◌, ℕ,
 ghost use Rattle.std.specs.declared.option.Option.{Option};
 ghost use Rattle.mav_ports.specs.Gets.{IsSpent};
 ghost use Rattle.run_status.specs.Runs.{RunBeforeStatus, port_outcome};
+ghost use Rattle.run_status.specs.Seen.{halted_over, input_of};
 ghost use Rattle.key_file.specs.Spec.{TookAtMost};
 ghost use Rattle.put_file.specs.Spec.{put_spec, most_file_bytes, HoldsFile, Held, GoesOn};
 
@@ -21,10 +22,8 @@ const REFUSED: RunEnd = RunEnd::Stopped(InputError::Bad(Place::Operation, Reason
 pub fn read_file<S: Source>(alloc: Global, input: &mut S) -> Result<Vec<u8>, RunEnd>
     ensures holds { IfOk result (λ bytes. HoldsFile (S.has_ended input.new × IsSpent (S.left input.new))
         (S.left input.old) (S.left input.new) bytes.items) }
-    ensures halts { IfErr result (λ run_end. (refusals : ℕ) (sent : Option (List ℕ))
-        → RunBeforeStatus put_spec (port_outcome (S.has_ended input.new × IsSpent (S.left input.new))
-        (S.faults input.old) (S.faults input.new) (S.idles input.old) (S.idles input.new)
-        refusals refusals) (S.left input.old) (S.left input.new) sent sent (Some run_end)) }
+    ensures halts { IfErr result (halted_over put_spec
+        (input_of S.has_ended S.faults S.idles S.left input.old input.new)) }
     ensures within { IfErr result (λ _. TookAtMost 1_048_577 (S.left input.old) (S.left input.new)) }
 {
     let mut buf = vec![in alloc; 0u8; PIECE_BYTES]?;
@@ -41,10 +40,8 @@ fn read_all<S: Source>(input: &mut S, buf: &mut [u8], bytes: &mut Vec<u8>) -> Re
     requires first { length bytes.old.items ≡ 0 }
     ensures holds { OnOk result (HoldsFile (S.has_ended input.new × IsSpent (S.left input.new))
         (S.left input.old) (S.left input.new) bytes.new.items) }
-    ensures halts { IfErr result (λ run_end. (refusals : ℕ) (sent : Option (List ℕ))
-        → RunBeforeStatus put_spec (port_outcome (S.has_ended input.new × IsSpent (S.left input.new))
-        (S.faults input.old) (S.faults input.new) (S.idles input.old) (S.idles input.new)
-        refusals refusals) (S.left input.old) (S.left input.new) sent sent (Some run_end)) }
+    ensures halts { IfErr result (halted_over put_spec
+        (input_of S.has_ended S.faults S.idles S.left input.old input.new)) }
     ensures within { IfErr result (λ _. TookAtMost 1_048_577 (S.left input.old) (S.left input.new)) }
 {
     while bytes.len() <= MOST_FILE_BYTES {

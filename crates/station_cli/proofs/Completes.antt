@@ -11,7 +11,7 @@ use Rattle.key_file.specs.Spec.{most_key_bytes, refusal_of, key_spec}
 use Rattle.key_file.proofs.Stays.{goes_on}
 use Rattle.fleet_command.specs.Spec.{fleet_spec}
 use Rattle.fleet_theorem.proofs.Completeness.{completed}
-use Rattle.line_commands.specs.Seen.{Input, Output, around, promised_over}
+use Rattle.run_status.specs.Seen.{Input, Output, around, promised_over}
 use Rattle.station_cli.specs.Fleets.{Fleets, FleetsComplete}
 
 -- ---- a key's text is short

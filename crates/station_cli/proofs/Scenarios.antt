@@ -9,7 +9,7 @@ use Rattle.key_file.proofs.Stays.{key_steady}
 use Rattle.fleet_command.specs.Spec.{fleet_spec}
 use Rattle.fleet_command.proofs.Stays.{fleet_steady}
 use Rattle.fleet_theorem.proofs.Theorem.{carried}
-use Rattle.line_commands.specs.Seen.{Input, Output, input_of, around, before_status_over, promised_over}
+use Rattle.run_status.specs.Seen.{Input, Output, input_of, around, before_status_over, promised_over}
 use Rattle.line_commands.specs.Decoding.{KeyIs}
 use Rattle.station_cli.specs.Fleets.{or_default, Fleets, CarriesOver, FleetsCarry}
 use Rattle.line_commands.proofs.Decoded.{after_key, took_nothing, unmade}

@@ -31,7 +31,7 @@ use Rattle.line_commands.specs.Flying.{Devices, Flown}
 use Rattle.station_cli.specs.Promised.{RunPromises}
 use Rattle.line_commands.specs.Reported.{Reported}
 use Rattle.line_commands.specs.Routing.{AllEnded, router_of}
-use Rattle.line_commands.specs.Seen.{Input, Output, input_of, no_input, before_status_over, promised_over}
+use Rattle.run_status.specs.Seen.{Input, Output, input_of, no_input, before_status_over, promised_over}
 use Rattle.line_commands.specs.Stationing.{Stationed, file_asked}
 use Rattle.station_cli.proofs.Completes.{fleets_complete}
 use Rattle.line_commands.proofs.Decoded.{unmade, reported_over, decodes_reported, decodes_unread}

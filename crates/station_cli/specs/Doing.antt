@@ -20,7 +20,7 @@ use Rattle.line_commands.specs.Logging.{Logs}
 use Rattle.station_cli.specs.Making.{Makes}
 use Rattle.line_commands.specs.Reported.{Reported}
 use Rattle.line_commands.specs.Routing.{Routing, WithGivenKey, router_of}
-use Rattle.line_commands.specs.Seen.{Input, Output, no_input, before_status_over, promised_over}
+use Rattle.run_status.specs.Seen.{Input, Output, no_input, before_status_over, promised_over}
 use Rattle.line_commands.specs.Stationing.{Stationed, Stationing, file_asked}
 use Rattle.line_commands.specs.Wants.{keepers_asked}
 

@@ -6,7 +6,7 @@ use Rattle.run_status.specs.Runs.{CommandSpec}
 use Rattle.fleet_command.specs.Spec.{fleet_spec}
 use Rattle.fleet_theorem.specs.Theorem.{Carries}
 use Rattle.fleet_theorem.specs.Completeness.{NoFault, Completes}
-use Rattle.line_commands.specs.Seen.{Input, Output, around, promised_over}
+use Rattle.run_status.specs.Seen.{Input, Output, around, promised_over}
 use Rattle.line_commands.specs.Decoding.{WithKey}
 
 -- the key of all nodes: the one that is named, or the default

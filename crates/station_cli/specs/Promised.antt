@@ -10,7 +10,7 @@ use Rattle.station_cli.specs.Doing.{Surroundings, Does, LeavesAlone, once_told}
 use Rattle.station_cli.specs.Fleets.{FleetsCarry, FleetsComplete}
 use Rattle.station_cli.specs.Making.{Makes}
 use Rattle.line_commands.specs.Routing.{AllEnded}
-use Rattle.line_commands.specs.Seen.{Output}
+use Rattle.run_status.specs.Seen.{Output}
 use Rattle.station_cli.specs.Usage.{UsageReported}
 
 -- a run over these words, with its inputs, ports, stores and clock, its output and its status

@@ -11,7 +11,7 @@ ghost use Rattle.station_cli.specs.Doing.{Does, LeavesAlone, before_status, surr
 ghost use Rattle.line_commands.specs.Flying.{devices};
 ghost use Rattle.station_cli.specs.Promised.{RunPromises};
 ghost use Rattle.line_commands.specs.Routing.{AreAsked};
-ghost use Rattle.line_commands.specs.Seen.{input_of, output_of, before_status_over};
+ghost use Rattle.run_status.specs.Seen.{input_of, output_of, before_status_over};
 ghost use Rattle.line_commands.specs.Wants.{keepers_asked};
 
 use crate::fleets::run_fleet;

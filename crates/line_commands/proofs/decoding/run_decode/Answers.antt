@@ -4,7 +4,7 @@ use Rattle.std.proofs.lemmas.Result.{err_from_is_err_and}
 use Rattle.command_line.specs.declared.commands.OptionName.TheVariants.{Defs, Key}
 use Rattle.command_line.specs.Forms.{has_given}
 use Rattle.command_line.specs.Lines.{given_of}
-use Rattle.line_commands.specs.Seen.{input_of, output_of, before_status_over}
+use Rattle.run_status.specs.Seen.{input_of, output_of, before_status_over}
 use Rattle.line_commands.proofs.Decoded.{decodes_behind, at_key}
 use Rattle.line_commands.proofs.decoding.run_decode.Goals as goal
 

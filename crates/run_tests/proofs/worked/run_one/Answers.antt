@@ -8,7 +8,7 @@ use Rattle.dialect_command.specs.Examples.{profile_layouts}
 use Rattle.dialect_command.proofs.Worked.{profile_output}
 use Rattle.fleet_examples.specs.OneItem.{one_item, one_item_installed}
 use Rattle.fleet_examples.proofs.OneItem.{spec as playing, one_item_code, one_item_output}
-use Rattle.line_commands.specs.Seen.{no_input}
+use Rattle.run_status.specs.Seen.{no_input}
 use Rattle.run_tests.specs.Restarts.{restart_between, restart_between_report}
 use Rattle.run_tests.proofs.Restarted.{restart_code, restart_output}
 use Rattle.run_tests.proofs.Plainly.{names_nothing, asked, asked_dialect, asks_fleet, asks_decode, asks_dialect, sure_input, sure, awake, status_reported, text_reported, installed_reported, completed_reported}

@@ -4,7 +4,7 @@ use Rattle.std.proofs.lemmas.Result.{err_from_is_err_and}
 use Rattle.command_line.specs.declared.commands.OptionName.TheVariants.{Frames, Key}
 use Rattle.command_line.specs.Forms.{has_given}
 use Rattle.command_line.specs.Lines.{given_of}
-use Rattle.line_commands.specs.Seen.{input_of, output_of, before_status_over}
+use Rattle.run_status.specs.Seen.{input_of, output_of, before_status_over}
 use Rattle.line_commands.proofs.Decoded.{at_key}
 use Rattle.station_cli.proofs.Scenarios.{fleets_behind}
 use Rattle.station_cli.proofs.fleets.run_fleet.Goals as goal
