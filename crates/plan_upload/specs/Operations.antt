@@ -5,7 +5,7 @@ use Rattle.plan_items.specs.Kinds.{number_of}
 use Rattle.plan_items.specs.Plans.{items_of}
 use Rattle.plan_items.specs.declared.kinds.PlanKind.{PlanKind}
 use Rattle.plan_upload.specs.Kinds.{clear_number}
-use Rattle.plan_upload.specs.Station.{Work, Uploads, Clears, Gets, Pinging, Cancelling, Sending, Clearing, Listing_items, Getting, Operation, Told, outcome_at, phase_number}
+use Rattle.plan_upload.specs.Station.{Work, Uploads, Clears, Gets, Pinging, Cancelling, Sending, Clearing, Listing_items, Getting, Operation, Told, operation_of, outcome_at, phase_number}
 use Rattle.plan_upload.specs.declared.operations.UploadTask.{UploadTask}
 use Rattle.plan_upload.specs.declared.operations.GetTask.{GetTask}
 use Rattle.plan_upload.specs.declared.operations.Getting.{Getting as DownloadParts}
@@ -17,39 +17,12 @@ use Rattle.plan_upload.specs.declared.operations.OpenOperation.{OpenOperation}
 
 -- an operation at the start of a resynchronisation attempt, before a PING number is taken for it
 abbrev pub upload_task : Stream → UploadTask → Operation
-upload_task drone t = record {
-  work = Uploads;
-  drone = drone;
-  kind = number_of t.kind;
-  plan = items_of t.plan;
-  phase = Pinging;
-  idle = 0;
-  terminating = false;
-  asked = t.asked;
-  final_sent = t.final_sent;
-  code = t.code;
-  number = None;
-  total = 0;
-  got = [];
-}
+upload_task drone t =
+    record (operation_of Uploads drone (number_of t.kind) (items_of t.plan)) { asked = t.asked; final_sent = t.final_sent; code = t.code }
 
 -- a clear or a download
 abbrev pub plain_task : Work → Stream → ℕ → Operation
-plain_task work drone kind = record {
-  work = work;
-  drone = drone;
-  kind = kind;
-  plan = [];
-  phase = Pinging;
-  idle = 0;
-  terminating = false;
-  asked = false;
-  final_sent = false;
-  code = None;
-  number = None;
-  total = 0;
-  got = [];
-}
+plain_task work drone kind = operation_of work drone kind []
 
 abbrev pub task_view : Stream → Task → Operation
 task_view drone (Upload t) = upload_task drone t
