@@ -22,7 +22,7 @@ use Rattle.fleet_world.specs.declared.nodes.Node.{Node as ViewNode}
 use Rattle.fleet_world.specs.declared.faults.WorldFault.{WorldFault}
 use Rattle.fleet_world.specs.declared.faults.WorldFault.TheVariants.{Limit, Node as NodeFails, NoMemory}
 use Rattle.fleet_world.specs.StoredDrones.{FailsBy}
-use Rattle.fleet_world.specs.WorldState.{Node}
+use Rattle.fleet_world.specs.WorldState.{Node, WorldState}
 use Rattle.fleet_world.specs.WorldView.{IsNode, Fleet, IsFleet, Kept, kept_as, WorldView, IsState}
 use Rattle.fleet_world.specs.Steps.{Step, StepError, At_limit, Stamps_spent, packets_in, reported_by}
 use Rattle.fleet_world.specs.NodeSteps.{reports}
@@ -113,6 +113,19 @@ IsGivenUp (StationFails fault) e = e ≡ NodeFails fault
 abbrev pub Quietly : Result Step StepError → Bool → WorldView → Type 0
 Quietly (Ok t) frames world = IsState t.state frames world × (t.events ≡ [])
 Quietly (Err error) frames world = ⊥
+
+-- a call does this step of the state that the world is in, and reports it
+abbrev pub Does : (WorldState → Result Step StepError) → WorldView → WorldView → ReportState → ReportState → Type 0
+Does step before after report_before report_after =
+    (state : WorldState) → IsState state before.frames before → WorldOutcome (step state) before.frames after report_before report_after
+
+-- the same without an event
+abbrev pub DoesQuietly : (WorldState → Result Step StepError) → WorldView → WorldView → Type 0
+DoesQuietly step before after = (state : WorldState) → IsState state before.frames before → Quietly (step state) before.frames after
+
+-- it doesn't, for this cause
+abbrev pub Fails : (WorldState → Result Step StepError) → WorldView → WorldFault → Type 0
+Fails step before fault = (state : WorldState) → IsState state before.frames before → IsStepError (step state) fault
 
 -- why a drone doesn't start, as the world's fault: its store can't be used, or there is no memory
 abbrev pub world_fault_of : StartFault → WorldFault

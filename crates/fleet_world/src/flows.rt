@@ -5,7 +5,7 @@ ghost use Rattle.fleet_world.specs.WorldState.{WorldState};
 ghost use Rattle.fleet_world.specs.WorldView.{IsState};
 ghost use Rattle.fleet_world.specs.Flowing.{IsSender, IsTaken};
 ghost use Rattle.fleet_world.specs.Steps.{given_to, given_to_all, flows};
-ghost use Rattle.fleet_world.specs.Promises.{WorldOutcome, IsStepError};
+ghost use Rattle.fleet_world.specs.Promises.{WorldOutcome, IsStepError, Does, Fails};
 
 use crate::calls::Call;
 use crate::{World, WorldFault};
@@ -53,10 +53,9 @@ impl World {
 
     // The next frames are given, at most `most` of them.
     pub(crate) fn flow(&mut self, most: u64, report: &mut Report) -> Result<(), WorldFault>
-        ensures done { OnOk result ((state : WorldState) → IsState state self.old.frames self.old
-            → WorldOutcome (flows most state) self.old.frames self.new report.old report.new) }
-        ensures error { IfErr result (λ fault. (state : WorldState) → IsState state self.old.frames self.old
-            → IsStepError (flows most state) fault) }
+        ensures done { OnOk result (Does (flows most)
+            self.old self.new report.old report.new) }
+        ensures error { IfErr result (Fails (flows most) self.old) }
     {
         for _turn in 0..most {
             let Some(number) = self.next_frame() else {

@@ -3,10 +3,9 @@ ghost use Rattle.std.specs.Prelude.{◌≡◌, ◌≤◌, [], false, OnOk, IfErr
 ghost use Rattle.scenario_lines.specs.Permits.{IsPermitted};
 ghost use Rattle.scenario_lines.specs.Reasons.{leaves_range, state_reason};
 ghost use Rattle.scenario_lines.specs.declared.lines.Line.TheVariants as line;
-ghost use Rattle.fleet_world.specs.WorldState.{WorldState};
-ghost use Rattle.fleet_world.specs.WorldView.{IsState, context_in};
+ghost use Rattle.fleet_world.specs.WorldView.{context_in};
 ghost use Rattle.fleet_world.specs.Steps.{after_line};
-ghost use Rattle.fleet_world.specs.Promises.{WorldOutcome, Quietly, IsStepError};
+ghost use Rattle.fleet_world.specs.Promises.{Does, DoesQuietly, Fails};
 
 use crate::calls::Call;
 use crate::fleet::stream;
@@ -27,10 +26,9 @@ impl World {
     /// Does one line, and reports its events.
     pub(crate) fn act(&mut self, line: Line, report: &mut Report) -> Result<(), WorldFault>
         requires { IsPermitted (context_in self.old) line }
-        ensures done { OnOk result ((state : WorldState) → IsState state self.old.frames self.old
-            → WorldOutcome (after_line state line) self.old.frames self.new report.old report.new) }
-        ensures error { IfErr result (λ fault. (state : WorldState) → IsState state self.old.frames self.old
-            → IsStepError (after_line state line) fault) }
+        ensures done { OnOk result (Does (λ state. after_line state line)
+            self.old self.new report.old report.new) }
+        ensures error { IfErr result (Fails (λ state. after_line state line) self.old) }
     {
         match line {
             Line::Blank => Ok(()),
@@ -75,10 +73,8 @@ impl World {
     }
 
     fn add_drone(&mut self, sys: u8, x: i32, y: i32) -> Result<(), WorldFault>
-        ensures done { OnOk result ((state : WorldState) → IsState state self.old.frames self.old
-            → Quietly (after_line state (line.Drone sys x y)) self.old.frames self.new) }
-        ensures error { IfErr result (λ fault. (state : WorldState) → IsState state self.old.frames self.old
-            → IsStepError (after_line state (line.Drone sys x y)) fault) }
+        ensures done { OnOk result (DoesQuietly (λ state. after_line state (line.Drone sys x y)) self.old self.new) }
+        ensures error { IfErr result (Fails (λ state. after_line state (line.Drone sys x y)) self.old) }
     {
         if self.fleet.drones() >= MOST_DRONES {
             return Err(WorldFault::Limit(Bound::Drones));
@@ -88,10 +84,8 @@ impl World {
     }
 
     fn add_station(&mut self, name: Name) -> Result<(), WorldFault>
-        ensures done { OnOk result ((state : WorldState) → IsState state self.old.frames self.old
-            → Quietly (after_line state (line.Station name.sys name.comp)) self.old.frames self.new) }
-        ensures error { IfErr result (λ fault. (state : WorldState) → IsState state self.old.frames self.old
-            → IsStepError (after_line state (line.Station name.sys name.comp)) fault) }
+        ensures done { OnOk result (DoesQuietly (λ state. after_line state (line.Station name.sys name.comp)) self.old self.new) }
+        ensures error { IfErr result (Fails (λ state. after_line state (line.Station name.sys name.comp)) self.old) }
     {
         if self.fleet.stations() >= MOST_STATIONS {
             return Err(WorldFault::Limit(Bound::Stations));
@@ -101,8 +95,7 @@ impl World {
     }
 
     fn add_item(&mut self, item: Item) -> Result<(), WorldFault>
-        ensures done { OnOk result ((state : WorldState) → IsState state self.old.frames self.old
-            → Quietly (after_line state (line.Item item)) self.old.frames self.new) }
+        ensures done { OnOk result (DoesQuietly (λ state. after_line state (line.Item item)) self.old self.new) }
         ensures error { IfErr result (λ fault. fault ≡ WorldFault.NoMemory) }
     {
         self.draft.push(item)?;
@@ -112,8 +105,7 @@ impl World {
     fn add_items(&mut self, count: u64, first: Item) -> Result<(), WorldFault>
         requires few { count ≤ 2000 }
         requires fits { leaves_range count first ≡ false }
-        ensures done { OnOk result ((state : WorldState) → IsState state self.old.frames self.old
-            → Quietly (after_line state (line.Items count first)) self.old.frames self.new) }
+        ensures done { OnOk result (DoesQuietly (λ state. after_line state (line.Items count first)) self.old self.new) }
         ensures error { IfErr result (λ fault. fault ≡ WorldFault.NoMemory) }
     {
         put_items(&mut self.draft, count, first)?;
@@ -121,8 +113,7 @@ impl World {
     }
 
     fn empty_draft(&mut self) -> Result<(), WorldFault>
-        ensures done { OnOk result ((state : WorldState) → IsState state self.old.frames self.old
-            → Quietly (after_line state line.Empty) self.old.frames self.new) }
+        ensures done { OnOk result (DoesQuietly (λ state. after_line state line.Empty) self.old self.new) }
         ensures error { IfErr result (λ fault. fault ≡ WorldFault.NoMemory) }
     {
         self.draft = Plan::new(self.alloc);
@@ -132,8 +123,7 @@ impl World {
     // The clock goes up.
     fn advance(&mut self, by: u64) -> Result<(), WorldFault>
         requires { state_reason (context_in self.old) (line.Clock by) ≡ None }
-        ensures done { OnOk result ((state : WorldState) → IsState state self.old.frames self.old
-            → Quietly (after_line state (line.Clock by)) self.old.frames self.new) }
+        ensures done { OnOk result (DoesQuietly (λ state. after_line state (line.Clock by)) self.old self.new) }
         ensures error { IfErr result (λ fault. fault ≡ WorldFault.NoMemory) }
     {
         self.fleet.advance(by);
@@ -142,10 +132,9 @@ impl World {
 
     // The drone of this name starts again.
     fn restart(&mut self, drone: Name, report: &mut Report) -> Result<(), WorldFault>
-        ensures done { OnOk result ((state : WorldState) → IsState state self.old.frames self.old
-            → WorldOutcome (after_line state (line.Restart drone)) self.old.frames self.new report.old report.new) }
-        ensures error { IfErr result (λ fault. (state : WorldState) → IsState state self.old.frames self.old
-            → IsStepError (after_line state (line.Restart drone)) fault) }
+        ensures done { OnOk result (Does (λ state. after_line state (line.Restart drone))
+            self.old self.new report.old report.new) }
+        ensures error { IfErr result (Fails (λ state. after_line state (line.Restart drone)) self.old) }
     {
         if self.restarts >= MOST_RESTARTS {
             return Err(WorldFault::Limit(Bound::Restarts));

@@ -9,7 +9,7 @@ ghost use Rattle.fleet_world.specs.WorldState.{WorldState, Node as StateNode, St
 ghost use Rattle.fleet_world.specs.WorldView.{IsFleet, IsState};
 ghost use Rattle.fleet_world.specs.Steps.{as_station, station_line, orders_to, begins, clears, gets, commands, lists_params};
 ghost use Rattle.fleet_world.specs.NodeSteps.{obeys};
-ghost use Rattle.fleet_world.specs.Promises.{Moved, Follows, Refuses, WorldOutcome, IsStepError, RefusalReported, IsGivenUp};
+ghost use Rattle.fleet_world.specs.Promises.{Moved, Follows, Refuses, WorldOutcome, IsStepError, RefusalReported, IsGivenUp, Does, Fails};
 
 use crate::fleet::stream;
 use crate::{World, WorldFault};
@@ -110,10 +110,9 @@ impl World {
         order: Order,
         report: &mut Report,
     ) -> Result<(), WorldFault>
-        ensures done { OnOk result ((state : WorldState) → IsState state self.old.frames self.old
-            → WorldOutcome (orders_to (station_line state) station (λ k node. obeys (station_line state) k (node_of node.link.me) node order)) self.old.frames self.new report.old report.new) }
-        ensures error { IfErr result (λ fault. (state : WorldState) → IsState state self.old.frames self.old
-            → IsStepError (orders_to (station_line state) station (λ k node. obeys (station_line state) k (node_of node.link.me) node order)) fault) }
+        ensures done { OnOk result (Does (λ state. orders_to (station_line state) station (λ k node. obeys (station_line state) k (node_of node.link.me) node order))
+            self.old self.new report.old report.new) }
+        ensures error { IfErr result (Fails (λ state. orders_to (station_line state) station (λ k node. obeys (station_line state) k (node_of node.link.me) node order)) self.old) }
     {
         self.skip_sent();
         match self.fleet.index_of_station(station) {
@@ -130,10 +129,9 @@ impl World {
         kind: Option<PlanKind>,
         report: &mut Report,
     ) -> Result<(), WorldFault>
-        ensures done { OnOk result ((state : WorldState) → IsState state self.old.frames self.old
-            → WorldOutcome (clears (station_line state) station drone (clear_number kind)) self.old.frames self.new report.old report.new) }
-        ensures error { IfErr result (λ fault. (state : WorldState) → IsState state self.old.frames self.old
-            → IsStepError (clears (station_line state) station drone (clear_number kind)) fault) }
+        ensures done { OnOk result (Does (λ state. clears (station_line state) station drone (clear_number kind))
+            self.old self.new report.old report.new) }
+        ensures error { IfErr result (Fails (λ state. clears (station_line state) station drone (clear_number kind)) self.old) }
     {
         let drone = stream(drone);
         self.order(station, Order::Clear { drone, kind }, report)
@@ -147,10 +145,9 @@ impl World {
         kind: PlanKind,
         report: &mut Report,
     ) -> Result<(), WorldFault>
-        ensures done { OnOk result ((state : WorldState) → IsState state self.old.frames self.old
-            → WorldOutcome (gets (station_line state) station drone (number_of kind)) self.old.frames self.new report.old report.new) }
-        ensures error { IfErr result (λ fault. (state : WorldState) → IsState state self.old.frames self.old
-            → IsStepError (gets (station_line state) station drone (number_of kind)) fault) }
+        ensures done { OnOk result (Does (λ state. gets (station_line state) station drone (number_of kind))
+            self.old self.new report.old report.new) }
+        ensures error { IfErr result (Fails (λ state. gets (station_line state) station drone (number_of kind)) self.old) }
     {
         let drone = stream(drone);
         self.order(station, Order::Get { drone, kind }, report)
@@ -165,10 +162,9 @@ impl World {
         word: u32,
         report: &mut Report,
     ) -> Result<(), WorldFault>
-        ensures done { OnOk result ((state : WorldState) → IsState state self.old.frames self.old
-            → WorldOutcome (commands (station_line state) station drone number word) self.old.frames self.new report.old report.new) }
-        ensures error { IfErr result (λ fault. (state : WorldState) → IsState state self.old.frames self.old
-            → IsStepError (commands (station_line state) station drone number word) fault) }
+        ensures done { OnOk result (Does (λ state. commands (station_line state) station drone number word)
+            self.old self.new report.old report.new) }
+        ensures error { IfErr result (Fails (λ state. commands (station_line state) station drone number word) self.old) }
     {
         let drone = stream(drone);
         let order = Order::Command {
@@ -186,10 +182,9 @@ impl World {
         drone: Name,
         report: &mut Report,
     ) -> Result<(), WorldFault>
-        ensures done { OnOk result ((state : WorldState) → IsState state self.old.frames self.old
-            → WorldOutcome (lists_params (station_line state) station drone) self.old.frames self.new report.old report.new) }
-        ensures error { IfErr result (λ fault. (state : WorldState) → IsState state self.old.frames self.old
-            → IsStepError (lists_params (station_line state) station drone) fault) }
+        ensures done { OnOk result (Does (λ state. lists_params (station_line state) station drone)
+            self.old self.new report.old report.new) }
+        ensures error { IfErr result (Fails (λ state. lists_params (station_line state) station drone) self.old) }
     {
         let drone = stream(drone);
         self.order(station, Order::ParamList { drone }, report)
@@ -203,10 +198,9 @@ impl World {
         kind: PlanKind,
         report: &mut Report,
     ) -> Result<(), WorldFault>
-        ensures done { OnOk result ((state : WorldState) → IsState state self.old.frames self.old
-            → WorldOutcome (begins (station_line state) station drone (number_of kind)) self.old.frames self.new report.old report.new) }
-        ensures error { IfErr result (λ fault. (state : WorldState) → IsState state self.old.frames self.old
-            → IsStepError (begins (station_line state) station drone (number_of kind)) fault) }
+        ensures done { OnOk result (Does (λ state. begins (station_line state) station drone (number_of kind))
+            self.old self.new report.old report.new) }
+        ensures error { IfErr result (Fails (λ state. begins (station_line state) station drone (number_of kind)) self.old) }
     {
         self.skip_sent();
         let Some(index) = self.fleet.index_of_station(station) else {

@@ -7,7 +7,7 @@ ghost use Rattle.scenario_lines.specs.Reasons.{reason_against};
 ghost use Rattle.fleet_world.specs.WorldState.{WorldState, empty_state};
 ghost use Rattle.fleet_world.specs.WorldView.{IsState, context_in};
 ghost use Rattle.fleet_world.specs.Steps.{after_line, closing_text};
-ghost use Rattle.fleet_world.specs.Promises.{IsStep, IsStepError};
+ghost use Rattle.fleet_world.specs.Promises.{IsStep, Fails};
 
 use crate::fleet::Fleet;
 use crate::sent::SentFrames;
@@ -92,8 +92,7 @@ impl World {
         requires { IsPermitted (context_in self.old) line }
         ensures done { IfOk result (λ report. (state : WorldState) → IsState state self.old.frames self.old
             → IsStep (after_line state line) self.old.frames self.new report) }
-        ensures error { IfErr result (λ fault. (state : WorldState) → IsState state self.old.frames self.old
-            → IsStepError (after_line state line) fault) }
+        ensures error { IfErr result (Fails (λ state. after_line state line) self.old) }
     {
         let mut report = Report::new(self.alloc, self.frames);
         self.act(line, &mut report)?;
