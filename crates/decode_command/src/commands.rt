@@ -2,15 +2,12 @@
 ghost use Rattle.std.specs.Prelude.{◌≡◌, ◌<◌, ◌≤◌, ◌+◌, [], true, false, length, IsErrOf};
 ghost use Rattle.std.specs.Result.{result_err};
 ghost use Rattle.run_status.specs.Seen.{before_status_over, input_of, output_of};
-ghost use Rattle.mav_profile.specs.Profile.{profile_definitions};
 ghost use Rattle.decode_command.specs.Decodes.{Drained, IsNew, IsWithin};
 ghost use Rattle.decode_command.specs.Spec.{decode_spec, most_input_bytes};
 
 use crate::decoder::Decoder;
 use crate::known::Known;
-use dialect::Dialect;
 use mav_ports::{Got, Sink, Source};
-use mav_sign::Key;
 use run_status::{Bound, InputError, RunEnd, read_on};
 use std::alloc::Global;
 
@@ -85,19 +82,4 @@ fn decode_all<S: Source, K: Sink>(
             Got::Failed => return Err(RunEnd::ReadFault),
         }
     }
-}
-
-/// Decodes an input by the built-in profile, and by a key if there is one.
-pub fn decode<S: Source, K: Sink>(
-    alloc: Global,
-    key: Option<Key>,
-    main: &mut S,
-    out: &mut K,
-) -> Result<(), RunEnd>
-    ensures untold { before_status_over (output_of K.faults K.sent out.old out.new) (result_err result)
-        (decode_spec (record { dialect = profile_definitions; key = key })) (input_of S.has_ended S.faults S.idles S.left main.old main.new) }
-    ensures sound { ¬ IsErrOf result RunEnd.WriteFault → K.faults out.new ≡ K.faults out.old }
-{
-    let dialect = Dialect::profile(alloc)?;
-    decode_by(alloc, Known { dialect, key }, main, out)
 }

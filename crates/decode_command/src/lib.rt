@@ -1,9 +1,8 @@
 //! The command `decode`: every frame of a stream as a line of text, and every byte that is in none. Frames of MAVLink 2
 //! and of MAVLink 1 are read.
 //!
-//! [`decode`] knows the messages of the built-in profile, [`decode_by`] those of a dialect. With a key a signed frame
-//! is reported as good or bad. The input is read in pieces, and the lines of a piece are written before more is read,
-//! in constant memory. `specs/Spec.antt` says what stops a run and what it writes. The text of a halt isn't written
+//! [`decode_by`] knows the messages of a dialect. With a key a signed frame is reported as good or bad. The input is
+//! read in pieces, and the lines of a piece are written before more is read, in constant memory. `specs/Spec.antt` says what stops a run and what it writes. The text of a halt isn't written
 //! here.
 #![tactic(auto)]
 
@@ -13,5 +12,5 @@ mod known;
 pub mod laws;
 mod prepared;
 
-pub use commands::{decode, decode_by};
+pub use commands::decode_by;
 pub use known::Known;

@@ -3,6 +3,7 @@ use Rattle.std.proofs.Common.{◌≡◌, inl, inr, ℕ, Bool, true, false, List,
 use Rattle.std.specs.Result.{result_err}
 use Rattle.mav_ports.specs.Gets.{IsSpent}
 use Rattle.mav_ports.proofs.Known.{prepend_known_nil}
+use Rattle.field_layout.specs.Definition.{Definition}
 use Rattle.mav_profile.specs.Profile.{profile_definitions}
 use Rattle.run_status.specs.declared.run_ends.RunEnd.{RunEnd}
 use Rattle.run_status.specs.declared.run_ends.RunEnd.TheVariants.{WriteFault, NoMemory}
@@ -19,29 +20,26 @@ use Rattle.dialect_command.proofs.Stays.{reading_steady}
 use Rattle.decode_command.specs.Spec.{decode_spec}
 use Rattle.decode_command.proofs.Stays.{decode_steady}
 use Rattle.run_status.specs.Seen.{Input, input_of, around, before_status_over, promised_over}
-use Rattle.line_commands.specs.Decoding.{WithKey, DecodesWith, Decodes, KeyIs}
+use Rattle.line_commands.specs.Decoding.{WithKey, WithDefinitions, DecodesWith, Decodes, KeyIs, KnownIs}
 
 -- the key was read, or none was named, and then the run went on
 pub after_key : (named : Bool) (runs : CommandSpec → Input → Type 0) (halted others : Type 0) (key : Input) (k : Option (List ℕ)) (next : Option (List ℕ) → Type 0) → KeyIs named key k → next k → WithKey named runs halted others key next
 after_key false runs halted others key k next is n = subst next is.0 n
 after_key true runs halted others key k next (bytes, is, holds) n = inr (bytes, holds, subst next is n)
 
-pub decodes_behind : {A : Type 0} (has_ended : A → Type 0) (faults idles : A → ℕ) (left : A → Option (List ℕ)) (old middle new : A) → new ≡ middle → (named_key named_defs : Bool) (runs : CommandSpec → Input → Type 0) (halted : Type 0) (defs main : Input) (k : Option (List ℕ)) → KeyIs named_key (input_of has_ended faults idles left old middle) k → DecodesWith k named_defs runs halted defs main → Decodes named_key named_defs runs halted (input_of has_ended faults idles left old new) defs main
-decodes_behind has_ended faults idles left old middle new same named_key named_defs runs halted defs main k is d =
-    after_key named_key runs halted (defs.unread × main.unread) (input_of has_ended faults idles left old new) k (λ other. DecodesWith other named_defs runs halted defs main)
-    (subst (λ a. KeyIs named_key (input_of has_ended faults idles left old a) k) (sym same) is) d
-
 -- the run halted at the key
 pub at_key : (named : Bool) (runs : CommandSpec → Input → Type 0) (halted others : Type 0) (key : Input) (next : Option (List ℕ) → Type 0) → named ≡ true → runs key_spec key → halted → TookAtMost 67 key.left_before key.left_after → others → WithKey named runs halted others key next
 at_key named runs halted others key next is r h w o = subst (λ b. WithKey b runs halted others key next) (sym is) (inl (r, h, w, o))
 
--- the same options by another name
-pub decodes_with_as : (key : Option (List ℕ)) (one other : Bool) (runs : CommandSpec → Input → Type 0) (halted : Type 0) (defs main : Input) → one ≡ other → DecodesWith key one runs halted defs main → DecodesWith key other runs halted defs main
-decodes_with_as key one other runs halted defs main same d = subst (λ b. DecodesWith key b runs halted defs main) same d
+-- the definitions were read, or they are the profile's, and then the run goes on
+pub after_definitions : (named : Bool) (runs : CommandSpec → Input → Type 0) (halted others : Type 0) (defs : Input) (ds : List Definition) (next : List Definition → Type 0) → KnownIs named defs ds → next ds → WithDefinitions named runs halted others defs next
+after_definitions false runs halted others defs ds next is n = subst next is.0 n
+after_definitions true runs halted others defs ds next holds n = inr (ds, holds, n)
 
-pub decodes_as : (one other first second : Bool) (runs : CommandSpec → Input → Type 0) (halted : Type 0) (key defs main : Input) → one ≡ other → first ≡ second → Decodes one first runs halted key defs main → Decodes other second runs halted key defs main
-decodes_as one other first second runs halted key defs main same too d =
-    subst (λ b. Decodes other b runs halted key defs main) too (subst (λ b. Decodes b first runs halted key defs main) same d)
+-- it halted there
+pub at_definitions : (named : Bool) (runs : CommandSpec → Input → Type 0) (halted others : Type 0) (defs : Input) (next : List Definition → Type 0) → (named ≡ true → runs definitions_spec defs) → halted → others → (named ≡ false → next profile_definitions) → WithDefinitions named runs halted others defs next
+at_definitions false runs halted others defs next some h o none = none refl
+at_definitions true runs halted others defs next some h o none = inl (some refl, h, o)
 
 -- each run's status is written
 module _ (first second : CommandSpec → Input → Type 0) (halted stopped : Type 0) (on : (s : CommandSpec) → Steady s → (i : Input) → (i.spent → IsSpent i.left_after) → first s i → second s i) (ends : halted → stopped) where
@@ -71,6 +69,10 @@ took_nothing left = record { taken = []; took = sym (prepend_known_nil left); fi
 module _ {A : Type 0} (has_ended : A → Type 0) (faults idles : A → ℕ) (left : A → Option (List ℕ)) (key defs main : A) (refusals : ℕ) (sent : Option (List ℕ)) where
   pub unmade : (s : CommandSpec) (a : A) → before_status_over (record { refusals_before = refusals; refusals_after = refusals; sent_before = sent; sent_after = sent }) (Some NoMemory) s (input_of has_ended faults idles left a a)
   unmade s a = before_status_nothing s (around (input_of has_ended faults idles left a a) (record { refusals_before = refusals; refusals_after = refusals; sent_before = sent; sent_after = sent })) (left a) sent
+
+  pub unmade_as : (s : CommandSpec) (a : A) (end : RunEnd) → end ≡ NoMemory → before_status_over (record { refusals_before = refusals; refusals_after = refusals; sent_before = sent; sent_after = sent }) (Some end) s (input_of has_ended faults idles left a a)
+  unmade_as s a end is =
+      subst (λ e. before_status_over (record { refusals_before = refusals; refusals_after = refusals; sent_before = sent; sent_after = sent }) (Some e) s (input_of has_ended faults idles left a a)) (sym is) (unmade s a)
 
   pub decodes_unread : (halted : Type 0) → halted → (named_key named_defs : Bool) → Decodes named_key named_defs (before_status_over (record { refusals_before = refusals; refusals_after = refusals; sent_before = sent; sent_after = sent }) (Some NoMemory)) halted (input_of has_ended faults idles left key key) (input_of has_ended faults idles left defs defs) (input_of has_ended faults idles left main main)
   decodes_unread halted h false false = unmade (decode_spec (record { dialect = profile_definitions; key = None })) main

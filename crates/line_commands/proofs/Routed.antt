@@ -32,7 +32,7 @@ use Rattle.route_command.specs.Routes.{ports_of, rules_of, RoutesBeforeStatus}
 use Rattle.route_command.proofs.Runs.{stops_as}
 use Rattle.run_status.specs.Seen.{Input, input_of, before_status_over}
 use Rattle.line_commands.specs.Decoding.{WithDefinitions}
-use Rattle.line_commands.specs.Routing.{Routing, pad, router_of, KnownIs, AllEnded}
+use Rattle.line_commands.specs.Routing.{Routing, pad, router_of, AllEnded}
 use Rattle.line_commands.proofs.Decoded.{took_nothing, unmade}
 
 -- which ports are open
@@ -71,16 +71,6 @@ next_port ports at k d ways next held same set within few =
 pub open_marks : (ports : List Port) → map is_marked (map port_text ports) ≡ map (λ (p : Port). p.is_open) ports
 open_marks [] = refl
 open_marks (p ∷ ps) = rw (mark_of p, open_marks ps) refl
-
--- the definitions were read, or they are the profile's, and then the run goes on
-pub after_definitions : (named : Bool) (runs : CommandSpec → Input → Type 0) (halted others : Type 0) (defs : Input) (ds : List Definition) (next : List Definition → Type 0) → KnownIs named defs ds → next ds → WithDefinitions named runs halted others defs next
-after_definitions false runs halted others defs ds next is n = subst next is.0 n
-after_definitions true runs halted others defs ds next holds n = inr (ds, holds, n)
-
--- it halted there
-pub at_definitions : (named : Bool) (runs : CommandSpec → Input → Type 0) (halted others : Type 0) (defs : Input) (next : List Definition → Type 0) → (named ≡ true → runs definitions_spec defs) → halted → others → (named ≡ false → next profile_definitions) → WithDefinitions named runs halted others defs next
-at_definitions false runs halted others defs next some h o none = none refl
-at_definitions true runs halted others defs next some h o none = inl (some refl, h, o)
 
 -- there was no memory before the router ran
 pub unrouted : {A : Type 0} (state : A → LinkState) (asked : Asked) (ports : List A) (key : List ℕ) (known : List Definition) (end : RunEnd) (refusals : ℕ) (before after : Option (List ℕ)) → end ≡ NoMemory → after ≡ before → RoutesBeforeStatus (router_of state asked ports ports key known) (Some end) refusals refusals before after

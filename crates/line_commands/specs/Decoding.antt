@@ -39,3 +39,8 @@ Decodes named_key named_defs runs halted key defs main =
 abbrev pub KeyIs : Bool → Input → Option (List ℕ) → Type 0
 KeyIs false key k = (k ≡ None) × key.unread
 KeyIs true key k = (bytes : List ℕ) × (k ≡ Some bytes) × HoldsKey key.spent key.left_before key.left_after bytes
+
+-- the definitions that were read, or those of the profile
+abbrev pub KnownIs : Bool → Input → List Definition → Type 0
+KnownIs false defs ds = (ds ≡ profile_definitions) × defs.unread
+KnownIs true defs ds = Holds defs.spent defs.left_before defs.left_after ds

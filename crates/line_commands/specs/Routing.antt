@@ -1,11 +1,9 @@
 -- What is read of the inputs that a line of `route` names, and in which order, and what its router does after that.
 use Rattle.std.specs.Prelude.{◌≡◌, ◌⊎◌, ℕ, zero, suc, Bool, true, false, List, [], ◌∷◌, length, map}
 use Rattle.field_layout.specs.Definition.{Definition}
-use Rattle.mav_profile.specs.Profile.{profile_definitions}
 use Rattle.mav_links.specs.Links.{LinkState}
 use Rattle.run_status.specs.Runs.{CommandSpec}
 use Rattle.key_file.specs.Spec.{given_key_spec, HoldsGivenKey, TookAtMost}
-use Rattle.dialect_command.specs.Reads.{Holds}
 use Rattle.command_line.specs.declared.commands.OptionName.TheVariants.{One}
 use Rattle.command_line.specs.Forms.{has_given}
 use Rattle.command_line.specs.Grammar.{Asked}
@@ -40,11 +38,6 @@ open_ports words = pad 8 (map is_marked words)
 abbrev pub router_of : {A : Type 0} → (A → LinkState) → Asked → (before after : List A) → List ℕ → List Definition → Ports
 router_of state asked before after key known =
     ports_of state (rules_of key known (open_ports asked.plain) (length before)) (has_given One asked.settings) (turns_asked asked.settings) before after
-
--- the definitions that were read, or those of the profile
-abbrev pub KnownIs : Bool → Input → List Definition → Type 0
-KnownIs false defs ds = (ds ≡ profile_definitions) × defs.unread
-KnownIs true defs ds = Holds defs.spent defs.left_before defs.left_after ds
 
 -- each input that a line of `route` names was read to its end
 abbrev pub AllEnded : Bool → (key defs : Input) → Type 0

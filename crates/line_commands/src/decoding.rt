@@ -1,63 +1,19 @@
 // The command `decode`, with the key and the definitions that its line names.
-ghost use Rattle.std.specs.Prelude.{◌≡◌, true, false, map, IsErr, IsErrOf};
+ghost use Rattle.std.specs.Prelude.{◌≡◌, false, map, IsErr, IsErrOf};
 ghost use Rattle.std.specs.Result.{result_err};
 ghost use Rattle.command_line.specs.Forms.{has_given};
 ghost use Rattle.command_line.specs.Lines.{given_of};
-ghost use Rattle.line_commands.specs.Decoding.{Decodes, DecodesWith};
+ghost use Rattle.line_commands.specs.Decoding.{Decodes};
 ghost use Rattle.run_status.specs.Seen.{input_of, output_of, before_status_over};
 
+use crate::definitions::known_messages;
 use crate::keys::named_key;
 use crate::wants::Inputs;
 use command_line::{Line, OptionName};
-use decode_command::{Known, decode, decode_by};
-use dialect_command::read_definitions;
+use decode_command::{Known, decode_by};
 use mav_ports::{Sink, Source};
-use mav_sign::Key;
 use run_status::RunEnd;
 use std::alloc::Global;
-
-// Reads the definitions, and decodes the main input by them.
-fn decode_named<S: Source, K: Sink>(
-    alloc: Global,
-    key: Option<Key>,
-    inputs: &mut Inputs<S>,
-    out: &mut K,
-) -> Result<(), RunEnd>
-    ensures decoded { DecodesWith key true
-        (before_status_over (output_of K.faults K.sent out.old out.new) (result_err result)) (IsErr result)
-        (input_of S.has_ended S.faults S.idles S.left inputs.old.defs inputs.new.defs)
-        (input_of S.has_ended S.faults S.idles S.left inputs.old.main inputs.new.main) }
-    ensures unread { inputs.new.key ≡ inputs.old.key }
-    ensures sound { ¬ IsErrOf result RunEnd.WriteFault → K.faults out.new ≡ K.faults out.old }
-{
-    let dialect = read_definitions(alloc, &mut inputs.defs)?;
-    decode_by(alloc, Known { dialect, key }, &mut inputs.main, out)
-}
-
-// Decodes the main input by a key or without one.
-fn decode_with<S: Source, K: Sink>(
-    alloc: Global,
-    line: &Line,
-    key: Option<Key>,
-    inputs: &mut Inputs<S>,
-    out: &mut K,
-) -> Result<(), RunEnd>
-    ensures decoded { DecodesWith key
-        (has_given OptionName.Defs (map given_of line.now.settings.items))
-        (before_status_over (output_of K.faults K.sent out.old out.new) (result_err result)) (IsErr result)
-        (input_of S.has_ended S.faults S.idles S.left inputs.old.defs inputs.new.defs)
-        (input_of S.has_ended S.faults S.idles S.left inputs.old.main inputs.new.main) }
-    ensures unread_defs { has_given OptionName.Defs (map given_of line.now.settings.items) ≡ false
-        → inputs.new.defs ≡ inputs.old.defs }
-    ensures unread_key { inputs.new.key ≡ inputs.old.key }
-    ensures sound { ¬ IsErrOf result RunEnd.WriteFault → K.faults out.new ≡ K.faults out.old }
-{
-    if line.has(OptionName::Defs) {
-        decode_named(alloc, key, inputs, out)
-    } else {
-        decode(alloc, key, &mut inputs.main, out)
-    }
-}
 
 /// Decodes the main input. Why the run halted, if it did, isn't written.
 pub fn run_decode<S: Source, K: Sink>(
@@ -80,5 +36,6 @@ pub fn run_decode<S: Source, K: Sink>(
     ensures sound { ¬ IsErrOf result RunEnd.WriteFault → K.faults out.new ≡ K.faults out.old }
 {
     let key = named_key(line, &mut inputs.key)?;
-    decode_with(alloc, line, key, inputs, out)
+    let dialect = known_messages(alloc, line, &mut inputs.defs)?;
+    decode_by(alloc, Known { dialect, key }, &mut inputs.main, out)
 }

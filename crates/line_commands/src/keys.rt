@@ -1,11 +1,10 @@
 // The key that a line names.
-ghost use Rattle.std.specs.Prelude.{◌≡◌, ℕ, List, Some, true, map, IfOk, IfErr};
-ghost use Rattle.std.specs.declared.option.Option.{Option};
+ghost use Rattle.std.specs.Prelude.{◌≡◌, true, map, IfOk, IfErr};
 ghost use Rattle.command_line.specs.Forms.{has_given};
 ghost use Rattle.command_line.specs.Lines.{given_of};
 ghost use Rattle.key_file.specs.Spec.{key_spec, TookAtMost};
 ghost use Rattle.line_commands.specs.Decoding.{KeyIs};
-ghost use Rattle.run_status.specs.Seen.{Output, input_of, before_status_over};
+ghost use Rattle.run_status.specs.Seen.{halted_over, input_of};
 
 use command_line::{Line, OptionName};
 use key_file::read_key;
@@ -20,9 +19,8 @@ pub fn named_key<S: Source>(line: &Line, key: &mut S) -> Result<Option<Key>, Run
         (input_of S.has_ended S.faults S.idles S.left key.old key.new)) }
     ensures named { IfErr result (λ _.
         has_given OptionName.Key (map given_of line.now.settings.items) ≡ true) }
-    ensures halts { IfErr result (λ run_end. (refusals : ℕ) (sent : Option (List ℕ)) → before_status_over
-        (record { refusals_before = refusals; refusals_after = refusals; sent_before = sent; sent_after = sent })
-        (Some run_end) key_spec (input_of S.has_ended S.faults S.idles S.left key.old key.new)) }
+    ensures halts { IfErr result (halted_over key_spec
+        (input_of S.has_ended S.faults S.idles S.left key.old key.new)) }
     ensures within { IfErr result (λ _. TookAtMost 67 (S.left key.old) (S.left key.new)) }
 {
     if !line.has(OptionName::Key) {

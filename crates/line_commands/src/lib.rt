@@ -5,6 +5,7 @@
 #![tactic(auto)]
 
 mod decoding;
+mod definitions;
 mod dialects;
 mod flying;
 mod keys;

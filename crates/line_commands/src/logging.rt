@@ -1,15 +1,15 @@
 // The commands on logs, with the definitions that their line names.
-ghost use Rattle.std.specs.Prelude.{◌≡◌, true, false, map, string_bytes, IsErr, IsErrOf};
+ghost use Rattle.std.specs.Prelude.{◌≡◌, false, map, string_bytes, IsErr, IsErrOf};
 ghost use Rattle.std.specs.Result.{result_err};
 ghost use Rattle.command_line.specs.Forms.{has_given};
 ghost use Rattle.command_line.specs.Lines.{given_of, LineSays};
 ghost use Rattle.line_commands.specs.Logging.{Logs, log_spec};
 ghost use Rattle.run_status.specs.Seen.{input_of, output_of, before_status_over};
 
+use crate::definitions::known_messages;
 use crate::wants::Inputs;
 use command_line::{Command, Line, OptionName};
 use dialect::Dialect;
-use dialect_command::read_definitions;
 use mav_log::{run_filter, run_make, run_show};
 use mav_ports::{Sink, Source};
 use run_status::RunEnd;
@@ -36,45 +36,6 @@ fn log_by<S: Source, K: Sink>(
     }
 }
 
-// Reads the definitions, and runs the command by them.
-fn log_named<S: Source, K: Sink>(
-    alloc: Global,
-    line: &Line,
-    inputs: &mut Inputs<S>,
-    out: &mut K,
-) -> Result<(), RunEnd>
-    requires says { LineSays line.now }
-    ensures logs { Logs line.now.command (map string_bytes line.now.words.items) true
-        (before_status_over (output_of K.faults K.sent out.old out.new) (result_err result)) (IsErr result)
-        (input_of S.has_ended S.faults S.idles S.left inputs.old.defs inputs.new.defs)
-        (input_of S.has_ended S.faults S.idles S.left inputs.old.main inputs.new.main) }
-    ensures unread_key { inputs.new.key ≡ inputs.old.key }
-    ensures sound { ¬ IsErrOf result RunEnd.WriteFault → K.faults out.new ≡ K.faults out.old }
-{
-    let known = read_definitions(alloc, &mut inputs.defs)?;
-    log_by(alloc, line, known, &mut inputs.main, out)
-}
-
-// Runs the command by the profile.
-fn log_unnamed<S: Source, K: Sink>(
-    alloc: Global,
-    line: &Line,
-    inputs: &mut Inputs<S>,
-    out: &mut K,
-) -> Result<(), RunEnd>
-    requires says { LineSays line.now }
-    ensures logs { Logs line.now.command (map string_bytes line.now.words.items) false
-        (before_status_over (output_of K.faults K.sent out.old out.new) (result_err result)) (IsErr result)
-        (input_of S.has_ended S.faults S.idles S.left inputs.old.defs inputs.new.defs)
-        (input_of S.has_ended S.faults S.idles S.left inputs.old.main inputs.new.main) }
-    ensures unread_defs { inputs.new.defs ≡ inputs.old.defs }
-    ensures unread_key { inputs.new.key ≡ inputs.old.key }
-    ensures sound { ¬ IsErrOf result RunEnd.WriteFault → K.faults out.new ≡ K.faults out.old }
-{
-    let known = Dialect::profile(alloc)?;
-    log_by(alloc, line, known, &mut inputs.main, out)
-}
-
 /// Shows, filters or makes a log. Why the run halted, if it did, isn't written.
 pub fn run_log<S: Source, K: Sink>(
     alloc: Global,
@@ -93,9 +54,6 @@ pub fn run_log<S: Source, K: Sink>(
     ensures unread_key { inputs.new.key ≡ inputs.old.key }
     ensures sound { ¬ IsErrOf result RunEnd.WriteFault → K.faults out.new ≡ K.faults out.old }
 {
-    if line.has(OptionName::Defs) {
-        log_named(alloc, line, inputs, out)
-    } else {
-        log_unnamed(alloc, line, inputs, out)
-    }
+    let known = known_messages(alloc, line, &mut inputs.defs)?;
+    log_by(alloc, line, known, &mut inputs.main, out)
 }

@@ -1,20 +1,17 @@
 // The command `route`, with the key and the definitions that its line names.
-ghost use Rattle.std.specs.Prelude.{◌≡◌, ◌≤◌, ◌-◌, if◌then◌else◌, true, false, slice_set, map, string_bytes, length, IfOk, IfErr, IsErr, IsErrOf};
+ghost use Rattle.std.specs.Prelude.{◌≡◌, ◌≤◌, ◌-◌, if◌then◌else◌, true, false, slice_set, map, string_bytes, length, IsErr, IsErrOf};
 ghost use Rattle.std.specs.Result.{result_err};
-ghost use Rattle.mav_ports.specs.Gets.{IsSpent};
 ghost use Rattle.command_line.specs.Forms.{has_given};
 ghost use Rattle.command_line.specs.Lines.{given_of, asked_by};
 ghost use Rattle.command_line.specs.PortTexts.{port_text};
-ghost use Rattle.dialect_command.specs.Reads.{Halts, of_input};
 ghost use Rattle.route_command.specs.Routes.{RoutesBeforeStatus};
-ghost use Rattle.line_commands.specs.Routing.{Routing, router_of, open_ports, KnownIs};
+ghost use Rattle.line_commands.specs.Routing.{Routing, router_of, open_ports};
 ghost use Rattle.run_status.specs.Seen.{input_of, output_of, before_status_over};
 
+use crate::definitions::known_messages;
 use crate::routers::Router;
 use crate::wants::Inputs;
 use command_line::{Line, OptionName, Port};
-use dialect::Dialect;
-use dialect_command::read_definitions;
 use key_file::read_given_key;
 use link_table::Ways;
 use mav_links::Link;
@@ -22,28 +19,6 @@ use mav_ports::{Sink, Source};
 use mav_router::RoutePlan;
 use run_status::RunEnd;
 use std::alloc::Global;
-
-// The definitions that the line names, or those of the profile.
-fn known_messages<S: Source>(alloc: Global, line: &Line, defs: &mut S) -> Result<Dialect, RunEnd>
-    ensures is { IfOk result
-        (KnownIs (has_given OptionName.Defs (map given_of line.now.settings.items))
-        (input_of S.has_ended S.faults S.idles S.left defs.old defs.new)) }
-    ensures halts { IfErr result (λ run_end.
-        has_given OptionName.Defs (map given_of line.now.settings.items) ≡ true
-        → Halts (of_input (S.has_ended defs.new × IsSpent (S.left defs.new))
-        (S.faults defs.old) (S.faults defs.new) (S.idles defs.old) (S.idles defs.new))
-        (S.left defs.old) (S.left defs.new) run_end) }
-    ensures memory { IfErr result (λ run_end.
-        has_given OptionName.Defs (map given_of line.now.settings.items) ≡ false → run_end ≡ RunEnd.NoMemory) }
-    ensures unread { has_given OptionName.Defs (map given_of line.now.settings.items) ≡ false
-        → defs.new ≡ defs.old }
-{
-    if line.has(OptionName::Defs) {
-        read_definitions(alloc, defs)
-    } else {
-        Ok(Dialect::profile(alloc)?)
-    }
-}
 
 // The set with the port too, if it is open.
 fn with_port(ways: Ways, port: u8, is_open: bool) -> Ways

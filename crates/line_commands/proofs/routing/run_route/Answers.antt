@@ -6,7 +6,8 @@ use Rattle.dialect_command.proofs.Endings.{untold_unread}
 use Rattle.command_line.specs.Lines.{asked_by}
 use Rattle.command_line.specs.PortTexts.{port_text}
 use Rattle.line_commands.specs.Routing.{open_ports}
-use Rattle.line_commands.proofs.Routed.{after_definitions, at_definitions, unrouted, routed_as}
+use Rattle.line_commands.proofs.Decoded.{after_definitions, at_definitions}
+use Rattle.line_commands.proofs.Routed.{unrouted, routed_as}
 use Rattle.line_commands.proofs.routing.run_route.Goals as goal
 
 pub returns-in_err-key-clause-routed : goal.returns-in_err-key-clause-routed
