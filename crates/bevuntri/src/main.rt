@@ -2,10 +2,7 @@
 #![tactic(auto)]
 
 ghost use Rattle.std.specs.Prelude.{◌≡◌, map, string_bytes, length};
-ghost use Rattle.command_line.specs.Built.{built};
-ghost use Rattle.command_line.specs.Grammar.{Asked, Asks};
-ghost use Rattle.line_commands.specs.Routing.{AreAsked};
-ghost use Rattle.line_commands.specs.Wants.{Wants, keepers_asked};
+ghost use Rattle.line_commands.specs.Wants.{AreThere, Wants};
 
 use mav_links::Link;
 use mav_ports::{StdClock, StdSink, StdSource};
@@ -98,8 +95,7 @@ fn run_over<R: Threads + Wait + Sync>(
     ports: &mut Vec<Box<dyn Link>>,
     stores: &mut Vec<Store>,
 ) -> u8
-    requires { (asked : Asked) → Asks built (map string_bytes words.now) asked
-        → AreAsked (length ports.old.items) asked × (length stores.old.items ≡ keepers_asked asked) }
+    requires { AreThere (map string_bytes words.now) (length ports.old.items) (length stores.old.items) }
 {
     let mut out = StdSink::new(io::writer(rt));
     let mut clock = StdClock::new(rt);

@@ -6,6 +6,7 @@ use Rattle.command_line.specs.Forms.{has_given}
 use Rattle.command_line.specs.Grammar.{Asked, Asks}
 use Rattle.command_line.specs.PortTexts.{port_text}
 use Rattle.command_line.specs.Names.{value_given, main_file, port_words}
+use Rattle.line_commands.specs.Routing.{AreAsked}
 use Rattle.line_commands.specs.declared.wants.Wanted.{Wanted}
 
 -- how many stores the words name
@@ -22,3 +23,7 @@ pub record Wants (words : List (List ℕ)) (w : Wanted) : Type 0 where
   pub ports : map port_text w.ports.items ≡ port_words asked.command asked.plain
   pub store : option_map string_bytes w.store ≡ value_given Store asked.settings
   pub keepers : w.keepers ≡ keepers_asked asked
+
+-- there are as many links as the words name ports, and as many stores as they name
+abbrev pub AreThere : List (List ℕ) → (links keepers : ℕ) → Type 0
+AreThere words links keepers = (asked : Asked) → Asks built words asked → AreAsked links asked × (keepers ≡ keepers_asked asked)

@@ -25,7 +25,7 @@ use Rattle.route_command.specs.Promises.{RoutePromises}
 use Rattle.route_command.specs.Routes.{RoutesBeforeStatus}
 use Rattle.route_command.proofs.Reports.{reported as route_reported}
 use Rattle.line_commands.specs.Dialects.{Dialects}
-use Rattle.station_cli.specs.Doing.{Surroundings, surroundings, Does, LeavesAlone, before_status, once_told}
+use Rattle.station_cli.specs.Doing.{Surroundings, Does, LeavesAlone, before_status, once_told}
 use Rattle.station_cli.specs.Fleets.{Fleets}
 use Rattle.line_commands.specs.Flying.{Devices, Flown}
 use Rattle.station_cli.specs.Promised.{RunPromises}
@@ -57,7 +57,15 @@ module _ (S A B : Type 0) (has_ended : S → Type 0) (faults idles : S → ℕ) 
   ended = Err NoMemory
 
   abbrev here : Surroundings A B
-  here = surroundings (input_of has_ended faults idles left key key) (input_of has_ended faults idles left defs defs) (input_of has_ended faults idles left main main) d same_ports same_keepers same_clock
+  here = record {
+    key = input_of has_ended faults idles left key key;
+    defs = input_of has_ended faults idles left defs defs;
+    main = input_of has_ended faults idles left main main;
+    devices = d;
+    same_ports = same_ports;
+    same_keepers = same_keepers;
+    same_clock = same_clock;
+  }
 
   undescribed : (named : Bool) → Dialects named (before_status_over nothing (Some NoMemory)) (input_of has_ended faults idles left defs defs)
   undescribed true = unmade has_ended faults idles left key defs main refusals sent dialect_spec defs

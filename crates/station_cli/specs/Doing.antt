@@ -1,6 +1,9 @@
 -- What each command does, and how it is told.
-use Rattle.std.specs.Prelude.{◌≡◌, ◌≢◌, ℕ, false, IsErr, Option, Result}
+use Rattle.std.specs.Prelude.{◌≡◌, ◌≢◌, ℕ, List, false, IsErr, Option, Result}
+use Rattle.std.specs.Global.{Vec}
 use Rattle.std.specs.Result.{result_err}
+use Rattle.mav_links.specs.Links.{LinkState}
+use Rattle.live_node.specs.Runs.{Stores}
 use Rattle.run_status.specs.declared.run_ends.RunEnd.{RunEnd}
 use Rattle.run_status.specs.Runs.{CommandSpec}
 use Rattle.command_line.specs.declared.commands.Command.{Command}
@@ -15,14 +18,15 @@ use Rattle.route_command.specs.Routes.{Ports, RoutesBeforeStatus}
 use Rattle.line_commands.specs.Decoding.{Decodes}
 use Rattle.line_commands.specs.Dialects.{Dialects}
 use Rattle.station_cli.specs.Fleets.{Fleets}
-use Rattle.line_commands.specs.Flying.{Devices, Flown}
+use Rattle.line_commands.specs.Flying.{Devices, devices, Flown}
 use Rattle.line_commands.specs.Logging.{Logs}
 use Rattle.station_cli.specs.Making.{Makes}
 use Rattle.line_commands.specs.Reported.{Reported}
 use Rattle.line_commands.specs.Routing.{Routing, WithGivenKey, router_of}
-use Rattle.run_status.specs.Seen.{Input, Output, no_input, before_status_over, promised_over}
+use Rattle.run_status.specs.Seen.{Input, Output, input_of, no_input, before_status_over, promised_over}
 use Rattle.line_commands.specs.Stationing.{Stationed, Stationing, file_asked}
 use Rattle.line_commands.specs.Wants.{keepers_asked}
+use Rattle.line_commands.specs.declared.wants.Inputs.{Inputs}
 
 -- how a run is told: before the text of its status is written, or after it
 pub record Telling : Type 1 where
@@ -62,15 +66,17 @@ pub record Surroundings (A B : Type 0) : Type 1 where
   pub same_keepers : Type 0
   pub same_clock : Type 0
 
-abbrev pub surroundings : {A B : Type 0} → (key defs main : Input) → Devices A B → (same_ports same_keepers same_clock : Type 0) → Surroundings A B
-surroundings key defs main devices same_ports same_keepers same_clock = record {
-  key = key;
-  defs = defs;
-  main = main;
-  devices = devices;
-  same_ports = same_ports;
-  same_keepers = same_keepers;
-  same_clock = same_clock;
+-- by what contracts see of a source, of a port, of a store and of the clock
+abbrev pub surroundings : {S A B C : Type 0} → (S → Type 0) → (S → ℕ) → (S → ℕ) → (S → Option (List ℕ)) → (A → LinkState) → Stores B → (C → Option ℕ)
+    → (inputs_before inputs_after : Inputs S) → (ports_before ports_after : Vec A) → (keepers_before keepers_after : Vec B) → (clock_before clock_after : C) → Surroundings A B
+surroundings has_ended faults idles left state stores always inputs_before inputs_after ports_before ports_after keepers_before keepers_after clock_before clock_after = record {
+  key = input_of has_ended faults idles left inputs_before.key inputs_after.key;
+  defs = input_of has_ended faults idles left inputs_before.defs inputs_after.defs;
+  main = input_of has_ended faults idles left inputs_before.main inputs_after.main;
+  devices = devices state stores always ports_before.items ports_after.items keepers_before.items keepers_after.items clock_before clock_after;
+  same_ports = ports_after ≡ ports_before;
+  same_keepers = keepers_after ≡ keepers_before;
+  same_clock = clock_after ≡ clock_before;
 }
 
 -- `log show [--defs F] FILE`, `log filter [--defs F] SYS FILE` and `log make [--defs F] START FILE`: the run halts at the

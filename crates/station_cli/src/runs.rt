@@ -1,6 +1,5 @@
 // The top call.
-ghost use Rattle.std.specs.Prelude.{◌≡◌, ◌⊎◌, false, length, IsErrOf, map, string_bytes};
-ghost use Rattle.std.specs.Result.{result_err};
+ghost use Rattle.std.specs.Prelude.{◌≡◌, ◌⊎◌, length, IsErrOf, map, string_bytes};
 ghost use Rattle.command_line.specs.Built.{built};
 ghost use Rattle.command_line.specs.Forms.{Fits};
 ghost use Rattle.command_line.specs.Grammar.{Asked, Asks, AskNothing};
@@ -8,11 +7,10 @@ ghost use Rattle.command_line.specs.Lines.{given_of, asked_by, LineSays};
 ghost use Rattle.command_line.specs.Nodes.{NodeSays};
 ghost use Rattle.live_node.specs.Runs.{stores_of};
 ghost use Rattle.station_cli.specs.Doing.{Does, LeavesAlone, before_status, surroundings};
-ghost use Rattle.line_commands.specs.Flying.{devices};
 ghost use Rattle.station_cli.specs.Promised.{RunPromises};
 ghost use Rattle.line_commands.specs.Routing.{AreAsked};
-ghost use Rattle.run_status.specs.Seen.{input_of, output_of, before_status_over};
-ghost use Rattle.line_commands.specs.Wants.{keepers_asked};
+ghost use Rattle.run_status.specs.Seen.{output_of};
+ghost use Rattle.line_commands.specs.Wants.{AreThere, keepers_asked};
 
 use crate::fleets::run_fleet;
 use crate::making::run_make;
@@ -50,20 +48,14 @@ fn run_line<T: Router, S: Source, K: Sink, C: Clock>(
     requires links { AreAsked (length ports.old.items) (asked_by line.now) }
     requires stores { length keepers.old.items ≡ keepers_asked (asked_by line.now) }
     ensures does { Does (before_status (output_of K.faults K.sent out.old out.new) result)
-        (surroundings
-        (input_of S.has_ended S.faults S.idles S.left inputs.old.key inputs.new.key)
-        (input_of S.has_ended S.faults S.idles S.left inputs.old.defs inputs.new.defs)
-        (input_of S.has_ended S.faults S.idles S.left inputs.old.main inputs.new.main)
-        (devices state (stores_of ⟦<Store as Keeper>⟧.faults ⟦<Store as Keeper>⟧.is_infallible ⟦<Store as Keeper>⟧.contents) C.always ports.old.items ports.new.items keepers.old.items keepers.new.items clock.old clock.new)
-        (ports.new ≡ ports.old) (keepers.new ≡ keepers.old) (clock.new ≡ clock.old))
+        (surroundings S.has_ended S.faults S.idles S.left state
+        (stores_of ⟦<Store as Keeper>⟧.faults ⟦<Store as Keeper>⟧.is_infallible ⟦<Store as Keeper>⟧.contents) C.always
+        inputs.old inputs.new ports.old ports.new keepers.old keepers.new clock.old clock.new)
         (asked_by line.now) line.now.command }
     ensures leaves_alone { LeavesAlone
-        (surroundings
-        (input_of S.has_ended S.faults S.idles S.left inputs.old.key inputs.new.key)
-        (input_of S.has_ended S.faults S.idles S.left inputs.old.defs inputs.new.defs)
-        (input_of S.has_ended S.faults S.idles S.left inputs.old.main inputs.new.main)
-        (devices state (stores_of ⟦<Store as Keeper>⟧.faults ⟦<Store as Keeper>⟧.is_infallible ⟦<Store as Keeper>⟧.contents) C.always ports.old.items ports.new.items keepers.old.items keepers.new.items clock.old clock.new)
-        (ports.new ≡ ports.old) (keepers.new ≡ keepers.old) (clock.new ≡ clock.old)) (asked_by line.now) }
+        (surroundings S.has_ended S.faults S.idles S.left state
+        (stores_of ⟦<Store as Keeper>⟧.faults ⟦<Store as Keeper>⟧.is_infallible ⟦<Store as Keeper>⟧.contents) C.always
+        inputs.old inputs.new ports.old ports.new keepers.old keepers.new clock.old clock.new) (asked_by line.now) }
     ensures sound { ¬ IsErrOf result RunEnd.WriteFault → K.faults out.new ≡ K.faults out.old }
     ensures not_usage { ¬ IsErrOf result RunEnd.Usage }
 {
@@ -99,24 +91,17 @@ fn run_words<T: Router, S: Source, K: Sink, C: Clock>(
     clock: &mut C,
 ) -> Result<(), RunEnd>
     requires ready { T.ready }
-    requires asked { (asked : Asked) → Asks built (map string_bytes words.now) asked
-        → AreAsked (length ports.old.items) asked × (length keepers.old.items ≡ keepers_asked asked) }
+    requires asked { AreThere (map string_bytes words.now) (length ports.old.items) (length keepers.old.items) }
     ensures does { (asked : Asked) → Asks built (map string_bytes words.now) asked
         → Does (before_status (output_of K.faults K.sent out.old out.new) result)
-        (surroundings
-        (input_of S.has_ended S.faults S.idles S.left inputs.old.key inputs.new.key)
-        (input_of S.has_ended S.faults S.idles S.left inputs.old.defs inputs.new.defs)
-        (input_of S.has_ended S.faults S.idles S.left inputs.old.main inputs.new.main)
-        (devices state (stores_of ⟦<Store as Keeper>⟧.faults ⟦<Store as Keeper>⟧.is_infallible ⟦<Store as Keeper>⟧.contents) C.always ports.old.items ports.new.items keepers.old.items keepers.new.items clock.old clock.new)
-        (ports.new ≡ ports.old) (keepers.new ≡ keepers.old) (clock.new ≡ clock.old))
+        (surroundings S.has_ended S.faults S.idles S.left state
+        (stores_of ⟦<Store as Keeper>⟧.faults ⟦<Store as Keeper>⟧.is_infallible ⟦<Store as Keeper>⟧.contents) C.always
+        inputs.old inputs.new ports.old ports.new keepers.old keepers.new clock.old clock.new)
         asked asked.command }
     ensures leaves_alone { (asked : Asked) → Asks built (map string_bytes words.now) asked → LeavesAlone
-        (surroundings
-        (input_of S.has_ended S.faults S.idles S.left inputs.old.key inputs.new.key)
-        (input_of S.has_ended S.faults S.idles S.left inputs.old.defs inputs.new.defs)
-        (input_of S.has_ended S.faults S.idles S.left inputs.old.main inputs.new.main)
-        (devices state (stores_of ⟦<Store as Keeper>⟧.faults ⟦<Store as Keeper>⟧.is_infallible ⟦<Store as Keeper>⟧.contents) C.always ports.old.items ports.new.items keepers.old.items keepers.new.items clock.old clock.new)
-        (ports.new ≡ ports.old) (keepers.new ≡ keepers.old) (clock.new ≡ clock.old)) asked }
+        (surroundings S.has_ended S.faults S.idles S.left state
+        (stores_of ⟦<Store as Keeper>⟧.faults ⟦<Store as Keeper>⟧.is_infallible ⟦<Store as Keeper>⟧.contents) C.always
+        inputs.old inputs.new ports.old ports.new keepers.old keepers.new clock.old clock.new) asked }
     ensures usage { IsErrOf result RunEnd.Usage → AskNothing built (map string_bytes words.now) }
     ensures usage_only { AskNothing built (map string_bytes words.now)
         → IsErrOf result RunEnd.Usage ⊎ IsErrOf result RunEnd.NoMemory }
@@ -150,15 +135,11 @@ fn run_by<T: Router, S: Source, K: Sink, C: Clock>(
     keepers: &mut Vec<Store>,
 ) -> u8
     requires ready { T.ready }
-    requires asked { (asked : Asked) → Asks built (map string_bytes words.now) asked
-        → AreAsked (length ports.old.items) asked × (length keepers.old.items ≡ keepers_asked asked) }
+    requires asked { AreThere (map string_bytes words.now) (length ports.old.items) (length keepers.old.items) }
     ensures promises { RunPromises (map string_bytes words.now)
-        (surroundings
-        (input_of S.has_ended S.faults S.idles S.left inputs.old.key inputs.new.key)
-        (input_of S.has_ended S.faults S.idles S.left inputs.old.defs inputs.new.defs)
-        (input_of S.has_ended S.faults S.idles S.left inputs.old.main inputs.new.main)
-        (devices state (stores_of ⟦<Store as Keeper>⟧.faults ⟦<Store as Keeper>⟧.is_infallible ⟦<Store as Keeper>⟧.contents) C.always ports.old.items ports.new.items keepers.old.items keepers.new.items clock.old clock.new)
-        (ports.new ≡ ports.old) (keepers.new ≡ keepers.old) (clock.new ≡ clock.old))
+        (surroundings S.has_ended S.faults S.idles S.left state
+        (stores_of ⟦<Store as Keeper>⟧.faults ⟦<Store as Keeper>⟧.is_infallible ⟦<Store as Keeper>⟧.contents) C.always
+        inputs.old inputs.new ports.old ports.new keepers.old keepers.new clock.old clock.new)
         (output_of K.faults K.sent out.old out.new) result }
 {
     let ended = run_words(router, alloc, words, inputs, ports, keepers, out, clock);
@@ -184,15 +165,11 @@ pub fn run<R: Threads + Wait + Sync, S: Source, K: Sink, C: Clock>(
     keepers: &mut Vec<Store>,
 ) -> u8
     // There are as many links as the words name ports, and as many stores as they name.
-    requires { (asked : Asked) → Asks built (map string_bytes words.now) asked
-        → AreAsked (length ports.old.items) asked × (length keepers.old.items ≡ keepers_asked asked) }
+    requires { AreThere (map string_bytes words.now) (length ports.old.items) (length keepers.old.items) }
     ensures promises { RunPromises (map string_bytes words.now)
-        (surroundings
-        (input_of S.has_ended S.faults S.idles S.left inputs.old.key inputs.new.key)
-        (input_of S.has_ended S.faults S.idles S.left inputs.old.defs inputs.new.defs)
-        (input_of S.has_ended S.faults S.idles S.left inputs.old.main inputs.new.main)
-        (devices state (stores_of ⟦<Store as Keeper>⟧.faults ⟦<Store as Keeper>⟧.is_infallible ⟦<Store as Keeper>⟧.contents) C.always ports.old.items ports.new.items keepers.old.items keepers.new.items clock.old clock.new)
-        (ports.new ≡ ports.old) (keepers.new ≡ keepers.old) (clock.new ≡ clock.old))
+        (surroundings S.has_ended S.faults S.idles S.left state
+        (stores_of ⟦<Store as Keeper>⟧.faults ⟦<Store as Keeper>⟧.is_infallible ⟦<Store as Keeper>⟧.contents) C.always
+        inputs.old inputs.new ports.old ports.new keepers.old keepers.new clock.old clock.new)
         (output_of K.faults K.sent out.old out.new) result }
 {
     run_by(
@@ -217,15 +194,11 @@ pub fn run_alone<S: Source, K: Sink, C: Clock>(
     ports: &mut Vec<Box<dyn Link>>,
     keepers: &mut Vec<Store>,
 ) -> u8
-    requires { (asked : Asked) → Asks built (map string_bytes words.now) asked
-        → AreAsked (length ports.old.items) asked × (length keepers.old.items ≡ keepers_asked asked) }
+    requires { AreThere (map string_bytes words.now) (length ports.old.items) (length keepers.old.items) }
     ensures promises { RunPromises (map string_bytes words.now)
-        (surroundings
-        (input_of S.has_ended S.faults S.idles S.left inputs.old.key inputs.new.key)
-        (input_of S.has_ended S.faults S.idles S.left inputs.old.defs inputs.new.defs)
-        (input_of S.has_ended S.faults S.idles S.left inputs.old.main inputs.new.main)
-        (devices state (stores_of ⟦<Store as Keeper>⟧.faults ⟦<Store as Keeper>⟧.is_infallible ⟦<Store as Keeper>⟧.contents) C.always ports.old.items ports.new.items keepers.old.items keepers.new.items clock.old clock.new)
-        (ports.new ≡ ports.old) (keepers.new ≡ keepers.old) (clock.new ≡ clock.old))
+        (surroundings S.has_ended S.faults S.idles S.left state
+        (stores_of ⟦<Store as Keeper>⟧.faults ⟦<Store as Keeper>⟧.is_infallible ⟦<Store as Keeper>⟧.contents) C.always
+        inputs.old inputs.new ports.old ports.new keepers.old keepers.new clock.old clock.new)
         (output_of K.faults K.sent out.old out.new) result }
 {
     run_by(&Alone, alloc, words, inputs, out, clock, ports, keepers)
