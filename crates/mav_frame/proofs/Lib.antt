@@ -10,3 +10,4 @@ pub mod ParsedByFunction
 mod SignedBytes
 mod Versions
 pub mod RawFrames
+mod NewSignatures

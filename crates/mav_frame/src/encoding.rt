@@ -120,8 +120,8 @@ impl Frame {
     }
 }
 
-// Writes the bytes at an offset, and returns where they end.
-fn put(out: &mut [u8; 280], at: usize, bytes: &[u8]) -> usize
+/// Writes the bytes at an offset, and returns where they end.
+pub(crate) fn put(out: &mut [u8; 280], at: usize, bytes: &[u8]) -> usize
     requires { at + length bytes.now ≤ 280 }
     ensures end { result ≡ at + length bytes.now }
     ensures prefix { take result out.new ≡ take at out.old ++ bytes.now }

@@ -9,6 +9,7 @@
 mod checking;
 mod encoding;
 mod events;
+mod frame_bytes;
 mod frames;
 pub mod laws;
 mod looks;
@@ -20,6 +21,7 @@ mod tables;
 pub use checking::{check_frame, frame_at, look};
 pub use encoding::{OLD_STX, STX, encode};
 pub use events::Event;
+pub use frame_bytes::FrameBytes;
 pub use frames::{Block, Frame};
 pub use looks::{FrameCheck, Look, Why};
 pub use numbers::bytes_6;

@@ -14,7 +14,7 @@ use mav_names::Name;
 use std::marker::Model;
 
 // The bytes of a signature, the last of a signed frame.
-const SIGNATURE_BYTES: usize = 6;
+pub(crate) const SIGNATURE_BYTES: usize = 6;
 
 /// A frame as the bytes that encode it, which contracts see as its packet. Its parts are read where they stand (MAVLink
 /// guide, MAVLink 2 Packet Format and MAVLink 1 Packet Format).
@@ -56,8 +56,8 @@ fn any_block_fits(block: &Option<Block>)
     }
 }
 
-// A frame's parts are.
-fn fits(frame: &Frame)
+/// A frame's parts are.
+pub(crate) fn fits(frame: &Frame)
     ensures { FitsFrame frame.now }
 {
     let _compat = frame.compat;
