@@ -16,7 +16,7 @@ use crate::items::put_items;
 use crate::messages::MessageText;
 use crate::params::{put_param, put_params};
 use crate::texts::{KindText, LocationText, NameText, RefusalText, ResultText, code};
-use mav_frame::{Frame, encode};
+use mav_frame::RawFrame;
 use mav_messages::Message;
 use mav_names::Name;
 use mav_sign::Admit;
@@ -47,12 +47,10 @@ impl Model for Report {
 }
 
 // The bytes of a frame in hexadecimal digits.
-fn frame_digits(alloc: Global, frame: &Frame) -> Result<String, NoMemory>
+fn frame_digits(alloc: Global, frame: &RawFrame<'_>) -> Result<String, NoMemory>
     ensures { IfOk result (λ digits. string_bytes digits ≡ encode_lower (encoding frame.now)) }
 {
-    let mut bytes = [0; 280];
-    let size = encode(frame, &mut bytes);
-    hex::encode(alloc, &bytes[..size])
+    hex::encode(alloc, frame.bytes())
 }
 
 impl Report {
@@ -75,7 +73,7 @@ impl Report {
     }
 
     // The whole frame, if frames are printed.
-    fn frame(&mut self, frame: &Frame) -> Result<(), NoMemory>
+    fn frame(&mut self, frame: &RawFrame<'_>) -> Result<(), NoMemory>
         ensures { OnOk result (self.new ≡ with_text self.old (frame_text self.old.frames frame.now)) }
     {
         if !self.frames {
@@ -86,10 +84,15 @@ impl Report {
     }
 
     /// A frame was sent, the `number`-th of the scenario, which carries the message.
-    pub fn sent(&mut self, number: usize, frame: &Frame, message: &Message) -> Result<(), NoMemory>
+    pub fn sent(
+        &mut self,
+        number: usize,
+        frame: &RawFrame<'_>,
+        message: &Message,
+    ) -> Result<(), NoMemory>
         ensures { OnOk result (self.new ≡ reported self.old (Sent number frame.now message.now)) }
     {
-        let (from, text) = (NameText(frame.from), MessageText(*message));
+        let (from, text) = (NameText(frame.from()), MessageText(*message));
         writeln!(self.text, "{number} {from} {text}")?;
         self.frame(frame)
     }

@@ -67,7 +67,7 @@ pub fn report_piece(
         → report.new ≡ reports report.old (reported_by name before (event ∷ []))) }
 {
     match piece {
-        News::Sent(frame, message) => report.sent(number, frame, message),
+        News::Sent(frame, message) => report.sent(number, &frame.raw(), message),
         News::Installed { kind, count, by } => {
             report.installed(name, *kind, usize::from(*count), sender(*by))
         }
@@ -91,7 +91,7 @@ fn keep_frame(sent: &mut SentFrames, piece: &News) -> Result<(), NoMemory>
     ensures count { OnOk result (is_frame piece.now ≡ true → length sent.new ≡ length sent.old + 1) }
 {
     match piece {
-        News::Sent(frame, _) => sent.push(frame),
+        News::Sent(frame, _) => sent.push(&frame.raw()),
         _ => Ok(()),
     }
 }

@@ -4,7 +4,7 @@ ghost use Rattle.fleet_world.specs.Cuts.{cut, behind};
 ghost use Rattle.fleet_world.specs.WorldView.{Kept, kept_as, bytes_of};
 
 use crate::NoMemory;
-use mav_frame::{Frame, encode};
+use mav_frame::RawFrame;
 use mav_names::Name;
 use std::alloc::Global;
 use std::marker::Model;
@@ -103,12 +103,10 @@ impl SentFrames {
     }
 
     /// One frame more.
-    pub(crate) fn push(&mut self, frame: &Frame) -> Result<(), NoMemory>
+    pub(crate) fn push(&mut self, frame: &RawFrame<'_>) -> Result<(), NoMemory>
         ensures { OnOk result (self.new ≡ self.old ++ kept_as frame.now ∷ []) }
     {
-        let mut bytes = [0; 280];
-        let size = encode(frame, &mut bytes);
-        let span = append(&mut self.bytes, frame.from, &bytes[..size])?;
+        let span = append(&mut self.bytes, frame.from(), frame.bytes())?;
         self.spans.push(span)?;
         Ok(())
     }

@@ -7,7 +7,6 @@ ghost use Rattle.mav_nodes.specs.News.{said_by, events_of};
 ghost use Rattle.live_node.specs.Texts.{frame_bytes, frames_text};
 ghost use Rattle.live_node.specs.Ports.{SameRead};
 
-use mav_frame::encode;
 use mav_links::{Link, write_prefix};
 use mav_nodes::News;
 use mav_ports::WriteFault;
@@ -36,11 +35,7 @@ fn send_one<L: Link>(link: &mut L, one: &News) -> Result<(), WriteFault>
     ensures unread { SameRead (L.state link.old) (L.state link.new) }
 {
     match one {
-        News::Sent(frame, _) => {
-            let mut out = [0; 280];
-            let size = encode(frame, &mut out);
-            write(link, &out[..size])
-        }
+        News::Sent(frame, _) => write(link, frame.raw().bytes()),
         _ => write(link, &[]),
     }
 }

@@ -346,7 +346,7 @@ impl Link {
         ensures reader { reader_of self.new.endpoint ≡ reader_of self.old.endpoint }
         ensures fault { IfErr result (λ fault. Fails fault (λ (link : LinkState). IsEnd link self.old.endpoint) (λ (link : LinkState). sends clock message.now link) ⊥) }
     {
-        let frame = self.endpoint.send(message, clock)?;
+        let frame = self.endpoint.send_bytes(message, clock)?;
         tell(news, News::Sent(frame, *message))
     }
 

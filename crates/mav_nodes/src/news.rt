@@ -4,7 +4,7 @@ ghost use Rattle.mav_nodes.specs.News.{said_by, events_of};
 
 use crate::{NoMemory, NodeFault};
 use field_layout::Label;
-use mav_frame::Frame;
+use mav_frame::FrameBytes;
 use mav_messages::Message;
 use mav_names::Stream;
 use mav_sign::Admit;
@@ -27,7 +27,7 @@ pub enum FileEnd {
 #[derive(Drop)]
 pub enum News {
     /// The node sent this frame, which carries the message.
-    Sent(Frame, Message),
+    Sent(FrameBytes, Message),
     /// A plan was installed.
     Installed {
         kind: PlanKind,

@@ -17,7 +17,7 @@ use crate::services::{Served, Services};
 use crate::steps::Core;
 use crate::stores::save_step;
 use crate::{News, NodeFault};
-use mav_frame::{RawFrame, encode, front_at};
+use mav_frame::{FrameBytes, RawFrame, front_at};
 use mav_messages::Message;
 use mav_names::Stream;
 use plan_items::PlanMsg;
@@ -199,10 +199,8 @@ pub(crate) fn part<K: Keeper, C: Core, V: Services<C>>(
         let Some(frame) = frame else {
             return Ok((place, news));
         };
-        let mut bytes = [0; 280];
-        let encoded = encode(&frame, &mut bytes);
-        let raw = RawFrame::of(&frame, &bytes[..encoded]);
-        hear(link, core, services, keeper, &raw, clock, &mut news)?;
+        let bytes = FrameBytes::of(&frame);
+        hear(link, core, services, keeper, &bytes.raw(), clock, &mut news)?;
     }
 }
 

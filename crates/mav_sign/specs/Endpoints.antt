@@ -1,5 +1,6 @@
 -- One end of signed links: what it receives and sends.
-use Rattle.std.specs.Prelude.{ℕ, ◌≡◌, false, List, [], ◌∷◌, ◌++◌, fold, drop, All, Option, Some, None, IsSome, IfSome}
+use Rattle.std.specs.Prelude.{ℕ, ◌≡◌, ◌+◌, ◌%◌, ◌<◌, ◌≤◌, false, List, [], ◌∷◌, ◌++◌, fold, drop, All, Option, Some, None, IsSome, IfSome, IfOk, OnOk, OnErr}
+use Rattle.std.specs.declared.result.Result.{Result}
 use Rattle.std.specs.List.{filter_map}
 use Rattle.x25_check.specs.Extras.{extra_of}
 use Rattle.field_layout.specs.Definition.{Definition}
@@ -19,8 +20,9 @@ use Rattle.mav_sign.specs.declared.admission.Admit.TheVariants.{Admitted}
 use Rattle.mav_sign.specs.declared.heard.Heard.{Heard}
 use Rattle.mav_sign.specs.declared.heard.Heard.TheVariants.{Message as HeardMessage, Other, Dropped}
 use Rattle.mav_sign.specs.Signing.{Verifies}
-use Rattle.mav_sign.specs.History.{Entry, tried, stream_of, answer_to}
-use Rattle.mav_sign.specs.Kept.{Kept, Represents, kept_answer_to}
+use Rattle.mav_sign.specs.declared.admission.StampsSpent.{StampsSpent}
+use Rattle.mav_sign.specs.History.{Entry, tried, sent, stream_of, answer_to, next_in, greatest_stamp}
+use Rattle.mav_sign.specs.Kept.{Kept, Represents, kept_answer_to, kept_next}
 
 -- the table has the CRC_EXTRA of each message of the profile
 abbrev pub HasProfile : List (ℕ × ℕ) → Type 0
@@ -149,3 +151,15 @@ pub record SentFrame (key : List ℕ) (me : Stream) (extras : List (ℕ × ℕ))
   pub carries : FrameOf me extras seq stamp message packet
   pub block : IfSome packet.block (λ block. (block.link ≡ me.link) × (block.stamp ≡ stamp))
   pub verifies : Verifies key packet packet.block
+
+-- an endpoint makes the frame that carries a message, by what its verifier keeps and by each history that this represents;
+-- or no timestamp is left, and nothing has changed
+pub record Sends (old new : EndpointState) (clock : ℕ) (message : Message) (result : Result Packet StampsSpent) : Type 0 where
+  pub frame : IfOk result (SentFrame old.key old.me old.extras old.seq (kept_next old.stamps clock) message)
+  pub left : OnOk result (kept_next old.stamps clock ≤ greatest_stamp)
+  pub spent : OnErr result (greatest_stamp < kept_next old.stamps clock)
+  pub unchanged : OnErr result (new ≡ old)
+  pub stamp : (history : List Entry) → Represents old.stamps history → kept_next old.stamps clock ≡ next_in history clock
+  pub history : OnOk result ((history : List Entry) → Represents old.stamps history
+      → Represents new.stamps (history ++ sent (next_in history clock) ∷ []))
+  pub same : OnOk result (new ≡ record old { stamps = new.stamps; seq = (old.seq + 1) % 256 })

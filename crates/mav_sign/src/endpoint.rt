@@ -1,5 +1,5 @@
 // One end of signed links.
-ghost use Rattle.std.specs.Prelude.{◌≡◌, ℕ, ◌+◌, ◌*◌, ◌%◌, ◌^◌, ◌<◌, ◌≤◌, None, false, take, length, vec_len, vec_capacity, ◌++◌, ◌∷◌, [], List, Some, IfOk, OnOk, OnErr};
+ghost use Rattle.std.specs.Prelude.{◌≡◌, ℕ, ◌+◌, ◌*◌, ◌^◌, ◌<◌, ◌≤◌, None, false, take, length, vec_len, vec_capacity, ◌++◌, ◌∷◌, [], List, IfOk, IfSome, OnOk, OnErr};
 ghost use Rattle.x25_check.specs.Extras.{extra_of};
 ghost use Rattle.mav_messages.specs.Messages.{definition_of};
 ghost use Rattle.mav_sign.specs.History.{Entry, sent, started, answer_to, stamp_given, next_in, greatest_stamp};
@@ -8,12 +8,12 @@ ghost use Rattle.mav_sign.specs.Kept.{Represents, kept_answer_to, kept_next};
 ghost use Rattle.mav_frame.specs.declared.events.Event.{Event};
 ghost use Rattle.mav_stream.specs.Progress.{Progress};
 ghost use Rattle.mav_sign.specs.Streams.{reader_of, ReadTo, PartHeard};
-ghost use Rattle.mav_sign.specs.Endpoints.{HasProfile, AdmittedIs, AnswerIs, new_endpoint, HeardIs, after_frame, Takes, Told, FrontHeard, Received, FramesOf, FrameOf, SentFrame};
+ghost use Rattle.mav_sign.specs.Endpoints.{HasProfile, AdmittedIs, AnswerIs, new_endpoint, HeardIs, after_frame, Takes, Told, FrontHeard, Received, FramesOf, FrameOf, Sends};
 
 use crate::reading::{LEAST_FRAME_BYTES, append_frames, read_frame};
 use crate::stamps::stream_on;
-use crate::{Admit, Heard, Key, NoMemory, Stamps, StampsSpent, sign, verifies_raw};
-use mav_frame::{Block, Frame, Look, RawFrame, encode, look};
+use crate::{Admit, Heard, Key, NoMemory, Stamps, StampsSpent, sign_bytes, verifies_raw};
+use mav_frame::{Block, Frame, FrameBytes, Look, RawFrame, encode, look};
 use mav_messages::Message;
 use mav_names::{Name, Stream};
 use mav_stream::Reader;
@@ -267,7 +267,8 @@ impl Endpoint {
     // The frame of a message, with a block that is still to be signed.
     fn frame_of(&self, message: &Message, stamp: u64) -> Frame
         requires { stamp < 2 ^ 48 }
-        ensures { FrameOf self.now.me self.now.extras self.now.seq stamp message.now result }
+        ensures frame { FrameOf self.now.me self.now.extras self.now.seq stamp message.now result }
+        ensures block { IfSome result.block (λ block. (block.link ≡ self.now.me.link) × (block.stamp ≡ stamp)) }
     {
         let mut payload = [0; 255];
         let (id, len) = message.write(&mut payload);
@@ -303,21 +304,21 @@ impl Endpoint {
     /// units of 10 microseconds since 1 January 2015, and the timestamp is the one that `ahead` returns at it. If none is
     /// left nothing has changed.
     pub fn send(&mut self, message: &Message, clock: u64) -> Result<Frame, StampsSpent>
-        ensures frame { IfOk result
-            (SentFrame self.old.key self.old.me self.old.extras self.old.seq (kept_next self.old.stamps clock) message.now) }
-        ensures left { OnOk result (kept_next self.old.stamps clock ≤ greatest_stamp) }
-        ensures spent { OnErr result (greatest_stamp < kept_next self.old.stamps clock) }
-        ensures unchanged { OnErr result (self.new ≡ self.old) }
-        ensures stamp { (history : List Entry) → Represents self.old.stamps history
-            → kept_next self.old.stamps clock ≡ next_in history clock }
-        ensures history { OnOk result ((history : List Entry) → Represents self.old.stamps history
-            → Represents self.new.stamps (history ++ sent (next_in history clock) ∷ [])) }
-        ensures same { OnOk result
-            (self.new ≡ record self.old { stamps = self.new.stamps; seq = (self.old.seq + 1) % 256 }) }
+        ensures { Sends self.old self.new clock message.now result }
+    {
+        match self.send_bytes(message, clock) {
+            Ok(frame) => Ok(frame.raw().to_frame()),
+            Err(spent) => Err(spent),
+        }
+    }
+
+    /// The same frame as the bytes that encode it.
+    pub fn send_bytes(&mut self, message: &Message, clock: u64) -> Result<FrameBytes, StampsSpent>
+        ensures { Sends self.old self.new clock message.now result }
     {
         let stamp = self.stamps.next_stamp(clock)?;
-        let mut frame = self.frame_of(message, stamp);
-        sign(&self.key, &mut frame, self.me.link, stamp);
+        let mut frame = FrameBytes::of(&self.frame_of(message, stamp));
+        sign_bytes(&self.key, &mut frame);
         self.seq = self.seq.wrapping_add(1);
         Ok(frame)
     }

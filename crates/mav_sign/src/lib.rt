@@ -20,7 +20,7 @@ pub use admission::{Admit, StampsSpent};
 pub use endpoint::Endpoint;
 pub use heard::Heard;
 pub use keys::Key;
-pub use signing::{sign, verifies, verifies_raw};
+pub use signing::{sign, sign_bytes, verifies, verifies_raw};
 pub use stamps::Stamps;
 use std::alloc::AllocError;
 

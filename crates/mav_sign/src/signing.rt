@@ -4,7 +4,7 @@ ghost use Rattle.sha2.specs.Sha256.{sha256};
 ghost use Rattle.mav_sign.specs.Signing.{signature_of, Verifies, verified};
 
 use crate::Key;
-use mav_frame::{Block, Frame, RawFrame, encode};
+use mav_frame::{Block, Frame, FrameBytes, RawFrame, encode};
 use sha2::{Digest, Sha256};
 
 // The first six bytes of the digest of the key and some bytes.
@@ -26,6 +26,15 @@ fn signature(key: &Key, frame: &RawFrame<'_>) -> [u8; 6]
     ensures { IfSome frame.now.block (λ block. result ≡ signature_of key.now frame.now block.link block.stamp) }
 {
     signature_over(key, frame.signed_bytes())
+}
+
+/// Signs a frame that has its checksum and a signature block, whose six bytes it sets.
+pub fn sign_bytes(key: &Key, frame: &mut FrameBytes)
+    requires { IsSome frame.old.block }
+    ensures { IfSome frame.old.block (λ block. frame.new ≡ record frame.old { block = Some record block { sig = signature_of key.now frame.old block.link block.stamp } }) }
+{
+    let sig = signature(key, &frame.raw());
+    frame.set_signature(&sig);
 }
 
 // The same.

@@ -66,7 +66,8 @@ fn read_out(news: &[News]) -> Said {
     };
     for piece in news {
         if let News::Sent(frame, message) = piece {
-            encode(frame, &mut said.bytes);
+            let bytes = frame.raw().bytes();
+            said.bytes[..bytes.len()].copy_from_slice(bytes);
             if let Message::MissionAck(ack) = message {
                 said.result = Some(ack.ty);
             }

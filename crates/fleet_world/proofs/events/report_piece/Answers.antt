@@ -1,8 +1,8 @@
-use Rattle.fleet_world.proofs.NewsReports.{frame_said, file_untold}
+use Rattle.fleet_world.proofs.NewsReports.{frame_said, file_untold, said_raw}
 use Rattle.fleet_world.proofs.events.report_piece.Goals as goal
 
 pub returns-in-Sent : goal.returns-in-Sent
-returns-in-Sent c = frame_said _ _ _ _ _ _ _ _ _ c.in-Sent.is c.sent.ensures
+returns-in-Sent c = frame_said _ _ _ _ _ _ _ _ _ c.in-Sent.is (said_raw _ _ _ _ _ _ _ c.raw.ensures c.sent.ensures)
 
 pub returns-in-File : goal.returns-in-File
 returns-in-File c = λ event count e have numbered. file_untold _ _ _ _ event count c.in-File.is e

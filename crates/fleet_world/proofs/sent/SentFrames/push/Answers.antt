@@ -19,4 +19,4 @@ kept_is kept from bytes packet f b =
 pub returns : goal.returns
 returns c =
     pushed _ _ _ _ _ _ _ _ c.self.invariant c.self.view_is c.in_ok-span.ensures.span c.in_ok-span.ensures.joined c.in_ok-push.ensures.items
-    ∙ kept_is _ _ _ _ (ap (λ (p : Packet). p.from) c.frame.view_is) c.encode-size.ensures.bytes
+    ∙ kept_is _ _ _ _ c.from.ensures c.bytes.ensures.bytes

@@ -9,8 +9,8 @@ use Rattle.mav_sign.specs.Endpoints.{EndpointState, FrameOf}
 use Rattle.mav_sign.proofs.Sending.{sealed_frame}
 use Rattle.mav_sign.proofs.endpoint.Endpoint.frame_of.Goals as goal
 
-pub returns : goal.returns
-returns c =
+pub returns-clause-frame : goal.returns-clause-frame
+returns-clause-frame c =
     let message = c.args.message.now in
     let me = c.self.inside.me in
     let extras = c.self.inside.extras in
