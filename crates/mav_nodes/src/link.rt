@@ -40,12 +40,11 @@ const HEADROOM: u64 = 5_000;
 // The greatest timestamp of 6 bytes.
 const GREATEST_STAMP: u64 = 0xFFFF_FFFF_FFFF;
 
-/// An endpoint, with the CRC_EXTRA bytes of the messages that it knows, and the low bound of timestamps that the node's
-/// store has, if it has one. Contracts see the endpoint and the bound.
+/// An endpoint, which knows the messages of the profile, and the low bound of timestamps that the node's store has, if it
+/// has one. Contracts see both.
 #[derive(Drop)]
 pub(crate) struct Link {
     alloc: Global,
-    extras: Extras,
     endpoint: Endpoint,
     low: Option<u64>,
 }
@@ -71,7 +70,7 @@ impl Model for Link {
 
     ghost view = { λ l. record { endpoint = l.endpoint; low = l.low } };
 
-    ghost invariant = { λ l. (l.extras ≡ l.endpoint.extras) × IfSome l.low (λ low. low < 2 ^ 48) };
+    ghost invariant = { λ l. IfSome l.low (λ low. low < 2 ^ 48) };
 }
 
 // The CRC_EXTRA bytes of the profile.
@@ -167,11 +166,9 @@ impl Link {
         ensures new { IfOk result (λ link. IsLink (new_link key me (extras_of profile_definitions)) link) }
         ensures stream { IfOk result (λ link. HasRead [] [] link) }
     {
-        let extras = profile_extras(alloc)?;
-        let endpoint = Endpoint::new(alloc, key, me, extras.copy()?)?;
+        let endpoint = Endpoint::new(alloc, key, me, profile_extras(alloc)?)?;
         Ok(Link {
             alloc,
-            extras,
             endpoint,
             low: None,
         })
@@ -183,11 +180,9 @@ impl Link {
         ensures started { IfOk result (λ link. IsLink (started_link key me (extras_of profile_definitions) (Some low)) link) }
         ensures stream { IfOk result (λ link. HasRead [] [] link) }
     {
-        let extras = profile_extras(alloc)?;
-        let endpoint = Endpoint::start(alloc, key, me, extras.copy()?, low)?;
+        let endpoint = Endpoint::start(alloc, key, me, profile_extras(alloc)?, low)?;
         Ok(Link {
             alloc,
-            extras,
             endpoint,
             low: Some(low),
         })
@@ -199,7 +194,7 @@ impl Link {
     pub(crate) fn extras(&self) -> &Extras
         ensures { result.now ≡ self.now.endpoint.extras }
     {
-        &self.extras
+        self.endpoint.extras()
     }
 
     pub(crate) fn alloc(&self) -> Global {

@@ -104,6 +104,13 @@ impl Endpoint {
         })
     }
 
+    /// The CRC_EXTRA bytes of the messages that it knows.
+    pub fn extras(&self) -> &Extras
+        ensures { result.now ≡ self.now.extras }
+    {
+        &self.extras
+    }
+
     /// The verdict by which `take` would report of the frame. Nothing changes. Doesn't allocate.
     pub fn test(&self, frame: &Frame) -> Admit
         ensures kept { result ≡ kept_answer_to self.now.key self.now.stamps frame.now }
