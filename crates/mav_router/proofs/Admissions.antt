@@ -1,5 +1,7 @@
 -- What a frame's entry is, and what holds of a switch after it.
-use Rattle.std.proofs.Common.{◌≡◌, ◌∙◌, ◌++◌, ◌∷◌, [], ℕ, List, Bool, sym, ap, subst}
+use Rattle.std.proofs.Common.{◌≡◌, ◌∙◌, ◌+◌, ◌++◌, ◌∷◌, [], ℕ, zero, suc, List, All, Bool, Some, map, take, slice_get, refl, sym, ap, subst, append_assoc}
+use Rattle.std.proofs.lemmas.List.{append-nil}
+use Rattle.std.proofs.lemmas.Option.{get_or_from_slice_get, slice_get_within}
 use Rattle.mav_names.specs.declared.names.Name.{Name}
 use Rattle.mav_frame.specs.Packet.{Packet}
 use Rattle.mav_sign.specs.History.{is_admitted}
@@ -10,7 +12,11 @@ use Rattle.link_table.specs.Table.{Masks, Represents as StandsFor}
 use Rattle.mav_router.specs.declared.entries.Entry.{Entry}
 use Rattle.mav_router.specs.declared.entries.Outcome.{Outcome}
 use Rattle.mav_router.specs.Journal.{Rules, IsJournal, entry_after, verdict_on, is_unsigned, ways_by, target_by, learned_at, learned_by, learned_in, tried_by, tried_in}
-use Rattle.mav_router.specs.Admitting.{Judges, entry_by}
+use Rattle.mav_router.specs.declared.found.FoundFrame.{FoundFrame}
+use Rattle.mav_router.specs.Admitting.{AdmitsThese, IsAfter, Judges, entry_by}
+use Rattle.mav_router.specs.Found.{IsJudged, packets_of}
+use Rattle.mav_router.specs.Spans.{judged_of, packet_of}
+use Rattle.mav_router.proofs.Findings.{keeps_more, next_packet}
 use Rattle.mav_router.proofs.Journals.{entry_is, filter_map_push, journal_more}
 
 -- the entry is that of the rules
@@ -27,12 +33,7 @@ entry_judged rules journal port packet target stamps later table taught outcome 
     ∙ ap (λ (n : ℕ). ways (ways_of rules.ports learned n (target_by rules packet))) at)))
 
 -- the verifier, the table and the journal after it
-pub record Holds (rules : Rules) (stamps : Kept) (table : Masks) (journal : List Entry) : Type 0 where
-  pub kept : Represents stamps (tried_in journal)
-  pub stands : StandsFor table (learned_in journal)
-  pub legal : IsJournal rules [] journal
-
-pub holds_more : (rules : Rules) (journal after : List Entry) (port : ℕ) (packet : Packet) (target : Name) (stamps later : Kept) (table taught : Masks) (outcome : Outcome) → Judges rules port packet target stamps later table taught outcome → after ≡ journal ++ entry_by packet outcome ∷ [] → Holds rules stamps table journal → table.ports ≡ rules.ports → target ≡ target_by rules packet → Holds rules later taught after
+pub holds_more : (rules : Rules) (journal after : List Entry) (port : ℕ) (packet : Packet) (target : Name) (stamps later : Kept) (table taught : Masks) (outcome : Outcome) → Judges rules port packet target stamps later table taught outcome → after ≡ journal ++ entry_by packet outcome ∷ [] → IsAfter rules stamps table journal → table.ports ≡ rules.ports → target ≡ target_by rules packet → IsAfter rules later taught after
 holds_more rules journal after port packet target stamps later table taught outcome j is h ports target_is =
     let entry = entry_by packet outcome in
     let e = entry_judged rules journal port packet target stamps later table taught outcome j h.kept h.stands ports target_is in
@@ -42,3 +43,41 @@ holds_more rules journal after port packet target stamps later table taught outc
       stands = subst (StandsFor taught) (sym (ap learned_in is ∙ filter_map_push learned_by journal entry)) learned;
       legal = subst (IsJournal rules []) (sym is) (journal_more rules [] journal entry h.legal e);
     }
+
+-- nothing was admitted yet
+pub admits_none : (rules : Rules) (port : ℕ) (stamps : Kept) (table : Masks) → AdmitsThese rules port [] stamps stamps table table []
+admits_none rules port stamps table = record {
+  keeps = record { more = []; goes = refl; ports = tt; took = refl };
+  ports = refl;
+  after = λ journal same h. subst (IsAfter rules stamps table) (sym (append-nil journal)) h;
+}
+
+-- a frame more
+pub admits_more : (rules : Rules) (port : ℕ) (frames : List Packet) (stamps middle later : Kept) (table seen taught : Masks) (entries : List Entry) (packet : Packet) (target : Name) (outcome : Outcome) → AdmitsThese rules port frames stamps middle table seen entries → Judges rules port packet target middle later seen taught outcome → target ≡ target_by rules packet → AdmitsThese rules port (frames ++ packet ∷ []) stamps later table taught (entries ++ entry_by packet outcome ∷ [])
+admits_more rules port frames stamps middle later table seen taught entries packet target outcome a j target_is =
+    let entry = entry_by packet outcome in
+    record {
+      keeps = keeps_more port [] entries (entries ++ entry ∷ []) entry frames j.port_is a.keeps refl;
+      ports = j.ports ∙ a.ports;
+      after = λ journal same h. holds_more rules (journal ++ entries) (journal ++ (entries ++ entry ∷ [])) port packet target middle later seen taught outcome j (sym (append_assoc journal entries (entry ∷ []))) (a.after journal same h) (a.ports ∙ same) target_is;
+    }
+
+-- an element of some that all have a property, and of what is made of them
+pub all_got : {A : Type 0} (P : A → Type 0) (xs : List A) (k : ℕ) (x : A) → All P xs → slice_get xs k ≡ Some x → P x
+all_got P xs k x all there = subst P (get_or_from_slice_get xs k x x there) (all k x (slice_get_within xs k x there))
+
+pub got_map : {A B : Type 0} (f : A → B) (xs : List A) (k : ℕ) (x : A) → slice_get xs k ≡ Some x → slice_get (map f xs) k ≡ Some (f x)
+got_map f [] k x e = absurd cc
+got_map f (y ∷ xs) zero x e = let same : y ≡ x = cc in ap (λ z. Some (f z)) same
+got_map f (y ∷ xs) (suc k) x e = got_map f xs k x e
+
+-- the next of the frames that were found
+pub judged_at : (rules : Rules) (bytes : List ℕ) (found : List FoundFrame) (at : ℕ) (one : FoundFrame) → All (IsJudged rules) (map (judged_of bytes) found) → slice_get found at ≡ Some one → IsJudged rules (judged_of bytes one)
+judged_at rules bytes found at one all there = all_got (IsJudged rules) (map (judged_of bytes) found) at (judged_of bytes one) all (got_map (judged_of bytes) found at one there)
+
+pub next_found : (bytes : List ℕ) (found : List FoundFrame) (at : ℕ) (one : FoundFrame) → slice_get found at ≡ Some one → take (at + 1) (packets_of (map (judged_of bytes) found)) ≡ take at (packets_of (map (judged_of bytes) found)) ++ packet_of bytes one.span ∷ []
+next_found bytes found at one there =
+    let all = map (judged_of bytes) found in
+    let judged = judged_of bytes one in
+    let is = got_map (judged_of bytes) found at one there in
+    next_packet all at judged (slice_get_within all at judged is) ∙ (λ i. take at (packets_of all) ++ (get_or_from_slice_get all at judged judged is i).frame ∷ [])

@@ -1,5 +1,5 @@
 -- How frames are found at a port, before the switch takes them.
-use Rattle.std.proofs.Common.{◌≡◌, ◌∙◌, ◌<◌, ◌≢◌, ℕ, ◌==◌, arith, zero, suc, ◌+◌, Bool, true, All, get_or, List, [], ◌∷◌, ◌++◌, length, map, take, Option, refl, ap, sym, append_assoc, append-nil, length-append}
+use Rattle.std.proofs.Common.{◌≡◌, ◌∙◌, ◌<◌, ◌≢◌, ℕ, ◌==◌, arith, zero, suc, ◌+◌, Bool, true, All, get_or, List, [], ◌∷◌, ◌++◌, length, map, take, Option, refl, ap, sym, subst, append_assoc, append-nil, length-append}
 use Rattle.std.proofs.lemmas.Grind.{common_steps}
 use Rattle.std.proofs.lemmas.List.{map-append, take_all}
 use Rattle.std.proofs.lemmas.List.Elements.{All-append, All-cons}
@@ -8,12 +8,12 @@ use native.Mathlib.Decide.{ℕ_discrete}
 use Rattle.mav_frame.specs.Packet.{Packet}
 use Rattle.mav_stream.specs.Held.{Held}
 use Rattle.mav_router.specs.declared.entries.Entry.{Entry}
-use Rattle.mav_router.specs.Journal.{Rules, entry_after, frames_from}
+use Rattle.mav_router.specs.Journal.{Rules, SwitchState, Grows, entry_after, frames_from, given_to}
 use Rattle.mav_router.specs.Runs.{Reading}
 use Rattle.mav_router.specs.Faults.{StopsReading}
 use Rattle.mav_router.specs.Found.{IsJudged, Judged, Keeps, packets_of}
-use Rattle.mav_router.proofs.Readings.{from_own}
-use Rattle.mav_router.proofs.Seats.{passes_both, with_first}
+use Rattle.mav_router.proofs.Readings.{from_own, grows_then}
+use Rattle.mav_router.proofs.Seats.{kept_other, kept_own, passes_both, with_first}
 
 -- entries of a port with these frames
 abbrev entries_with : Rules → ℕ → List Packet → List Entry
@@ -92,3 +92,29 @@ pub took_all : (port : ℕ) (before after : List Entry) (items found : List Judg
 took_all port before after items found count same all e =
     let whole : take count (packets_of items) ≡ packets_of items = take_all count (packets_of items) (omega (arith, all)) in
     e ∙ (ap (λ (l : List Packet). frames_from port before ++ l) whole ∙ ap (λ (l : List Judged). frames_from port before ++ packets_of l) same)
+
+-- only the port's frames are more after it
+pub grows_kept : (port : ℕ) (old middle new : SwitchState) (frames : List Packet) → Grows port old middle → new.rules ≡ middle.rules → Keeps port middle.journal new.journal frames → ((other : ℕ) → given_to new other ≡ given_to middle other) → Grows port old new
+grows_kept port old middle new frames so_far same k given =
+    grows_then port old middle new so_far (record {
+      rules = same;
+      others = λ other apart. kept_other port other middle.journal new.journal frames apart k;
+      given = given;
+    })
+
+-- the frames of a port, after as many of those found as there were
+pub took_kept : (port : ℕ) (before after : List Entry) (items found : List Judged) (count : ℕ) → items ≡ found → count ≡ length (packets_of items) → Keeps port before after (take count (packets_of items)) → frames_from port after ≡ frames_from port before ++ packets_of found
+took_kept port before after items found count same all k = took_all port before after items found count same all (kept_own port before after (take count (packets_of items)) k)
+
+-- there is no memory for the next frame
+pub unkept : (ended : Bool) (rules : Rules) (port : ℕ) (taken all : List ℕ) (held : Held) (skips : ℕ) (journal : List Entry) (frames : List Packet) → ((before after : List Entry) → Reading rules port taken held skips before → frames_from port after ≡ frames_from port before → StopsReading ended rules port all after) → Finds ended rules port taken all held skips journal frames → StopsReading ended rules port all journal
+unkept ended rules port taken all held skips journal [] untaken so_far = untaken journal journal (so_far.reads journal (sym (append-nil (frames_from port journal)))) refl
+unkept ended rules port taken all held skips journal (frame ∷ frames) untaken so_far = so_far.stops 0 journal (omega arith) (sym (append-nil (frames_from port journal)))
+
+-- fewer were taken than there were, and these are the frames of the port's entries
+pub settled_took : (port : ℕ) (before after : List Entry) (items found : List Judged) (count : ℕ) → items ≡ found → count < length (packets_of items) → frames_from port after ≡ frames_from port before ++ take count (packets_of items) → (count < length (packets_of found)) × (frames_from port after ≡ frames_from port before ++ take count (packets_of found))
+settled_took port before after items found count same less took =
+    (subst (λ (l : List Judged). count < length (packets_of l)) same less, took ∙ ap (λ (l : List Judged). frames_from port before ++ take count (packets_of l)) same)
+
+pub settled_own : (port : ℕ) (before after : List Entry) (items found : List Judged) (count : ℕ) → items ≡ found → count < length (packets_of items) → Keeps port before after (take count (packets_of items)) → (count < length (packets_of found)) × (frames_from port after ≡ frames_from port before ++ take count (packets_of found))
+settled_own port before after items found count same less k = settled_took port before after items found count same less (kept_own port before after (take count (packets_of items)) k)

@@ -1,5 +1,5 @@
 -- How a seat goes on in its turn.
-use Rattle.std.proofs.Common.{◌≡◌, ◌∙◌, ℕ, ◌==◌, ◌≤◌, arith, Bool, List, [], ◌∷◌, ◌++◌, length, map, take, drop, Option, Some, None, if◌then◌else◌, refl, ap, sym, subst, append_assoc, append-nil}
+use Rattle.std.proofs.Common.{◌≡◌, ◌∙◌, ℕ, ◌==◌, ◌≤◌, arith, Bool, false, true, List, [], ◌∷◌, ◌++◌, length, map, take, drop, Option, Some, None, if◌then◌else◌, refl, ap, sym, subst, append_assoc, append-nil}
 use Rattle.std.proofs.lemmas.List.{map-append}
 use Rattle.std.proofs.lemmas.List.Elements.{filter_map-append}
 use mathlib.Core.List.{IsPrefix}
@@ -99,6 +99,26 @@ frames_of_all : (port : ℕ) (entries : List Entry) → EachPasses (λ (entry : 
 frames_of_all port [] all = refl
 frames_of_all port (entry ∷ entries) all =
     ap (λ (b : Bool). with_first (if b then Some entry.frame else None) (frames_from port entries)) all.0 ∙ ap (λ (l : List Packet). entry.frame ∷ l) (frames_of_all port entries all.1)
+
+-- the frames of a port after more of its entries, and of another port
+pub kept_own : (port : ℕ) (before after : List Entry) (frames : List Packet) → Keeps port before after frames → frames_from port after ≡ frames_from port before ++ frames
+kept_own port before after frames k =
+    ap (frames_from port) k.goes
+    ∙ (filter_map-append (frame_from port) before k.more ∙ ap (λ (l : List Packet). frames_from port before ++ l) (frames_of_all port k.more k.ports ∙ k.took))
+
+differs : (m port other : ℕ) → (m == port) ≡ true → (other ≡ port → ⊥) → (m == other) ≡ false
+differs m port other e apart = grind (arith, common_steps)
+
+none_of_other : (port other : ℕ) (entries : List Entry) → (other ≡ port → ⊥) → EachPasses (λ (entry : Entry). entry.port == port) entries → frames_from other entries ≡ []
+none_of_other port other [] apart all = refl
+none_of_other port other (entry ∷ entries) apart all =
+    ap (λ (b : Bool). with_first (if b then Some entry.frame else None) (frames_from other entries)) (differs entry.port port other all.0 apart) ∙ none_of_other port other entries apart all.1
+
+pub kept_other : (port other : ℕ) (before after : List Entry) (frames : List Packet) → (other ≡ port → ⊥) → Keeps port before after frames → frames_from other after ≡ frames_from other before
+kept_other port other before after frames apart k =
+    ap (frames_from other) k.goes
+    ∙ (filter_map-append (frame_from other) before k.more
+    ∙ (ap (λ (l : List Packet). frames_from other before ++ l) (none_of_other port other k.more apart k.ports) ∙ append-nil (frames_from other before)))
 
 -- the frames that a seat's entries have, after more
 pub more_own : (port : ℕ) (own : List SwitchEvent) (before after : List Entry) (frames : List Packet) → (k : Keeps port before after frames) → frames_from port (entries_in (own ++ map Admitted k.more)) ≡ frames_from port (entries_in own) ++ frames

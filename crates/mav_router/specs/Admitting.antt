@@ -1,5 +1,5 @@
 -- What a switch makes of a frame, beside its entry.
-use Rattle.std.specs.Prelude.{ℕ, ◌≡◌, List, ◌++◌}
+use Rattle.std.specs.Prelude.{ℕ, ◌≡◌, List, [], ◌++◌}
 use Rattle.mav_names.specs.declared.names.Name.{Name}
 use Rattle.mav_frame.specs.Packet.{Packet}
 use Rattle.mav_sign.specs.History.{Entry as Tried, is_admitted}
@@ -9,7 +9,8 @@ use Rattle.link_table.specs.Routing.{Learned, ways_of, has_port}
 use Rattle.link_table.specs.Table.{Masks, Represents as StandsFor}
 use Rattle.mav_router.specs.declared.entries.Entry.{Entry}
 use Rattle.mav_router.specs.declared.entries.Outcome.{Outcome}
-use Rattle.mav_router.specs.Journal.{Rules, verdict_on, tried_as, is_unsigned, ways_by, learned_at}
+use Rattle.mav_router.specs.Journal.{Rules, IsJournal, verdict_on, tried_as, tried_in, is_unsigned, ways_by, learned_at, learned_in}
+use Rattle.mav_router.specs.Found.{Keeps}
 
 -- the entry of a frame with this outcome
 abbrev pub entry_by : Packet → Outcome → Entry
@@ -24,3 +25,15 @@ pub record Judges (rules : Rules) (port : ℕ) (packet : Packet) (target : Name)
   pub ports : taught.ports ≡ table.ports
   pub ways : (learned : List Learned) → StandsFor table learned → outcome.ways ≡ ways_by (is_admitted outcome.admit) (is_unsigned packet) rules.plain (ways_of table.ports learned port target)
   pub learned : (learned : List Learned) → StandsFor table learned → StandsFor taught (learned ++ listed (learned_at (is_admitted outcome.admit) port packet.from))
+
+-- a verifier and a table stand for a journal, which is one by the rules
+pub record IsAfter (rules : Rules) (stamps : Kept) (table : Masks) (journal : List Entry) : Type 0 where
+  pub kept : Represents stamps (tried_in journal)
+  pub stands : StandsFor table (learned_in journal)
+  pub legal : IsJournal rules [] journal
+
+-- entries of a port with these frames: they go on any journal that the verifier and the table stand for
+pub record AdmitsThese (rules : Rules) (port : ℕ) (frames : List Packet) (stamps later : Kept) (table taught : Masks) (entries : List Entry) : Type 0 where
+  pub keeps : Keeps port [] entries frames
+  pub ports : taught.ports ≡ table.ports
+  pub after : (journal : List Entry) → table.ports ≡ rules.ports → IsAfter rules stamps table journal → IsAfter rules later taught (journal ++ entries)

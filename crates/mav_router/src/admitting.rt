@@ -1,5 +1,5 @@
 // Frames that are admitted one after another.
-ghost use Rattle.std.specs.Prelude.{◌≡◌, ◌≤◌, ◌++◌, ◌∷◌, [], List, true, IfOk, OnErr};
+ghost use Rattle.std.specs.Prelude.{◌≡◌, ◌≤◌, ◌++◌, ◌∷◌, [], List, All, length, map, take, true, IfOk, OnErr, vec_len, vec_capacity};
 ghost use Rattle.mav_sign.specs.Streams.{listed};
 ghost use Rattle.mav_sign.specs.History.{Entry as Tried, is_admitted};
 ghost use Rattle.mav_sign.specs.Kept.{Represents};
@@ -7,11 +7,16 @@ ghost use Rattle.mav_sign.specs.Signing.{verified};
 ghost use Rattle.link_table.specs.Routing.{Learned, ways_of};
 ghost use Rattle.link_table.specs.Table.{Represents as StandsFor};
 ghost use Rattle.mav_router.specs.Journal.{verdict_on, tried_as, is_unsigned, ways_by, learned_at};
-ghost use Rattle.mav_router.specs.Admitting.{Judges, entry_by};
+ghost use Rattle.mav_router.specs.Admitting.{AdmitsThese, Judges, entry_by};
+ghost use Rattle.mav_router.specs.Found.{IsJudged, packets_of};
+ghost use Rattle.mav_router.specs.Spans.{AreFound, AreHeld, entries_of, judged_of};
 
 use crate::entries::Outcome;
+use crate::found::{FoundFrame, item_at};
 use crate::judging::Judgement;
-use crate::page::Page;
+use crate::moves::put_last;
+use crate::page::{Head, Page};
+use crate::spans::frame_in;
 use crate::{NoMemory, RouterRules};
 use link_table::{LinkTable, Ways};
 use mav_frame::RawFrame;
@@ -85,8 +90,29 @@ fn route_by(
     }
 }
 
-/// Appends a frame that came in at a port and was judged by these rules to a page, with its verdict and the ports that it
-/// goes to.
+// What becomes of a frame that came in at a port and was judged by these rules.
+fn admit_frame(
+    rules: &RouterRules<'_>,
+    stamps: &mut Stamps,
+    table: &mut LinkTable,
+    port: u8,
+    frame: &RawFrame<'_>,
+    judgement: Judgement,
+) -> Outcome
+    requires from { 1 ≤ port }
+    requires to { port ≤ table.old.ports }
+    requires few { port ≤ 8 }
+    requires verifies { judgement.verifies ≡ verified rules.now.key frame.now frame.now.block }
+    ensures { Judges rules.now port frame.now judgement.target stamps.old stamps.new table.old table.new result }
+{
+    let plain = rules.plain();
+    let is_open = plain.has(port);
+    let admit = verdict(stamps, rules.key(), is_open, frame, judgement.verifies);
+    let ways = route_by(table, admit, plain, port, judgement.target, frame);
+    Outcome { port, admit, ways }
+}
+
+/// Appends such a frame to a page, with what becomes of it.
 pub(crate) fn admit_in(
     page: &mut Page,
     rules: &RouterRules<'_>,
@@ -105,10 +131,43 @@ pub(crate) fn admit_in(
     ensures unchanged { OnErr result ((page.new ≡ page.old) × (stamps.new ≡ stamps.old) × (table.new ≡ table.old)) }
 {
     page.add(port, frame)?;
-    let plain = rules.plain();
-    let is_open = plain.has(port);
-    let admit = verdict(stamps, rules.key(), is_open, frame, judgement.verifies);
-    let ways = route_by(table, admit, plain, port, judgement.target, frame);
-    page.judge_last(admit, ways);
-    Ok(Outcome { port, admit, ways })
+    let outcome = admit_frame(rules, stamps, table, port, frame, judgement);
+    page.judge_last(outcome.admit, outcome.ways);
+    Ok(outcome)
+}
+
+/// Puts the heads of so many frames that came in at a port and were found in these bytes, in their order.
+pub(crate) fn admit_frames(
+    bytes: &[u8],
+    found: &[FoundFrame],
+    count: usize,
+    heads: &mut Vec<Head>,
+    rules: &RouterRules<'_>,
+    stamps: &mut Stamps,
+    table: &mut LinkTable,
+    port: u8,
+)
+    requires from { 1 ≤ port }
+    requires to { port ≤ table.old.ports }
+    requires few { port ≤ 8 }
+    requires within { count ≤ length found.now }
+    requires held { AreFound bytes.now found.now }
+    requires judged { All (IsJudged rules.now) (map (judged_of bytes.now) found.now) }
+    requires new { vec_len heads.old ≡ 0 }
+    requires room { count ≤ vec_capacity heads.old }
+    ensures held { AreHeld bytes.now heads.new.items }
+    ensures admits { AdmitsThese rules.now port (take count (packets_of (map (judged_of bytes.now) found.now))) stamps.old stamps.new table.old table.new (entries_of bytes.now heads.new.items) }
+{
+    for at in 0..count {
+        let one = item_at(found, at);
+        let frame = frame_in(bytes, one.span);
+        let outcome = admit_frame(rules, stamps, table, port, &frame, one.judgement);
+        put_last(
+            heads,
+            Head {
+                span: one.span,
+                outcome,
+            },
+        );
+    }
 }

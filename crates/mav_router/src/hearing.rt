@@ -1,11 +1,12 @@
 // What comes in at a port.
-ghost use Rattle.std.specs.Prelude.{◌≡◌, ◌≤◌, ◌<◌, ◌+◌, ◌-◌, ◌*◌, ◌++◌, ◌∷◌, [], ℕ, List, length, take, false, OnOk, OnErr, OnSome, IfErr, IfSome, IfNone};
+ghost use Rattle.std.specs.Prelude.{◌≡◌, ◌≤◌, ◌<◌, ◌+◌, ◌-◌, ◌*◌, ◌++◌, ◌∷◌, [], ℕ, List, length, take, false, OnOk, OnErr, IfErr, IfSome, IfNone};
 ghost use Rattle.mav_router.specs.declared.entries.Entry.{Entry};
-ghost use Rattle.mav_router.specs.Journal.{Rules, Grows, entry_after, frames_from, given_to};
+ghost use Rattle.mav_router.specs.Journal.{Rules, Grows, frames_from};
 ghost use Rattle.mav_stream.specs.Spans.{first_packet, held_after, next_span};
 ghost use Rattle.mav_router.specs.Runs.{Reading, AllRead};
 ghost use Rattle.mav_router.specs.Faults.{IsSwitchFault, StopsReading};
 
+use crate::found::{FoundFrames, find_frames};
 use crate::{Switch, SwitchFault};
 use mav_stream::{NextSpan, Scanner};
 
@@ -52,39 +53,15 @@ pub(crate) fn next_frame(
     }
 }
 
-// Has the switch admit the frame at the start of what a port's reader holds, and takes its bytes off.
-fn hear_frame(
-    switch: &mut Switch<'_>,
-    scanner: &mut Scanner,
-    port: u8,
-    size: usize,
-) -> Result<(), SwitchFault>
-    requires from { 1 ≤ port }
-    requires to { port ≤ switch.old.rules.ports }
-    requires there { next_span scanner.old ≡ NextSpan.Frame size }
-    requires within { size ≤ length scanner.old.bytes }
-    ensures rules { switch.new.rules ≡ switch.old.rules }
-    ensures given { (other : ℕ) → given_to switch.new other ≡ given_to switch.old other }
-    ensures ended { scanner.new.ended ≡ scanner.old.ended }
-    ensures scanner { OnOk result (scanner.new ≡ held_after scanner.old (NextSpan.Frame size)) }
-    ensures journal { OnOk result (switch.new.journal ≡ switch.old.journal ++ entry_after switch.old.rules switch.old.journal port (first_packet scanner.old) ∷ []) }
-    ensures unchanged { OnErr result (switch.new.journal ≡ switch.old.journal) }
-    ensures fault { IfErr result (λ fault. IsSwitchFault fault switch.old.journal) }
-{
-    if let Err(fault) = switch.admit_raw(port, &scanner.raw_frame(size)) {
-        return Err(fault);
-    }
-    scanner.consume(size);
-    Ok(())
-}
-
-/// Feeds a piece to the port's reader, admits each frame that is found, and counts the bytes that are skipped.
+/// Feeds a piece to the port's reader, has the switch admit the frames that are found, and counts the bytes that are
+/// skipped.
 pub(crate) fn hear(
     switch: &mut Switch<'_>,
     scanner: &mut Scanner,
     skipped: &mut u64,
     port: u8,
     piece: &[u8],
+    found: &mut FoundFrames,
 ) -> Result<(), SwitchFault>
     requires from { 1 ≤ port }
     requires to { port ≤ switch.old.rules.ports }
@@ -99,10 +76,17 @@ pub(crate) fn hear(
     ensures fault { IfErr result (λ fault. IsSwitchFault fault switch.new.journal) }
 {
     let mut taken = 0;
-    while let Some(size) = next_frame(scanner, skipped, piece, &mut taken) {
-        if let Err(fault) = hear_frame(switch, scanner, port, size) {
+    'reading: loop {
+        let is_all = match find_frames(switch.rules(), scanner, skipped, piece, &mut taken, found) {
+            Ok(is_all) => is_all,
+            Err(_) => return Err(SwitchFault::NoMemory),
+        };
+        found.settle();
+        if let Err(fault) = switch.admit_found(port, found) {
             return Err(fault);
         }
+        if is_all {
+            return Ok(());
+        }
     }
-    Ok(())
 }

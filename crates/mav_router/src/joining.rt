@@ -27,7 +27,7 @@ pub(crate) struct Stock<L> {
 
 fn new_room(alloc: Global) -> Result<Room, NoMemory> {
     let batch = Batch::new(alloc)?;
-    let found = FoundFrames::new(alloc)?;
+    let found = FoundFrames::new(alloc);
     let shared = SharedPages::new(alloc)?;
     Ok(Room {
         batch,

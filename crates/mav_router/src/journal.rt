@@ -1,13 +1,15 @@
 // The journal of a router.
-ghost use Rattle.std.specs.Prelude.{◌≡◌, ◌<◌, ◌≤◌, ◌+◌, ◌-◌, ◌++◌, ◌∷◌, [], List, length, replicate, slice_get, Some, true, IfOk, IfErr, OnOk, OnErr, IsErrOf, vec_len, vec_capacity};
+ghost use Rattle.std.specs.Prelude.{◌≡◌, ◌<◌, ◌≤◌, ◌+◌, ◌-◌, ◌++◌, ◌∷◌, [], List, length, replicate, slice_get, Some, true, All, IfOk, IfErr, OnOk, OnErr, IsErrOf, vec_len, vec_capacity};
 ghost use Rattle.mav_sign.specs.Signing.{verified};
 ghost use Rattle.mav_router.specs.declared.entries.Entry.{Entry};
-ghost use Rattle.mav_router.specs.Admitting.{Judges, entry_by};
+ghost use Rattle.mav_router.specs.Admitting.{IsAfter, Judges, entry_by};
+ghost use Rattle.mav_router.specs.Found.{Admits, IsJudged, packets_of};
 ghost use Rattle.mav_router.specs.Faults.{IsSwitchFault};
 ghost use Rattle.mav_router.specs.Pages.{entries_in_pages, AreIndexed, IsIn, IsWindow};
 
 use crate::admitting::admit_in;
 use crate::entries::Outcome;
+use crate::found::FoundFrames;
 use crate::judging::Judgement;
 use crate::moves::put_last;
 use crate::page::Page;
@@ -174,6 +176,43 @@ impl Journal {
             Ok(outcome) => Ok(outcome),
             Err(_) => Err(SwitchFault::NoMemory),
         }
+    }
+
+    /// Appends entries of frames that were found at a port and judged by these rules, in their order, as many as there may
+    /// be. They are a page of their own; so it takes none until those before it are sealed.
+    pub(crate) fn admit_found(
+        &mut self,
+        rules: &RouterRules<'_>,
+        stamps: &mut Stamps,
+        table: &mut LinkTable,
+        port: u8,
+        found: &mut FoundFrames,
+    ) -> Result<(), SwitchFault>
+        requires from { 1 ≤ port }
+        requires to { port ≤ table.old.ports }
+        requires few { port ≤ 8 }
+        requires some { 0 < length found.old }
+        requires judged { All (IsJudged rules.now) found.old }
+        requires ports { table.old.ports ≡ rules.now.ports }
+        ensures admits { Admits result port self.old self.new (packets_of found.old) }
+        ensures ports { table.new.ports ≡ rules.now.ports }
+        ensures after { IsAfter rules.now stamps.old table.old self.old → IsAfter rules.now stamps.new table.new self.new }
+        ensures few { length self.new ≤ 1_000_000 }
+        ensures fault { IfErr result (λ fault. IsSwitchFault fault self.new) }
+    {
+        if self.last.len() > 0 {
+            return Err(SwitchFault::NoMemory);
+        }
+        let all = found.len();
+        let count = all.min(ENTRY_LIMIT - self.page_of.len());
+        match found.admit(count, rules, stamps, table, port) {
+            Ok(page) => self.last = page,
+            Err(_) => return Err(SwitchFault::NoMemory),
+        }
+        if count < all {
+            return Err(SwitchFault::Full { entries: 1_000_000 });
+        }
+        Ok(())
     }
 
     /// Seals the entries that were appended since the last time, so that they can be shared. If memory is out they stay as

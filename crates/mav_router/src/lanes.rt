@@ -10,6 +10,7 @@ ghost use Rattle.mav_router.specs.Faults.{IsSwitchFault, StopsInput};
 ghost use Rattle.mav_router.specs.Unheard.{Unheard};
 
 use crate::batch::Batch;
+use crate::found::FoundFrames;
 use crate::hearing::hear;
 use crate::lane::Lane;
 use crate::{Switch, SwitchFault};
@@ -63,6 +64,7 @@ pub(crate) fn read_port<L: Link>(
     link: &mut L,
     port: u8,
     buf: &mut [u8],
+    found: &mut FoundFrames,
 ) -> Result<(), SwitchFault>
     requires from { 1 ≤ port }
     requires to { port ≤ switch.old.rules.ports }
@@ -92,6 +94,7 @@ pub(crate) fn read_port<L: Link>(
         &mut lane.skipped,
         port,
         &buf[..count],
+        found,
     )
 }
 

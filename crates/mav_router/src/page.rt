@@ -1,9 +1,10 @@
 // Entries of a journal, one after another.
-ghost use Rattle.std.specs.Prelude.{◌≡◌, ◌<◌, ◌++◌, ◌∷◌, [], List, length, slice_get, Some, OnOk, OnErr, vec_len, vec_capacity};
+ghost use Rattle.std.specs.Prelude.{◌≡◌, ◌<◌, ◌++◌, ◌∷◌, [], List, length, slice_get, Some, OnOk, OnErr};
 ghost use Rattle.link_table.specs.Routing.{no_ways};
 ghost use Rattle.mav_sign.specs.declared.admission.Admit.TheVariants.{Unsigned};
 ghost use Rattle.mav_router.specs.declared.entries.Entry.{Entry};
 ghost use Rattle.mav_router.specs.declared.page.Head.{Head};
+ghost use Rattle.mav_router.specs.Spans.{AreHeld, entries_of};
 
 use crate::NoMemory;
 use crate::entries::Outcome;
@@ -15,17 +16,11 @@ use mav_sign::Admit;
 use std::alloc::Global;
 use std::marker::Model;
 
-// Room for so many frames of telemetry is allocated with the first one, about as many as one read finds.
-const FRAMES: usize = 80;
-
-// As many bytes as one read takes, and those of a frame that began before it.
-const BYTES: usize = 4376;
-
 // An entry without the bytes of its frame.
 #[derive(Clone, Copy)]
-struct Head {
-    span: Span,
-    outcome: Outcome,
+pub(crate) struct Head {
+    pub(crate) span: Span,
+    pub(crate) outcome: Outcome,
 }
 
 /// Entries, which contracts see as their list. Their frames are kept as the bytes that came in, one after another.
@@ -54,19 +49,6 @@ fn head_at(heads: &[Head], index: usize) -> Head
     heads[index]
 }
 
-// Allocates room for one more head; and with the first one for all that mostly come with it.
-fn make_room(bytes: &mut Vec<u8>, heads: &mut Vec<Head>) -> Result<(), NoMemory>
-    ensures bytes { bytes.new.items ≡ bytes.old.items }
-    ensures heads { heads.new.items ≡ heads.old.items }
-    ensures room { OnOk result (vec_len heads.new < vec_capacity heads.new) }
-{
-    if !heads.is_empty() {
-        return heads.reserve(1);
-    }
-    bytes.reserve(BYTES)?;
-    heads.reserve(FRAMES)
-}
-
 // Sets what became of the last frame.
 fn set_last(heads: &mut Vec<Head>, admit: Admit, ways: Ways)
     requires { 0 < length heads.old.items }
@@ -83,6 +65,14 @@ fn set_last(heads: &mut Vec<Head>, admit: Admit, ways: Ways)
 }
 
 impl Page {
+    /// The entries with these heads, whose frames stand in these bytes.
+    pub(crate) fn of(bytes: Vec<u8>, heads: Vec<Head>) -> Page
+        requires { AreHeld bytes.items heads.items }
+        ensures { result ≡ entries_of bytes.items heads.items }
+    {
+        Page { bytes, heads }
+    }
+
     pub(crate) fn new(alloc: Global) -> Page
         ensures { result ≡ [] }
     {
@@ -120,7 +110,7 @@ impl Page {
         ensures added { OnOk result (self.new ≡ self.old ++ (record { port = port; frame = frame.now; admit = Unsigned; ways = no_ways }) ∷ []) }
         ensures unchanged { OnErr result (self.new ≡ self.old) }
     {
-        make_room(&mut self.bytes, &mut self.heads)?;
+        self.heads.reserve(1)?;
         let span = append(&mut self.bytes, frame)?;
         let outcome = Outcome {
             port,

@@ -6,6 +6,7 @@ ghost use Rattle.mav_router.specs.Faults.{IsSwitchFault, StopsRound};
 ghost use Rattle.mav_router.specs.Runs.{RunSoFar, IsDrained, AllTurned};
 
 use crate::batch::Batch;
+use crate::found::FoundFrames;
 use crate::lane::Lane;
 use crate::lanes::{read_port, write_port};
 use crate::{Switch, SwitchFault};
@@ -17,6 +18,7 @@ pub(crate) fn read_each<L: Link>(
     lanes: &mut [Lane],
     links: &mut [L],
     buf: &mut [u8],
+    found: &mut FoundFrames,
 ) -> Result<(), SwitchFault>
     requires lanes { length lanes.old ≡ length links.old }
     requires ports { length links.old ≤ switch.old.rules.ports }
@@ -35,7 +37,7 @@ pub(crate) fn read_each<L: Link>(
 {
     for at in 0..links.len() {
         let port = at as u8 + 1;
-        if let Err(fault) = read_port(switch, &mut lanes[at], &mut links[at], port, buf) {
+        if let Err(fault) = read_port(switch, &mut lanes[at], &mut links[at], port, buf, found) {
             return Err(fault);
         }
     }

@@ -8,6 +8,7 @@ ghost use Rattle.mav_router.specs.Ends.{PortRun, end_by};
 ghost use Rattle.mav_router.specs.Faults.{IsSwitchFault, StopsRound, RouteStopped};
 
 use crate::batch::Batch;
+use crate::found::FoundFrames;
 use crate::lane::Lane;
 use crate::rounds::{read_each, write_each};
 use crate::{
@@ -50,6 +51,7 @@ fn run_rounds<L: Link>(
     lanes: &mut [Lane],
     links: &mut [L],
     batch: &mut Batch,
+    found: &mut FoundFrames,
     turns: u64,
 ) -> Result<(), SwitchFault>
     requires lanes { length lanes.old ≡ length links.old }
@@ -74,7 +76,7 @@ fn run_rounds<L: Link>(
         if is_done(lanes) {
             return Ok(());
         }
-        if let Err(fault) = read_each(switch, lanes, links, &mut buf) {
+        if let Err(fault) = read_each(switch, lanes, links, &mut buf, found) {
             return Err(fault);
         }
         write_each(switch, lanes, links, batch);
@@ -175,7 +177,8 @@ fn route_lanes<L: Link>(
     ensures stopped { IfErr result (λ fault. (rules : Rules) → AllFresh rules lanes.old
         → RouteStopped L.state rules fault switch.new.journal links.old links.new) }
 {
-    if let Err(fault) = run_rounds(switch, lanes, links, batch, turns) {
+    let mut found = FoundFrames::new(alloc);
+    if let Err(fault) = run_rounds(switch, lanes, links, batch, &mut found, turns) {
         return Err(fault);
     }
     let Ok(ends) = ends_of(alloc, lanes, turns) else {

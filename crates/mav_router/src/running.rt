@@ -51,7 +51,11 @@ fn hear_in_turns<'a, R: Wait>(
 {
     let mut taken = 0;
     'reading: loop {
-        let is_all = find_frames(rules, scanner, skipped, piece, &mut taken, found);
+        let is_all = match find_frames(rules, scanner, skipped, piece, &mut taken, found) {
+            Ok(is_all) => is_all,
+            Err(_) => return Err(SwitchFault::NoMemory),
+        };
+        found.settle();
         if let Err(fault) = admit_found(rt, turn, rules, seat, port, found) {
             return Err(fault);
         }

@@ -1,5 +1,5 @@
 // Frames in one list of bytes.
-ghost use Rattle.std.specs.Prelude.{◌≡◌, ◌≤◌, ◌+◌, OnErr, IfOk, length, vec_capacity};
+ghost use Rattle.std.specs.Prelude.{◌≡◌, OnErr, IfOk};
 ghost use Rattle.mav_router.specs.Spans.{Appends, Holds, packet_of};
 
 use crate::NoMemory;
@@ -31,18 +31,4 @@ pub(crate) fn append(bytes: &mut Vec<u8>, frame: &RawFrame<'_>) -> Result<Span, 
         start,
         end: bytes.len(),
     })
-}
-
-/// The same, where there is room for any frame.
-pub(crate) fn append_within(bytes: &mut Vec<u8>, frame: &RawFrame<'_>) -> Span
-    requires { length bytes.old.items + 280 ≤ vec_capacity bytes.old }
-    ensures appends { Appends bytes.old.items bytes.new.items result frame.now }
-    ensures room { vec_capacity bytes.old ≤ vec_capacity bytes.new }
-{
-    let start = bytes.len();
-    bytes.extend_from_slice(frame.bytes()).unwrap();
-    Span {
-        start,
-        end: bytes.len(),
-    }
 }

@@ -1,5 +1,5 @@
 // The switch.
-ghost use Rattle.std.specs.Prelude.{◌≡◌, ◌⊎◌, ◌+◌, ◌-◌, ◌<◌, ◌≤◌, ◌++◌, ◌∷◌, [], ℕ, List, length, take, slice_index, slice_get, Some, None, Err, IfOk, IfErr, OnOk, OnErr, OnSome, IfSome, IfNone, IsErrOf, true, false};
+ghost use Rattle.std.specs.Prelude.{◌≡◌, ◌⊎◌, ◌+◌, ◌-◌, ◌<◌, ◌≤◌, ◌++◌, ◌∷◌, [], ℕ, List, length, take, slice_index, slice_get, Some, None, Err, IfOk, IfErr, OnOk, OnErr, OnSome, IfSome, IfNone, IsErrOf, true, false, All};
 ghost use Rattle.mav_sign.specs.Streams.{listed};
 ghost use Rattle.mav_sign.specs.History.{Entry as Tried, is_admitted};
 ghost use Rattle.mav_sign.specs.Kept.{Represents};
@@ -8,9 +8,11 @@ ghost use Rattle.link_table.specs.Routing.{Learned, has_port, ways_of};
 ghost use Rattle.link_table.specs.Table.{Represents as StandsFor};
 ghost use Rattle.mav_router.specs.Journal.{Rules, SwitchState, target_by, verdict_on, tried_as, is_unsigned, ways_by, learned_at, entry_after, admit_after, IsJournal, frames_to, frames_at, given_to};
 ghost use Rattle.mav_router.specs.Batches.{Gathered, Moves};
+ghost use Rattle.mav_router.specs.Found.{Admits, IsJudged, packets_of};
 ghost use Rattle.mav_router.specs.Faults.{IsSwitchFault};
 
 use crate::batch::Batch;
+use crate::found::FoundFrames;
 use crate::judging::{Judgement, judge};
 use crate::{Journal, NoMemory, RouterRules, SwitchFault};
 use dialect::Dialect;
@@ -171,6 +173,36 @@ impl<'a> Switch<'a> {
         }
     }
 
+    /// Tries frames that were found at the port and judged by the switch's rules, in their order, until it doesn't take
+    /// one, and keeps their entries. Their pages can be shared.
+    pub(crate) fn admit_found(
+        &mut self,
+        port: u8,
+        found: &mut FoundFrames,
+    ) -> Result<(), SwitchFault>
+        requires from { 1 ≤ port }
+        requires to { port ≤ self.old.rules.ports }
+        requires judged { All (IsJudged self.old.rules) found.old }
+        ensures rules { self.new.rules ≡ self.old.rules }
+        ensures admits { Admits result port self.old.journal self.new.journal (packets_of found.old) }
+        ensures given { (other : ℕ) → given_to self.new other ≡ given_to self.old other }
+        ensures fault { IfErr result (λ fault. IsSwitchFault fault self.new.journal) }
+    {
+        if found.len() == 0 {
+            return Ok(());
+        }
+        self.journal.seal();
+        let admitted = self.journal.admit_found(
+            &self.rules,
+            &mut self.stamps,
+            &mut self.table,
+            port,
+            found,
+        );
+        self.journal.seal();
+        admitted
+    }
+
     /// The next frame that goes out at the port and wasn't taken yet.
     pub fn take(&mut self, port: u8) -> Option<Frame>
         requires from { 1 ≤ port }
@@ -226,11 +258,10 @@ impl<'a> Switch<'a> {
         all
     }
 
-    /// Seals the entries that were added since the last time, so that their pages can be shared.
-    pub(crate) fn seal(&mut self)
-        ensures { self.new ≡ self.old }
+    pub(crate) fn rules(&self) -> &RouterRules<'a>
+        ensures { result.now ≡ self.now.rules }
     {
-        self.journal.seal();
+        &self.rules
     }
 
     // How many entries there are.

@@ -13,38 +13,6 @@ use crate::{RouterRules, Switch, SwitchFault};
 use std::sync::Wait;
 use turnstile::{Turn, TurnSeat};
 
-// Has the switch admit frames that came in at the port and were judged, in their order, until it doesn't take one.
-fn admit_each(switch: &mut Switch<'_>, port: u8, frames: &FoundFrames) -> Result<(), SwitchFault>
-    requires from { 1 ≤ port }
-    requires to { port ≤ switch.old.rules.ports }
-    requires judged { All (IsJudged switch.old.rules) frames.now }
-    ensures rules { switch.new.rules ≡ switch.old.rules }
-    ensures admits { Admits result port switch.old.journal switch.new.journal (packets_of frames.now) }
-    ensures fault { IfErr result (λ fault. IsSwitchFault fault switch.new.journal) }
-{
-    for at in 0..frames.len() {
-        let judgement = frames.judgement(at);
-        if let Err(fault) = switch.admit_judged(port, &frames.frame(at), judgement) {
-            return Err(fault);
-        }
-    }
-    Ok(())
-}
-
-// The same, with the pages of these entries sealed, so that other threads can read them.
-fn admit_sealed(switch: &mut Switch<'_>, port: u8, frames: &FoundFrames) -> Result<(), SwitchFault>
-    requires from { 1 ≤ port }
-    requires to { port ≤ switch.old.rules.ports }
-    requires judged { All (IsJudged switch.old.rules) frames.now }
-    ensures rules { switch.new.rules ≡ switch.old.rules }
-    ensures admits { Admits result port switch.old.journal switch.new.journal (packets_of frames.now) }
-    ensures fault { IfErr result (λ fault. IsSwitchFault fault switch.new.journal) }
-{
-    let admitted = admit_each(switch, port, frames);
-    switch.seal();
-    admitted
-}
-
 /// Has the switch admit in a turn the frames that were found at the port.
 pub(crate) fn admit_found<'a, R: Wait>(
     rt: &R,
@@ -52,20 +20,20 @@ pub(crate) fn admit_found<'a, R: Wait>(
     rules: &RouterRules<'_>,
     seat: &mut TurnSeat<Switch<'a>>,
     port: u8,
-    frames: &FoundFrames,
+    found: &mut FoundFrames,
 ) -> Result<(), SwitchFault>
     requires seated { IsSeated turn.now rules.now port seat.old }
     requires from { 1 ≤ port }
     requires to { port ≤ rules.now.ports }
-    requires judged { All (IsJudged rules.now) frames.now }
+    requires judged { All (IsJudged rules.now) found.old }
     ensures seated { IsSeated turn.now rules.now port seat.new }
     ensures begins { IsPrefix (entries_in seat.old.seen) (entries_in seat.new.seen) }
-    ensures takes { Takes result port (entries_in seat.old.own) (entries_in seat.new.own) (packets_of frames.now) }
+    ensures takes { Takes result port (entries_in seat.old.own) (entries_in seat.new.own) (packets_of found.old) }
     ensures fault { IfErr result (λ fault. IsSwitchFault fault (entries_in seat.new.seen)) }
 {
     let _ = rules;
     let mut held = turn.enter(rt, seat);
-    let admitted = admit_sealed(held.value(), port, frames);
+    let admitted = held.value().admit_found(port, found);
     turn.leave(seat, held);
     admitted
 }

@@ -1,38 +1,46 @@
-use Rattle.std.proofs.Common.{ap, sym, ◌∙◌, ◌++◌, subst, Bool, take}
-use Rattle.mav_stream.specs.Held.{Held}
-use Rattle.mav_stream.specs.Spans.{first_packet}
-use Rattle.mav_router.specs.Journal.{frames_from}
-use Rattle.mav_router.specs.Runs.{Reading}
+use Rattle.std.proofs.Common.{◌∙◌, ◌++◌, subst, Bool, take}
+use Rattle.mav_router.specs.Found.{packets_of}
 use Rattle.mav_router.specs.Faults.{StopsReading}
-use Rattle.mav_router.proofs.Readings.{grows_then, grows_by, own_frame}
+use Rattle.mav_router.proofs.Findings.{grows_kept, settled_own, took_kept}
 use Rattle.mav_router.proofs.hearing.hear.Goals as goal
 
-pub returns-in-Err-clause-stopped : goal.returns-in-Err-clause-stopped
-returns-in-Err-clause-stopped c = λ rules bytes live first.
-    let r = c.loop-size in
+pub returns-in-Err-admit_found-clause-grows : goal.returns-in-Err-admit_found-clause-grows
+returns-in-Err-admit_found-clause-grows c = grows_kept c.args.port c.args.switch.now c.reading.switch c.admit_found.new.self (take c.admit_found.ensures.admits.count (packets_of c.settle.new.self)) c.reading.invariant.grows c.admit_found.ensures.rules c.admit_found.ensures.admits.kept c.admit_found.ensures.given
+
+pub returns-in-Err-admit_found-clause-stopped : goal.returns-in-Err-admit_found-clause-stopped
+returns-in-Err-admit_found-clause-stopped c = λ rules bytes live first.
+    let r = c.reading in
     let port = c.args.port in
-    let after = c.hear_frame.new.switch.journal in
+    let e = c.in-Err-admit_found.ensures in
+    let before = r.switch.journal in
+    let after = c.admit_found.new.self.journal in
+    let own = settled_own port before after c.settle.new.self c.find_frames.new.found e.admits.count c.settle.ensures e.admits.some e.admits.kept in
     subst (λ (b : Bool). StopsReading b rules port (bytes ++ c.args.piece.now) after) r.invariant.ended
-    (c.in-Some.ensures.untaken rules port bytes r.switch.journal after (λ some. r.invariant.ended ∙ live some) (r.invariant.read rules bytes live first) (ap (frames_from port) c.in-Err.ensures.unchanged))
+    (c.in-Ok.ensures.stops rules port bytes before after e.admits.count (λ some. r.invariant.ended ∙ live some) (r.invariant.read rules bytes live first) own.0 own.1)
 
-pub loop-size-preserved : goal.loop-size-preserved
-loop-size-preserved c =
-    let r = c.loop-size in
+pub returns-then-is_all-clause-grows : goal.returns-then-is_all-clause-grows
+returns-then-is_all-clause-grows c = grows_kept c.args.port c.args.switch.now c.reading.switch c.admit_found.new.self (take c.admit_found.ensures.admits.count (packets_of c.settle.new.self)) c.reading.invariant.grows c.admit_found.ensures.rules c.admit_found.ensures.admits.kept c.admit_found.ensures.given
+
+pub returns-then-is_all-clause-read : goal.returns-then-is_all-clause-read
+returns-then-is_all-clause-read c = λ rules bytes live first.
+    let r = c.reading in
     let port = c.args.port in
-    let old = r.switch in
-    let new = c.hear_frame.new.switch in
-    let packet = first_packet c.next_frame.new.scanner in
-    let journal = c.in_default-hear_frame.ensures.journal in
-    record {
-      within = c.in-Some.ensures.within;
-      ended = c.hear_frame.ensures.ended ∙ (c.in-Some.ensures.ended ∙ r.invariant.ended);
-      grows = grows_then port c.args.switch.now old new r.invariant.grows (grows_by port old new packet c.hear_frame.ensures.rules journal c.hear_frame.ensures.given);
-      read = λ rules bytes live first.
-          subst (λ (h : Held). Reading rules port (bytes ++ take c.next_frame.new.taken c.args.piece.now) h c.next_frame.new.skipped new.journal) (sym c.in_default-hear_frame.ensures.scanner)
-          (c.in-Some.ensures.found rules port bytes old.journal new.journal (λ some. r.invariant.ended ∙ live some) (r.invariant.read rules bytes live first) (own_frame port old new packet journal));
-    }
+    let before = r.switch.journal in
+    let after = c.admit_found.new.self.journal in
+    let admits = c.in_default.ensures.admits in
+    c.in-Ok.ensures.all c.if-is_all.true rules port bytes before after (λ some. r.invariant.ended ∙ live some) (r.invariant.read rules bytes live first) (took_kept port before after c.settle.new.self c.find_frames.new.found admits.count c.settle.ensures admits.all admits.kept)
 
-pub returns-clause-read : goal.returns-clause-read
-returns-clause-read c = λ rules bytes live first.
-    let r = c.loop-size in
-    c.in_default.ensures.all rules c.args.port bytes r.switch.journal (λ some. r.invariant.ended ∙ live some) (r.invariant.read rules bytes live first)
+pub reading-preserved : goal.reading-preserved
+reading-preserved c =
+    let r = c.reading in
+    let port = c.args.port in
+    let before = r.switch.journal in
+    let after = c.admit_found.new.self.journal in
+    let admits = c.in_default.ensures.admits in
+    record {
+      within = c.in-Ok.ensures.within;
+      ended = c.in-Ok.ensures.ended ∙ r.invariant.ended;
+      grows = grows_kept c.args.port c.args.switch.now c.reading.switch c.admit_found.new.self (take c.admit_found.ensures.admits.count (packets_of c.settle.new.self)) c.reading.invariant.grows c.admit_found.ensures.rules c.admit_found.ensures.admits.kept c.admit_found.ensures.given;
+      read = λ rules bytes live first.
+          c.in-Ok.ensures.read c.if-is_all.false rules port bytes before after (λ some. r.invariant.ended ∙ live some) (r.invariant.read rules bytes live first) (took_kept port before after c.settle.new.self c.find_frames.new.found admits.count c.settle.ensures admits.all admits.kept);
+    }

@@ -13,21 +13,21 @@ use Rattle.mav_router.proofs.turns.admit_found.Goals as goal
 
 -- the seat after the turn
 after_turn : (g : given.Over) (c : goal.After-leave g)
-    → Turned c.args.turn.now c.args.rules.now c.args.port (c.args.seat.now.own ++ map Admitted c.admit_sealed-admitted.ensures.admits.kept.more) c.admit_sealed-admitted.new.switch.journal c.args.seat.now c.leave.new.seat
+    → Turned c.args.turn.now c.args.rules.now c.args.port (c.args.seat.now.own ++ map Admitted c.admit_found-admitted.ensures.admits.kept.more) c.admit_found-admitted.new.self.journal c.args.seat.now c.leave.new.seat
 after_turn g c =
     let seat = c.args.seat.now in
     let v = c.value.result.now in
-    let n = c.admit_sealed-admitted.new.switch in
+    let n = c.admit_found-admitted.new.self in
     let prefix = subst (λ (s : SwitchState). IsPrefix seat.seen (history_of s.rules s.journal)) (sym c.value.ensures.value) c.enter-held.ensures.begins in
     let enters = c.enter-held.ensures.entered ∙ ap (λ (s : SwitchState). entered seat (history_of s.rules s.journal)) (sym c.value.ensures.value) in
-    added c.args.turn.now c.args.rules.now c.args.port seat c.enter-held.new.seat c.leave.new.seat v n _ c.requires.seated prefix enters c.leave.ensures.left c.leave.ensures.own c.admit_sealed-admitted.ensures.rules c.admit_sealed-admitted.ensures.admits.kept
+    added c.args.turn.now c.args.rules.now c.args.port seat c.enter-held.new.seat c.leave.new.seat v n _ c.requires.seated prefix enters c.leave.ensures.left c.leave.ensures.own c.admit_found-admitted.ensures.rules c.admit_found-admitted.ensures.admits.kept
 
 pub leave-requires-clause-appended : goal.leave-requires-clause-appended
 leave-requires-clause-appended g c =
     let seat = c.args.seat.now in
     let v = c.value.result.now in
     let enters = c.enter-held.ensures.entered ∙ ap (λ (s : SwitchState). entered seat (history_of s.rules s.journal)) (sym c.value.ensures.value) in
-    tried v c.admit_sealed-admitted.new.switch c.args.port _ c.enter-held.new.seat.seen (ap (λ (p : Participant SwitchEvent). p.seen) enters) c.admit_sealed-admitted.ensures.rules c.admit_sealed-admitted.ensures.admits.kept
+    tried v c.admit_found-admitted.new.self c.args.port _ c.enter-held.new.seat.seen (ap (λ (p : Participant SwitchEvent). p.seen) enters) c.admit_found-admitted.ensures.rules c.admit_found-admitted.ensures.admits.kept
 
 pub returns-clause-seated : goal.returns-clause-seated
 returns-clause-seated g c = (after_turn g c).seated
@@ -37,13 +37,13 @@ returns-clause-begins g c = (after_turn g c).begins
 
 pub returns-clause-takes : goal.returns-clause-takes
 returns-clause-takes g c =
-    let admits = c.admit_sealed-admitted.ensures.admits in
+    let admits = c.admit_found-admitted.ensures.admits in
     record {
       count = admits.count;
-      took = ap (λ (l : List SwitchEvent). frames_from c.args.port (entries_in l)) (after_turn g c).added ∙ more_own c.args.port c.args.seat.now.own c.value.result.now.journal c.admit_sealed-admitted.new.switch.journal _ admits.kept;
+      took = ap (λ (l : List SwitchEvent). frames_from c.args.port (entries_in l)) (after_turn g c).added ∙ more_own c.args.port c.args.seat.now.own c.value.result.now.journal c.admit_found-admitted.new.self.journal _ admits.kept;
       all = admits.all;
       some = admits.some;
     }
 
 pub returns-clause-fault : goal.returns-clause-fault
-returns-clause-fault g c = subst (λ (j : List Entry). IfErr c.admit_sealed-admitted.result (λ fault. IsSwitchFault fault j)) (sym (after_turn g c).entries) c.admit_sealed-admitted.ensures.fault
+returns-clause-fault g c = subst (λ (j : List Entry). IfErr c.admit_found-admitted.result (λ fault. IsSwitchFault fault j)) (sym (after_turn g c).entries) c.admit_found-admitted.ensures.fault

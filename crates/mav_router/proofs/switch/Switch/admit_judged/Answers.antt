@@ -3,8 +3,8 @@ use Rattle.mav_sign.specs.Kept.{Kept}
 use Rattle.link_table.specs.Table.{Masks}
 use Rattle.mav_router.specs.declared.entries.Entry.{Entry}
 use Rattle.mav_router.specs.Journal.{SwitchState, target_by}
-use Rattle.mav_router.specs.Admitting.{entry_by}
-use Rattle.mav_router.proofs.Admissions.{Holds, holds_more}
+use Rattle.mav_router.specs.Admitting.{IsAfter, entry_by}
+use Rattle.mav_router.proofs.Admissions.{holds_more}
 use Rattle.mav_router.proofs.switch.Switch.admit_judged.Goals.{in-Ok, in-Err}
 use Rattle.mav_router.proofs.switch.Switch.admit_judged.Goals as goal
 
@@ -12,7 +12,7 @@ pub invariant_of-self : goal.invariant_of-self
 invariant_of-self c =
     let s = c.self.inside in
     let inv = c.self.invariant in
-    let before : Holds s.rules s.stamps s.table s.journal = record { kept = inv.3; stands = inv.4; legal = inv.5 } in
+    let before : IsAfter s.rules s.stamps s.table s.journal = record { kept = inv.3; stands = inv.4; legal = inv.5 } in
     let packet = c.args.frame.now in
     let target_is = c.requires.target ∙ ap (λ (v : SwitchState). target_by v.rules packet) (sym c.self.view_is) in
     elim c.match-admit.branch [
@@ -32,10 +32,10 @@ invariant_of-self c =
           )
       | in-Err w ↦
           let u = w.in-Err.ensures.unchanged in
-          let same : Holds s.rules c.admit.new.stamps c.admit.new.table c.admit.new.self =
-          subst (λ (k : Kept). Holds s.rules k c.admit.new.table c.admit.new.self) (sym u.1)
-          (subst (λ (t : Masks). Holds s.rules s.stamps t c.admit.new.self) (sym u.2)
-          (subst (λ (j : List Entry). Holds s.rules s.stamps s.table j) (sym u.0) before)) in
+          let same : IsAfter s.rules c.admit.new.stamps c.admit.new.table c.admit.new.self =
+          subst (λ (k : Kept). IsAfter s.rules k c.admit.new.table c.admit.new.self) (sym u.1)
+          (subst (λ (t : Masks). IsAfter s.rules s.stamps t c.admit.new.self) (sym u.2)
+          (subst (λ (j : List Entry). IsAfter s.rules s.stamps s.table j) (sym u.0) before)) in
           let long = ap length u.0 in (
             inv.0,
             inv.1,
