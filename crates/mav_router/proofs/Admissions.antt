@@ -1,7 +1,9 @@
 -- What a frame's entry is, and what holds of a switch after it.
-use Rattle.std.proofs.Common.{◌≡◌, ◌∙◌, ◌+◌, ◌++◌, ◌∷◌, [], ℕ, zero, suc, List, All, Bool, Some, map, take, slice_get, refl, sym, ap, subst, append_assoc}
+use Rattle.std.proofs.Common.{◌≡◌, ◌∙◌, ◌==◌, ◌<◌, ◌+◌, arith, length, true, ◌++◌, ◌∷◌, [], ℕ, zero, suc, List, All, Bool, Some, map, take, slice_get, refl, sym, ap, subst, append_assoc}
+use Rattle.std.proofs.lemmas.Grind.{common_steps}
 use Rattle.std.proofs.lemmas.List.{append-nil}
 use Rattle.std.proofs.lemmas.Option.{get_or_from_slice_get, slice_get_within}
+use Rattle.turnstile.specs.Labels.{EachPasses}
 use Rattle.mav_names.specs.declared.names.Name.{Name}
 use Rattle.mav_frame.specs.Packet.{Packet}
 use Rattle.mav_sign.specs.History.{is_admitted}
@@ -14,7 +16,7 @@ use Rattle.mav_router.specs.declared.entries.Outcome.{Outcome}
 use Rattle.mav_router.specs.Journal.{Rules, IsJournal, entry_after, verdict_on, is_unsigned, ways_by, target_by, learned_at, learned_by, learned_in, tried_by, tried_in}
 use Rattle.mav_router.specs.declared.found.FoundFrame.{FoundFrame}
 use Rattle.mav_router.specs.Admitting.{AdmitsThese, IsAfter, Judges, entry_by}
-use Rattle.mav_router.specs.Found.{IsJudged, packets_of}
+use Rattle.mav_router.specs.Found.{IsJudged, Judged, Keeps, packets_of}
 use Rattle.mav_router.specs.Spans.{judged_of, packet_of}
 use Rattle.mav_router.proofs.Findings.{keeps_more, next_packet}
 use Rattle.mav_router.proofs.Journals.{entry_is, filter_map_push, journal_more}
@@ -81,3 +83,44 @@ next_found bytes found at one there =
     let judged = judged_of bytes one in
     let is = got_map (judged_of bytes) found at one there in
     next_packet all at judged (slice_get_within all at judged is) ∙ (λ i. take at (packets_of all) ++ (get_or_from_slice_get all at judged judged is i).frame ∷ [])
+
+-- ---- a single frame
+
+-- the last entry is that of the rules
+journal_last : (rules : Rules) (before entries : List Entry) (entry : Entry) → IsJournal rules before (entries ++ entry ∷ []) → entry ≡ entry_after rules (before ++ entries) entry.port entry.frame
+journal_last rules before [] entry j = subst (λ (b : List Entry). entry ≡ entry_after rules b entry.port entry.frame) (sym (append-nil before)) j.0
+journal_last rules before (x ∷ xs) entry j = subst (λ (b : List Entry). entry ≡ entry_after rules b entry.port entry.frame) (append_assoc before (x ∷ []) xs) (journal_last rules (before ++ x ∷ []) xs entry j.1)
+
+same_port : (m n : ℕ) → (m == n) ≡ true → m ≡ n
+same_port m n e = grind (arith, common_steps)
+
+-- entries with one frame of a port are one
+one_entry : (port : ℕ) (packet : Packet) (more : List Entry) → EachPasses (λ (entry : Entry). entry.port == port) more → map (λ (entry : Entry). entry.frame) more ≡ packet ∷ [] → (entry : Entry) × (more ≡ entry ∷ []) × (entry.port ≡ port) × (entry.frame ≡ packet)
+one_entry port packet [] all e = absurd cc
+one_entry port packet (entry ∷ []) all e = (entry, refl, same_port entry.port port all.0, cc)
+one_entry port packet (entry ∷ other ∷ more) all e = absurd (let n = ap length e in omega (arith, n))
+
+one_kept : (rules : Rules) (before after more : List Entry) (port : ℕ) (packet : Packet) → after ≡ before ++ more → (o : (entry : Entry) × (more ≡ entry ∷ []) × (entry.port ≡ port) × (entry.frame ≡ packet)) → IsJournal rules [] after → after ≡ before ++ entry_after rules before port packet ∷ []
+one_kept rules before after more port packet goes o legal =
+    let is = goes ∙ ap (λ (l : List Entry). before ++ l) o.1 in
+    let entry = journal_last rules [] before o.0 (subst (IsJournal rules []) is legal) in
+    is ∙ (λ i. before ++ (entry ∙ (λ k. entry_after rules before (o.2 k) (o.3 k))) i ∷ [])
+
+pub one_admitted : (rules : Rules) (port : ℕ) (before after : List Entry) (found : List Judged) (judged : Judged) (packet : Packet) (count : ℕ) → found ≡ [] ++ judged ∷ [] → judged.frame ≡ packet → count ≡ length (packets_of found) → Keeps port before after (take count (packets_of found)) → IsJournal rules [] after → after ≡ before ++ entry_after rules before port packet ∷ []
+one_admitted rules port before after found judged packet count is frame all k legal =
+    let these : packets_of found ≡ packet ∷ [] = ap packets_of is ∙ ap (λ (p : Packet). p ∷ []) frame in
+    let n : count ≡ 1 = all ∙ ap length these in
+    let took = k.took ∙ (λ i. take (n i) (these i)) in
+    one_kept rules before after k.more port packet k.goes (one_entry port packet k.more k.ports took) legal
+
+-- or it wasn't taken
+pub none_admitted : (port : ℕ) (before after : List Entry) (found : List Judged) (judged : Judged) (count : ℕ) → found ≡ [] ++ judged ∷ [] → count < length (packets_of found) → Keeps port before after (take count (packets_of found)) → after ≡ before
+none_admitted port before after found judged count is less k =
+    let one = ap (λ (l : List Judged). length (packets_of l)) is in
+    let n : count ≡ 0 = omega (arith, one, less) in
+    let took = k.took ∙ ap (λ (m : ℕ). take m (packets_of found)) n in
+    k.goes ∙ (ap (λ (l : List Entry). before ++ l) (none k.more took) ∙ append-nil before)
+  where
+    none : (more : List Entry) → map (λ (entry : Entry). entry.frame) more ≡ [] → more ≡ []
+    none [] e = refl
+    none (entry ∷ more) e = absurd cc

@@ -53,50 +53,9 @@ appended_holds before after span packet a =
     )
 
 -- the last of some values
-set_end : {A : Type 0} (before : List A) (last x : A) → slice_set (before ++ last ∷ []) (length before) x ≡ before ++ x ∷ []
-set_end [] last x = refl
-set_end (b ∷ bs) last x = ap (λ l. b ∷ l) (set_end bs last x)
-
-get_end : {A : Type 0} (before : List A) (last : A) → slice_get (before ++ last ∷ []) (length before) ≡ Some last
+pub get_end : {A : Type 0} (before : List A) (last : A) → slice_get (before ++ last ∷ []) (length before) ≡ Some last
 get_end [] last = refl
 get_end (b ∷ bs) last = get_end bs last
-
-get_or_last : {A : Type 0} (before : List A) (last d : A) → get_or (before ++ last ∷ []) (length before) d ≡ last
-get_or_last [] last d = refl
-get_or_last (b ∷ bs) last d = get_or_last bs last d
-
-get_or-append-lt : {A : Type 0} (xs ys : List A) (k : ℕ) (d : A) → k < length xs → get_or (xs ++ ys) k d ≡ get_or xs k d
-get_or-append-lt [] ys k d less = absurd (omega (arith, less))
-get_or-append-lt (x ∷ xs) ys zero d less = refl
-get_or-append-lt (x ∷ xs) ys (suc k) d less = get_or-append-lt xs ys k d (omega (arith, less))
-
-same_some : {A : Type 0} (x y : A) → ◌≡◌ {A = Option A} (Some x) (Some y) → x ≡ y
-same_some x y e = cc
-
--- it is changed
-pub last_changed : {A : Type 0} (make : A → A) (all before : List A) (last read : A) (at : ℕ) → at ≡ length all - 1 → all ≡ before ++ last ∷ [] → slice_get all at ≡ Some read → slice_set all at (make read) ≡ before ++ make last ∷ []
-last_changed make all before last read at e is found =
-    let long : length all ≡ length (before ++ last ∷ []) = ap length is in
-    let end : at ≡ length before = omega (arith, e, long, length-append before (last ∷ [])) in
-    let same : read ≡ last = same_some read last (sym found ∙ ((λ i. slice_get (is i) (end i)) ∙ get_end before last)) in
-    (λ i. slice_set (is i) (end i) (make (same i))) ∙ set_end before last (make last)
-
-pub last_parted : {A : Type 0} (all : List A) → 0 < length all → (before : List A) × (last : A) × (all ≡ before ++ last ∷ [])
-last_parted [] some = absurd (omega (arith, some))
-last_parted (x ∷ []) some = ([], x, refl)
-last_parted (x ∷ y ∷ all) some =
-    let rest = last_parted (y ∷ all) (omega arith) in (x ∷ rest.0, rest.1, ap (λ l. x ∷ l) rest.2)
-
-same_first : {A : Type 0} (x y : A) (xs ys : List A) → x ∷ xs ≡ y ∷ ys → (x ≡ y) × (xs ≡ ys)
-same_first x y xs ys e = (cc, cc)
-
-pub last_same : {A : Type 0} (xs ys : List A) (x y : A) → xs ++ x ∷ [] ≡ ys ++ y ∷ [] → (xs ≡ ys) × (x ≡ y)
-last_same [] [] x y e = (refl, (same_first x y [] [] e).0)
-last_same [] (b ∷ ys) x y e = absurd (let l = ap length e in omega (arith, l, length-append ys (y ∷ [])))
-last_same (a ∷ xs) [] x y e = absurd (let l = ap length e in omega (arith, l, length-append xs (x ∷ [])))
-last_same (a ∷ xs) (b ∷ ys) x y e =
-    let parts = same_first a b (xs ++ x ∷ []) (ys ++ y ∷ []) e in
-    let rest = last_same xs ys x y parts.1 in ((λ i. parts.0 i ∷ rest.0 i), rest.1)
 
 -- values that each have a frame in the bytes
 module _ {H E : Type 0} (span_of : H → Span) (make : H → Packet → E) where
@@ -128,11 +87,3 @@ module _ {H E : Type 0} (span_of : H → Span) (make : H → Packet → E) where
       let last : Holds after (span_of head) = subst (Holds after) (sym at) (appended_holds before after span packet a).0 in
       All-append (λ (h : H). Holds after (span_of h)) heads (head ∷ []) first
       (All-cons (λ (h : H). Holds after (span_of h)) head [] last (λ k d less. absurd (omega (arith, less))))
-
-  -- the last of them with the same frame
-  pub all_last : (bytes : List ℕ) (before : List H) (last changed : H) → span_of changed ≡ span_of last → each_holds bytes (before ++ last ∷ []) → each_holds bytes (before ++ changed ∷ [])
-  all_last bytes before last changed same all =
-      let P : H → Type 0 = λ h. Holds bytes (span_of h) in
-      let first : All P before = λ k d less. subst P (get_or-append-lt before (last ∷ []) k d less) (all k d (omega (arith, less, length-append before (last ∷ [])))) in
-      let end : P last = subst P (get_or_last before last last) (all (length before) last (omega (arith, length-append before (last ∷ [])))) in
-      All-append P before (changed ∷ []) first (All-cons P changed [] (subst (Holds bytes) (sym same) end) (λ k d less. absurd (omega (arith, less))))

@@ -1,5 +1,5 @@
 // Frames that are admitted one after another.
-ghost use Rattle.std.specs.Prelude.{◌≡◌, ◌≤◌, ◌++◌, ◌∷◌, [], List, All, length, map, take, true, IfOk, OnErr, vec_len, vec_capacity};
+ghost use Rattle.std.specs.Prelude.{◌≡◌, ◌≤◌, ◌++◌, List, All, length, map, take, true, vec_len, vec_capacity};
 ghost use Rattle.mav_sign.specs.Streams.{listed};
 ghost use Rattle.mav_sign.specs.History.{Entry as Tried, is_admitted};
 ghost use Rattle.mav_sign.specs.Kept.{Represents};
@@ -7,17 +7,17 @@ ghost use Rattle.mav_sign.specs.Signing.{verified};
 ghost use Rattle.link_table.specs.Routing.{Learned, ways_of};
 ghost use Rattle.link_table.specs.Table.{Represents as StandsFor};
 ghost use Rattle.mav_router.specs.Journal.{verdict_on, tried_as, is_unsigned, ways_by, learned_at};
-ghost use Rattle.mav_router.specs.Admitting.{AdmitsThese, Judges, entry_by};
+ghost use Rattle.mav_router.specs.Admitting.{AdmitsThese, Judges};
 ghost use Rattle.mav_router.specs.Found.{IsJudged, packets_of};
 ghost use Rattle.mav_router.specs.Spans.{AreFound, AreHeld, entries_of, judged_of};
 
+use crate::RouterRules;
 use crate::entries::Outcome;
 use crate::found::{FoundFrame, item_at};
 use crate::judging::Judgement;
 use crate::moves::put_last;
-use crate::page::{Head, Page};
+use crate::page::Head;
 use crate::spans::frame_in;
-use crate::{NoMemory, RouterRules};
 use link_table::{LinkTable, Ways};
 use mav_frame::RawFrame;
 use mav_names::Name;
@@ -110,30 +110,6 @@ fn admit_frame(
     let admit = verdict(stamps, rules.key(), is_open, frame, judgement.verifies);
     let ways = route_by(table, admit, plain, port, judgement.target, frame);
     Outcome { port, admit, ways }
-}
-
-/// Appends such a frame to a page, with what becomes of it.
-pub(crate) fn admit_in(
-    page: &mut Page,
-    rules: &RouterRules<'_>,
-    stamps: &mut Stamps,
-    table: &mut LinkTable,
-    port: u8,
-    frame: &RawFrame<'_>,
-    judgement: Judgement,
-) -> Result<Outcome, NoMemory>
-    requires from { 1 ≤ port }
-    requires to { port ≤ table.old.ports }
-    requires few { port ≤ 8 }
-    requires verifies { judgement.verifies ≡ verified rules.now.key frame.now frame.now.block }
-    ensures entry { IfOk result (λ outcome. page.new ≡ page.old ++ entry_by frame.now outcome ∷ []) }
-    ensures judges { IfOk result (λ outcome. Judges rules.now port frame.now judgement.target stamps.old stamps.new table.old table.new outcome) }
-    ensures unchanged { OnErr result ((page.new ≡ page.old) × (stamps.new ≡ stamps.old) × (table.new ≡ table.old)) }
-{
-    page.add(port, frame)?;
-    let outcome = admit_frame(rules, stamps, table, port, frame, judgement);
-    page.judge_last(outcome.admit, outcome.ways);
-    Ok(outcome)
 }
 
 /// Puts the heads of so many frames that came in at a port and were found in these bytes, in their order.

@@ -17,7 +17,7 @@ use crate::page::{Head, Page};
 use crate::spans::{Span, append};
 use crate::{NoMemory, RouterRules};
 use link_table::LinkTable;
-use mav_frame::RawFrame;
+use mav_frame::{Frame, RawFrame, encode};
 use mav_sign::Stamps;
 use mav_stream::{NextSpan, Scanner};
 use std::alloc::Global;
@@ -109,6 +109,17 @@ impl FoundFrames {
         let span = append(&mut self.bytes, frame)?;
         put_last(&mut self.items, FoundFrame { span, judgement });
         Ok(())
+    }
+
+    /// Appends a frame, judged by these rules.
+    pub(crate) fn keep(&mut self, rules: &RouterRules<'_>, frame: &Frame) -> Result<(), NoMemory>
+        ensures kept { OnOk result (KeepsFound rules.now frame.now self.old self.new) }
+    {
+        let mut bytes = [0; 280];
+        let size = encode(frame, &mut bytes);
+        let raw = RawFrame::of(frame, &bytes[..size]);
+        let judgement = judge(rules, &raw);
+        self.push(&raw, judgement, size)
     }
 
     /// Gives back what memory isn't needed, and allocates that of the page's heads, if there is any.

@@ -1,16 +1,13 @@
 // The journal of a router.
 ghost use Rattle.std.specs.Prelude.{◌≡◌, ◌<◌, ◌≤◌, ◌+◌, ◌-◌, ◌++◌, ◌∷◌, [], List, length, replicate, slice_get, Some, true, All, IfOk, IfErr, OnOk, OnErr, IsErrOf, vec_len, vec_capacity};
-ghost use Rattle.mav_sign.specs.Signing.{verified};
 ghost use Rattle.mav_router.specs.declared.entries.Entry.{Entry};
-ghost use Rattle.mav_router.specs.Admitting.{IsAfter, Judges, entry_by};
+ghost use Rattle.mav_router.specs.Admitting.{IsAfter};
 ghost use Rattle.mav_router.specs.Found.{Admits, IsJudged, packets_of};
 ghost use Rattle.mav_router.specs.Faults.{IsSwitchFault};
 ghost use Rattle.mav_router.specs.Pages.{entries_in_pages, AreIndexed, IsIn, IsWindow};
 
-use crate::admitting::admit_in;
 use crate::entries::Outcome;
 use crate::found::FoundFrames;
-use crate::judging::Judgement;
 use crate::moves::put_last;
 use crate::page::Page;
 use crate::sealed::SealedPage;
@@ -24,7 +21,7 @@ use std::marker::Model;
 use std::mem;
 
 // A journal has at most so many entries.
-const ENTRY_LIMIT: usize = 1_000_000;
+pub(crate) const ENTRY_LIMIT: usize = 1_000_000;
 
 /// The entries of a router, which contracts see as their list. They stand in pages: those that were sealed never change
 /// again, so that other threads read them while the last one grows.
@@ -100,6 +97,10 @@ impl Journal {
         }
     }
 
+    pub(crate) fn alloc(&self) -> Global {
+        self.alloc
+    }
+
     /// How many entries there are.
     pub fn len(&self) -> usize
         ensures { result ≡ length self.now }
@@ -145,36 +146,6 @@ impl Journal {
             frame: self.frame(index).to_frame(),
             admit,
             ways,
-        }
-    }
-
-    /// Appends the entry of a frame that came in at a port and was judged by these rules.
-    pub(crate) fn admit(
-        &mut self,
-        rules: &RouterRules<'_>,
-        stamps: &mut Stamps,
-        table: &mut LinkTable,
-        port: u8,
-        frame: &RawFrame<'_>,
-        judgement: Judgement,
-    ) -> Result<Outcome, SwitchFault>
-        requires from { 1 ≤ port }
-        requires to { port ≤ table.old.ports }
-        requires few { port ≤ 8 }
-        requires verifies { judgement.verifies ≡ verified rules.now.key frame.now frame.now.block }
-        ensures entry { IfOk result (λ outcome. self.new ≡ self.old ++ entry_by frame.now outcome ∷ []) }
-        ensures judges { IfOk result (λ outcome. Judges rules.now port frame.now judgement.target stamps.old stamps.new table.old table.new outcome) }
-        ensures few { OnOk result (length self.new ≤ 1_000_000) }
-        ensures unchanged { OnErr result ((self.new ≡ self.old) × (stamps.new ≡ stamps.old) × (table.new ≡ table.old)) }
-        ensures full { length self.old ≡ 1_000_000 → IsErrOf result (SwitchFault.Full 1000000) }
-        ensures fault { IfErr result (λ fault. IsSwitchFault fault self.old) }
-    {
-        if self.len() >= ENTRY_LIMIT {
-            return Err(SwitchFault::Full { entries: 1_000_000 });
-        }
-        match admit_in(&mut self.last, rules, stamps, table, port, frame, judgement) {
-            Ok(outcome) => Ok(outcome),
-            Err(_) => Err(SwitchFault::NoMemory),
         }
     }
 

@@ -1,18 +1,11 @@
 // Entries of a journal, one after another.
-ghost use Rattle.std.specs.Prelude.{◌≡◌, ◌<◌, ◌++◌, ◌∷◌, [], List, length, slice_get, Some, OnOk, OnErr};
-ghost use Rattle.link_table.specs.Routing.{no_ways};
-ghost use Rattle.mav_sign.specs.declared.admission.Admit.TheVariants.{Unsigned};
+ghost use Rattle.std.specs.Prelude.{◌≡◌, ◌<◌, [], length, slice_get, Some};
 ghost use Rattle.mav_router.specs.declared.entries.Entry.{Entry};
-ghost use Rattle.mav_router.specs.declared.page.Head.{Head};
 ghost use Rattle.mav_router.specs.Spans.{AreHeld, entries_of};
 
-use crate::NoMemory;
 use crate::entries::Outcome;
-use crate::moves::put_last;
-use crate::spans::{Span, append, frame_in};
-use link_table::Ways;
+use crate::spans::{Span, frame_in};
 use mav_frame::RawFrame;
-use mav_sign::Admit;
 use std::alloc::Global;
 use std::marker::Model;
 
@@ -47,21 +40,6 @@ fn head_at(heads: &[Head], index: usize) -> Head
     ensures { slice_get heads.now index ≡ Some result }
 {
     heads[index]
-}
-
-// Sets what became of the last frame.
-fn set_last(heads: &mut Vec<Head>, admit: Admit, ways: Ways)
-    requires { 0 < length heads.old.items }
-    ensures { (before : List Head) (last : Head) → heads.old.items ≡ before ++ last ∷ []
-        → heads.new.items ≡ before ++ (record last { outcome = record last.outcome { admit = admit; ways = ways } }) ∷ [] }
-{
-    let at = heads.len() - 1;
-    let head = head_at(heads, at);
-    let port = head.outcome.port;
-    heads[at] = Head {
-        span: head.span,
-        outcome: Outcome { port, admit, ways },
-    };
 }
 
 impl Page {
@@ -103,30 +81,5 @@ impl Page {
             → result ≡ record { port = entry.port; admit = entry.admit; ways = entry.ways } }
     {
         head_at(&self.heads, index).outcome
-    }
-
-    /// Appends a frame that came in at a port. Until `judge_last` it counts as refused.
-    pub(crate) fn add(&mut self, port: u8, frame: &RawFrame<'_>) -> Result<(), NoMemory>
-        ensures added { OnOk result (self.new ≡ self.old ++ (record { port = port; frame = frame.now; admit = Unsigned; ways = no_ways }) ∷ []) }
-        ensures unchanged { OnErr result (self.new ≡ self.old) }
-    {
-        self.heads.reserve(1)?;
-        let span = append(&mut self.bytes, frame)?;
-        let outcome = Outcome {
-            port,
-            admit: Admit::Unsigned,
-            ways: Ways::none(),
-        };
-        put_last(&mut self.heads, Head { span, outcome });
-        Ok(())
-    }
-
-    /// Sets the verdict on the last frame, and the ports that it goes to.
-    pub(crate) fn judge_last(&mut self, admit: Admit, ways: Ways)
-        requires { 0 < length self.old }
-        ensures { (before : List Entry) (last : Entry) → self.old ≡ before ++ last ∷ []
-            → self.new ≡ before ++ (record last { admit = admit; ways = ways }) ∷ [] }
-    {
-        set_last(&mut self.heads, admit, ways);
     }
 }

@@ -1,23 +1,22 @@
 // The switch.
 ghost use Rattle.std.specs.Prelude.{◌≡◌, ◌⊎◌, ◌+◌, ◌-◌, ◌<◌, ◌≤◌, ◌++◌, ◌∷◌, [], ℕ, List, length, take, slice_index, slice_get, Some, None, Err, IfOk, IfErr, OnOk, OnErr, OnSome, IfSome, IfNone, IsErrOf, true, false, All};
 ghost use Rattle.mav_sign.specs.Streams.{listed};
-ghost use Rattle.mav_sign.specs.History.{Entry as Tried, is_admitted};
 ghost use Rattle.mav_sign.specs.Kept.{Represents};
-ghost use Rattle.mav_sign.specs.Signing.{verified};
 ghost use Rattle.link_table.specs.Routing.{Learned, has_port, ways_of};
 ghost use Rattle.link_table.specs.Table.{Represents as StandsFor};
-ghost use Rattle.mav_router.specs.Journal.{Rules, SwitchState, target_by, verdict_on, tried_as, is_unsigned, ways_by, learned_at, entry_after, admit_after, IsJournal, frames_to, frames_at, given_to};
+ghost use Rattle.mav_router.specs.Journal.{Rules, SwitchState, entry_after, admit_after, IsJournal, frames_to, frames_at, given_to};
 ghost use Rattle.mav_router.specs.Batches.{Gathered, Moves};
 ghost use Rattle.mav_router.specs.Found.{Admits, IsJudged, packets_of};
 ghost use Rattle.mav_router.specs.Faults.{IsSwitchFault};
+ghost use Rattle.mav_router.specs.declared.entries.Entry.{Entry};
 
 use crate::batch::Batch;
 use crate::found::FoundFrames;
-use crate::judging::{Judgement, judge};
+use crate::journal::ENTRY_LIMIT;
 use crate::{Journal, NoMemory, RouterRules, SwitchFault};
 use dialect::Dialect;
 use link_table::{LinkTable, Ways};
-use mav_frame::{Frame, RawFrame, encode};
+use mav_frame::Frame;
 use mav_names::Name;
 use mav_sign::{Admit, Key, Stamps};
 use std::alloc::Global;
@@ -76,6 +75,14 @@ pub(crate) fn next_index(journal: &Journal, from: usize, port: u8) -> usize
     index
 }
 
+// The verdict on the frame of the last entry.
+fn last_verdict(journal: &Journal) -> Admit
+    requires { 0 < length journal.now }
+    ensures { (before : List Entry) (last : Entry) → journal.now ≡ before ++ last ∷ [] → result ≡ last.admit }
+{
+    journal.outcome(journal.len() - 1).admit
+}
+
 impl<'a> Switch<'a> {
     /// Nothing came in yet. The ports of `plain` are open to frames without a signature block.
     pub fn new(
@@ -120,57 +127,17 @@ impl<'a> Switch<'a> {
         ensures full { length self.old.journal ≡ 1_000_000 → IsErrOf result (SwitchFault.Full 1000000) }
         ensures fault { IfErr result (λ fault. IsSwitchFault fault self.old.journal) }
     {
-        let mut bytes = [0; 280];
-        let size = encode(frame, &mut bytes);
-        self.admit_raw(port, &RawFrame::of(frame, &bytes[..size]))
-    }
-
-    /// The same of a frame as the bytes that encode it.
-    pub(crate) fn admit_raw(&mut self, port: u8, frame: &RawFrame<'_>) -> Result<Admit, SwitchFault>
-        requires from { 1 ≤ port }
-        requires to { port ≤ self.old.rules.ports }
-        ensures verdict { IfOk result (λ verdict. verdict ≡ admit_after self.old.rules self.old.journal port frame.now) }
-        ensures journal { OnOk result (self.new.journal ≡ self.old.journal ++ entry_after self.old.rules self.old.journal port frame.now ∷ []) }
-        ensures same { (self.new.rules ≡ self.old.rules) × (self.new.seen ≡ self.old.seen) }
-        ensures given { (other : ℕ) → given_to self.new other ≡ given_to self.old other }
-        ensures unchanged { OnErr result (self.new.journal ≡ self.old.journal) }
-        ensures full { length self.old.journal ≡ 1_000_000 → IsErrOf result (SwitchFault.Full 1000000) }
-        ensures fault { IfErr result (λ fault. IsSwitchFault fault self.old.journal) }
-    {
-        let judgement = judge(&self.rules, frame);
-        self.admit_judged(port, frame, judgement)
-    }
-
-    /// What `admit` does, for a frame that was judged by the switch's rules before.
-    pub(crate) fn admit_judged(
-        &mut self,
-        port: u8,
-        frame: &RawFrame<'_>,
-        judgement: Judgement,
-    ) -> Result<Admit, SwitchFault>
-        requires from { 1 ≤ port }
-        requires to { port ≤ self.old.rules.ports }
-        requires verifies { judgement.verifies ≡ verified self.old.rules.key frame.now frame.now.block }
-        requires target { judgement.target ≡ target_by self.old.rules frame.now }
-        ensures verdict { IfOk result (λ verdict. verdict ≡ admit_after self.old.rules self.old.journal port frame.now) }
-        ensures journal { OnOk result (self.new.journal ≡ self.old.journal ++ entry_after self.old.rules self.old.journal port frame.now ∷ []) }
-        ensures same { (self.new.rules ≡ self.old.rules) × (self.new.seen ≡ self.old.seen) }
-        ensures given { (other : ℕ) → given_to self.new other ≡ given_to self.old other }
-        ensures unchanged { OnErr result (self.new.journal ≡ self.old.journal) }
-        ensures full { length self.old.journal ≡ 1_000_000 → IsErrOf result (SwitchFault.Full 1000000) }
-        ensures fault { IfErr result (λ fault. IsSwitchFault fault self.old.journal) }
-    {
-        match self.journal.admit(
-            &self.rules,
-            &mut self.stamps,
-            &mut self.table,
-            port,
-            frame,
-            judgement,
-        ) {
-            Ok(outcome) => Ok(outcome.admit),
-            Err(fault) => Err(fault),
+        if self.journal.len() >= ENTRY_LIMIT {
+            return Err(SwitchFault::Full { entries: 1_000_000 });
         }
+        let mut found = FoundFrames::new(self.journal.alloc());
+        if let Err(_) = found.keep(&self.rules, frame) {
+            return Err(SwitchFault::NoMemory);
+        }
+        if let Err(fault) = self.admit_found(port, &mut found) {
+            return Err(fault);
+        }
+        Ok(last_verdict(&self.journal))
     }
 
     /// Tries frames that were found at the port and judged by the switch's rules, in their order, until it doesn't take
@@ -183,7 +150,8 @@ impl<'a> Switch<'a> {
         requires from { 1 ≤ port }
         requires to { port ≤ self.old.rules.ports }
         requires judged { All (IsJudged self.old.rules) found.old }
-        ensures rules { self.new.rules ≡ self.old.rules }
+        ensures same { (self.new.rules ≡ self.old.rules) × (self.new.seen ≡ self.old.seen) }
+        ensures legal { 0 < length found.old → IsJournal self.new.rules [] self.new.journal }
         ensures admits { Admits result port self.old.journal self.new.journal (packets_of found.old) }
         ensures given { (other : ℕ) → given_to self.new other ≡ given_to self.old other }
         ensures fault { IfErr result (λ fault. IsSwitchFault fault self.new.journal) }

@@ -5,7 +5,7 @@ use Rattle.mav_router.proofs.Findings.{grows_kept, settled_own, took_kept}
 use Rattle.mav_router.proofs.hearing.hear.Goals as goal
 
 pub returns-in-Err-admit_found-clause-grows : goal.returns-in-Err-admit_found-clause-grows
-returns-in-Err-admit_found-clause-grows c = grows_kept c.args.port c.args.switch.now c.reading.switch c.admit_found.new.self (take c.admit_found.ensures.admits.count (packets_of c.settle.new.self)) c.reading.invariant.grows c.admit_found.ensures.rules c.admit_found.ensures.admits.kept c.admit_found.ensures.given
+returns-in-Err-admit_found-clause-grows c = grows_kept c.args.port c.args.switch.now c.reading.switch c.admit_found.new.self (take c.admit_found.ensures.admits.count (packets_of c.settle.new.self)) c.reading.invariant.grows c.admit_found.ensures.same.0 c.admit_found.ensures.admits.kept c.admit_found.ensures.given
 
 pub returns-in-Err-admit_found-clause-stopped : goal.returns-in-Err-admit_found-clause-stopped
 returns-in-Err-admit_found-clause-stopped c = λ rules bytes live first.
@@ -19,7 +19,7 @@ returns-in-Err-admit_found-clause-stopped c = λ rules bytes live first.
     (c.in-Ok.ensures.stops rules port bytes before after e.admits.count (λ some. r.invariant.ended ∙ live some) (r.invariant.read rules bytes live first) own.0 own.1)
 
 pub returns-then-is_all-clause-grows : goal.returns-then-is_all-clause-grows
-returns-then-is_all-clause-grows c = grows_kept c.args.port c.args.switch.now c.reading.switch c.admit_found.new.self (take c.admit_found.ensures.admits.count (packets_of c.settle.new.self)) c.reading.invariant.grows c.admit_found.ensures.rules c.admit_found.ensures.admits.kept c.admit_found.ensures.given
+returns-then-is_all-clause-grows c = grows_kept c.args.port c.args.switch.now c.reading.switch c.admit_found.new.self (take c.admit_found.ensures.admits.count (packets_of c.settle.new.self)) c.reading.invariant.grows c.admit_found.ensures.same.0 c.admit_found.ensures.admits.kept c.admit_found.ensures.given
 
 pub returns-then-is_all-clause-read : goal.returns-then-is_all-clause-read
 returns-then-is_all-clause-read c = λ rules bytes live first.
@@ -40,7 +40,7 @@ reading-preserved c =
     record {
       within = c.in-Ok.ensures.within;
       ended = c.in-Ok.ensures.ended ∙ r.invariant.ended;
-      grows = grows_kept c.args.port c.args.switch.now c.reading.switch c.admit_found.new.self (take c.admit_found.ensures.admits.count (packets_of c.settle.new.self)) c.reading.invariant.grows c.admit_found.ensures.rules c.admit_found.ensures.admits.kept c.admit_found.ensures.given;
+      grows = grows_kept c.args.port c.args.switch.now c.reading.switch c.admit_found.new.self (take c.admit_found.ensures.admits.count (packets_of c.settle.new.self)) c.reading.invariant.grows c.admit_found.ensures.same.0 c.admit_found.ensures.admits.kept c.admit_found.ensures.given;
       read = λ rules bytes live first.
           c.in-Ok.ensures.read c.if-is_all.false rules port bytes before after (λ some. r.invariant.ended ∙ live some) (r.invariant.read rules bytes live first) (took_kept port before after c.settle.new.self c.find_frames.new.found admits.count c.settle.ensures admits.all admits.kept);
     }

@@ -20,14 +20,14 @@ after_turn g c =
     let n = c.admit_found-admitted.new.self in
     let prefix = subst (λ (s : SwitchState). IsPrefix seat.seen (history_of s.rules s.journal)) (sym c.value.ensures.value) c.enter-held.ensures.begins in
     let enters = c.enter-held.ensures.entered ∙ ap (λ (s : SwitchState). entered seat (history_of s.rules s.journal)) (sym c.value.ensures.value) in
-    added c.args.turn.now c.args.rules.now c.args.port seat c.enter-held.new.seat c.leave.new.seat v n _ c.requires.seated prefix enters c.leave.ensures.left c.leave.ensures.own c.admit_found-admitted.ensures.rules c.admit_found-admitted.ensures.admits.kept
+    added c.args.turn.now c.args.rules.now c.args.port seat c.enter-held.new.seat c.leave.new.seat v n _ c.requires.seated prefix enters c.leave.ensures.left c.leave.ensures.own c.admit_found-admitted.ensures.same.0 c.admit_found-admitted.ensures.admits.kept
 
 pub leave-requires-clause-appended : goal.leave-requires-clause-appended
 leave-requires-clause-appended g c =
     let seat = c.args.seat.now in
     let v = c.value.result.now in
     let enters = c.enter-held.ensures.entered ∙ ap (λ (s : SwitchState). entered seat (history_of s.rules s.journal)) (sym c.value.ensures.value) in
-    tried v c.admit_found-admitted.new.self c.args.port _ c.enter-held.new.seat.seen (ap (λ (p : Participant SwitchEvent). p.seen) enters) c.admit_found-admitted.ensures.rules c.admit_found-admitted.ensures.admits.kept
+    tried v c.admit_found-admitted.new.self c.args.port _ c.enter-held.new.seat.seen (ap (λ (p : Participant SwitchEvent). p.seen) enters) c.admit_found-admitted.ensures.same.0 c.admit_found-admitted.ensures.admits.kept
 
 pub returns-clause-seated : goal.returns-clause-seated
 returns-clause-seated g c = (after_turn g c).seated
