@@ -31,6 +31,7 @@ holds_more bytes more span h = record {
   order = h.order;
   within = omega (arith, h.within, length-append bytes more);
   frame = subst IsFrame (sym (range_stays bytes more span.start span.end h.order h.within)) h.frame;
+  short = (let same = ap length (range_stays bytes more span.start span.end h.order h.within) in omega (arith, same, h.short));
 }
 
 within_all : (before more after : List ℕ) (span : Span) → after ≡ before ++ more → span ≡ after_bytes before more → span.end ≤ length after
@@ -48,6 +49,7 @@ appended_holds before after span packet a =
         order = subst (λ (s : Span). s.start ≤ s.end) (sym a.span_is) (omega arith);
         within = within_all before a.more after span a.goes a.span_is;
         frame = subst IsFrame (sym at) a.frame;
+        short = (let size = ap length at in omega (arith, size, a.short));
       },
       ap packet_in at ∙ a.packet_is,
     )

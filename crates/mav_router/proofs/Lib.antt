@@ -15,3 +15,4 @@ pub mod Served
 pub mod HeldFrames
 pub mod Pages
 pub mod Admissions
+pub mod Outgoing

@@ -8,10 +8,9 @@ use Rattle.std.proofs.lemmas.Bool.{cases_lt}
 use Rattle.std.proofs.lemmas.List.Elements.{filter_map-append}
 use Rattle.std.proofs.Math.Seq.{take-append-add}
 use Rattle.mav_router.specs.Journal.{frame_to, frames_to}
-use Rattle.mav_frame.specs.Packet.{Packet}
 use Rattle.mav_router.specs.declared.entries.Entry.{Entry}
 use Rattle.mav_router.specs.PageState.{PageState}
-use Rattle.mav_router.specs.Pages.{GathersTo, entries_in_pages, end_of_page, AreConsecutive, IsIn, HasPage, AreIndexed, IsWindow, SharesFrom}
+use Rattle.mav_router.specs.Pages.{entries_in_pages, end_of_page, AreConsecutive, IsIn, HasPage, AreIndexed, IsWindow, SharesFrom, StandsIn}
 
 abbrev of_page : PageState → List Entry
 of_page page = page.entries
@@ -187,14 +186,16 @@ frames_within port before entries after start at is low =
     ∙ (ap (frames_to port) (take-append-add before (entries ++ after) at ∙ ap (λ (l : List Entry). before ++ l) (take-append-le at entries after low))
     ∙ filter_map-append (frame_to port) before (take at entries))
 
--- the page with this number in a window: what is before it and after it
+-- the page with this number in a window
 pub record StandsAt (journal : List Entry) (page : PageState) (start end : ℕ) : Type 0 where
-  pub before : List Entry
-  pub after : List Entry
-  pub goes : journal ≡ before ++ (page.entries ++ after)
-  pub at : length before ≡ page.start
+  pub stands : StandsIn journal page
   pub start_is : page.start ≡ start
   pub end_is : end_of_page page ≡ end
+
+pub page_within : (journal : List Entry) (page : PageState) → StandsIn journal page → end_of_page page ≤ length journal
+page_within journal page s =
+    let long = ap length s.goes in
+    omega (arith, long, length-append s.before (page.entries ++ s.after), length-append page.entries s.after, s.at)
 
 -- where a window's page of a number starts
 abbrev pub start_in : {journal : List Entry} {from : ℕ} {pages : List PageState} → IsWindow journal from pages → ℕ → ℕ
@@ -226,30 +227,29 @@ page_stands journal from pages w number page there =
     let taken = taken_length pages number page there in
     let more = ap (λ (n : ℕ). length (entries_in_pages (take n pages))) one in
     record {
-      before = w.before ++ front;
-      after = back ++ w.after;
-      goes =
-          w.goes
-          ∙ (ap (λ (l : List Entry). w.before ++ (l ++ w.after)) (next_entries pages number page there)
-          ∙ (ap (λ (l : List Entry). w.before ++ l) (append_assoc front (page.entries ++ back) w.after)
-          ∙ (sym (append_assoc w.before front ((page.entries ++ back) ++ w.after))
-          ∙ ap (λ (l : List Entry). (w.before ++ front) ++ l) (append_assoc page.entries back w.after))));
-      at = omega (arith, start, length-append w.before front);
+      stands = record {
+        before = w.before ++ front;
+        after = back ++ w.after;
+        goes =
+            w.goes
+            ∙ (ap (λ (l : List Entry). w.before ++ (l ++ w.after)) (next_entries pages number page there)
+            ∙ (ap (λ (l : List Entry). w.before ++ l) (append_assoc front (page.entries ++ back) w.after)
+            ∙ (sym (append_assoc w.before front ((page.entries ++ back) ++ w.after))
+            ∙ ap (λ (l : List Entry). (w.before ++ front) ++ l) (append_assoc page.entries back w.after))));
+        at = omega (arith, start, length-append w.before front);
+      };
       start_is = start;
       end_is = omega (arith, start, taken, more);
     }
 
--- one page more was looked through
-pub gathered_on : (port : ℕ) (journal : List Entry) (initial : ℕ) (pages : List PageState) (w : IsWindow journal initial pages) (number : ℕ) (page : PageState) (all : Bool) (from later : ℕ) (first : List Packet) (text longer : List ℕ) → slice_get pages number ≡ Some page
-    → ((before after : List Entry) (first : List Packet) → length before ≡ page.start → page.start ≤ from → GathersTo false port (before ++ (page.entries ++ after)) (end_of_page page) from first text → GathersTo all port (before ++ (page.entries ++ after)) (end_of_page page) later first longer)
-    → GathersTo true port journal (start_in w number) from first text → GathersTo all port journal (start_in w (number + 1)) later first longer
-gathered_on port journal initial pages w number page all from later first text longer there step so_far =
-    let s = page_stands journal initial pages w number page there in
-    let low : page.start ≤ from = omega (arith, s.start_is, so_far.to refl) in
-    let here = subst (λ (j : List Entry). GathersTo true port j (start_in w number) from first text) s.goes so_far in
-    let g = step s.before s.after first s.at low (record { within = here.within; gathered = here.gathered; to = λ bad. absurd (let wrong : false ≡ true = bad in cc) }) in
-    subst (λ (e : ℕ). GathersTo all port journal e later first longer) s.end_is
-    (subst (λ (j : List Entry). GathersTo all port j (end_of_page page) later first longer) (sym s.goes) g)
+-- a page in the journal that begins with all sealed ones
+pub sealed_stands : (pages : List PageState) (page_of : List ℕ) (last : List Entry) (index : ℕ) (page : PageState) → index < length page_of → AreIndexed pages page_of → page ≡ get_or pages (get_or page_of index 0) page → StandsIn (entries_in_pages pages ++ last) page
+sealed_stands pages page_of last index page within indexed is =
+    let journal = entries_in_pages pages ++ last in
+    let number = get_or page_of index 0 in
+    let all : IsWindow journal 0 pages = record { before = []; after = last; goes = refl; consecutive = indexed.consecutive; reaches = omega arith } in
+    let there = slice_get-get_or pages number page (number_within pages page_of index within indexed) ∙ ap Some (sym is) in
+    (page_stands journal 0 pages all number page there).stands
 
 -- the page of an index, by the table of numbers
 pub page_of_index : (pages : List PageState) (page_of : List ℕ) (index number : ℕ) → AreIndexed pages page_of → index < length page_of → number ≡ get_or page_of index number → HasPage pages number index

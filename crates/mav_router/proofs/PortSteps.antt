@@ -15,7 +15,7 @@ use Rattle.mav_frame.specs.Encoding.{encoding}
 use Rattle.mav_router.specs.declared.entries.Entry.{Entry}
 use Rattle.mav_router.specs.declared.lane.Lane.{Lane}
 use Rattle.mav_router.specs.Journal.{Rules, bytes_of}
-use Rattle.mav_router.specs.Batches.{Joins, Gathered}
+use Rattle.mav_router.specs.Outgoing.{Joins, Continues}
 use Rattle.mav_router.specs.Faults.{StopsReading, StopsInput}
 use Rattle.mav_router.specs.Runs.{PortProgress, Reading, AllRead, Input, Output, FaultsBy, joined_turns, idles_after_turn, idles_over}
 
@@ -41,24 +41,24 @@ frames_written frames more first before after lane new count bytes is within sen
       count = omega (arith, long, part, within, total, before_count);
     }
 
--- nothing is gathered yet
-pub nothing_gathered : (before : List Packet) → Gathered before before []
-nothing_gathered before = record {
+-- no frame more
+pub continues_not : (before : List Packet) → Continues before before []
+continues_not before = record {
   frames = [];
-  given = sym (append-nil before);
+  goes = sym (append-nil before);
   joined = record { are = refl; short = omega arith };
 }
 
--- one more frame is gathered
-pub gathered_more : (before after new : List Packet) (packet : Packet) (text longer : List ℕ) → new ≡ after ++ packet ∷ [] → longer ≡ text ++ encoding packet → length longer ≤ length text + 280 → Gathered before after text → Gathered before new longer
-gathered_more before after new packet text longer given is short g =
-    let one_more = length-append g.frames (packet ∷ []) in
-    let so_far = g.joined.short in
+-- one frame more
+pub continues_by : (before after new : List Packet) (packet : Packet) (text longer : List ℕ) → new ≡ after ++ packet ∷ [] → longer ≡ text ++ encoding packet → length longer ≤ length text + 280 → Continues before after text → Continues before new longer
+continues_by before after new packet text longer goes is short c =
+    let one_more = length-append c.frames (packet ∷ []) in
+    let so_far = c.joined.short in
     record {
-      frames = g.frames ++ packet ∷ [];
-      given = given ∙ (ap (λ (f : List Packet). f ++ packet ∷ []) g.given ∙ append_assoc before g.frames (packet ∷ []));
+      frames = c.frames ++ packet ∷ [];
+      goes = goes ∙ (ap (λ (f : List Packet). f ++ packet ∷ []) c.goes ∙ append_assoc before c.frames (packet ∷ []));
       joined = record {
-        are = is ∙ (ap (λ (b : List ℕ). b ++ encoding packet) g.joined.are ∙ flat_map_more encoding [] g.frames packet);
+        are = is ∙ (ap (λ (b : List ℕ). b ++ encoding packet) c.joined.are ∙ flat_map_more encoding [] c.frames packet);
         short = omega (arith, one_more, so_far, short);
       };
     }

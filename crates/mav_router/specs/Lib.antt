@@ -1,5 +1,5 @@
 pub mod Journal
-pub mod Batches
+pub mod Outgoing
 pub mod Runs
 pub mod Ends
 pub mod Faults

@@ -1,10 +1,7 @@
 -- A journal in pages.
-use Rattle.std.specs.Prelude.{ℕ, ◌≡◌, ◌+◌, ◌<◌, ◌≤◌, Bool, true, List, [], ◌∷◌, ◌++◌, length, take, drop, slice_get, Some, ⊤}
+use Rattle.std.specs.Prelude.{ℕ, ◌≡◌, ◌+◌, ◌<◌, ◌≤◌, List, [], ◌∷◌, ◌++◌, length, take, drop, slice_get, Some, ⊤}
 use Rattle.std.specs.List.{flat_map}
-use Rattle.mav_frame.specs.Packet.{Packet}
 use Rattle.mav_router.specs.declared.entries.Entry.{Entry}
-use Rattle.mav_router.specs.Journal.{frames_to}
-use Rattle.mav_router.specs.Batches.{Gathered}
 use Rattle.mav_router.specs.PageState.{PageState}
 
 -- the entries of pages, one after another
@@ -50,8 +47,9 @@ pub record SharesFrom (sealed : List PageState) (number : ℕ) (shared : List Pa
   pub count : ℕ
   pub are : shared ≡ take count (drop number sealed)
 
--- frames for a port were gathered of a journal up to an index: at least to the end of a page, if all of it was looked through
-pub record GathersTo (all : Bool) (port : ℕ) (journal : List Entry) (end from : ℕ) (first : List Packet) (text : List ℕ) : Type 0 where
-  pub within : from ≤ length journal
-  pub gathered : Gathered first (frames_to port (take from journal)) text
-  pub to : all ≡ true → end ≤ from
+-- the entries of a page stand in a journal
+pub record StandsIn (journal : List Entry) (page : PageState) : Type 0 where
+  pub before : List Entry
+  pub after : List Entry
+  pub goes : journal ≡ before ++ (page.entries ++ after)
+  pub at : length before ≡ page.start

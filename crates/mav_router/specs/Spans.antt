@@ -16,6 +16,7 @@ pub record Holds (bytes : List ℕ) (span : Span) : Type 0 where
   pub order : span.start ≤ span.end
   pub within : span.end ≤ length bytes
   pub frame : IsFrame (slice_range bytes span.start span.end)
+  pub short : length (slice_range bytes span.start span.end) ≤ 280
 
 -- the span of bytes that are appended
 abbrev pub after_bytes : List ℕ → List ℕ → Span

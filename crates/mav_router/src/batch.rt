@@ -1,24 +1,15 @@
-// What waits for a port, put together to be written at once.
-ghost use Rattle.std.specs.Prelude.{◌≡◌, ◌≤◌, ◌<◌, ◌+◌, ◌++◌, ℕ, [], length, take, true, false, IfOk, List};
-ghost use Rattle.mav_frame.specs.Encoding.{encoding};
-ghost use Rattle.mav_router.specs.Journal.{frames_to};
-ghost use Rattle.mav_frame.specs.Packet.{Packet};
-ghost use Rattle.mav_router.specs.declared.entries.Entry.{Entry};
-ghost use Rattle.mav_router.specs.Batches.{Gathered};
-ghost use Rattle.mav_router.specs.Pages.{GathersTo, end_of_page};
+// Short runs of frames that wait for a port, put together to be written at once.
+ghost use Rattle.std.specs.Prelude.{◌≡◌, ◌≤◌, ◌+◌, ◌++◌, [], length, true, false, IfOk};
 
-use crate::sealed::SealedPage;
-use crate::switch::next_index;
-use crate::{Journal, NoMemory};
-use mav_frame::RawFrame;
+use crate::NoMemory;
 use std::alloc::Global;
 use std::marker::Model;
 
-// How many bytes are written at once at most.
+// How many bytes wait at most.
 const MOST_BYTES: usize = 65_536;
 
-// As many as a frame has at most.
-const FRAME_BYTES: usize = 280;
+/// Runs with so many bytes are written by themselves: for fewer a call of the system costs more than a copy.
+pub(crate) const LONG_RUN: usize = 1024;
 
 /// The bytes of frames, one after another, at most 64 KiB. All memory is allocated at the start.
 #[derive(Drop)]
@@ -57,84 +48,18 @@ impl Batch {
         self.bytes.clear();
     }
 
-    // Whether one more frame fits, however long it is.
-    fn has_room(&self) -> bool
-        ensures room { result ≡ true → length self.now + 280 ≤ 65536 }
-        ensures full { result ≡ false → 0 < length self.now }
+    /// Whether any short run fits.
+    pub(crate) fn has_room(&self) -> bool
+        ensures { result ≡ true → length self.now + 1024 ≤ 65536 }
     {
-        self.bytes.len() <= MOST_BYTES - FRAME_BYTES
+        self.bytes.len() <= MOST_BYTES - LONG_RUN
     }
 
-    fn push(&mut self, frame: &RawFrame<'_>)
-        requires { length self.old + 280 ≤ 65536 }
-        ensures bytes { self.new ≡ self.old ++ encoding frame.now }
-        ensures short { length self.new ≤ length self.old + 280 }
+    /// Appends a run, for which there is room.
+    pub(crate) fn push(&mut self, run: &[u8])
+        requires { length self.old + length run.now ≤ 65536 }
+        ensures { self.new ≡ self.old ++ run.now }
     {
-        self.bytes.extend_from_slice(frame.bytes()).unwrap();
-    }
-
-    /// Takes frames that go out at the port, of the entries from `from` on, as many as surely fit, in place of what it held.
-    /// Moves `from` past the entries that were looked through, and returns whether these were all.
-    pub(crate) fn gather(&mut self, journal: &Journal, port: u8, from: &mut usize) -> bool
-        requires from { 1 ≤ port }
-        requires to { port ≤ 8 }
-        requires within { from.old ≤ length journal.now }
-        ensures within { from.new ≤ length journal.now }
-        ensures gathered { Gathered (frames_to port (take from.old journal.now)) (frames_to port (take from.new journal.now)) self.new }
-        ensures all { result ≡ true → frames_to port (take from.new journal.now) ≡ frames_to port journal.now }
-        ensures moves { result ≡ false → from.old < from.new }
-    {
-        self.clear();
-        while self.has_room() {
-            let index = next_index(journal, *from, port);
-            if index == journal.len() {
-                *from = index;
-                return true;
-            }
-            self.push(&journal.frame(index));
-            *from = index + 1;
-        }
-        false
-    }
-
-    // Appends frames that go out at the port, of the entries of a page from `at` on, as many as surely fit. Moves `at` past
-    // the entries that were looked through, and returns whether these were all.
-    fn gather_entries(&mut self, page: &SealedPage, port: u8, at: &mut usize) -> bool
-        requires from { 1 ≤ port }
-        requires to { port ≤ 8 }
-        requires within { at.old ≤ length page.now.entries }
-        ensures within { at.new ≤ length page.now.entries }
-        ensures all { result ≡ true → at.new ≡ length page.now.entries }
-        ensures gathered { (first given : List Packet) → Gathered first (given ++ frames_to port (take at.old page.now.entries)) self.old
-            → Gathered first (given ++ frames_to port (take at.new page.now.entries)) self.new }
-    {
-        while *at < page.len() {
-            if !self.has_room() {
-                return false;
-            }
-            if page.outcome(*at).ways.has(port) {
-                self.push(&page.frame(*at));
-            }
-            *at += 1;
-        }
-        true
-    }
-
-    /// The same of the entries of a page from `from` on, by their indices in the journal.
-    pub(crate) fn gather_page(&mut self, page: &SealedPage, port: u8, from: &mut usize) -> bool
-        requires from { 1 ≤ port }
-        requires to { port ≤ 8 }
-        ensures gathered { (before after : List Entry) (first : List Packet) → length before ≡ page.now.start → page.now.start ≤ from.old
-            → GathersTo false port (before ++ (page.now.entries ++ after)) (end_of_page page.now) from.old first self.old
-            → GathersTo result port (before ++ (page.now.entries ++ after)) (end_of_page page.now) from.new first self.new }
-    {
-        let start = page.start();
-        if *from < start || *from >= page.end() {
-            return true;
-        }
-        let mut at = *from - start;
-        let all = self.gather_entries(page, port, &mut at);
-        *from = start + at;
-        all
+        self.bytes.extend_from_slice(run).unwrap();
     }
 }

@@ -10,51 +10,28 @@ ghost use Rattle.mav_router.specs.Crews.{HasFault};
 ghost use Rattle.mav_router.specs.Ends.{end_by};
 ghost use Rattle.mav_router.specs.Threads.{HasWrittenLeft};
 
-use crate::lanes::write_batch;
 use crate::moves::put_last;
 use crate::parts::{Halt, Side};
 use crate::routing::end_of;
+use crate::writing::write_entries;
 use crate::{Journal, PortEnd, SwitchFault};
 use mav_links::Link;
 
-// Writes what is left for a port that hasn't failed, as much as is gathered at once, and returns whether that was all.
-fn write_some_left<L: Link>(journal: &Journal, port: u8, side: &mut Side<L>) -> bool
-    requires from { 1 ≤ port }
-    requires to { port ≤ 8 }
-    requires fine { side.old.lane.failed ≡ false }
-    requires within { side.old.taken ≤ length journal.now }
-    ensures within { side.new.taken ≤ length journal.now }
-    ensures input { (rules : Rules) (entries : List Entry) (first : LinkState) → Input rules entries port first (L.state side.old.link) side.old.lane
-        → Input rules entries port first (L.state side.new.link) side.new.lane }
-    ensures output { (first : LinkState) → Output (frames_to port (take side.old.taken journal.now)) first (L.state side.old.link) side.old.lane
-        → Output (frames_to port (take side.new.taken journal.now)) first (L.state side.new.link) side.new.lane }
-    ensures turned { (turns : ℕ) → HadTurns side.old.lane turns → HadTurns side.new.lane turns }
-    ensures all { result ≡ true → frames_to port (take side.new.taken journal.now) ≡ frames_to port journal.now }
-    ensures moves { result ≡ false → side.old.taken < side.new.taken }
-{
-    let all = side.room.batch.gather(journal, port, &mut side.taken);
-    write_batch(&mut side.lane, &mut side.link, side.room.batch.bytes());
-    all
-}
-
-/// Writes all that is left for a port, unless it failed or fails.
-pub(crate) fn write_left<L: Link>(journal: &Journal, port: u8, side: &mut Side<L>)
+// Writes all that is left for a port, unless it failed or fails.
+fn write_left<L: Link>(journal: &Journal, port: u8, side: &mut Side<L>)
     requires from { 1 ≤ port }
     requires to { port ≤ 8 }
     requires within { side.old.taken ≤ length journal.now }
-    ensures within { side.new.taken ≤ length journal.now }
-    ensures input { (rules : Rules) (entries : List Entry) (first : LinkState) → Input rules entries port first (L.state side.old.link) side.old.lane
-        → Input rules entries port first (L.state side.new.link) side.new.lane }
-    ensures output { (first : LinkState) → Output (frames_to port (take side.old.taken journal.now)) first (L.state side.old.link) side.old.lane
-        → Output (frames_to port (take side.new.taken journal.now)) first (L.state side.new.link) side.new.lane }
-    ensures turned { (turns : ℕ) → HadTurns side.old.lane turns → HadTurns side.new.lane turns }
-    ensures drained { side.new.lane.failed ≡ false → frames_to port (take side.new.taken journal.now) ≡ frames_to port journal.now }
+    ensures { HasWrittenLeft L.state journal.now port side.old side.new }
 {
-    while !side.lane.failed {
-        if write_some_left(journal, port, side) {
-            return;
-        }
-    }
+    write_entries(
+        journal,
+        port,
+        &mut side.taken,
+        &mut side.room.batch,
+        &mut side.lane,
+        &mut side.link,
+    );
 }
 
 /// Writes all that is left, in the order of the ports.

@@ -4,7 +4,8 @@ ghost use Rattle.mav_router.specs.declared.entries.Entry.{Entry};
 ghost use Rattle.mav_router.specs.Admitting.{IsAfter};
 ghost use Rattle.mav_router.specs.Found.{Admits, IsJudged, packets_of};
 ghost use Rattle.mav_router.specs.Faults.{IsSwitchFault};
-ghost use Rattle.mav_router.specs.Pages.{entries_in_pages, AreIndexed, IsIn, IsWindow};
+ghost use Rattle.mav_router.specs.Outgoing.{IsRun};
+ghost use Rattle.mav_router.specs.Pages.{entries_in_pages, AreIndexed, IsIn, IsWindow, StandsIn};
 
 use crate::entries::Outcome;
 use crate::found::FoundFrames;
@@ -80,6 +81,7 @@ fn page_with<'a>(sealed: &'a [SealedPage], page_of: &[u32], index: usize) -> &'a
     ensures inside { IsIn result.now index }
     ensures entry { (entry : Entry) → slice_get (entries_in_pages sealed.now) index ≡ Some entry
         → slice_get result.now.entries (index - result.now.start) ≡ Some entry }
+    ensures stands { (last : List Entry) → StandsIn (entries_in_pages sealed.now ++ last) result.now }
 {
     let number = page_of[index];
     &sealed[number as usize]
@@ -147,6 +149,26 @@ impl Journal {
             admit,
             ways,
         }
+    }
+
+    /// The bytes of frames that go out at the port, of the entries from an index on: of the next one in a page, and of those
+    /// after it that stand together with it. Moves the index past the entries that were looked through.
+    pub(crate) fn run(&self, port: u8, from: &mut usize) -> &[u8]
+        requires from { 1 ≤ port }
+        requires to { port ≤ 8 }
+        requires within { from.old < length self.now }
+        ensures within { from.new ≤ length self.now }
+        ensures moves { from.old < from.new }
+        ensures run { IsRun port self.now from.old from.new result.now }
+    {
+        let before = self.page_of.len();
+        if *from < before {
+            return page_with(&self.sealed, &self.page_of, *from).run(port, from);
+        }
+        let mut at = *from - before;
+        let run = self.last.run(port, &mut at);
+        *from = before + at;
+        run
     }
 
     /// Appends entries of frames that were found at a port and judged by these rules, in their order, as many as there may

@@ -3,18 +3,16 @@ ghost use Rattle.std.specs.Prelude.{◌+◌, ◌^◌, ◌≡◌, ◌≤◌, ◌+
 ghost use Rattle.mav_frame.specs.Packet.{Packet};
 ghost use Rattle.mav_links.specs.Links.{LinkState};
 ghost use Rattle.mav_router.specs.Journal.{Rules, Grows, given_to, frames_to};
-ghost use Rattle.mav_router.specs.Batches.{Joins, Moves};
 ghost use Rattle.mav_router.specs.Runs.{Input, Output, HadTurns};
 ghost use Rattle.mav_router.specs.declared.entries.Entry.{Entry};
 ghost use Rattle.mav_router.specs.Faults.{IsSwitchFault, StopsInput};
 ghost use Rattle.mav_router.specs.Unheard.{Unheard};
 
-use crate::batch::Batch;
 use crate::found::FoundFrames;
 use crate::hearing::hear;
 use crate::lane::Lane;
 use crate::{Switch, SwitchFault};
-use mav_links::{Link, write_prefix};
+use mav_links::Link;
 use mav_ports::Got;
 
 /// Reads a port once, and returns how many bytes came that its reader is to take: none at the end of its input. Returns
@@ -96,77 +94,4 @@ pub(crate) fn read_port<L: Link>(
         &buf[..count],
         found,
     )
-}
-
-/// Writes frames that were put together to a port that hasn't failed.
-pub(crate) fn write_batch<L: Link>(lane: &mut Lane, link: &mut L, bytes: &[u8])
-    requires { lane.old.failed ≡ false }
-    ensures input { (rules : Rules) (journal : List Entry) (port : ℕ) (first : LinkState)
-        → Input rules journal port first (L.state link.old) lane.old
-        → Input rules journal port first (L.state link.new) lane.new }
-    ensures output { (frames more : List Packet) (first : LinkState) → Joins bytes.now more
-        → Output frames first (L.state link.old) lane.old
-        → Output (frames ++ more) first (L.state link.new) lane.new }
-    ensures turned { (turns : ℕ) → HadTurns lane.old turns → HadTurns lane.new turns }
-{
-    let size = bytes.len();
-    let count = write_prefix(link, bytes);
-    lane.written = lane.written.saturating_add(count as u64);
-    if count < size {
-        lane.failed = true;
-    }
-}
-
-// Writes what is waiting for a port that hasn't failed, as much as is written at once, and returns whether that was all.
-fn write_some<L: Link>(
-    switch: &mut Switch<'_>,
-    lane: &mut Lane,
-    link: &mut L,
-    port: u8,
-    batch: &mut Batch,
-) -> bool
-    requires from { 1 ≤ port }
-    requires to { port ≤ switch.old.rules.ports }
-    requires fine { lane.old.failed ≡ false }
-    ensures same { (switch.new.rules ≡ switch.old.rules) × (switch.new.journal ≡ switch.old.journal) }
-    ensures others { (other : ℕ) → 1 ≤ other → (other ≡ port → ⊥) → given_to switch.new other ≡ given_to switch.old other }
-    ensures input { (rules : Rules) (journal : List Entry) (first : LinkState)
-        → Input rules journal port first (L.state link.old) lane.old
-        → Input rules journal port first (L.state link.new) lane.new }
-    ensures output { (first : LinkState) → Output (given_to switch.old port) first (L.state link.old) lane.old
-        → Output (given_to switch.new port) first (L.state link.new) lane.new }
-    ensures turned { (turns : ℕ) → HadTurns lane.old turns → HadTurns lane.new turns }
-    ensures all { result ≡ true → given_to switch.new port ≡ frames_to port switch.new.journal }
-    ensures moves { result ≡ false → Moves port switch.old switch.new }
-{
-    let all = switch.gather(port, batch);
-    write_batch(lane, link, batch.bytes());
-    all
-}
-
-/// Writes all that is waiting for a port, unless it failed or fails; `batch` is overwritten.
-pub(crate) fn write_port<L: Link>(
-    switch: &mut Switch<'_>,
-    lane: &mut Lane,
-    link: &mut L,
-    port: u8,
-    batch: &mut Batch,
-)
-    requires from { 1 ≤ port }
-    requires to { port ≤ switch.old.rules.ports }
-    ensures same { (switch.new.rules ≡ switch.old.rules) × (switch.new.journal ≡ switch.old.journal) }
-    ensures others { (other : ℕ) → 1 ≤ other → (other ≡ port → ⊥) → given_to switch.new other ≡ given_to switch.old other }
-    ensures input { (rules : Rules) (journal : List Entry) (first : LinkState)
-        → Input rules journal port first (L.state link.old) lane.old
-        → Input rules journal port first (L.state link.new) lane.new }
-    ensures output { (first : LinkState) → Output (given_to switch.old port) first (L.state link.old) lane.old
-        → Output (given_to switch.new port) first (L.state link.new) lane.new }
-    ensures drained { lane.new.failed ≡ false → given_to switch.new port ≡ frames_to port switch.new.journal }
-    ensures turned { (turns : ℕ) → HadTurns lane.old turns → HadTurns lane.new turns }
-{
-    while !lane.failed {
-        if write_some(switch, lane, link, port, batch) {
-            return;
-        }
-    }
 }

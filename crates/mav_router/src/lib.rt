@@ -41,6 +41,7 @@ mod switch;
 mod threads;
 mod together;
 mod turns;
+mod writing;
 
 pub use ends::{How, PortEnd, RouteEnd, RouteFault, RoutePlan};
 pub use entries::{Entry, Outcome, SwitchFault};

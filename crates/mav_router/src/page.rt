@@ -1,10 +1,13 @@
 // Entries of a journal, one after another.
-ghost use Rattle.std.specs.Prelude.{◌≡◌, ◌<◌, [], length, slice_get, Some};
+ghost use Rattle.std.specs.Prelude.{◌≡◌, ◌<◌, ◌≤◌, ℕ, List, [], length, take, slice_get, Some, true};
+ghost use Rattle.link_table.specs.Routing.{has_port};
 ghost use Rattle.mav_router.specs.declared.entries.Entry.{Entry};
+ghost use Rattle.mav_router.specs.Journal.{frames_to};
+ghost use Rattle.mav_router.specs.Outgoing.{IsRun, SpansRun};
 ghost use Rattle.mav_router.specs.Spans.{AreHeld, entries_of};
 
 use crate::entries::Outcome;
-use crate::spans::{Span, frame_in};
+use crate::spans::{Span, bytes_in, frame_in};
 use mav_frame::RawFrame;
 use std::alloc::Global;
 use std::marker::Model;
@@ -40,6 +43,57 @@ fn head_at(heads: &[Head], index: usize) -> Head
     ensures { slice_get heads.now index ≡ Some result }
 {
     heads[index]
+}
+
+// The index of the first entry from one on that goes out at the port, or the number of entries.
+fn first_to(heads: &[Head], port: u8, from: usize) -> usize
+    requires from { 1 ≤ port }
+    requires to { port ≤ 8 }
+    requires within { from ≤ length heads.now }
+    ensures from { from ≤ result }
+    ensures within { result ≤ length heads.now }
+    ensures none { (bytes : List ℕ) → frames_to port (take result (entries_of bytes heads.now)) ≡ frames_to port (take from (entries_of bytes heads.now)) }
+    ensures goes { (head : Head) → slice_get heads.now result ≡ Some head → has_port head.outcome.ways port ≡ true }
+{
+    let mut index = from;
+    while index < heads.len() {
+        let head = head_at(heads, index);
+        if head.outcome.ways.has(port) {
+            return index;
+        }
+        index += 1;
+    }
+    index
+}
+
+// Where the frame of an entry stands that goes out at the port, with those after it that go out there too and stand together
+// with it. `end` is set to the index after them.
+fn run_at(heads: &[Head], port: u8, first: usize, end: &mut usize) -> Span
+    requires from { 1 ≤ port }
+    requires to { port ≤ 8 }
+    requires there { first < length heads.now }
+    requires goes { (head : Head) → slice_get heads.now first ≡ Some head → has_port head.outcome.ways port ≡ true }
+    ensures moves { first < end.new }
+    ensures within { end.new ≤ length heads.now }
+    ensures run { (bytes : List ℕ) → AreHeld bytes heads.now → SpansRun port bytes heads.now first end.new result }
+{
+    let Head { mut span, .. } = head_at(heads, first);
+    *end = first + 1;
+    while *end < heads.len() {
+        let Head {
+            span: next,
+            outcome,
+        } = head_at(heads, *end);
+        if next.start != span.end {
+            return span;
+        }
+        if !outcome.ways.has(port) {
+            return span;
+        }
+        span.end = next.end;
+        *end += 1;
+    }
+    span
 }
 
 impl Page {
@@ -81,5 +135,24 @@ impl Page {
             → result ≡ record { port = entry.port; admit = entry.admit; ways = entry.ways } }
     {
         head_at(&self.heads, index).outcome
+    }
+
+    /// The bytes of frames that go out at the port, of the entries from `at` on: of the next one, and of those after it that
+    /// stand together with it. Moves `at` past the entries that were looked through.
+    pub(crate) fn run(&self, port: u8, at: &mut usize) -> &[u8]
+        requires from { 1 ≤ port }
+        requires to { port ≤ 8 }
+        requires within { at.old ≤ length self.now }
+        ensures within { at.new ≤ length self.now }
+        ensures moves { at.old < length self.now → at.old < at.new }
+        ensures run { IsRun port self.now at.old at.new result.now }
+    {
+        let first = first_to(&self.heads, port, *at);
+        if first == self.heads.len() {
+            *at = first;
+            return &self.bytes[..0];
+        }
+        let span = run_at(&self.heads, port, first, at);
+        bytes_in(&self.bytes, span)
     }
 }

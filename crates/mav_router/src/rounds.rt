@@ -8,7 +8,8 @@ ghost use Rattle.mav_router.specs.Runs.{RunSoFar, IsDrained, AllTurned};
 use crate::batch::Batch;
 use crate::found::FoundFrames;
 use crate::lane::Lane;
-use crate::lanes::{read_port, write_port};
+use crate::lanes::read_port;
+use crate::writing::write_port;
 use crate::{Switch, SwitchFault};
 use mav_links::Link;
 

@@ -8,11 +8,12 @@ ghost use Rattle.mav_router.specs.History.{entries_in};
 ghost use Rattle.mav_router.specs.Parts.{IsSeated, IsReady, PartSoFar, PartStopped, PartEnds};
 
 use crate::found::{FoundFrames, find_frames};
-use crate::lanes::{read_lane, write_batch};
+use crate::lanes::read_lane;
 use crate::parts::{Halt, Part};
 use crate::routing::{PIECE, is_live};
 use crate::signals::Signals;
 use crate::turns::{admit_found, share_waiting};
+use crate::writing::write_pages;
 use crate::{RouterRules, Switch, SwitchFault};
 use mav_links::Link;
 use mav_stream::Scanner;
@@ -102,7 +103,7 @@ fn read_part<'a, R: Wait, L: Link>(
     )
 }
 
-// Writes what waits for a port that hasn't failed, as much as is gathered in one turn, and returns whether that was all.
+// Writes what waits for a port, of as many pages as are shared in one turn, and returns whether these were all.
 fn write_some<'a, R: Wait, L: Link>(
     rt: &R,
     turn: &Turn<Switch<'a>>,
@@ -110,14 +111,13 @@ fn write_some<'a, R: Wait, L: Link>(
     part: &mut Part<'a, L>,
 ) -> bool
     requires ready { IsReady turn.now rules.now part.old }
-    requires fine { part.old.side.lane.failed ≡ false }
     ensures ready { IsReady turn.now rules.now part.new }
     ensures port { part.new.port ≡ part.old.port }
     ensures so_far { (first : LinkState) → PartSoFar L.state rules.now first part.old → PartSoFar L.state rules.now first part.new }
     ensures turned { (turns : ℕ) → HadTurns part.old.side.lane turns → HadTurns part.new.side.lane turns }
 {
     let side = &mut part.side;
-    let shared = share_waiting(
+    let all = share_waiting(
         rt,
         turn,
         rules,
@@ -126,12 +126,15 @@ fn write_some<'a, R: Wait, L: Link>(
         side.taken,
         &mut side.room.shared,
     );
-    let gathered = side
-        .room
-        .shared
-        .gather(part.port, &mut side.taken, &mut side.room.batch);
-    write_batch(&mut side.lane, &mut side.link, side.room.batch.bytes());
-    shared & gathered
+    write_pages(
+        &side.room.shared,
+        part.port,
+        &mut side.taken,
+        &mut side.room.batch,
+        &mut side.lane,
+        &mut side.link,
+    );
+    all
 }
 
 // Writes until nothing waits for the port, unless it failed or fails.

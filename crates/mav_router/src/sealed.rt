@@ -1,7 +1,8 @@
 // A page that never changes again.
-ghost use Rattle.std.specs.Prelude.{◌≡◌, ◌≤◌, ◌<◌, ◌+◌, length, slice_get, Some, IfSome, IfOk, IfErr};
+ghost use Rattle.std.specs.Prelude.{◌≡◌, ◌≤◌, ◌<◌, ◌+◌, List, length, slice_get, Some, IfSome, IfOk, IfErr};
 ghost use Rattle.mav_router.specs.declared.entries.Entry.{Entry};
-ghost use Rattle.mav_router.specs.Pages.{end_of_page};
+ghost use Rattle.mav_router.specs.Outgoing.{IsRun};
+ghost use Rattle.mav_router.specs.Pages.{end_of_page, IsIn, StandsIn};
 
 use crate::entries::Outcome;
 use crate::page::Page;
@@ -89,5 +90,20 @@ impl SealedPage {
             → result ≡ record { port = entry.port; admit = entry.admit; ways = entry.ways } }
     {
         self.page.outcome(at)
+    }
+
+    /// The same as [`Page::run`], by the indices of the journal.
+    pub(crate) fn run(&self, port: u8, from: &mut usize) -> &[u8]
+        requires from { 1 ≤ port }
+        requires to { port ≤ 8 }
+        requires inside { IsIn self.now from.old }
+        ensures within { from.new ≤ end_of_page self.now }
+        ensures moves { from.old < from.new }
+        ensures run { (journal : List Entry) → StandsIn journal self.now → IsRun port journal from.old from.new result.now }
+    {
+        let mut at = *from - self.start;
+        let run = self.page.run(port, &mut at);
+        *from = self.start + at;
+        run
     }
 }

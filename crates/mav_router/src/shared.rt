@@ -1,12 +1,8 @@
 // Pages of a journal that a thread reads outside its turn.
-ghost use Rattle.std.specs.Prelude.{◌≡◌, ◌≤◌, [], List, length, take, IfOk};
-ghost use Rattle.mav_router.specs.declared.entries.Entry.{Entry};
-ghost use Rattle.mav_router.specs.Journal.{frames_to};
-ghost use Rattle.mav_router.specs.Batches.{Gathered};
-ghost use Rattle.mav_router.specs.Pages.{IsWindow, SharesFrom};
+ghost use Rattle.std.specs.Prelude.{◌≡◌, ◌≤◌, [], length, IfOk};
+ghost use Rattle.mav_router.specs.Pages.{SharesFrom};
 
 use crate::NoMemory;
-use crate::batch::Batch;
 use crate::moves::put_last;
 use crate::sealed::SealedPage;
 use std::alloc::Global;
@@ -66,19 +62,9 @@ impl SharedPages {
         true
     }
 
-    /// Gathers frames that go out at the port, of the entries from `from` on, as `Batch::gather` does of a whole journal.
-    pub(crate) fn gather(&self, port: u8, from: &mut usize, batch: &mut Batch) -> bool
-        requires from { 1 ≤ port }
-        requires to { port ≤ 8 }
-        ensures gathered { (journal : List Entry) → from.old ≤ length journal → IsWindow journal from.old self.now
-            → (from.new ≤ length journal) × Gathered (frames_to port (take from.old journal)) (frames_to port (take from.new journal)) batch.new }
+    pub(crate) fn pages(&self) -> &[SealedPage]
+        ensures { result.now ≡ self.now }
     {
-        batch.clear();
-        for number in 0..self.pages.len() {
-            if !batch.gather_page(&self.pages[number], port, from) {
-                return false;
-            }
-        }
-        true
+        &self.pages
     }
 }

@@ -1,5 +1,5 @@
 // Frames in one list of bytes.
-ghost use Rattle.std.specs.Prelude.{◌≡◌, OnErr, IfOk};
+ghost use Rattle.std.specs.Prelude.{◌≡◌, ◌≤◌, length, slice_range, OnErr, IfOk};
 ghost use Rattle.mav_router.specs.Spans.{Appends, Holds, packet_of};
 
 use crate::NoMemory;
@@ -12,12 +12,21 @@ pub(crate) struct Span {
     pub(crate) end: usize,
 }
 
+/// The bytes in a span.
+pub(crate) fn bytes_in(bytes: &[u8], span: Span) -> &[u8]
+    requires order { span.start ≤ span.end }
+    requires within { span.end ≤ length bytes.now }
+    ensures { result.now ≡ slice_range bytes.now span.start span.end }
+{
+    &bytes[span.start..span.end]
+}
+
 /// The frame in a span.
 pub(crate) fn frame_in(bytes: &[u8], span: Span) -> RawFrame<'_>
     requires { Holds bytes.now span }
     ensures { result ≡ packet_of bytes.now span }
 {
-    RawFrame::new(&bytes[span.start..span.end])
+    RawFrame::new(bytes_in(bytes, span))
 }
 
 /// Appends the bytes of a frame, and returns their span.

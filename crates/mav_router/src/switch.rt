@@ -5,12 +5,10 @@ ghost use Rattle.mav_sign.specs.Kept.{Represents};
 ghost use Rattle.link_table.specs.Routing.{Learned, has_port, ways_of};
 ghost use Rattle.link_table.specs.Table.{Represents as StandsFor};
 ghost use Rattle.mav_router.specs.Journal.{Rules, SwitchState, entry_after, admit_after, IsJournal, frames_to, frames_at, given_to};
-ghost use Rattle.mav_router.specs.Batches.{Gathered, Moves};
 ghost use Rattle.mav_router.specs.Found.{Admits, IsJudged, packets_of};
 ghost use Rattle.mav_router.specs.Faults.{IsSwitchFault};
 ghost use Rattle.mav_router.specs.declared.entries.Entry.{Entry};
 
-use crate::batch::Batch;
 use crate::found::FoundFrames;
 use crate::journal::ENTRY_LIMIT;
 use crate::{Journal, NoMemory, RouterRules, SwitchFault};
@@ -208,22 +206,27 @@ impl<'a> Switch<'a> {
         Some(index)
     }
 
-    /// Takes frames that wait for the port, as many as surely fit, in place of what the batch held, and returns whether no
-    /// more are waiting.
-    pub(crate) fn gather(&mut self, port: u8, batch: &mut Batch) -> bool
+    /// How many entries were looked through for the port.
+    pub(crate) fn seen(&self, port: u8) -> usize
+        requires from { 1 ≤ port }
+        requires to { port ≤ self.now.rules.ports }
+        ensures seen { result ≡ slice_index self.now.seen (port - 1) }
+        ensures within { result ≤ length self.now.journal }
+        ensures ports { self.now.rules.ports ≤ 8 }
+    {
+        self.seen[usize::from(port - 1)]
+    }
+
+    /// So many were looked through for it now.
+    pub(crate) fn pass(&mut self, port: u8, seen: usize)
         requires from { 1 ≤ port }
         requires to { port ≤ self.old.rules.ports }
+        requires within { seen ≤ length self.old.journal }
         ensures same { (self.new.rules ≡ self.old.rules) × (self.new.journal ≡ self.old.journal) }
+        ensures given { given_to self.new port ≡ frames_to port (take seen self.old.journal) }
         ensures others { (other : ℕ) → 1 ≤ other → (other ≡ port → ⊥) → given_to self.new other ≡ given_to self.old other }
-        ensures gathered { Gathered (given_to self.old port) (given_to self.new port) batch.new }
-        ensures all { result ≡ true → given_to self.new port ≡ frames_to port self.new.journal }
-        ensures moves { result ≡ false → Moves port self.old self.new }
     {
-        let at = usize::from(port - 1);
-        let mut from = self.seen[at];
-        let all = batch.gather(&self.journal, port, &mut from);
-        self.seen[at] = from;
-        all
+        self.seen[usize::from(port - 1)] = seen;
     }
 
     pub(crate) fn rules(&self) -> &RouterRules<'a>

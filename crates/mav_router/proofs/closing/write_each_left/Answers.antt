@@ -17,13 +17,12 @@ pub loop-at-preserved : goal.loop-at-preserved
 loop-at-preserved g c =
     let l = c.loop-at in
     let i = l.invariant in
-    let w = c.write_left.ensures in
     let within : l.at < length l.sides = omega (arith, c.loop-at-test.true, l.auto.sides) in
     let old = get_or l.sides l.at c.index-sides-at.result in
     let is = slice_get-get_or l.sides l.at c.index-sides-at.result within in
     record {
       written = each_changed (λ (k : ℕ) (b d : Side g.row.L.Denot). HasWrittenLeft g.L.Link.state c.args.journal.now (k + 1) b d) c.args.sides.now l.sides l.at old c.write_left.new.side is i.written i.same
-          (record { input = w.input; output = w.output; turned = w.turned; drained = w.drained });
+          c.write_left.ensures;
       same = rest_same c.args.sides.now l.sides l.at c.write_left.new.side i.same;
     }
 
