@@ -30,13 +30,13 @@ read_alike rules port bytes held skips journal after same r = record { events = 
 
 -- these frames were found at a port after those of its entries: once the switch takes all of them, so far was read; and if
 -- it takes only some, reading stops there
-pub record Finds (ended : Bool) (rules : Rules) (port : ℕ) (taken all : List ℕ) (held : Held) (skips : ℕ) (journal : List Entry) (frames : List Packet) : Type 0 where
-  pub reads : (after : List Entry) → frames_from port after ≡ frames_from port journal ++ frames → Reading rules port taken held skips after
-  pub stops : (count : ℕ) (after : List Entry) → count < length frames → frames_from port after ≡ frames_from port journal ++ take count frames → StopsReading ended rules port all after
+pub record Finds (ended : Bool) (rules : Rules) (port : ℕ) (bytes : List ℕ) (held : Held) (skips : ℕ) (journal : List Entry) (frames : List Packet) : Type 0 where
+  pub reads : (after : List Entry) → frames_from port after ≡ frames_from port journal ++ frames → Reading rules port bytes held skips after
+  pub stops : (count : ℕ) (after : List Entry) → count < length frames → frames_from port after ≡ frames_from port journal ++ take count frames → StopsReading ended rules port bytes after
 
-pub found_none : (ended : Bool) (rules : Rules) (port : ℕ) (taken all : List ℕ) (held : Held) (skips : ℕ) (journal : List Entry) → Reading rules port taken held skips journal → Finds ended rules port taken all held skips journal []
-found_none ended rules port taken all held skips journal r = record {
-  reads = λ after e. read_alike rules port taken held skips journal after (e ∙ append-nil (frames_from port journal)) r;
+pub found_none : (ended : Bool) (rules : Rules) (port : ℕ) (bytes : List ℕ) (held : Held) (skips : ℕ) (journal : List Entry) → Reading rules port bytes held skips journal → Finds ended rules port bytes held skips journal []
+found_none ended rules port bytes held skips journal r = record {
+  reads = λ after e. read_alike rules port bytes held skips journal after (e ∙ append-nil (frames_from port journal)) r;
   stops = λ count after less e. absurd (omega (arith, less));
 }
 
@@ -46,9 +46,9 @@ took_fewer count frames frame less = grind (arith, common_steps)
 took_these : (count : ℕ) (frames : List Packet) (frame : Packet) → count ≡ length frames → take count (frames ++ frame ∷ []) ≡ frames
 took_these count frames frame same = grind (arith, common_steps)
 
-pub found_more : (ended : Bool) (rules : Rules) (port : ℕ) (taken more all : List ℕ) (held new : Held) (skips skips_after : ℕ) (journal : List Entry) (frames : List Packet) (frame : Packet) → ((before after : List Entry) → Reading rules port taken held skips before → frames_from port after ≡ frames_from port before ++ frame ∷ [] → Reading rules port more new skips_after after)
-    → ((before after : List Entry) → Reading rules port taken held skips before → frames_from port after ≡ frames_from port before → StopsReading ended rules port all after) → Finds ended rules port taken all held skips journal frames → Finds ended rules port more all new skips_after journal (frames ++ frame ∷ [])
-found_more ended rules port taken more all held new skips skips_after journal frames frame found untaken so_far = record {
+pub found_more : (ended : Bool) (rules : Rules) (port : ℕ) (bytes : List ℕ) (held new : Held) (skips skips_after : ℕ) (journal : List Entry) (frames : List Packet) (frame : Packet) → ((before after : List Entry) → Reading rules port bytes held skips before → frames_from port after ≡ frames_from port before ++ frame ∷ [] → Reading rules port bytes new skips_after after)
+    → ((before after : List Entry) → Reading rules port bytes held skips before → frames_from port after ≡ frames_from port before → StopsReading ended rules port bytes after) → Finds ended rules port bytes held skips journal frames → Finds ended rules port bytes new skips_after journal (frames ++ frame ∷ [])
+found_more ended rules port bytes held new skips skips_after journal frames frame found untaken so_far = record {
   reads = λ after e.
       let known = frames_from port journal ++ frames in
       let before = entries_with rules port known in
@@ -107,9 +107,9 @@ pub took_kept : (port : ℕ) (before after : List Entry) (items found : List Jud
 took_kept port before after items found count same all k = took_all port before after items found count same all (kept_own port before after (take count (packets_of items)) k)
 
 -- there is no memory for the next frame
-pub unkept : (ended : Bool) (rules : Rules) (port : ℕ) (taken all : List ℕ) (held : Held) (skips : ℕ) (journal : List Entry) (frames : List Packet) → ((before after : List Entry) → Reading rules port taken held skips before → frames_from port after ≡ frames_from port before → StopsReading ended rules port all after) → Finds ended rules port taken all held skips journal frames → StopsReading ended rules port all journal
-unkept ended rules port taken all held skips journal [] untaken so_far = untaken journal journal (so_far.reads journal (sym (append-nil (frames_from port journal)))) refl
-unkept ended rules port taken all held skips journal (frame ∷ frames) untaken so_far = so_far.stops 0 journal (omega arith) (sym (append-nil (frames_from port journal)))
+pub unkept : (ended : Bool) (rules : Rules) (port : ℕ) (bytes : List ℕ) (held : Held) (skips : ℕ) (journal : List Entry) (frames : List Packet) → ((before after : List Entry) → Reading rules port bytes held skips before → frames_from port after ≡ frames_from port before → StopsReading ended rules port bytes after) → Finds ended rules port bytes held skips journal frames → StopsReading ended rules port bytes journal
+unkept ended rules port bytes held skips journal [] untaken so_far = untaken journal journal (so_far.reads journal (sym (append-nil (frames_from port journal)))) refl
+unkept ended rules port bytes held skips journal (frame ∷ frames) untaken so_far = so_far.stops 0 journal (omega arith) (sym (append-nil (frames_from port journal)))
 
 -- fewer were taken than there were, and these are the frames of the port's entries
 pub settled_took : (port : ℕ) (before after : List Entry) (items found : List Judged) (count : ℕ) → items ≡ found → count < length (packets_of items) → frames_from port after ≡ frames_from port before ++ take count (packets_of items) → (count < length (packets_of found)) × (frames_from port after ≡ frames_from port before ++ take count (packets_of found))

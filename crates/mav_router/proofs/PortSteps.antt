@@ -131,7 +131,7 @@ input_failed rules journal port first now new lane live fine i idle left rose =
     }
 
 -- it has ended
-pub input_ended : (rules : Rules) (before after : List Entry) (port : ℕ) (first now new : LinkState) (lane next : Lane) → (i : Input rules before port first now lane) → next.turns ≡ lane.turns → new.idles ≡ now.idles → now.left ≡ prepend_known [] new.left → IsSpent new.left → new.faults ≡ now.faults → next.failed ≡ lane.failed → next.ended ≡ true → next.scanner.ended ≡ true → next.read ≡ lane.read → AllRead rules port (i.bytes ++ []) next.scanner next.skipped after → Input rules after port first new next
+pub input_ended : (rules : Rules) (before after : List Entry) (port : ℕ) (first now new : LinkState) (lane next : Lane) → (i : Input rules before port first now lane) → next.turns ≡ lane.turns → new.idles ≡ now.idles → now.left ≡ prepend_known [] new.left → IsSpent new.left → new.faults ≡ now.faults → next.failed ≡ lane.failed → next.ended ≡ true → next.scanner.ended ≡ true → next.read ≡ lane.read → AllRead rules port i.bytes next.scanner next.skipped after → Input rules after port first new next
 input_ended rules before after port first now new lane next i turn idle left spent faults failed ended scanner read parsed = record {
   bytes = i.bytes;
   turns = i.turns;
@@ -141,7 +141,7 @@ input_ended rules before after port first now new lane next i turn idle left spe
   turned = turn ∙ i.turned;
   left = i.left ∙ ap (prepend_known i.bytes) (left ∙ prepend_none new.left);
   read = read ∙ i.read;
-  parsed = subst (λ (b : List ℕ). AllRead rules port b next.scanner next.skipped after) (append-nil i.bytes) parsed;
+  parsed = parsed;
   ended = scanner ∙ sym ended;
   spent = λ e. spent;
   faults = subst (λ (n : ℕ). FaultsBy next.failed first.faults n) (sym faults) (subst (λ (b : Bool). FaultsBy b first.faults now.faults) (sym failed) i.faults);
@@ -152,12 +152,9 @@ pub on_ok : {A E P Q : Type 0} (r : Result A E) → (P → Q) → OnOk r P → O
 on_ok (Ok a) f p = f p
 on_ok (Err e) f p = p
 
--- the scanner was told that its input has ended
+-- the reader was told that its input has ended
 pub scanner_ended : (rules : Rules) (port : ℕ) (bytes : List ℕ) (held new : Held) (skips : ℕ) (journal : List Entry) → (r : Reading rules port bytes held skips journal) → PortProgress rules port bytes r.events new → Reading rules port bytes new skips journal
 scanner_ended rules port bytes held new skips journal r progress = record { events = r.events; progress = progress; entries = r.entries; skipped = r.skipped }
-
-pub none_longer : {A : Type 0} → 0 < length {A = ℕ} [] → A
-none_longer {A} e = absurd (omega (arith, e))
 
 pub on_err : {A E P Q : Type 0} (r : Result A E) → (P → Q) → OnErr r P → OnErr r Q
 on_err (Ok a) f p = p
@@ -176,12 +173,12 @@ stopped_read rules before after port first now new lane got ended live i left st
   };
 }
 
-pub stopped_ended : (rules : Rules) (before after : List Entry) (port : ℕ) (first now new : LinkState) (lane : Lane) (ended : Bool) → (i : Input rules before port first now lane) → now.left ≡ prepend_known [] new.left → IsSpent new.left → StopsReading ended rules port (i.bytes ++ []) after → StopsInput rules after port first new
+pub stopped_ended : (rules : Rules) (before after : List Entry) (port : ℕ) (first now new : LinkState) (lane : Lane) (ended : Bool) → (i : Input rules before port first now lane) → now.left ≡ prepend_known [] new.left → IsSpent new.left → StopsReading ended rules port i.bytes after → StopsInput rules after port first new
 stopped_ended rules before after port first now new lane ended i left spent stop = record {
   frame = stop.frame;
   input = record {
-    bytes = i.bytes ++ [];
-    left = i.left ∙ (ap (prepend_known i.bytes) left ∙ prepend_known_twice new.left i.bytes []);
+    bytes = i.bytes;
+    left = i.left ∙ ap (prepend_known i.bytes) (left ∙ prepend_none new.left);
     ended = ended;
     begun = stop.begun;
     spent = λ e. spent;

@@ -4,7 +4,6 @@ use Rattle.std.proofs.lemmas.Option.{slice_get_past}
 use Rattle.std.proofs.lemmas.List.{append-nil}
 use Rattle.std.proofs.lemmas.List.Elements.{filter_map-append}
 use Rattle.std.proofs.lemmas.Grind.{common_steps}
-use Rattle.mav_stream.specs.Held.{Held}
 use Rattle.mav_frame.specs.Packet.{Packet}
 use Rattle.mav_links.specs.Links.{LinkState}
 use Rattle.mav_router.specs.declared.entries.Entry.{Entry}
@@ -12,7 +11,8 @@ use Rattle.mav_router.specs.declared.lane.Lane.{Lane}
 use Rattle.mav_router.specs.Journal.{Rules, SwitchState, Grows, frames_from, frame_to, frames_to, given_to, bytes_of}
 use Rattle.mav_router.specs.Faults.{PartInput, PartOutput, PartRun, StopsInput, StopsRound, Untaken, beyond_at}
 use Rattle.mav_router.proofs.Journals.{element}
-use Rattle.mav_router.specs.Runs.{AllRead, BeginsParse, Input, Output, PortSoFar, RunSoFar, IsDrained, HadTurns, AllTurned, PartTurned}
+use Rattle.mav_router.proofs.Readings.{begins_by}
+use Rattle.mav_router.specs.Runs.{Input, Output, PortSoFar, RunSoFar, IsDrained, HadTurns, AllTurned, PartTurned}
 
 pub get_set_other : {A : Type 0} (xs : List A) (at k : ℕ) (x : A) → (k ≡ at → ⊥) → slice_get (set xs at x) k ≡ slice_get xs k
 get_set_other [] at k x apart = refl
@@ -126,10 +126,6 @@ pub round_turned : (lanes : List Lane) (turns at : ℕ) → length lanes ≤ at 
 round_turned lanes turns at past before k lane is = (before k lane is).0 (omega (arith, past, index_within lanes k lane is))
 
 -- what a port has so far, without what the router keeps of it
-begins : (ended : Bool) (rules : Rules) (port : ℕ) (bytes : List ℕ) (held : Held) (skips : ℕ) (journal : List Entry) → held.ended ≡ ended → (a : AllRead rules port bytes held skips journal) → BeginsParse ended rules port bytes a.reading.events held.bytes
-begins true rules port bytes held skips journal e a = a.reading.progress.final
-begins false rules port bytes held skips journal e a = a.reading.progress.incremental e
-
 pub part_input : (rules : Rules) (journal : List Entry) (port : ℕ) (first now : LinkState) (lane : Lane) → Input rules journal port first now lane → PartInput rules journal port [] first now
 part_input rules journal port first now lane i = record {
   bytes = i.bytes;
@@ -138,7 +134,7 @@ part_input rules journal port first now lane i = record {
   begun = record {
     events = i.parsed.reading.events;
     rest = lane.scanner.bytes;
-    begins = begins lane.ended rules port i.bytes lane.scanner lane.skipped journal i.ended i.parsed;
+    begins = begins_by lane.ended rules port i.bytes i.parsed.reading.events lane.scanner i.ended i.parsed.reading.progress;
     entries = append-nil (frames_from port journal) ∙ i.parsed.reading.entries;
   };
   spent = i.spent;

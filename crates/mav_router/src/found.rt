@@ -1,8 +1,9 @@
 // The frames that a port's reader found, until a turn.
-ghost use Rattle.std.specs.Prelude.{◌≡◌, ◌<◌, ◌≤◌, ◌+◌, ◌-◌, ◌*◌, ◌++◌, ◌∷◌, [], ℕ, List, length, take, true, false, All, IfOk, OnOk, OnErr, slice_get, Some, vec_len, vec_capacity};
+ghost use Rattle.std.specs.Prelude.{◌≡◌, ◌<◌, ◌≤◌, ◌++◌, ◌∷◌, [], ℕ, List, length, take, true, false, All, IfOk, OnOk, OnErr, slice_get, Some, vec_len, vec_capacity};
 ghost use Rattle.mav_router.specs.declared.entries.Entry.{Entry};
 ghost use Rattle.mav_router.specs.Faults.{StopsReading};
 ghost use Rattle.mav_router.specs.Found.{IsJudged, Judged, KeepsFound, packets_of};
+ghost use Rattle.mav_stream.specs.Held.{Held};
 ghost use Rattle.mav_stream.specs.Spans.{first_packet, held_after, next_span};
 ghost use Rattle.mav_router.specs.Journal.{frames_from};
 ghost use Rattle.mav_router.specs.Runs.{Reading, AllRead};
@@ -19,7 +20,7 @@ use crate::{NoMemory, RouterRules};
 use link_table::LinkTable;
 use mav_frame::{Frame, RawFrame, encode};
 use mav_sign::Stamps;
-use mav_stream::{NextSpan, Scanner};
+use mav_stream::{NextSpan, Scan};
 use std::alloc::Global;
 use std::marker::Model;
 use std::mem;
@@ -172,68 +173,63 @@ impl FoundFrames {
     }
 }
 
-// Takes the frame at the start of what a reader holds, and keeps it with its judgement.
+// Takes the frame at the start of a scan, and keeps it with its judgement.
 fn find_frame(
     rules: &RouterRules<'_>,
-    scanner: &mut Scanner,
+    scan: &mut Scan<'_, '_>,
     size: usize,
-    room: usize,
     found: &mut FoundFrames,
 ) -> Result<(), NoMemory>
-    requires there { next_span scanner.old ≡ NextSpan.Frame size }
-    requires within { size ≤ length scanner.old.bytes }
-    ensures scanner { OnOk result (scanner.new ≡ held_after scanner.old (NextSpan.Frame size)) }
-    ensures kept { OnOk result (KeepsFound rules.now (first_packet scanner.old) found.old found.new) }
-    ensures same { OnErr result ((scanner.new ≡ scanner.old) × (found.new ≡ found.old)) }
+    requires there { next_span scan.old ≡ NextSpan.Frame size }
+    requires within { size ≤ length scan.old.bytes }
+    ensures scan { OnOk result (scan.new ≡ held_after scan.old (NextSpan.Frame size)) }
+    ensures kept { OnOk result (KeepsFound rules.now (first_packet scan.old) found.old found.new) }
+    ensures same { OnErr result ((scan.new ≡ scan.old) × (found.new ≡ found.old)) }
 {
-    let frame = scanner.raw_frame(size);
+    let frame = scan.raw_frame(size);
     let judgement = judge(rules, &frame);
-    found.push(&frame, judgement, room)?;
-    scanner.consume(size);
+    found.push(&frame, judgement, scan.bytes().len())?;
+    scan.consume(size);
     Ok(())
 }
 
-/// The next frames that a port's reader finds, if it is fed what isn't taken yet of the piece, as many as are kept, with
-/// their judgements. Bytes that are skipped are counted. Returns whether these are all.
+/// The next frames of a scan, as many as are kept, with their judgements. Bytes that are skipped are counted. Returns
+/// whether these are all.
 pub(crate) fn find_frames(
     rules: &RouterRules<'_>,
-    scanner: &mut Scanner,
+    scan: &mut Scan<'_, '_>,
     skipped: &mut u64,
-    piece: &[u8],
-    taken: &mut usize,
     found: &mut FoundFrames,
 ) -> Result<bool, NoMemory>
-    requires { taken.old ≤ length piece.now }
-    ensures within { taken.new ≤ length piece.now }
-    ensures ended { scanner.new.ended ≡ scanner.old.ended }
+    ensures same { scan.new ≡ record scan.old { bytes = scan.new.bytes } }
     ensures judged { All (IsJudged rules.now) found.new }
-    ensures fewer { IfOk result (λ all. all ≡ false → 2 * (length piece.now - taken.new) + length scanner.new.bytes < 2 * (length piece.now - taken.old) + length scanner.old.bytes) }
-    ensures read { IfOk result (λ all. all ≡ false → (by : Rules) (port : ℕ) (bytes : List ℕ) (journal after : List Entry) → (0 < length piece.now → scanner.old.ended ≡ false)
-        → Reading by port (bytes ++ take taken.old piece.now) scanner.old skipped.old journal
+    ensures fewer { IfOk result (λ all. all ≡ false → length scan.new.bytes < length scan.old.bytes) }
+    ensures room { IfOk result (λ all. all ≡ true → length scan.new.bytes < 280) }
+    ensures read { IfOk result (λ all. all ≡ false → (by : Rules) (port : ℕ) (bytes : List ℕ) (journal after : List Entry)
+        → Reading by port bytes scan.old skipped.old journal
         → frames_from port after ≡ frames_from port journal ++ packets_of found.new
-        → Reading by port (bytes ++ take taken.new piece.now) scanner.new skipped.new after) }
-    ensures all { IfOk result (λ all. all ≡ true → (by : Rules) (port : ℕ) (bytes : List ℕ) (journal after : List Entry) → (0 < length piece.now → scanner.old.ended ≡ false)
-        → Reading by port (bytes ++ take taken.old piece.now) scanner.old skipped.old journal
+        → Reading by port bytes scan.new skipped.new after) }
+    ensures all { IfOk result (λ all. all ≡ true → (by : Rules) (port : ℕ) (bytes : List ℕ) (journal after : List Entry)
+        → Reading by port bytes scan.old skipped.old journal
         → frames_from port after ≡ frames_from port journal ++ packets_of found.new
-        → AllRead by port (bytes ++ piece.now) scanner.new skipped.new after) }
-    ensures stops { OnOk result ((by : Rules) (port : ℕ) (bytes : List ℕ) (journal after : List Entry) (count : ℕ) → (0 < length piece.now → scanner.old.ended ≡ false)
-        → Reading by port (bytes ++ take taken.old piece.now) scanner.old skipped.old journal
+        → AllRead by port bytes scan.new skipped.new after) }
+    ensures stops { OnOk result ((by : Rules) (port : ℕ) (bytes : List ℕ) (journal after : List Entry) (count : ℕ)
+        → Reading by port bytes scan.old skipped.old journal
         → count < length (packets_of found.new)
         → frames_from port after ≡ frames_from port journal ++ take count (packets_of found.new)
-        → StopsReading scanner.old.ended by port (bytes ++ piece.now) after) }
+        → StopsReading scan.old.ended by port bytes after) }
     // A frame was found for which there is no memory.
-    ensures unkept { OnErr result ((by : Rules) (port : ℕ) (bytes : List ℕ) (journal : List Entry) → (0 < length piece.now → scanner.old.ended ≡ false)
-        → Reading by port (bytes ++ take taken.old piece.now) scanner.old skipped.old journal
-        → StopsReading scanner.old.ended by port (bytes ++ piece.now) journal) }
+    ensures unkept { OnErr result ((by : Rules) (port : ℕ) (bytes : List ℕ) (journal : List Entry)
+        → Reading by port bytes scan.old skipped.old journal
+        → StopsReading scan.old.ended by port bytes journal) }
 {
     found.clear();
     for at in 0..MOST_FOUND {
         let _ = at;
-        let Some(size) = next_frame(scanner, skipped, piece, taken) else {
+        let Some(size) = next_frame(scan, skipped) else {
             return Ok(true);
         };
-        let room = scanner.bytes().len().saturating_add(piece.len() - *taken);
-        if let Err(fault) = find_frame(rules, scanner, size, room, found) {
+        if let Err(fault) = find_frame(rules, scan, size, found) {
             return Err(fault);
         }
     }

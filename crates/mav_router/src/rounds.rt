@@ -24,8 +24,7 @@ pub(crate) fn read_each<L: Link>(
     requires lanes { length lanes.old ≡ length links.old }
     requires ports { length links.old ≤ switch.old.rules.ports }
     requires few { length links.old ≤ 8 }
-    requires room { 0 < length buf.old }
-    requires most { length buf.old ≤ 4096 }
+    requires room { length buf.old ≡ 4376 }
     ensures rules { switch.new.rules ≡ switch.old.rules }
     ensures so_far { OnOk result ((rules : Rules) (first : ℕ → LinkState)
         → RunSoFar L.state rules switch.old first links.old lanes.old

@@ -9,7 +9,7 @@ ghost use Rattle.mav_router.specs.Faults.{IsSwitchFault, StopsRound, RouteStoppe
 
 use crate::batch::Batch;
 use crate::found::FoundFrames;
-use crate::lane::Lane;
+use crate::lane::{BUFFER, Lane};
 use crate::rounds::{read_each, write_each};
 use crate::{
     How, Journal, NoMemory, PortEnd, RouteEnd, RouteFault, RoutePlan, Switch, SwitchFault,
@@ -18,11 +18,8 @@ use dialect::Dialect;
 use link_table::Ways;
 use mav_links::Link;
 use mav_sign::Key;
-use mav_stream::Scanner;
+use mav_stream::PieceReader;
 use std::alloc::Global;
-
-// How many bytes one read takes at most.
-pub(crate) const PIECE: usize = 4096;
 
 /// Whether the port is still read.
 pub(crate) fn is_live(lane: &Lane) -> bool
@@ -70,7 +67,7 @@ fn run_rounds<L: Link>(
     ensures drained { OnOk result ((k : ℕ) → k < length lanes.new → IsDrained switch.new lanes.new k) }
     ensures turned { OnOk result (AllTurned lanes.new turns) }
 {
-    let mut buf = [0; PIECE];
+    let mut buf = [0; BUFFER];
     for turn in 0..turns {
         let _ = turn;
         if is_done(lanes) {
@@ -119,7 +116,7 @@ fn ends_of(alloc: Global, lanes: &[Lane], turns: u64) -> Result<Vec<PortEnd>, No
 fn new_lane(alloc: Global, known: &Dialect, old: bool) -> Result<Lane, NoMemory>
     ensures { IfOk result (λ lane. IsNew (extras_of known.now) old lane) }
 {
-    let scanner = Scanner::new(alloc, known.extras().copy()?, old)?;
+    let scanner = PieceReader::new(alloc, known.extras().copy()?, old)?;
     Ok(Lane {
         scanner,
         ended: false,

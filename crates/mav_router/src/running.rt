@@ -2,38 +2,38 @@
 ghost use Rattle.std.specs.Prelude.{◌≡◌, ◌≤◌, ◌<◌, ◌+◌, ◌++◌, ◌^◌, ℕ, List, length, false, OnOk, OnErr, IfErr};
 ghost use mathlib.Core.List.{IsPrefix};
 ghost use Rattle.mav_links.specs.Links.{LinkState};
+ghost use Rattle.mav_stream.specs.Held.{Held};
 ghost use Rattle.mav_router.specs.Runs.{Reading, AllRead, HadTurns};
 ghost use Rattle.mav_router.specs.Faults.{IsSwitchFault, StopsReading};
 ghost use Rattle.mav_router.specs.History.{entries_in};
 ghost use Rattle.mav_router.specs.Parts.{IsSeated, IsReady, PartSoFar, PartStopped, PartEnds};
 
 use crate::found::{FoundFrames, find_frames};
+use crate::lane::{BUFFER, PIECE};
 use crate::lanes::read_lane;
 use crate::parts::{Halt, Part};
-use crate::routing::{PIECE, is_live};
+use crate::routing::is_live;
 use crate::signals::Signals;
 use crate::turns::{admit_found, share_waiting};
 use crate::writing::write_pages;
 use crate::{RouterRules, Switch, SwitchFault};
 use mav_links::Link;
-use mav_stream::Scanner;
+use mav_stream::{PieceReader, Scan};
 use std::sync::Wait;
 use turnstile::{Turn, TurnSeat};
 
 // While reads give whole pieces, what waits for the port is written after each fourth one.
 const MOST_PUT_OFF: u32 = 3;
 
-// Feeds a piece to the port's reader, and has the switch admit the frames that are found, as many in a turn as are kept.
-// Bytes that are skipped are counted.
-fn hear_in_turns<'a, R: Wait>(
+// Has the switch admit the frames of a scan, as many in a turn as are kept, and counts the bytes that are skipped.
+fn admit_in_turns<'a, R: Wait>(
     rt: &R,
     turn: &Turn<Switch<'a>>,
     rules: &RouterRules<'_>,
     seat: &mut TurnSeat<Switch<'a>>,
-    scanner: &mut Scanner,
+    scan: &mut Scan<'_, '_>,
     skipped: &mut u64,
     port: u8,
-    piece: &[u8],
     found: &mut FoundFrames,
 ) -> Result<(), SwitchFault>
     requires seated { IsSeated turn.now rules.now port seat.old }
@@ -41,18 +41,18 @@ fn hear_in_turns<'a, R: Wait>(
     requires to { port ≤ rules.now.ports }
     ensures seated { IsSeated turn.now rules.now port seat.new }
     ensures begins { IsPrefix (entries_in seat.old.seen) (entries_in seat.new.seen) }
-    ensures ended { scanner.new.ended ≡ scanner.old.ended }
-    ensures read { OnOk result ((bytes : List ℕ) → (0 < length piece.now → scanner.old.ended ≡ false)
-        → Reading rules.now port bytes scanner.old skipped.old (entries_in seat.old.own)
-        → AllRead rules.now port (bytes ++ piece.now) scanner.new skipped.new (entries_in seat.new.own)) }
-    ensures stopped { OnErr result ((bytes : List ℕ) → (0 < length piece.now → scanner.old.ended ≡ false)
-        → Reading rules.now port bytes scanner.old skipped.old (entries_in seat.old.own)
-        → StopsReading scanner.old.ended rules.now port (bytes ++ piece.now) (entries_in seat.new.own)) }
+    ensures same { scan.new ≡ record scan.old { bytes = scan.new.bytes } }
+    ensures read { OnOk result ((bytes : List ℕ)
+        → Reading rules.now port bytes scan.old skipped.old (entries_in seat.old.own)
+        → AllRead rules.now port bytes scan.new skipped.new (entries_in seat.new.own)) }
+    ensures room { OnOk result (length scan.new.bytes < 280) }
+    ensures stopped { OnErr result ((bytes : List ℕ)
+        → Reading rules.now port bytes scan.old skipped.old (entries_in seat.old.own)
+        → StopsReading scan.old.ended rules.now port bytes (entries_in seat.new.own)) }
     ensures fault { IfErr result (λ fault. IsSwitchFault fault (entries_in seat.new.seen)) }
 {
-    let mut taken = 0;
     'reading: loop {
-        let is_all = match find_frames(rules, scanner, skipped, piece, &mut taken, found) {
+        let is_all = match find_frames(rules, scan, skipped, found) {
             Ok(is_all) => is_all,
             Err(_) => return Err(SwitchFault::NoMemory),
         };
@@ -66,6 +66,42 @@ fn hear_in_turns<'a, R: Wait>(
     }
 }
 
+// Has the switch admit the frames that are found in some bytes: those that the port's reader held and those of a read
+// after them. What is left is held.
+fn hear_in_turns<'a, 'b, R: Wait>(
+    rt: &R,
+    turn: &Turn<Switch<'a>>,
+    rules: &RouterRules<'_>,
+    seat: &mut TurnSeat<Switch<'a>>,
+    reader: &mut PieceReader,
+    skipped: &mut u64,
+    port: u8,
+    bytes: &'b [u8],
+    found: &mut FoundFrames,
+) -> Result<(), SwitchFault>
+    requires seated { IsSeated turn.now rules.now port seat.old }
+    requires from { 1 ≤ port }
+    requires to { port ≤ rules.now.ports }
+    ensures seated { IsSeated turn.now rules.now port seat.new }
+    ensures begins { IsPrefix (entries_in seat.old.seen) (entries_in seat.new.seen) }
+    ensures ended { reader.new.ended ≡ reader.old.ended }
+    ensures read { OnOk result ((all : List ℕ)
+        → Reading rules.now port all (record reader.old { bytes = bytes.now }) skipped.old (entries_in seat.old.own)
+        → AllRead rules.now port all reader.new skipped.new (entries_in seat.new.own)) }
+    ensures stopped { OnErr result ((all : List ℕ)
+        → Reading rules.now port all (record reader.old { bytes = bytes.now }) skipped.old (entries_in seat.old.own)
+        → StopsReading reader.old.ended rules.now port all (entries_in seat.new.own)) }
+    ensures fault { IfErr result (λ fault. IsSwitchFault fault (entries_in seat.new.seen)) }
+{
+    let mut scan = reader.scan(bytes);
+    if let Err(fault) = admit_in_turns(rt, turn, rules, seat, &mut scan, skipped, port, found) {
+        return Err(fault);
+    }
+    let rest: &'b [u8] = scan.bytes();
+    reader.keep(rest);
+    Ok(())
+}
+
 // Reads a port that is still read once, and has the switch admit the frames that are found.
 fn read_part<'a, R: Wait, L: Link>(
     rt: &R,
@@ -77,8 +113,7 @@ fn read_part<'a, R: Wait, L: Link>(
     requires ready { IsReady turn.now rules.now part.old }
     requires live { part.old.side.lane.ended ≡ false }
     requires fine { part.old.side.lane.failed ≡ false }
-    requires room { 0 < length buf.old }
-    requires most { length buf.old ≤ 4096 }
+    requires room { length buf.old ≡ 4376 }
     ensures ready { IsReady turn.now rules.now part.new }
     ensures port { part.new.port ≡ part.old.port }
     ensures so_far { OnOk result ((first : LinkState) → PartSoFar L.state rules.now first part.old → PartSoFar L.state rules.now first part.new) }
@@ -204,7 +239,7 @@ fn read_turns<'a, R: Wait, L: Link>(
     ensures port { part.new.port ≡ part.old.port }
     ensures ends { (first : LinkState) → PartSoFar L.state rules.now first part.old → PartEnds result L.state rules.now turns first part.new }
 {
-    let mut buf = [0; PIECE];
+    let mut buf = [0; BUFFER];
     let mut put_off = 0;
     for turned in 0..turns {
         let _ = turned;

@@ -1,19 +1,18 @@
 // The scanner of a stream.
 ghost use Rattle.std.specs.Prelude.{◌≡◌, ◌-◌, ◌<◌, ◌≤◌, ◌++◌, ℕ, Bool, List, length, take, drop, min, false, true, IfOk};
-ghost use Rattle.mav_frame.specs.Looks.{frame_size_at, is_old_at, look_by, look_of};
+ghost use Rattle.mav_frame.specs.Looks.{frame_size_at, is_old_at};
 ghost use Rattle.mav_frame.specs.Encoding.{encoding};
 ghost use Rattle.mav_frame.specs.declared.events.Event.{Event};
-ghost use Rattle.mav_frame.specs.declared.looks.Look.TheVariants.{More, NotHere};
 ghost use Rattle.mav_stream.specs.Held.{Held, nothing_held};
 ghost use Rattle.mav_stream.specs.Progress.{Progress, IsWhole};
-ghost use Rattle.mav_stream.specs.Spans.{first_packet, held_after, next_span, span_by, span_events, span_size, IfEvent, IfFrame, IfNeed};
+ghost use Rattle.mav_stream.specs.Spans.{first_packet, held_after, next_span, span_events, span_size, IfEvent, IfFrame, IfNeed};
 
 use crate::NoMemory;
-use crate::skips::skipped_length;
+use crate::scan::Scan;
 use crate::spans::NextSpan;
 use crate::table::ExtrasTable;
 use crate::window::Window;
-use mav_frame::{Frame, FrameCheck, RawFrame, Why, check_frame, frame_at};
+use mav_frame::{Frame, RawFrame, frame_at};
 use std::alloc::Global;
 use std::marker::Model;
 use x25_check::Extras;
@@ -100,8 +99,7 @@ impl Scanner {
         // And there is room for a large piece.
         ensures room { IfNeed result (length self.now.bytes < 280) }
     {
-        let _held = self.window.bytes();
-        self.span()
+        self.scan().next_span()
     }
 
     /// The frame at the start of the bytes held, if `next_span` says that one is there.
@@ -118,7 +116,7 @@ impl Scanner {
         requires { next_span self.now ≡ NextSpan.Frame size }
         ensures { result ≡ first_packet self.now }
     {
-        RawFrame::at(self.reads_old, self.window.bytes(), size)
+        self.scan().raw_frame(size)
     }
 
     /// Removes bytes from the start, once their events were seen.
@@ -130,45 +128,11 @@ impl Scanner {
         self.window.remove(count);
     }
 
+    // The same bytes, where they stand.
     #[inline(always)]
-    fn span(&self) -> NextSpan
-        ensures { result ≡ next_span self.now }
+    fn scan(&self) -> Scan<'_, '_>
+        ensures { result ≡ self.now }
     {
-        match self.check() {
-            FrameCheck::Whole(size) => NextSpan::Frame(size),
-            FrameCheck::NotHere(why) => self.skipped(why),
-            FrameCheck::More(_) => self.lacking(),
-        }
-    }
-
-    // What the bytes held begin with.
-    #[inline(always)]
-    fn check(&self) -> FrameCheck
-        ensures { look_by result (is_old_at self.now.reads_old self.now.bytes) self.now.bytes ≡ look_of self.now.extras self.now.reads_old self.now.bytes }
-    {
-        check_frame(&self.table, self.reads_old, self.window.bytes())
-    }
-
-    // The result if no frame is at the start.
-    #[inline(always)]
-    fn skipped(&self, why: Why) -> NextSpan
-        requires { 0 < length self.now.bytes }
-        ensures { result ≡ span_by (NotHere why) self.now }
-    {
-        NextSpan::Skipped(
-            why,
-            skipped_length(why, &self.table, self.reads_old, self.window.bytes()),
-        )
-    }
-
-    // The result if an incomplete frame is held, or nothing.
-    fn lacking(&self) -> NextSpan
-        ensures { (lacks : ℕ) → result ≡ span_by (More lacks) self.now }
-    {
-        if self.ended && !self.window.bytes().is_empty() {
-            NextSpan::Skipped(Why::Short, 1)
-        } else {
-            NextSpan::Need
-        }
+        Scan::over(&self.table, self.reads_old, self.window.bytes(), self.ended)
     }
 }

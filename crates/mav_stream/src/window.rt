@@ -41,9 +41,9 @@ fn write_after(buffer: &mut [u8], held: usize, piece: &[u8])
     buffer[held..held + piece.len()].copy_from_slice(piece);
 }
 
-// The same bytes: each is below 256.
+/// The same bytes: each is below 256.
 #[inline(always)]
-fn as_bytes(bytes: &[u8]) -> &[u8]
+pub(crate) fn as_bytes(bytes: &[u8]) -> &[u8]
     ensures list { result.now ≡ bytes.now }
     ensures bytes { (k : ℕ) → slice_index result.now k < 256 }
 {
@@ -71,6 +71,14 @@ impl<const ROOM: usize> Window<ROOM> {
     {
         let buffer = &self.buffer[..];
         as_bytes(&buffer[self.start..self.end])
+    }
+
+    /// Removes all bytes.
+    pub fn clear(&mut self)
+        ensures { self.new ≡ [] }
+    {
+        self.start = 0;
+        self.end = 0;
     }
 
     /// Appends as many bytes as there is room for, and returns how many.

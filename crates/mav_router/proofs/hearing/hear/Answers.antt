@@ -1,46 +1,22 @@
-use Rattle.std.proofs.Common.{◌∙◌, ◌++◌, subst, Bool, take}
-use Rattle.mav_router.specs.Found.{packets_of}
+use Rattle.std.proofs.Common.{ap, sym, subst, Bool}
+use Rattle.mav_stream.specs.Held.{Held}
+use Rattle.mav_router.specs.Runs.{Reading, AllRead}
 use Rattle.mav_router.specs.Faults.{StopsReading}
-use Rattle.mav_router.proofs.Findings.{grows_kept, settled_own, took_kept}
+use Rattle.mav_router.proofs.Readings.{scan_kept}
 use Rattle.mav_router.proofs.hearing.hear.Goals as goal
 
-pub returns-in-Err-admit_found-clause-grows : goal.returns-in-Err-admit_found-clause-grows
-returns-in-Err-admit_found-clause-grows c = grows_kept c.args.port c.args.switch.now c.reading.switch c.admit_found.new.self (take c.admit_found.ensures.admits.count (packets_of c.settle.new.self)) c.reading.invariant.grows c.admit_found.ensures.same.0 c.admit_found.ensures.admits.kept c.admit_found.ensures.given
-
-pub returns-in-Err-admit_found-clause-stopped : goal.returns-in-Err-admit_found-clause-stopped
-returns-in-Err-admit_found-clause-stopped c = λ rules bytes live first.
-    let r = c.reading in
+pub returns-clause-read : goal.returns-clause-read
+returns-clause-read c = λ rules all first.
     let port = c.args.port in
-    let e = c.in-Err-admit_found.ensures in
-    let before = r.switch.journal in
-    let after = c.admit_found.new.self.journal in
-    let own = settled_own port before after c.settle.new.self c.find_frames.new.found e.admits.count c.settle.ensures e.admits.some e.admits.kept in
-    subst (λ (b : Bool). StopsReading b rules port (bytes ++ c.args.piece.now) after) r.invariant.ended
-    (c.in-Ok.ensures.stops rules port bytes before after e.admits.count (λ some. r.invariant.ended ∙ live some) (r.invariant.read rules bytes live first) own.0 own.1)
+    let journal = c.admit_scanned.new.switch.journal in
+    let skips = c.admit_scanned.new.skipped in
+    let begun = subst (λ (h : Held). Reading rules port all h c.args.skipped.now c.args.switch.now.journal) (sym c.scan-scan.ensures) first in
+    subst (λ (h : Held). AllRead rules port all h skips journal)
+    (scan_kept c.args.reader.now c.scan-scan.result c.admit_scanned.new.scan c.keep.new.self c.args.bytes.now c.bytes-rest.result.now c.scan-scan.ensures c.admit_scanned.ensures.same c.bytes-rest.ensures c.keep.ensures)
+    (c.in_default.ensures.read rules all begun)
 
-pub returns-then-is_all-clause-grows : goal.returns-then-is_all-clause-grows
-returns-then-is_all-clause-grows c = grows_kept c.args.port c.args.switch.now c.reading.switch c.admit_found.new.self (take c.admit_found.ensures.admits.count (packets_of c.settle.new.self)) c.reading.invariant.grows c.admit_found.ensures.same.0 c.admit_found.ensures.admits.kept c.admit_found.ensures.given
-
-pub returns-then-is_all-clause-read : goal.returns-then-is_all-clause-read
-returns-then-is_all-clause-read c = λ rules bytes live first.
-    let r = c.reading in
+pub returns-in-Err-clause-stopped : goal.returns-in-Err-clause-stopped
+returns-in-Err-clause-stopped c = λ rules all first.
     let port = c.args.port in
-    let before = r.switch.journal in
-    let after = c.admit_found.new.self.journal in
-    let admits = c.in_default.ensures.admits in
-    c.in-Ok.ensures.all c.if-is_all.true rules port bytes before after (λ some. r.invariant.ended ∙ live some) (r.invariant.read rules bytes live first) (took_kept port before after c.settle.new.self c.find_frames.new.found admits.count c.settle.ensures admits.all admits.kept)
-
-pub reading-preserved : goal.reading-preserved
-reading-preserved c =
-    let r = c.reading in
-    let port = c.args.port in
-    let before = r.switch.journal in
-    let after = c.admit_found.new.self.journal in
-    let admits = c.in_default.ensures.admits in
-    record {
-      within = c.in-Ok.ensures.within;
-      ended = c.in-Ok.ensures.ended ∙ r.invariant.ended;
-      grows = grows_kept c.args.port c.args.switch.now c.reading.switch c.admit_found.new.self (take c.admit_found.ensures.admits.count (packets_of c.settle.new.self)) c.reading.invariant.grows c.admit_found.ensures.same.0 c.admit_found.ensures.admits.kept c.admit_found.ensures.given;
-      read = λ rules bytes live first.
-          c.in-Ok.ensures.read c.if-is_all.false rules port bytes before after (λ some. r.invariant.ended ∙ live some) (r.invariant.read rules bytes live first) (took_kept port before after c.settle.new.self c.find_frames.new.found admits.count c.settle.ensures admits.all admits.kept);
-    }
+    let begun = subst (λ (h : Held). Reading rules port all h c.args.skipped.now c.args.switch.now.journal) (sym c.scan-scan.ensures) first in
+    subst (λ (b : Bool). StopsReading b rules port all c.admit_scanned.new.switch.journal) (ap (λ (h : Held). h.ended) c.scan-scan.ensures) (c.in-Err.ensures.stopped rules all begun)

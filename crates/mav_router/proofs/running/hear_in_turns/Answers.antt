@@ -1,41 +1,25 @@
-use Rattle.std.proofs.Common.{◌∙◌, ◌++◌, subst, Bool}
+use Rattle.std.proofs.Common.{ap, sym, subst, Bool}
+use Rattle.mav_stream.specs.Held.{Held}
 use Rattle.mav_router.specs.History.{entries_in}
+use Rattle.mav_router.specs.Runs.{Reading, AllRead}
 use Rattle.mav_router.specs.Faults.{StopsReading}
-use Rattle.mav_router.proofs.Findings.{settled_took, took_all}
-use Rattle.mav_router.proofs.Seats.{prefix_then}
+use Rattle.mav_router.proofs.Readings.{scan_kept}
 use Rattle.mav_router.proofs.running.hear_in_turns.Goals as goal
 
-pub returns-in-Err-admit_found-clause-stopped : goal.returns-in-Err-admit_found-clause-stopped
-returns-in-Err-admit_found-clause-stopped g c = λ bytes live first.
-    let r = c.reading in
+pub returns-clause-read : goal.returns-clause-read
+returns-clause-read g c = λ all first.
     let rules = c.args.rules.now in
     let port = c.args.port in
-    let before = entries_in r.seat.own in
-    let after = entries_in c.admit_found.new.seat.own in
-    let takes = c.in-Err-admit_found.ensures.takes in
-    let own = settled_took port before after c.settle.new.self c.find_frames.new.found takes.count c.settle.ensures takes.some takes.took in
-    subst (λ (b : Bool). StopsReading b rules port (bytes ++ c.args.piece.now) after) r.invariant.ended
-    (c.in-Ok.ensures.stops rules port bytes before after takes.count (λ some. r.invariant.ended ∙ live some) (r.invariant.read bytes live first) own.0 own.1)
+    let own = entries_in c.admit_in_turns.new.seat.own in
+    let skips = c.admit_in_turns.new.skipped in
+    let begun = subst (λ (h : Held). Reading rules port all h c.args.skipped.now (entries_in c.args.seat.now.own)) (sym c.scan-scan.ensures) first in
+    subst (λ (h : Held). AllRead rules port all h skips own)
+    (scan_kept c.args.reader.now c.scan-scan.result c.admit_in_turns.new.scan c.keep.new.self c.args.bytes.now c.bytes-rest.result.now c.scan-scan.ensures c.admit_in_turns.ensures.same c.bytes-rest.ensures c.keep.ensures)
+    (c.in_default.ensures.read all begun)
 
-pub returns-then-is_all-clause-read : goal.returns-then-is_all-clause-read
-returns-then-is_all-clause-read g c = λ bytes live first.
-    let r = c.reading in
-    let before = entries_in r.seat.own in
-    let after = entries_in c.admit_found.new.seat.own in
-    let takes = c.in_default.ensures.takes in
-    c.in-Ok.ensures.all c.if-is_all.true c.args.rules.now c.args.port bytes before after (λ some. r.invariant.ended ∙ live some) (r.invariant.read bytes live first) (took_all c.args.port before after c.settle.new.self c.find_frames.new.found takes.count c.settle.ensures takes.all takes.took)
-
-pub reading-preserved : goal.reading-preserved
-reading-preserved g c =
-    let r = c.reading in
-    let before = entries_in r.seat.own in
-    let after = entries_in c.admit_found.new.seat.own in
-    let takes = c.in_default.ensures.takes in
-    record {
-      within = c.in-Ok.ensures.within;
-      ended = c.in-Ok.ensures.ended ∙ r.invariant.ended;
-      seated = c.admit_found.ensures.seated;
-      begins = prefix_then (entries_in c.args.seat.now.seen) (entries_in r.seat.seen) (entries_in c.admit_found.new.seat.seen) r.invariant.begins c.admit_found.ensures.begins;
-      read = λ bytes live first.
-          c.in-Ok.ensures.read c.if-is_all.false c.args.rules.now c.args.port bytes before after (λ some. r.invariant.ended ∙ live some) (r.invariant.read bytes live first) (took_all c.args.port before after c.settle.new.self c.find_frames.new.found takes.count c.settle.ensures takes.all takes.took);
-    }
+pub returns-in-Err-clause-stopped : goal.returns-in-Err-clause-stopped
+returns-in-Err-clause-stopped g c = λ all first.
+    let rules = c.args.rules.now in
+    let port = c.args.port in
+    let begun = subst (λ (h : Held). Reading rules port all h c.args.skipped.now (entries_in c.args.seat.now.own)) (sym c.scan-scan.ensures) first in
+    subst (λ (b : Bool). StopsReading b rules port all (entries_in c.admit_in_turns.new.seat.own)) (ap (λ (h : Held). h.ended) c.scan-scan.ensures) (c.in-Err.ensures.stopped all begun)

@@ -14,9 +14,9 @@ returns-clause-so_far g c = on_ok c.hear_in_turns.result (λ heard first p.
     let frames = frames_to part.port (take part.side.taken seen) in
     let u = c.in-Some.ensures.some c.args.rules.now (entries_in part.seat.own) part.port first p.input in
     record {
-      input = u.heard (entries_in h.new.seat.own) h.new.scanner h.new.skipped h.ensures.ended (heard u.bytes u.live u.reading);
+      input = u.heard (entries_in h.new.seat.own) h.new.reader h.new.skipped h.ensures.ended (heard u.bytes u.reading);
       output = output_longer part.port part.side.taken seen (entries_in h.new.seat.seen) first now _ c.requires.ready.taken h.ensures.begins
-          (output_relaned frames first now c.read_lane.new.lane h.new.scanner h.new.skipped (c.read_lane.ensures.output frames first p.output));
+          (output_relaned frames first now c.read_lane.new.lane h.new.reader h.new.skipped (c.read_lane.ensures.output frames first p.output));
     }) c.hear_in_turns.ensures.read
 
 pub returns-clause-stopped : goal.returns-clause-stopped
@@ -28,7 +28,7 @@ returns-clause-stopped g c = on_err c.hear_in_turns.result (λ heard first p.
     let frames = frames_to part.port (take part.side.taken seen) in
     let u = c.in-Some.ensures.some c.args.rules.now (entries_in part.seat.own) part.port first p.input in
     record {
-      input = u.stops (entries_in h.new.seat.own) (heard u.bytes u.live u.reading);
+      input = u.stops (entries_in h.new.seat.own) (heard u.bytes u.reading);
       output = output_longer part.port part.side.taken seen (entries_in h.new.seat.seen) first now _ c.requires.ready.taken h.ensures.begins
-          (output_relaned frames first now c.read_lane.new.lane h.new.scanner h.new.skipped (c.read_lane.ensures.output frames first p.output));
+          (output_relaned frames first now c.read_lane.new.lane h.new.reader h.new.skipped (c.read_lane.ensures.output frames first p.output));
     }) c.hear_in_turns.ensures.stopped

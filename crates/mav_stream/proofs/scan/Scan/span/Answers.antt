@@ -1,7 +1,7 @@
 use Rattle.std.proofs.Common.{ap, ◌∙◌}
 use Rattle.mav_frame.specs.declared.looks.Look.{Look}
 use Rattle.mav_stream.specs.Spans.{span_by}
-use Rattle.mav_stream.proofs.scanner.Scanner.span.Goals as goal
+use Rattle.mav_stream.proofs.scan.Scan.span.Goals as goal
 
 pub returns-in-More : goal.returns-in-More
 returns-in-More c =
