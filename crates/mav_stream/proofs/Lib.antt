@@ -5,4 +5,4 @@ mod CallList
 mod Counts
 mod Lengths
 mod Skipped
-mod NextSpans
+pub mod NextSpans
