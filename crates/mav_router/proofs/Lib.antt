@@ -16,3 +16,4 @@ pub mod HeldFrames
 pub mod Pages
 pub mod Admissions
 pub mod Outgoing
+pub mod Buffers

@@ -7,6 +7,7 @@ pub mod Delivery
 pub mod History
 pub mod Unheard
 pub mod Found
+pub mod Finds
 pub mod Parts
 pub mod Crews
 pub mod Threads

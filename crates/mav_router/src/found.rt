@@ -1,32 +1,29 @@
 // The frames that a port's reader found, until a turn.
-ghost use Rattle.std.specs.Prelude.{◌≡◌, ◌<◌, ◌≤◌, ◌++◌, ◌∷◌, [], ℕ, List, length, take, true, false, All, IfOk, OnOk, OnErr, slice_get, Some, vec_len, vec_capacity};
-ghost use Rattle.mav_router.specs.declared.entries.Entry.{Entry};
-ghost use Rattle.mav_router.specs.Faults.{StopsReading};
+ghost use Rattle.std.specs.Prelude.{◌≡◌, ◌<◌, ◌≤◌, ◌-◌, ◌++◌, ◌∷◌, [], length, map, take, drop, All, IfOk, OnOk, OnErr, slice_get, Some, vec_len, vec_capacity};
 ghost use Rattle.mav_router.specs.Found.{IsJudged, Judged, KeepsFound, packets_of};
-ghost use Rattle.mav_stream.specs.Held.{Held};
 ghost use Rattle.mav_stream.specs.Spans.{first_packet, held_after, next_span};
-ghost use Rattle.mav_router.specs.Journal.{frames_from};
-ghost use Rattle.mav_router.specs.Runs.{Reading, AllRead};
-ghost use Rattle.mav_router.specs.Journal.{Rules};
+ghost use Rattle.mav_router.specs.Finds.{FindsAll, FindsUntaken};
+ghost use Rattle.mav_router.specs.Spans.{AreFound, judged_of};
 ghost use Rattle.mav_router.specs.Admitting.{AdmitsThese};
 
 use crate::admitting::admit_frames;
+use crate::buffer::Buffer;
 use crate::hearing::next_frame;
 use crate::judging::{Judgement, judge};
 use crate::moves::put_last;
 use crate::page::{Head, Page};
-use crate::spans::{Span, append};
+use crate::spans::{Span, append, frame_in};
 use crate::{NoMemory, RouterRules};
 use link_table::LinkTable;
 use mav_frame::{Frame, RawFrame, encode};
 use mav_sign::Stamps;
-use mav_stream::{NextSpan, Scan};
+use mav_stream::{NextSpan, PieceReader, Scan};
 use std::alloc::Global;
 use std::marker::Model;
 use std::mem;
 
-// So many at most.
-const MOST_FOUND: usize = 128;
+// Frames with so many bytes are left in the buffer that they were read into: three quarters of what it has.
+const MANY_BYTES: usize = 3282;
 
 /// A frame without its bytes.
 #[derive(Clone, Copy)]
@@ -35,12 +32,15 @@ pub(crate) struct FoundFrame {
     pub(crate) judgement: Judgement,
 }
 
-/// Frames with their judgements, in their order. Their bytes stand as they will in the journal, whose page they become.
+/// Frames with their judgements, in their order. Their bytes stand as they will in the journal, whose page they become: many
+/// where they were read, so that they aren't copied, and few in memory of their size.
 #[derive(Drop)]
 pub(crate) struct FoundFrames {
     bytes: Vec<u8>,
     items: Vec<FoundFrame>,
-    // Room for the heads of the page.
+    are_copied: bool,
+    // Room for the next frames, and for the heads of the page.
+    next: Vec<FoundFrame>,
     heads: Vec<Head>,
     alloc: Global,
 }
@@ -65,6 +65,99 @@ pub(crate) fn item_at(items: &[FoundFrame], index: usize) -> FoundFrame
     items[index]
 }
 
+// Appends the frame of that length at the start of a scan, which is over the rest of these bytes, and takes it off there.
+fn find_frame(
+    rules: &RouterRules<'_>,
+    scan: &mut Scan<'_, '_>,
+    bytes: &[u8],
+    size: usize,
+    items: &mut Vec<FoundFrame>,
+) -> Result<(), NoMemory>
+    requires there { next_span scan.old ≡ NextSpan.Frame size }
+    requires within { size ≤ length scan.old.bytes }
+    requires rest { scan.old.bytes ≡ drop (length bytes.now - length scan.old.bytes) bytes.now }
+    requires inside { length scan.old.bytes ≤ length bytes.now }
+    ensures scan { OnOk result (scan.new ≡ held_after scan.old (NextSpan.Frame size)) }
+    ensures held { AreFound bytes.now items.old.items → AreFound bytes.now items.new.items }
+    ensures kept { OnOk result (KeepsFound rules.now (first_packet scan.old) (map (judged_of bytes.now) items.old.items) (map (judged_of bytes.now) items.new.items)) }
+    ensures same { OnErr result ((scan.new ≡ scan.old) × (items.new.items ≡ items.old.items)) }
+{
+    let start = bytes.len() - scan.bytes().len();
+    let span = Span {
+        start,
+        end: start + size,
+    };
+    let frame = scan.raw_frame(size);
+    // It has at most 280.
+    let _bytes = frame.bytes();
+    let judgement = judge(rules, &frame);
+    items.reserve(1)?;
+    put_last(items, FoundFrame { span, judgement });
+    scan.consume(size);
+    Ok(())
+}
+
+// All frames of a scan over some bytes, with their judgements. Bytes that are skipped are counted.
+fn find_frames(
+    rules: &RouterRules<'_>,
+    scan: &mut Scan<'_, '_>,
+    bytes: &[u8],
+    skipped: &mut u64,
+    items: &mut Vec<FoundFrame>,
+) -> Result<(), NoMemory>
+    requires all { scan.old.bytes ≡ bytes.now }
+    requires none { vec_len items.old ≡ 0 }
+    ensures same { scan.new ≡ record scan.old { bytes = scan.new.bytes } }
+    ensures held { AreFound bytes.now items.new.items }
+    ensures judged { All (IsJudged rules.now) (map (judged_of bytes.now) items.new.items) }
+    ensures room { OnOk result (length scan.new.bytes < 280) }
+    ensures finds { OnOk result (FindsAll scan.old skipped.old scan.new skipped.new (packets_of (map (judged_of bytes.now) items.new.items))) }
+    ensures unkept { OnErr result (FindsUntaken scan.old skipped.old) }
+{
+    'finding: loop {
+        let Some(size) = next_frame(scan, skipped) else {
+            return Ok(());
+        };
+        if let Err(fault) = find_frame(rules, scan, bytes, size, items) {
+            return Err(fault);
+        }
+    }
+}
+
+// The same of all bytes of a read, after those that the port's reader held. What is left is held.
+fn find_all<'b>(
+    rules: &RouterRules<'_>,
+    reader: &mut PieceReader,
+    bytes: &'b [u8],
+    skipped: &mut u64,
+    items: &mut Vec<FoundFrame>,
+) -> Result<(), NoMemory>
+    requires none { vec_len items.old ≡ 0 }
+    ensures ended { reader.new.ended ≡ reader.old.ended }
+    ensures held { AreFound bytes.now items.new.items }
+    ensures judged { All (IsJudged rules.now) (map (judged_of bytes.now) items.new.items) }
+    ensures finds { OnOk result (FindsAll (record reader.old { bytes = bytes.now }) skipped.old reader.new skipped.new (packets_of (map (judged_of bytes.now) items.new.items))) }
+    ensures unkept { OnErr result (FindsUntaken (record reader.old { bytes = bytes.now }) skipped.old) }
+{
+    let mut scan = reader.scan(bytes);
+    if let Err(fault) = find_frames(rules, &mut scan, bytes, skipped, items) {
+        return Err(fault);
+    }
+    let rest: &'b [u8] = scan.bytes();
+    reader.keep(rest);
+    Ok(())
+}
+
+// Whether frames have enough bytes to be left in their buffer.
+fn are_many(items: &[FoundFrame]) -> bool {
+    let mut sum: usize = 0;
+    for at in 0..items.len() {
+        let span = items[at].span;
+        sum = sum.saturating_add(span.end.saturating_sub(span.start));
+    }
+    sum >= MANY_BYTES
+}
+
 // Allocates room for one frame more, and with the first one for all bytes that may come with it.
 fn make_room(bytes: &mut Vec<u8>, items: &mut Vec<FoundFrame>, room: usize) -> Result<(), NoMemory>
     ensures bytes { bytes.new.items ≡ bytes.old.items }
@@ -84,6 +177,8 @@ impl FoundFrames {
         FoundFrames {
             bytes: Vec::new(alloc),
             items: Vec::new(alloc),
+            are_copied: true,
+            next: Vec::new(alloc),
             heads: Vec::new(alloc),
             alloc,
         }
@@ -123,11 +218,80 @@ impl FoundFrames {
         self.push(&raw, judgement, size)
     }
 
+    // Copies frames that were found in these bytes.
+    fn copy(&mut self, bytes: &[u8], items: &[FoundFrame]) -> Result<(), NoMemory>
+        requires { AreFound bytes.now items.now }
+        ensures { OnOk result (self.new ≡ map (judged_of bytes.now) items.now) }
+    {
+        self.clear();
+        self.are_copied = true;
+        for at in 0..items.len() {
+            let one = item_at(items, at);
+            self.push(&frame_in(bytes, one.span), one.judgement, bytes.len())?;
+        }
+        Ok(())
+    }
+
+    // Takes frames that were found in so many first bytes of a buffer, and if they are many the buffer's memory with them.
+    fn hold(
+        &mut self,
+        buf: &mut Buffer,
+        size: usize,
+        items: Vec<FoundFrame>,
+    ) -> Result<(), NoMemory>
+        requires within { size ≤ 4376 }
+        requires held { AreFound (take size buf.old) items.items }
+        requires some { 0 < vec_len items }
+        ensures held { OnOk result (self.new ≡ map (judged_of (take size buf.old)) items.items) }
+        ensures some { 0 < length items.items }
+    {
+        if are_many(&items) {
+            self.bytes = buf.give(self.alloc, size)?;
+            self.next = mem::replace(&mut self.items, items);
+            self.are_copied = false;
+            return Ok(());
+        }
+        self.copy(&buf.bytes()[..size], &items)?;
+        self.next = items;
+        Ok(())
+    }
+
+    /// Finds all frames in so many first bytes of a buffer, which are those that a port's reader held and those of a read
+    /// after them, with their judgements. What is left is held, and bytes that are skipped are counted.
+    pub(crate) fn find(
+        &mut self,
+        rules: &RouterRules<'_>,
+        reader: &mut PieceReader,
+        skipped: &mut u64,
+        buf: &mut Buffer,
+        size: usize,
+    ) -> Result<(), NoMemory>
+        requires within { size ≤ 4376 }
+        ensures ended { reader.new.ended ≡ reader.old.ended }
+        ensures judged { OnOk result (All (IsJudged rules.now) self.new) }
+        ensures finds { OnOk result (FindsAll (record reader.old { bytes = take size buf.old }) skipped.old reader.new skipped.new (packets_of self.new)) }
+        ensures unkept { OnErr result (FindsUntaken (record reader.old { bytes = take size buf.old }) skipped.old) }
+    {
+        let mut items = mem::replace(&mut self.next, Vec::new(self.alloc));
+        items.clear();
+        if let Err(fault) = find_all(rules, reader, &buf.bytes()[..size], skipped, &mut items) {
+            return Err(fault);
+        }
+        if items.is_empty() {
+            self.clear();
+            self.next = items;
+            return Ok(());
+        }
+        self.hold(buf, size, items)
+    }
+
     /// Gives back what memory isn't needed, and allocates that of the page's heads, if there is any.
     pub(crate) fn settle(&mut self)
         ensures { self.new ≡ self.old }
     {
-        self.bytes.shrink_to_fit();
+        if self.are_copied {
+            self.bytes.shrink_to_fit();
+        }
         if let Err(_) = self.heads.reserve_exact(self.items.len()) {}
     }
 
@@ -169,69 +333,6 @@ impl FoundFrames {
         let bytes = mem::replace(&mut self.bytes, Vec::new(self.alloc));
         let heads = mem::replace(&mut self.heads, Vec::new(self.alloc));
         self.items.clear();
-        Ok(Page::of(bytes, heads))
+        Ok(Page::of(bytes, heads, self.are_copied))
     }
-}
-
-// Takes the frame at the start of a scan, and keeps it with its judgement.
-fn find_frame(
-    rules: &RouterRules<'_>,
-    scan: &mut Scan<'_, '_>,
-    size: usize,
-    found: &mut FoundFrames,
-) -> Result<(), NoMemory>
-    requires there { next_span scan.old ≡ NextSpan.Frame size }
-    requires within { size ≤ length scan.old.bytes }
-    ensures scan { OnOk result (scan.new ≡ held_after scan.old (NextSpan.Frame size)) }
-    ensures kept { OnOk result (KeepsFound rules.now (first_packet scan.old) found.old found.new) }
-    ensures same { OnErr result ((scan.new ≡ scan.old) × (found.new ≡ found.old)) }
-{
-    let frame = scan.raw_frame(size);
-    let judgement = judge(rules, &frame);
-    found.push(&frame, judgement, scan.bytes().len())?;
-    scan.consume(size);
-    Ok(())
-}
-
-/// The next frames of a scan, as many as are kept, with their judgements. Bytes that are skipped are counted. Returns
-/// whether these are all.
-pub(crate) fn find_frames(
-    rules: &RouterRules<'_>,
-    scan: &mut Scan<'_, '_>,
-    skipped: &mut u64,
-    found: &mut FoundFrames,
-) -> Result<bool, NoMemory>
-    ensures same { scan.new ≡ record scan.old { bytes = scan.new.bytes } }
-    ensures judged { All (IsJudged rules.now) found.new }
-    ensures fewer { IfOk result (λ all. all ≡ false → length scan.new.bytes < length scan.old.bytes) }
-    ensures room { IfOk result (λ all. all ≡ true → length scan.new.bytes < 280) }
-    ensures read { IfOk result (λ all. all ≡ false → (by : Rules) (port : ℕ) (bytes : List ℕ) (journal after : List Entry)
-        → Reading by port bytes scan.old skipped.old journal
-        → frames_from port after ≡ frames_from port journal ++ packets_of found.new
-        → Reading by port bytes scan.new skipped.new after) }
-    ensures all { IfOk result (λ all. all ≡ true → (by : Rules) (port : ℕ) (bytes : List ℕ) (journal after : List Entry)
-        → Reading by port bytes scan.old skipped.old journal
-        → frames_from port after ≡ frames_from port journal ++ packets_of found.new
-        → AllRead by port bytes scan.new skipped.new after) }
-    ensures stops { OnOk result ((by : Rules) (port : ℕ) (bytes : List ℕ) (journal after : List Entry) (count : ℕ)
-        → Reading by port bytes scan.old skipped.old journal
-        → count < length (packets_of found.new)
-        → frames_from port after ≡ frames_from port journal ++ take count (packets_of found.new)
-        → StopsReading scan.old.ended by port bytes after) }
-    // A frame was found for which there is no memory.
-    ensures unkept { OnErr result ((by : Rules) (port : ℕ) (bytes : List ℕ) (journal : List Entry)
-        → Reading by port bytes scan.old skipped.old journal
-        → StopsReading scan.old.ended by port bytes journal) }
-{
-    found.clear();
-    for at in 0..MOST_FOUND {
-        let _ = at;
-        let Some(size) = next_frame(scan, skipped) else {
-            return Ok(true);
-        };
-        if let Err(fault) = find_frame(rules, scan, size, found) {
-            return Err(fault);
-        }
-    }
-    Ok(false)
 }

@@ -1,5 +1,5 @@
 // What comes in at a port.
-ghost use Rattle.std.specs.Prelude.{◌≡◌, ◌≤◌, ◌<◌, ◌++◌, ◌∷◌, [], ℕ, List, length, OnOk, OnErr, IfErr, IfSome, IfNone};
+ghost use Rattle.std.specs.Prelude.{◌≡◌, ◌≤◌, ◌<◌, ◌-◌, ◌++◌, ◌∷◌, [], ℕ, List, length, drop, take, OnOk, OnErr, IfErr, IfSome, IfNone};
 ghost use Rattle.mav_router.specs.declared.entries.Entry.{Entry};
 ghost use Rattle.mav_router.specs.Journal.{Rules, Grows, frames_from};
 ghost use Rattle.mav_stream.specs.Held.{Held};
@@ -7,7 +7,8 @@ ghost use Rattle.mav_stream.specs.Spans.{first_packet, held_after, next_span};
 ghost use Rattle.mav_router.specs.Runs.{Reading, AllRead};
 ghost use Rattle.mav_router.specs.Faults.{IsSwitchFault, StopsReading};
 
-use crate::found::{FoundFrames, find_frames};
+use crate::buffer::Buffer;
+use crate::found::FoundFrames;
 use crate::{Switch, SwitchFault};
 use mav_stream::{NextSpan, PieceReader, Scan};
 
@@ -17,6 +18,7 @@ pub(crate) fn next_frame(scan: &mut Scan<'_, '_>, skipped: &mut u64) -> Option<u
     ensures there { IfSome result (λ size. next_span scan.new ≡ NextSpan.Frame size) }
     ensures size { IfSome result (λ size. (0 < size) × (size ≤ length scan.new.bytes)) }
     ensures fewer { length scan.new.bytes ≤ length scan.old.bytes }
+    ensures rest { scan.new.bytes ≡ drop (length scan.old.bytes - length scan.new.bytes) scan.old.bytes }
     ensures found { IfSome result (λ size. (rules : Rules) (port : ℕ) (bytes : List ℕ) (journal after : List Entry)
         → Reading rules port bytes scan.old skipped.old journal
         → frames_from port after ≡ frames_from port journal ++ first_packet scan.new ∷ []
@@ -42,69 +44,33 @@ pub(crate) fn next_frame(scan: &mut Scan<'_, '_>, skipped: &mut u64) -> Option<u
     }
 }
 
-// Has the switch admit the frames of a scan, as many at once as are kept, and counts the bytes that are skipped.
-fn admit_scanned(
-    switch: &mut Switch<'_>,
-    scan: &mut Scan<'_, '_>,
-    skipped: &mut u64,
-    port: u8,
-    found: &mut FoundFrames,
-) -> Result<(), SwitchFault>
-    requires from { 1 ≤ port }
-    requires to { port ≤ switch.old.rules.ports }
-    ensures same { scan.new ≡ record scan.old { bytes = scan.new.bytes } }
-    ensures grows { Grows port switch.old switch.new }
-    ensures read { OnOk result ((rules : Rules) (bytes : List ℕ)
-        → Reading rules port bytes scan.old skipped.old switch.old.journal
-        → AllRead rules port bytes scan.new skipped.new switch.new.journal) }
-    ensures room { OnOk result (length scan.new.bytes < 280) }
-    ensures stopped { OnErr result ((rules : Rules) (bytes : List ℕ)
-        → Reading rules port bytes scan.old skipped.old switch.old.journal
-        → StopsReading scan.old.ended rules port bytes switch.new.journal) }
-    ensures fault { IfErr result (λ fault. IsSwitchFault fault switch.new.journal) }
-{
-    'reading: loop {
-        let is_all = match find_frames(switch.rules(), scan, skipped, found) {
-            Ok(is_all) => is_all,
-            Err(_) => return Err(SwitchFault::NoMemory),
-        };
-        found.settle();
-        if let Err(fault) = switch.admit_found(port, found) {
-            return Err(fault);
-        }
-        if is_all {
-            return Ok(());
-        }
-    }
-}
-
-/// Has the switch admit the frames that are found in some bytes: those that the port's reader held and those of a read
-/// after them. What is left is held.
-pub(crate) fn hear<'b>(
+/// Has the switch admit the frames that are found in so many first bytes of a buffer: those that the port's reader held and
+/// those of a read after them. What is left is held.
+pub(crate) fn hear(
     switch: &mut Switch<'_>,
     reader: &mut PieceReader,
     skipped: &mut u64,
     port: u8,
-    bytes: &'b [u8],
+    buf: &mut Buffer,
+    size: usize,
     found: &mut FoundFrames,
 ) -> Result<(), SwitchFault>
     requires from { 1 ≤ port }
     requires to { port ≤ switch.old.rules.ports }
+    requires within { size ≤ 4376 }
     ensures ended { reader.new.ended ≡ reader.old.ended }
     ensures grows { Grows port switch.old switch.new }
     ensures read { OnOk result ((rules : Rules) (all : List ℕ)
-        → Reading rules port all (record reader.old { bytes = bytes.now }) skipped.old switch.old.journal
+        → Reading rules port all (record reader.old { bytes = take size buf.old }) skipped.old switch.old.journal
         → AllRead rules port all reader.new skipped.new switch.new.journal) }
     ensures stopped { OnErr result ((rules : Rules) (all : List ℕ)
-        → Reading rules port all (record reader.old { bytes = bytes.now }) skipped.old switch.old.journal
+        → Reading rules port all (record reader.old { bytes = take size buf.old }) skipped.old switch.old.journal
         → StopsReading reader.old.ended rules port all switch.new.journal) }
     ensures fault { IfErr result (λ fault. IsSwitchFault fault switch.new.journal) }
 {
-    let mut scan = reader.scan(bytes);
-    if let Err(fault) = admit_scanned(switch, &mut scan, skipped, port, found) {
-        return Err(fault);
+    if let Err(_) = found.find(switch.rules(), reader, skipped, buf, size) {
+        return Err(SwitchFault::NoMemory);
     }
-    let rest: &'b [u8] = scan.bytes();
-    reader.keep(rest);
-    Ok(())
+    found.settle();
+    switch.admit_found(port, found)
 }

@@ -2,14 +2,11 @@
 ghost use Rattle.std.specs.Prelude.{◌≡◌, ◌≤◌, ◌+◌, ℕ, List, [], map, length, vec_len, vec_capacity, slice_get, Some, IfOk};
 ghost use Rattle.mav_router.specs.Threads.{IsStocked, IsPlaced};
 
-use crate::batch::Batch;
 use crate::crew::PortJob;
-use crate::found::FoundFrames;
 use crate::lane::Lane;
 use crate::moves::{put_last, take_first};
 use crate::parts::{Halt, Part, Room, Side};
 use crate::routing::new_lanes;
-use crate::shared::SharedPages;
 use crate::signals::Signals;
 use crate::{NoMemory, RouterRules, Switch};
 use dialect::Dialect;
@@ -25,24 +22,13 @@ pub(crate) struct Stock<L> {
     pub(crate) sides: Vec<Side<L>>,
 }
 
-fn new_room(alloc: Global) -> Result<Room, NoMemory> {
-    let batch = Batch::new(alloc)?;
-    let found = FoundFrames::new(alloc);
-    let shared = SharedPages::new(alloc)?;
-    Ok(Room {
-        batch,
-        found,
-        shared,
-    })
-}
-
 fn new_rooms(alloc: Global, count: usize) -> Result<Vec<Room>, NoMemory>
     ensures { IfOk result (λ rooms. vec_len rooms ≡ count) }
 {
     let mut rooms = Vec::new(alloc);
     for at in 0..count {
         let _ = at;
-        rooms.push(new_room(alloc)?)?;
+        rooms.push(Room::new(alloc)?)?;
     }
     Ok(rooms)
 }

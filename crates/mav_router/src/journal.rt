@@ -10,7 +10,7 @@ ghost use Rattle.mav_router.specs.Pages.{entries_in_pages, AreIndexed, IsIn, IsW
 use crate::entries::Outcome;
 use crate::found::FoundFrames;
 use crate::moves::put_last;
-use crate::page::Page;
+use crate::page::{Page, Run};
 use crate::sealed::SealedPage;
 use crate::shared::SharedPages;
 use crate::{Entry, NoMemory, RouterRules, SwitchFault};
@@ -153,13 +153,13 @@ impl Journal {
 
     /// The bytes of frames that go out at the port, of the entries from an index on: of the next one in a page, and of those
     /// after it that stand together with it. Moves the index past the entries that were looked through.
-    pub(crate) fn run(&self, port: u8, from: &mut usize) -> &[u8]
+    pub(crate) fn run(&self, port: u8, from: &mut usize) -> Run<'_>
         requires from { 1 ≤ port }
         requires to { port ≤ 8 }
         requires within { from.old < length self.now }
         ensures within { from.new ≤ length self.now }
         ensures moves { from.old < from.new }
-        ensures run { IsRun port self.now from.old from.new result.now }
+        ensures run { IsRun port self.now from.old from.new result.bytes.now }
     {
         let before = self.page_of.len();
         if *from < before {

@@ -12,6 +12,7 @@
 
 mod admitting;
 mod batch;
+mod buffer;
 mod closing;
 mod crew;
 mod ends;

@@ -24,6 +24,14 @@ pub(crate) struct Head {
 pub(crate) struct Page {
     bytes: Vec<u8>,
     heads: Vec<Head>,
+    is_copied: bool,
+}
+
+/// The bytes of frames that stand together, and whether they were copied on their way here.
+#[derive(Clone, Copy)]
+pub(crate) struct Run<'a> {
+    pub(crate) bytes: &'a [u8],
+    pub(crate) is_copied: bool,
 }
 
 impl Model for Page {
@@ -98,11 +106,15 @@ fn run_at(heads: &[Head], port: u8, first: usize, end: &mut usize) -> Span
 
 impl Page {
     /// The entries with these heads, whose frames stand in these bytes.
-    pub(crate) fn of(bytes: Vec<u8>, heads: Vec<Head>) -> Page
+    pub(crate) fn of(bytes: Vec<u8>, heads: Vec<Head>, is_copied: bool) -> Page
         requires { AreHeld bytes.items heads.items }
         ensures { result ≡ entries_of bytes.items heads.items }
     {
-        Page { bytes, heads }
+        Page {
+            bytes,
+            heads,
+            is_copied,
+        }
     }
 
     pub(crate) fn new(alloc: Global) -> Page
@@ -111,6 +123,7 @@ impl Page {
         Page {
             bytes: Vec::new(alloc),
             heads: Vec::new(alloc),
+            is_copied: true,
         }
     }
 
@@ -139,20 +152,26 @@ impl Page {
 
     /// The bytes of frames that go out at the port, of the entries from `at` on: of the next one, and of those after it that
     /// stand together with it. Moves `at` past the entries that were looked through.
-    pub(crate) fn run(&self, port: u8, at: &mut usize) -> &[u8]
+    pub(crate) fn run(&self, port: u8, at: &mut usize) -> Run<'_>
         requires from { 1 ≤ port }
         requires to { port ≤ 8 }
         requires within { at.old ≤ length self.now }
         ensures within { at.new ≤ length self.now }
         ensures moves { at.old < length self.now → at.old < at.new }
-        ensures run { IsRun port self.now at.old at.new result.now }
+        ensures run { IsRun port self.now at.old at.new result.bytes.now }
     {
         let first = first_to(&self.heads, port, *at);
         if first == self.heads.len() {
             *at = first;
-            return &self.bytes[..0];
+            return Run {
+                bytes: &[],
+                is_copied: true,
+            };
         }
         let span = run_at(&self.heads, port, first, at);
-        bytes_in(&self.bytes, span)
+        Run {
+            bytes: bytes_in(&self.bytes, span),
+            is_copied: self.is_copied,
+        }
     }
 }

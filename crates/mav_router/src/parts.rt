@@ -1,10 +1,12 @@
 // One port of a router with a thread for each.
 use crate::batch::Batch;
+use crate::buffer::Buffer;
 use crate::found::FoundFrames;
 use crate::lane::Lane;
 use crate::shared::SharedPages;
-use crate::{Switch, SwitchFault};
+use crate::{NoMemory, Switch, SwitchFault};
 use mav_links::Link;
+use std::alloc::Global;
 use turnstile::TurnSeat;
 
 /// How a thread ended.
@@ -18,12 +20,24 @@ pub(crate) enum Halt {
     Fault(SwitchFault),
 }
 
-/// What a thread works in: what waits for its port, and the frames that were found there.
+/// What a thread works in: what its port is read into, the frames that were found there, and what waits for the port.
 #[derive(Drop)]
 pub(crate) struct Room {
     pub(crate) batch: Batch,
+    pub(crate) buffer: Buffer,
     pub(crate) found: FoundFrames,
     pub(crate) shared: SharedPages,
+}
+
+impl Room {
+    pub(crate) fn new(alloc: Global) -> Result<Room, NoMemory> {
+        Ok(Room {
+            batch: Batch::new(alloc)?,
+            buffer: Buffer::new(alloc)?,
+            found: FoundFrames::new(alloc),
+            shared: SharedPages::new(alloc)?,
+        })
+    }
 }
 
 /// A port with its link, without its seat: `taken` is how many entries of the journal were looked through for it.

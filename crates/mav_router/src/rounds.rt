@@ -6,6 +6,7 @@ ghost use Rattle.mav_router.specs.Faults.{IsSwitchFault, StopsRound};
 ghost use Rattle.mav_router.specs.Runs.{RunSoFar, IsDrained, AllTurned};
 
 use crate::batch::Batch;
+use crate::buffer::Buffer;
 use crate::found::FoundFrames;
 use crate::lane::Lane;
 use crate::lanes::read_port;
@@ -18,13 +19,12 @@ pub(crate) fn read_each<L: Link>(
     switch: &mut Switch<'_>,
     lanes: &mut [Lane],
     links: &mut [L],
-    buf: &mut [u8],
+    buf: &mut Buffer,
     found: &mut FoundFrames,
 ) -> Result<(), SwitchFault>
     requires lanes { length lanes.old ≡ length links.old }
     requires ports { length links.old ≤ switch.old.rules.ports }
     requires few { length links.old ≤ 8 }
-    requires room { length buf.old ≡ 4376 }
     ensures rules { switch.new.rules ≡ switch.old.rules }
     ensures so_far { OnOk result ((rules : Rules) (first : ℕ → LinkState)
         → RunSoFar L.state rules switch.old first links.old lanes.old

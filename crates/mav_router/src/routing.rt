@@ -7,9 +7,8 @@ ghost use Rattle.mav_router.specs.Runs.{IsNew, RunSoFar, IsDrained, AllFresh, Al
 ghost use Rattle.mav_router.specs.Ends.{PortRun, end_by};
 ghost use Rattle.mav_router.specs.Faults.{IsSwitchFault, StopsRound, RouteStopped};
 
-use crate::batch::Batch;
-use crate::found::FoundFrames;
-use crate::lane::{BUFFER, Lane};
+use crate::lane::Lane;
+use crate::parts::Room;
 use crate::rounds::{read_each, write_each};
 use crate::{
     How, Journal, NoMemory, PortEnd, RouteEnd, RouteFault, RoutePlan, Switch, SwitchFault,
@@ -47,8 +46,7 @@ fn run_rounds<L: Link>(
     switch: &mut Switch<'_>,
     lanes: &mut [Lane],
     links: &mut [L],
-    batch: &mut Batch,
-    found: &mut FoundFrames,
+    room: &mut Room,
     turns: u64,
 ) -> Result<(), SwitchFault>
     requires lanes { length lanes.old ≡ length links.old }
@@ -67,16 +65,15 @@ fn run_rounds<L: Link>(
     ensures drained { OnOk result ((k : ℕ) → k < length lanes.new → IsDrained switch.new lanes.new k) }
     ensures turned { OnOk result (AllTurned lanes.new turns) }
 {
-    let mut buf = [0; BUFFER];
     for turn in 0..turns {
         let _ = turn;
         if is_done(lanes) {
             return Ok(());
         }
-        if let Err(fault) = read_each(switch, lanes, links, &mut buf, found) {
+        if let Err(fault) = read_each(switch, lanes, links, &mut room.buffer, &mut room.found) {
             return Err(fault);
         }
-        write_each(switch, lanes, links, batch);
+        write_each(switch, lanes, links, &mut room.batch);
     }
     Ok(())
 }
@@ -154,7 +151,7 @@ fn route_lanes<L: Link>(
     switch: &mut Switch<'_>,
     lanes: &mut [Lane],
     links: &mut [L],
-    batch: &mut Batch,
+    room: &mut Room,
     turns: u64,
 ) -> Result<Vec<PortEnd>, SwitchFault>
     requires lanes { length lanes.old ≡ length links.old }
@@ -174,8 +171,7 @@ fn route_lanes<L: Link>(
     ensures stopped { IfErr result (λ fault. (rules : Rules) → AllFresh rules lanes.old
         → RouteStopped L.state rules fault switch.new.journal links.old links.new) }
 {
-    let mut found = FoundFrames::new(alloc);
-    if let Err(fault) = run_rounds(switch, lanes, links, batch, &mut found, turns) {
+    if let Err(fault) = run_rounds(switch, lanes, links, room, turns) {
         return Err(fault);
     }
     let Ok(ends) = ends_of(alloc, lanes, turns) else {
@@ -187,12 +183,12 @@ fn route_lanes<L: Link>(
 }
 
 // Runs over a new switch, and returns what became of each port.
-fn route_batched<L: Link>(
+fn route_in<L: Link>(
     alloc: Global,
     known: &Dialect,
     switch: &mut Switch<'_>,
     links: &mut [L],
-    batch: &mut Batch,
+    room: &mut Room,
     plan: RoutePlan,
 ) -> Result<Vec<PortEnd>, SwitchFault>
     requires ports { length links.old ≤ switch.old.rules.ports }
@@ -218,12 +214,12 @@ fn route_batched<L: Link>(
         switch,
         lanes.as_mut_slice(),
         links,
-        batch,
+        room,
         plan.turns,
     )
 }
 
-// The same, with a buffer for what is written.
+// The same, with room for what is read and what is written.
 fn route_switch<L: Link>(
     alloc: Global,
     known: &Dialect,
@@ -246,10 +242,10 @@ fn route_switch<L: Link>(
     ensures stopped { IfErr result (λ fault. (key : List ℕ) (ports : ℕ)
         → RouteStopped L.state (record { key = key; known = known.now; ports = ports; plain = plan.plain }) fault switch.new.journal links.old links.new) }
 {
-    let Ok(mut batch) = Batch::new(alloc) else {
+    let Ok(mut room) = Room::new(alloc) else {
         return Err(SwitchFault::NoMemory);
     };
-    route_batched(alloc, known, switch, links, &mut batch, plan)
+    route_in(alloc, known, switch, links, &mut room, plan)
 }
 
 /// Routes between links on one thread, as [`route_one`] does.

@@ -1,5 +1,5 @@
 // The thread of a port.
-ghost use Rattle.std.specs.Prelude.{◌≡◌, ◌≤◌, ◌<◌, ◌+◌, ◌++◌, ◌^◌, ℕ, List, length, false, OnOk, OnErr, IfErr};
+ghost use Rattle.std.specs.Prelude.{◌≡◌, ◌≤◌, ◌<◌, ◌+◌, ◌++◌, ◌^◌, ℕ, List, length, take, false, OnOk, OnErr, IfErr};
 ghost use mathlib.Core.List.{IsPrefix};
 ghost use Rattle.mav_links.specs.Links.{LinkState};
 ghost use Rattle.mav_stream.specs.Held.{Held};
@@ -8,8 +8,9 @@ ghost use Rattle.mav_router.specs.Faults.{IsSwitchFault, StopsReading};
 ghost use Rattle.mav_router.specs.History.{entries_in};
 ghost use Rattle.mav_router.specs.Parts.{IsSeated, IsReady, PartSoFar, PartStopped, PartEnds};
 
-use crate::found::{FoundFrames, find_frames};
-use crate::lane::{BUFFER, PIECE};
+use crate::buffer::Buffer;
+use crate::found::FoundFrames;
+use crate::lane::PIECE;
 use crate::lanes::read_lane;
 use crate::parts::{Halt, Part};
 use crate::routing::is_live;
@@ -18,57 +19,16 @@ use crate::turns::{admit_found, share_waiting};
 use crate::writing::write_pages;
 use crate::{RouterRules, Switch, SwitchFault};
 use mav_links::Link;
-use mav_stream::{PieceReader, Scan};
+use mav_stream::PieceReader;
 use std::sync::Wait;
 use turnstile::{Turn, TurnSeat};
 
 // While reads give whole pieces, what waits for the port is written after each fourth one.
 const MOST_PUT_OFF: u32 = 3;
 
-// Has the switch admit the frames of a scan, as many in a turn as are kept, and counts the bytes that are skipped.
-fn admit_in_turns<'a, R: Wait>(
-    rt: &R,
-    turn: &Turn<Switch<'a>>,
-    rules: &RouterRules<'_>,
-    seat: &mut TurnSeat<Switch<'a>>,
-    scan: &mut Scan<'_, '_>,
-    skipped: &mut u64,
-    port: u8,
-    found: &mut FoundFrames,
-) -> Result<(), SwitchFault>
-    requires seated { IsSeated turn.now rules.now port seat.old }
-    requires from { 1 ≤ port }
-    requires to { port ≤ rules.now.ports }
-    ensures seated { IsSeated turn.now rules.now port seat.new }
-    ensures begins { IsPrefix (entries_in seat.old.seen) (entries_in seat.new.seen) }
-    ensures same { scan.new ≡ record scan.old { bytes = scan.new.bytes } }
-    ensures read { OnOk result ((bytes : List ℕ)
-        → Reading rules.now port bytes scan.old skipped.old (entries_in seat.old.own)
-        → AllRead rules.now port bytes scan.new skipped.new (entries_in seat.new.own)) }
-    ensures room { OnOk result (length scan.new.bytes < 280) }
-    ensures stopped { OnErr result ((bytes : List ℕ)
-        → Reading rules.now port bytes scan.old skipped.old (entries_in seat.old.own)
-        → StopsReading scan.old.ended rules.now port bytes (entries_in seat.new.own)) }
-    ensures fault { IfErr result (λ fault. IsSwitchFault fault (entries_in seat.new.seen)) }
-{
-    'reading: loop {
-        let is_all = match find_frames(rules, scan, skipped, found) {
-            Ok(is_all) => is_all,
-            Err(_) => return Err(SwitchFault::NoMemory),
-        };
-        found.settle();
-        if let Err(fault) = admit_found(rt, turn, rules, seat, port, found) {
-            return Err(fault);
-        }
-        if is_all {
-            return Ok(());
-        }
-    }
-}
-
-// Has the switch admit the frames that are found in some bytes: those that the port's reader held and those of a read
-// after them. What is left is held.
-fn hear_in_turns<'a, 'b, R: Wait>(
+// Has the switch admit in a turn the frames that are found in so many first bytes of a buffer: those that the port's reader
+// held and those of a read after them. What is left is held.
+fn hear_in_turn<'a, R: Wait>(
     rt: &R,
     turn: &Turn<Switch<'a>>,
     rules: &RouterRules<'_>,
@@ -76,30 +36,30 @@ fn hear_in_turns<'a, 'b, R: Wait>(
     reader: &mut PieceReader,
     skipped: &mut u64,
     port: u8,
-    bytes: &'b [u8],
+    buf: &mut Buffer,
+    size: usize,
     found: &mut FoundFrames,
 ) -> Result<(), SwitchFault>
     requires seated { IsSeated turn.now rules.now port seat.old }
     requires from { 1 ≤ port }
     requires to { port ≤ rules.now.ports }
+    requires within { size ≤ 4376 }
     ensures seated { IsSeated turn.now rules.now port seat.new }
     ensures begins { IsPrefix (entries_in seat.old.seen) (entries_in seat.new.seen) }
     ensures ended { reader.new.ended ≡ reader.old.ended }
     ensures read { OnOk result ((all : List ℕ)
-        → Reading rules.now port all (record reader.old { bytes = bytes.now }) skipped.old (entries_in seat.old.own)
+        → Reading rules.now port all (record reader.old { bytes = take size buf.old }) skipped.old (entries_in seat.old.own)
         → AllRead rules.now port all reader.new skipped.new (entries_in seat.new.own)) }
     ensures stopped { OnErr result ((all : List ℕ)
-        → Reading rules.now port all (record reader.old { bytes = bytes.now }) skipped.old (entries_in seat.old.own)
+        → Reading rules.now port all (record reader.old { bytes = take size buf.old }) skipped.old (entries_in seat.old.own)
         → StopsReading reader.old.ended rules.now port all (entries_in seat.new.own)) }
     ensures fault { IfErr result (λ fault. IsSwitchFault fault (entries_in seat.new.seen)) }
 {
-    let mut scan = reader.scan(bytes);
-    if let Err(fault) = admit_in_turns(rt, turn, rules, seat, &mut scan, skipped, port, found) {
-        return Err(fault);
+    if let Err(_) = found.find(rules, reader, skipped, buf, size) {
+        return Err(SwitchFault::NoMemory);
     }
-    let rest: &'b [u8] = scan.bytes();
-    reader.keep(rest);
-    Ok(())
+    found.settle();
+    admit_found(rt, turn, rules, seat, port, found)
 }
 
 // Reads a port that is still read once, and has the switch admit the frames that are found.
@@ -108,12 +68,10 @@ fn read_part<'a, R: Wait, L: Link>(
     turn: &Turn<Switch<'a>>,
     rules: &RouterRules<'_>,
     part: &mut Part<'a, L>,
-    buf: &mut [u8],
 ) -> Result<(), SwitchFault>
     requires ready { IsReady turn.now rules.now part.old }
     requires live { part.old.side.lane.ended ≡ false }
     requires fine { part.old.side.lane.failed ≡ false }
-    requires room { length buf.old ≡ 4376 }
     ensures ready { IsReady turn.now rules.now part.new }
     ensures port { part.new.port ≡ part.old.port }
     ensures so_far { OnOk result ((first : LinkState) → PartSoFar L.state rules.now first part.old → PartSoFar L.state rules.now first part.new) }
@@ -122,10 +80,10 @@ fn read_part<'a, R: Wait, L: Link>(
     ensures turned { (turns : ℕ) → turns + 1 < 2 ^ 64 → HadTurns part.old.side.lane turns → HadTurns part.new.side.lane (turns + 1) }
 {
     let side = &mut part.side;
-    let Some(count) = read_lane(&mut side.lane, &mut side.link, buf) else {
+    let Some(count) = read_lane(&mut side.lane, &mut side.link, &mut side.room.buffer) else {
         return Ok(());
     };
-    hear_in_turns(
+    hear_in_turn(
         rt,
         turn,
         rules,
@@ -133,7 +91,8 @@ fn read_part<'a, R: Wait, L: Link>(
         &mut side.lane.scanner,
         &mut side.lane.skipped,
         part.port,
-        &buf[..count],
+        &mut side.room.buffer,
+        count,
         &mut side.room.found,
     )
 }
@@ -239,7 +198,6 @@ fn read_turns<'a, R: Wait, L: Link>(
     ensures port { part.new.port ≡ part.old.port }
     ensures ends { (first : LinkState) → PartSoFar L.state rules.now first part.old → PartEnds result L.state rules.now turns first part.new }
 {
-    let mut buf = [0; BUFFER];
     let mut put_off = 0;
     for turned in 0..turns {
         let _ = turned;
@@ -250,7 +208,7 @@ fn read_turns<'a, R: Wait, L: Link>(
             return Halt::Stopped;
         }
         let before = part.side.lane.read;
-        if let Err(fault) = read_part(rt, turn, rules, part, &mut buf) {
+        if let Err(fault) = read_part(rt, turn, rules, part) {
             signals.stop();
             return Halt::Fault(fault);
         }

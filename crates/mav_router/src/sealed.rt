@@ -5,7 +5,7 @@ ghost use Rattle.mav_router.specs.Outgoing.{IsRun};
 ghost use Rattle.mav_router.specs.Pages.{end_of_page, IsIn, StandsIn};
 
 use crate::entries::Outcome;
-use crate::page::Page;
+use crate::page::{Page, Run};
 use mav_frame::RawFrame;
 use std::alloc::Global;
 use std::marker::Model;
@@ -93,13 +93,13 @@ impl SealedPage {
     }
 
     /// The same as [`Page::run`], by the indices of the journal.
-    pub(crate) fn run(&self, port: u8, from: &mut usize) -> &[u8]
+    pub(crate) fn run(&self, port: u8, from: &mut usize) -> Run<'_>
         requires from { 1 ≤ port }
         requires to { port ≤ 8 }
         requires inside { IsIn self.now from.old }
         ensures within { from.new ≤ end_of_page self.now }
         ensures moves { from.old < from.new }
-        ensures run { (journal : List Entry) → StandsIn journal self.now → IsRun port journal from.old from.new result.now }
+        ensures run { (journal : List Entry) → StandsIn journal self.now → IsRun port journal from.old from.new result.bytes.now }
     {
         let mut at = *from - self.start;
         let run = self.page.run(port, &mut at);

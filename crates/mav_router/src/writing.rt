@@ -10,6 +10,7 @@ ghost use Rattle.mav_router.specs.declared.entries.Entry.{Entry};
 
 use crate::batch::{Batch, LONG_RUN};
 use crate::lane::Lane;
+use crate::page::Run;
 use crate::sealed::SealedPage;
 use crate::shared::SharedPages;
 use crate::{Journal, Switch};
@@ -67,9 +68,9 @@ fn make_room<L: Link>(batch: &mut Batch, lane: &mut Lane, link: &mut L)
     }
 }
 
-// Writes frames that stand together behind what waits, or has them wait too if they are few.
-fn pass_on<L: Link>(batch: &mut Batch, lane: &mut Lane, link: &mut L, run: &[u8])
-    ensures given { (frames more : List Packet) (first : LinkState) → Joins run.now more
+// Writes frames that stand together behind what waits. If they are few and weren't copied yet, they wait too.
+fn pass_on<L: Link>(batch: &mut Batch, lane: &mut Lane, link: &mut L, run: Run<'_>)
+    ensures given { (frames more : List Packet) (first : LinkState) → Joins run.entry.bytes.now more
         → GivenBut frames first (L.state link.old) lane.old batch.old
         → GivenBut (frames ++ more) first (L.state link.new) lane.new batch.new }
     ensures input { (rules : Rules) (journal : List Entry) (port : ℕ) (first : LinkState)
@@ -77,13 +78,14 @@ fn pass_on<L: Link>(batch: &mut Batch, lane: &mut Lane, link: &mut L, run: &[u8]
         → Input rules journal port first (L.state link.new) lane.new }
     ensures turned { (turns : ℕ) → HadTurns lane.old turns → HadTurns lane.new turns }
 {
-    if run.len() >= LONG_RUN {
+    let bytes = run.bytes;
+    if run.is_copied || bytes.len() >= LONG_RUN {
         flush(batch, lane, link);
-        write_run(lane, link, run);
+        write_run(lane, link, bytes);
         return;
     }
     make_room(batch, lane, link);
-    batch.push(run);
+    batch.push(bytes);
 }
 
 // Passes on what the entries of a page from an index of the journal on send to a port, and moves the index past them.

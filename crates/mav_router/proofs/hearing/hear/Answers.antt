@@ -1,22 +1,31 @@
-use Rattle.std.proofs.Common.{ap, sym, subst, Bool}
-use Rattle.mav_stream.specs.Held.{Held}
-use Rattle.mav_router.specs.Runs.{Reading, AllRead}
-use Rattle.mav_router.specs.Faults.{StopsReading}
-use Rattle.mav_router.proofs.Readings.{scan_kept}
+use Rattle.std.proofs.Common.{take}
+use Rattle.mav_router.specs.Found.{packets_of}
+use Rattle.mav_router.proofs.Findings.{grows_kept, settled_own, took_kept}
+use Rattle.mav_router.proofs.PortSteps.{on_err, on_ok}
+use Rattle.mav_router.proofs.Readings.{grows_not}
 use Rattle.mav_router.proofs.hearing.hear.Goals as goal
 
-pub returns-clause-read : goal.returns-clause-read
-returns-clause-read c = λ rules all first.
-    let port = c.args.port in
-    let journal = c.admit_scanned.new.switch.journal in
-    let skips = c.admit_scanned.new.skipped in
-    let begun = subst (λ (h : Held). Reading rules port all h c.args.skipped.now c.args.switch.now.journal) (sym c.scan-scan.ensures) first in
-    subst (λ (h : Held). AllRead rules port all h skips journal)
-    (scan_kept c.args.reader.now c.scan-scan.result c.admit_scanned.new.scan c.keep.new.self c.args.bytes.now c.bytes-rest.result.now c.scan-scan.ensures c.admit_scanned.ensures.same c.bytes-rest.ensures c.keep.ensures)
-    (c.in_default.ensures.read rules all begun)
+pub returns-clause-grows : goal.returns-clause-grows
+returns-clause-grows c =
+    let switch = c.args.switch.now in
+    let e = c.admit_found.ensures in
+    grows_kept c.args.port switch switch c.admit_found.new.self (take e.admits.count (packets_of c.settle.new.self)) (grows_not c.args.port switch) e.same.0 e.admits.kept e.given
 
-pub returns-in-Err-clause-stopped : goal.returns-in-Err-clause-stopped
-returns-in-Err-clause-stopped c = λ rules all first.
+pub returns-clause-read : goal.returns-clause-read
+returns-clause-read c =
     let port = c.args.port in
-    let begun = subst (λ (h : Held). Reading rules port all h c.args.skipped.now c.args.switch.now.journal) (sym c.scan-scan.ensures) first in
-    subst (λ (b : Bool). StopsReading b rules port all c.admit_scanned.new.switch.journal) (ap (λ (h : Held). h.ended) c.scan-scan.ensures) (c.in-Err.ensures.stopped rules all begun)
+    let before = c.args.switch.now.journal in
+    let after = c.admit_found.new.self.journal in
+    let admits = c.admit_found.ensures.admits in
+    on_ok c.admit_found.result (λ all rules bytes first.
+    c.in_default.ensures.finds.reads rules port bytes before after first (took_kept port before after c.settle.new.self c.find.new.self admits.count c.settle.ensures all admits.kept)) admits.all
+
+pub returns-clause-stopped : goal.returns-clause-stopped
+returns-clause-stopped c =
+    let port = c.args.port in
+    let before = c.args.switch.now.journal in
+    let after = c.admit_found.new.self.journal in
+    let admits = c.admit_found.ensures.admits in
+    on_err c.admit_found.result (λ some rules bytes first.
+    let own = settled_own port before after c.settle.new.self c.find.new.self admits.count c.settle.ensures some admits.kept in
+    c.in_default.ensures.finds.stops rules port bytes before after admits.count first own.0 own.1) admits.some

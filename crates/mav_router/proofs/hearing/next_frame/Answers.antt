@@ -1,4 +1,4 @@
-use Rattle.std.proofs.Common.{◌++◌, arith, sym, ap, subst, take, drop, length, map, length-take, length-drop}
+use Rattle.std.proofs.Common.{◌≡◌, ◌-◌, ◌++◌, ℕ, List, arith, sym, ap, subst, take, drop, length, map, length-take, length-drop}
 use Rattle.mav_profile.specs.Messages.{extras_of}
 use Rattle.mav_stream.specs.Held.{Held}
 use Rattle.mav_stream.specs.Spans.{first_packet, held_after, skipped_for}
@@ -6,6 +6,7 @@ use Rattle.mav_stream.specs.declared.spans.NextSpan.TheVariants.{Frame as NextFr
 use Rattle.link_table.specs.Routing.{has_port}
 use Rattle.mav_router.specs.Runs.{PortProgress}
 use Rattle.mav_router.proofs.Readings.{frame_read, bytes_skipped, all_read, stopped_at, only_bytes}
+use Rattle.mav_router.proofs.Buffers.{rest_dropped, rest_then}
 use Rattle.mav_router.proofs.hearing.next_frame.Goals as goal
 
 pub returns-in-Frame-clause-found : goal.returns-in-Frame-clause-found
@@ -36,6 +37,9 @@ reading-preserved c =
     record {
       same = only_bytes c.args.scan.now r.scan c.consume.new.self (drop count r.scan.bytes) r.invariant.same c.consume.ensures;
       fewer = (let short = ap (λ (h : Held). length h.bytes) c.consume.ensures in omega (arith, short, length-drop count r.scan.bytes, r.invariant.fewer));
+      rest = (let bytes = ap (λ (h : Held). h.bytes) c.consume.ensures in
+          subst (λ (l : List ℕ). l ≡ drop (length c.args.scan.now.bytes - length l) c.args.scan.now.bytes) (sym bytes)
+          (rest_then c.args.scan.now.bytes r.scan.bytes (drop count r.scan.bytes) r.invariant.fewer (omega (arith, length-drop count r.scan.bytes)) r.invariant.rest (rest_dropped r.scan.bytes count c.in-Skipped.ensures.within)));
       read = λ rules port bytes journal first.
           let to = r.invariant.read rules port bytes journal first in
           let found = c.in-Skipped.ensures.progress (extras_of rules.known) (has_port rules.plain port) bytes to.events to.progress in

@@ -6,9 +6,9 @@ use Rattle.mav_router.proofs.PartSteps.{output_longer, output_relaned}
 use Rattle.mav_router.proofs.running.read_part.Goals as goal
 
 pub returns-clause-so_far : goal.returns-clause-so_far
-returns-clause-so_far g c = on_ok c.hear_in_turns.result (λ heard first p.
+returns-clause-so_far g c = on_ok c.hear_in_turn.result (λ heard first p.
     let part = c.args.part.now in
-    let h = c.hear_in_turns in
+    let h = c.hear_in_turn in
     let now = g.L.Link.state c.read_lane.new.link in
     let seen = entries_in part.seat.seen in
     let frames = frames_to part.port (take part.side.taken seen) in
@@ -17,12 +17,12 @@ returns-clause-so_far g c = on_ok c.hear_in_turns.result (λ heard first p.
       input = u.heard (entries_in h.new.seat.own) h.new.reader h.new.skipped h.ensures.ended (heard u.bytes u.reading);
       output = output_longer part.port part.side.taken seen (entries_in h.new.seat.seen) first now _ c.requires.ready.taken h.ensures.begins
           (output_relaned frames first now c.read_lane.new.lane h.new.reader h.new.skipped (c.read_lane.ensures.output frames first p.output));
-    }) c.hear_in_turns.ensures.read
+    }) c.hear_in_turn.ensures.read
 
 pub returns-clause-stopped : goal.returns-clause-stopped
-returns-clause-stopped g c = on_err c.hear_in_turns.result (λ heard first p.
+returns-clause-stopped g c = on_err c.hear_in_turn.result (λ heard first p.
     let part = c.args.part.now in
-    let h = c.hear_in_turns in
+    let h = c.hear_in_turn in
     let now = g.L.Link.state c.read_lane.new.link in
     let seen = entries_in part.seat.seen in
     let frames = frames_to part.port (take part.side.taken seen) in
@@ -31,4 +31,4 @@ returns-clause-stopped g c = on_err c.hear_in_turns.result (λ heard first p.
       input = u.stops (entries_in h.new.seat.own) (heard u.bytes u.reading);
       output = output_longer part.port part.side.taken seen (entries_in h.new.seat.seen) first now _ c.requires.ready.taken h.ensures.begins
           (output_relaned frames first now c.read_lane.new.lane h.new.reader h.new.skipped (c.read_lane.ensures.output frames first p.output));
-    }) c.hear_in_turns.ensures.stopped
+    }) c.hear_in_turn.ensures.stopped

@@ -8,7 +8,7 @@ loop-from-preserved g c =
     let run = c.run-run in
     let p = c.pass_on in
     record {
-      looks = looks_more c.args.port c.args.journal.now c.args.from.now l.from run.new.from run.result.now (g.L.Link.state c.args.link.now) (g.L.Link.state l.link) (g.L.Link.state p.new.link) c.args.lane.now l.lane p.new.lane [] l.batch p.new.batch run.ensures.within run.ensures.run p.ensures.given l.invariant.looks;
+      looks = looks_more c.args.port c.args.journal.now c.args.from.now l.from run.new.from run.result.bytes.now (g.L.Link.state c.args.link.now) (g.L.Link.state l.link) (g.L.Link.state p.new.link) c.args.lane.now l.lane p.new.lane [] l.batch p.new.batch run.ensures.within run.ensures.run p.ensures.given l.invariant.looks;
       input = λ rules journal port first i. p.ensures.input rules journal port first (l.invariant.input rules journal port first i);
       turned = λ turns had. p.ensures.turned turns (l.invariant.turned turns had);
     }

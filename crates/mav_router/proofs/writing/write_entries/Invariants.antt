@@ -1,4 +1,4 @@
-use Rattle.std.proofs.Common.{◌≤◌, ◌-◌, [], ℕ, List, length}
+use Rattle.std.proofs.Common.{◌-◌, [], ℕ, List, length}
 use Rattle.mav_links.specs.Links.{LinkState}
 use Rattle.mav_router.specs.declared.entries.Entry.{Entry}
 use Rattle.mav_router.specs.Journal.{Rules}

@@ -22,6 +22,6 @@ returns-clause-run c =
     let place : before + at ≡ c.args.from.now = omega (arith, c.if-from-before.false) in
     let whole = ap length c.self.view_is in
     let low : at ≤ length s.last = omega (arith, whole, length-append sealed s.last, start, c.requires.within) in
-    subst (λ (j : List Entry). IsRun port j c.args.from.now (before + run.new.at) run.result.now) c.self.view_is
-    (subst (λ (n : ℕ). IsRun port journal n (before + run.new.at) run.result.now) place
-    (run_in_page port journal page at run.new.at run.result.now stands low run.ensures.within run.ensures.run))
+    subst (λ (j : List Entry). IsRun port j c.args.from.now (before + run.new.at) run.result.bytes.now) c.self.view_is
+    (subst (λ (n : ℕ). IsRun port journal n (before + run.new.at) run.result.bytes.now) place
+    (run_in_page port journal page at run.new.at run.result.bytes.now stands low run.ensures.within run.ensures.run))

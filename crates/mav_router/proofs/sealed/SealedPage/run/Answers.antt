@@ -21,5 +21,5 @@ returns-clause-run c = λ journal stands.
     let place : s.start + at ≡ from = omega (arith, start, there.from) in
     let low : at ≤ length page.entries = omega (arith, start, size, there.to) in
     let high = subst (λ (entries : List Entry). run.new.at ≤ length entries) c.deref.ensures run.ensures.within in
-    subst (λ (n : ℕ). IsRun port journal n (s.start + run.new.at) run.result.now) place
-    (run_in_page port journal page at run.new.at run.result.now (subst (StandsIn journal) (sym c.self.view_is) stands) low high (subst (λ (entries : List Entry). IsRun port entries at run.new.at run.result.now) c.deref.ensures run.ensures.run))
+    subst (λ (n : ℕ). IsRun port journal n (s.start + run.new.at) run.result.bytes.now) place
+    (run_in_page port journal page at run.new.at run.result.bytes.now (subst (StandsIn journal) (sym c.self.view_is) stands) low high (subst (λ (entries : List Entry). IsRun port entries at run.new.at run.result.bytes.now) c.deref.ensures run.ensures.run))

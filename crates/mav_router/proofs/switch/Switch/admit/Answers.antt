@@ -1,5 +1,4 @@
-use Rattle.std.proofs.Common.{◌≡◌, ◌∙◌, ◌<◌, ◌++◌, ◌∷◌, [], List, length, ap, subst, arith}
-use Rattle.mav_router.specs.declared.entries.Entry.{Entry}
+use Rattle.std.proofs.Common.{◌∙◌, ◌<◌, ◌++◌, ◌∷◌, [], List, length, ap, subst, arith}
 use Rattle.mav_router.specs.Found.{Judged}
 use Rattle.mav_router.specs.Journal.{Rules, SwitchState, IsJournal, entry_after}
 use Rattle.mav_router.proofs.Admissions.{one_admitted}

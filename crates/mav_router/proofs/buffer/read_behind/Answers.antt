@@ -3,7 +3,7 @@ use Rattle.std.proofs.lemmas.Slice.{between-put_mid}
 use Rattle.std.specs.Io.KnownBytes.{prepend_known}
 use borrow.Rule.Slice.PartMut.{put_mid, take_put}
 use Rattle.mav_ports.specs.Gets.{given, GivesWithin}
-use Rattle.mav_router.proofs.lanes.read_behind.Goals as goal
+use Rattle.mav_router.proofs.buffer.read_behind.Goals as goal
 
 -- the part of the buffer that was lent
 lent : (front : ℕ) (buf part : List ℕ) → front + 4096 ≤ length buf → length part ≡ length (slice_range buf front (front + 4096)) → slice_range (put_mid front (front + 4096 - front) buf part) front (front + 4096) ≡ part

@@ -6,7 +6,7 @@ use Rattle.mav_router.specs.Journal.{Rules}
 use Rattle.mav_router.specs.Runs.{AllFresh}
 use Rattle.mav_router.specs.Faults.{RouteStopped}
 use Rattle.mav_router.proofs.PortEnds.{nothing_routed, if_ok, if_err}
-use Rattle.mav_router.proofs.routing.route_batched.Goals as goal
+use Rattle.mav_router.proofs.routing.route_in.Goals as goal
 
 pub returns-in_default-clause-stopped : goal.returns-in_default-clause-stopped
 returns-in_default-clause-stopped g c = λ key ports.

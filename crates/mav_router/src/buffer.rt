@@ -1,0 +1,103 @@
+// What a port is read into.
+ghost use Rattle.std.specs.Prelude.{◌≡◌, ◌+◌, ◌≤◌, length, take, slice_range, IfOk};
+ghost use Rattle.std.specs.Io.KnownBytes.{prepend_known};
+ghost use Rattle.mav_links.specs.Links.{LinkState};
+ghost use Rattle.mav_ports.specs.Gets.{given, idles_after, CountsFault, GivesWithin, IsSpent};
+
+use crate::NoMemory;
+use crate::lane::{BUFFER, PIECE};
+use mav_links::Link;
+use mav_ports::Got;
+use std::alloc::Global;
+use std::marker::Model;
+use std::mem;
+
+/// Room for the bytes of a read, after those that the port's reader held.
+#[derive(Drop)]
+pub(crate) struct Buffer {
+    bytes: Vec<u8>,
+}
+
+impl Model for Buffer {
+    ghost use Rattle.std.specs.Prelude.{◌≡◌, ℕ, List, length};
+
+    ghost Value = { List ℕ };
+
+    ghost view = { λ b. b.bytes.items };
+
+    ghost invariant = { λ b. length b.bytes.items ≡ 4376 };
+}
+
+// Puts some bytes at a buffer's start, and returns how many.
+fn put_front(buf: &mut [u8], bytes: &[u8]) -> usize
+    requires { length bytes.now ≤ length buf.old }
+    ensures count { result ≡ length bytes.now }
+    ensures front { take result buf.new ≡ bytes.now }
+{
+    let count = bytes.len();
+    buf[..count].copy_from_slice(bytes);
+    count
+}
+
+// Reads the next bytes of a link into a buffer after its first ones.
+fn read_behind<L: Link>(link: &mut L, buf: &mut [u8], front: usize) -> Got
+    requires { front + 4096 ≤ length buf.old }
+    ensures within { GivesWithin result (slice_range buf.new front (front + 4096)) }
+    ensures front { take front buf.new ≡ take front buf.old }
+    ensures bytes { (L.state link.old).left ≡ prepend_known (given result (slice_range buf.new front (front + 4096))) (L.state link.new).left }
+    ensures faults { CountsFault result (L.state link.old).faults (L.state link.new).faults }
+    ensures idles { (L.state link.new).idles ≡ idles_after result (L.state link.old).idles }
+    ensures end { result ≡ Got.End → IsSpent (L.state link.new).left }
+    ensures sent { (L.state link.new).sent ≡ (L.state link.old).sent }
+{
+    link.read(&mut buf[front..front + PIECE])
+}
+
+impl Buffer {
+    pub(crate) fn new(alloc: Global) -> Result<Buffer, NoMemory> {
+        Ok(Buffer {
+            bytes: vec![in alloc; 0u8; BUFFER]?,
+        })
+    }
+
+    pub(crate) fn bytes(&self) -> &[u8]
+        ensures bytes { result.now ≡ self.now }
+        ensures all { length result.now ≡ 4376 }
+    {
+        &self.bytes
+    }
+
+    /// Puts some bytes at the start, and returns how many.
+    pub(crate) fn put_front(&mut self, bytes: &[u8]) -> usize
+        requires { length bytes.now ≤ 280 }
+        ensures count { result ≡ length bytes.now }
+        ensures front { take result self.new ≡ bytes.now }
+    {
+        put_front(self.bytes.as_mut_slice(), bytes)
+    }
+
+    /// Reads a link once, at most 4,096 bytes, after the first ones.
+    pub(crate) fn read_behind<L: Link>(&mut self, link: &mut L, front: usize) -> Got
+        requires { front ≤ 280 }
+        ensures within { GivesWithin result (slice_range self.new front (front + 4096)) }
+        ensures front { take front self.new ≡ take front self.old }
+        ensures bytes { (L.state link.old).left ≡ prepend_known (given result (slice_range self.new front (front + 4096))) (L.state link.new).left }
+        ensures faults { CountsFault result (L.state link.old).faults (L.state link.new).faults }
+        ensures idles { (L.state link.new).idles ≡ idles_after result (L.state link.old).idles }
+        ensures end { result ≡ Got.End → IsSpent (L.state link.new).left }
+        ensures sent { (L.state link.new).sent ≡ (L.state link.old).sent }
+        ensures size { length self.new ≡ 4376 }
+    {
+        read_behind(link, self.bytes.as_mut_slice(), front)
+    }
+
+    /// Gives the first bytes away, as they stand in memory, and takes new room in their place.
+    pub(crate) fn give(&mut self, alloc: Global, size: usize) -> Result<Vec<u8>, NoMemory>
+        ensures { IfOk result (λ bytes. bytes.items ≡ take size self.old) }
+    {
+        let room = vec![in alloc; 0u8; BUFFER]?;
+        let mut bytes = mem::replace(&mut self.bytes, room);
+        bytes.truncate(size);
+        Ok(bytes)
+    }
+}
