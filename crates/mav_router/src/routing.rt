@@ -209,14 +209,7 @@ fn route_in<L: Link>(
     let Ok(mut lanes) = new_lanes(alloc, known, plan.plain, links.len()) else {
         return Err(SwitchFault::NoMemory);
     };
-    route_lanes(
-        alloc,
-        switch,
-        lanes.as_mut_slice(),
-        links,
-        room,
-        plan.turns,
-    )
+    route_lanes(alloc, switch, lanes.as_mut_slice(), links, room, plan.turns)
 }
 
 // The same, with room for what is read and what is written.
