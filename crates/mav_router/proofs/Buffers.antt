@@ -12,7 +12,6 @@ use Rattle.mav_stream.specs.Spans.{first_packet, next_span}
 use Rattle.mav_stream.specs.declared.spans.NextSpan.TheVariants.{Frame as NextFrame}
 use Rattle.mav_stream.proofs.NextSpans.{frame_found}
 use Rattle.mav_router.specs.declared.found.FoundFrame.{FoundFrame}
-use Rattle.mav_router.specs.declared.spans.Span.{Span}
 use Rattle.mav_router.specs.Finds.{FindsAll, FindsUntaken}
 use Rattle.mav_router.specs.Found.{IsJudged, KeepsFound}
 use Rattle.mav_router.specs.Journal.{Rules, frames_from}
@@ -36,9 +35,6 @@ pub rest_whole : (bytes : List ℕ) → bytes ≡ drop (length bytes - length by
 rest_whole bytes = let none : 0 ≡ length bytes - length bytes = omega arith in ap (λ (n : ℕ). drop n bytes) none
 
 -- ---- one frame
-
-pub span_from : ℕ → ℕ → Span
-span_from start size = record { start = start; end = start + size }
 
 -- the frame at the start of what is left stands in its span
 pub found_there : (held : Held) (bytes : List ℕ) (start size : ℕ) → ((i : ℕ) → get_or bytes i 0 < 256) → next_span held ≡ NextFrame size → size ≤ length held.bytes → held.bytes ≡ drop start bytes → length held.bytes + start ≡ length bytes → length (encoding (first_packet held)) ≤ 280

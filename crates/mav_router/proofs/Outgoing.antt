@@ -12,7 +12,7 @@ use Rattle.mav_router.specs.declared.page.Head.{Head}
 use Rattle.mav_router.specs.declared.spans.Span.{Span}
 use Rattle.mav_frame.specs.Encoding.{encoding}
 use Rattle.mav_router.specs.Journal.{bytes_of, frames_to}
-use Rattle.mav_router.specs.Outgoing.{Continues, GivenBut, IsRun, Joins, LooksOn, SpansRun, Writes}
+use Rattle.mav_router.specs.Outgoing.{Continues, GivenBut, IsRun, Joins, KeepsInput, LooksOn, SpansRun, Writes}
 use Rattle.mav_router.specs.PageState.{PageState}
 use Rattle.mav_router.specs.Pages.{StandsIn}
 use Rattle.mav_router.specs.Runs.{Output}
@@ -188,4 +188,15 @@ pub all_written : (port : ℕ) (journal : List Entry) (from to : ℕ) (before no
 all_written port journal from to before now after lane middle new waits step looks = record {
   within = looks.within;
   output = λ first o. step (frames_to port (take to journal)) first (looks.given first (given_all (frames_to port (take from journal)) first before lane o));
+}
+
+-- ---- what was read
+
+pub keeps_same : (now : LinkState) (lane : Lane) → KeepsInput now now lane lane
+keeps_same now lane = record { input = λ rules journal port first i. i; turned = λ turns had. had }
+
+pub keeps_then : (before now after : LinkState) (lane middle new : Lane) → KeepsInput before now lane middle → KeepsInput now after middle new → KeepsInput before after lane new
+keeps_then before now after lane middle new a b = record {
+  input = λ rules journal port first i. b.input rules journal port first (a.input rules journal port first i);
+  turned = λ turns had. b.turned turns (a.turned turns had);
 }

@@ -6,8 +6,8 @@ use Rattle.mav_router.specs.declared.entries.Entry.{Entry}
 use Rattle.mav_router.specs.declared.lane.Lane.{Lane}
 use Rattle.mav_router.specs.declared.page.Head.{Head}
 use Rattle.mav_router.specs.declared.spans.Span.{Span}
-use Rattle.mav_router.specs.Journal.{bytes_of, frames_to}
-use Rattle.mav_router.specs.Runs.{Output}
+use Rattle.mav_router.specs.Journal.{Rules, bytes_of, frames_to}
+use Rattle.mav_router.specs.Runs.{Input, Output, HadTurns}
 use Rattle.mav_router.specs.Spans.{entries_of}
 
 -- some bytes are those of these frames, of which each has at most 280
@@ -48,3 +48,8 @@ pub record LooksOn (port : ℕ) (journal : List Entry) (from to : ℕ) (before a
 pub record Writes (port : ℕ) (journal : List Entry) (from to : ℕ) (before after : LinkState) (lane new : Lane) : Type 0 where
   pub within : to ≤ length journal
   pub output : (first : LinkState) → Output (frames_to port (take from journal)) first before lane → Output (frames_to port (take to journal)) first after new
+
+-- nothing of what is read at a port changes
+pub record KeepsInput (before after : LinkState) (lane new : Lane) : Type 0 where
+  pub input : (rules : Rules) (journal : List Entry) (port : ℕ) (first : LinkState) → Input rules journal port first before lane → Input rules journal port first after new
+  pub turned : (turns : ℕ) → HadTurns lane turns → HadTurns new turns

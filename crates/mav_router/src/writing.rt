@@ -2,10 +2,10 @@
 ghost use Rattle.std.specs.Prelude.{◌≡◌, ◌≤◌, ◌+◌, ◌++◌, ℕ, List, [], length, false};
 ghost use Rattle.mav_frame.specs.Packet.{Packet};
 ghost use Rattle.mav_links.specs.Links.{LinkState};
-ghost use Rattle.mav_router.specs.Journal.{Rules, given_to, frames_to};
-ghost use Rattle.mav_router.specs.Outgoing.{GivenBut, Joins, LooksOn, Writes};
+ghost use Rattle.mav_router.specs.Journal.{given_to, frames_to};
+ghost use Rattle.mav_router.specs.Outgoing.{GivenBut, Joins, KeepsInput, LooksOn, Writes};
 ghost use Rattle.mav_router.specs.Pages.{IsWindow, StandsIn, end_of_page};
-ghost use Rattle.mav_router.specs.Runs.{Input, Output, HadTurns};
+ghost use Rattle.mav_router.specs.Runs.{Output};
 ghost use Rattle.mav_router.specs.declared.entries.Entry.{Entry};
 
 use crate::batch::{Batch, LONG_RUN};
@@ -21,10 +21,7 @@ fn write_run<L: Link>(lane: &mut Lane, link: &mut L, run: &[u8])
     ensures output { (frames more : List Packet) (first : LinkState) → Joins run.now more
         → Output frames first (L.state link.old) lane.old
         → Output (frames ++ more) first (L.state link.new) lane.new }
-    ensures input { (rules : Rules) (journal : List Entry) (port : ℕ) (first : LinkState)
-        → Input rules journal port first (L.state link.old) lane.old
-        → Input rules journal port first (L.state link.new) lane.new }
-    ensures turned { (turns : ℕ) → HadTurns lane.old turns → HadTurns lane.new turns }
+    ensures keeps { KeepsInput (L.state link.old) (L.state link.new) lane.old lane.new }
 {
     if lane.failed {
         return;
@@ -43,10 +40,7 @@ fn flush<L: Link>(batch: &mut Batch, lane: &mut Lane, link: &mut L)
     ensures output { (frames : List Packet) (first : LinkState)
         → GivenBut frames first (L.state link.old) lane.old batch.old
         → Output frames first (L.state link.new) lane.new }
-    ensures input { (rules : Rules) (journal : List Entry) (port : ℕ) (first : LinkState)
-        → Input rules journal port first (L.state link.old) lane.old
-        → Input rules journal port first (L.state link.new) lane.new }
-    ensures turned { (turns : ℕ) → HadTurns lane.old turns → HadTurns lane.new turns }
+    ensures keeps { KeepsInput (L.state link.old) (L.state link.new) lane.old lane.new }
 {
     write_run(lane, link, batch.bytes());
     batch.clear();
@@ -58,10 +52,7 @@ fn make_room<L: Link>(batch: &mut Batch, lane: &mut Lane, link: &mut L)
     ensures given { (frames : List Packet) (first : LinkState)
         → GivenBut frames first (L.state link.old) lane.old batch.old
         → GivenBut frames first (L.state link.new) lane.new batch.new }
-    ensures input { (rules : Rules) (journal : List Entry) (port : ℕ) (first : LinkState)
-        → Input rules journal port first (L.state link.old) lane.old
-        → Input rules journal port first (L.state link.new) lane.new }
-    ensures turned { (turns : ℕ) → HadTurns lane.old turns → HadTurns lane.new turns }
+    ensures keeps { KeepsInput (L.state link.old) (L.state link.new) lane.old lane.new }
 {
     if !batch.has_room() {
         flush(batch, lane, link);
@@ -73,10 +64,7 @@ fn pass_on<L: Link>(batch: &mut Batch, lane: &mut Lane, link: &mut L, run: Run<'
     ensures given { (frames more : List Packet) (first : LinkState) → Joins run.entry.bytes.now more
         → GivenBut frames first (L.state link.old) lane.old batch.old
         → GivenBut (frames ++ more) first (L.state link.new) lane.new batch.new }
-    ensures input { (rules : Rules) (journal : List Entry) (port : ℕ) (first : LinkState)
-        → Input rules journal port first (L.state link.old) lane.old
-        → Input rules journal port first (L.state link.new) lane.new }
-    ensures turned { (turns : ℕ) → HadTurns lane.old turns → HadTurns lane.new turns }
+    ensures keeps { KeepsInput (L.state link.old) (L.state link.new) lane.old lane.new }
 {
     let bytes = run.bytes;
     if run.is_copied || bytes.len() >= LONG_RUN {
@@ -102,10 +90,7 @@ fn pass_page<L: Link>(
     ensures looks { (journal : List Entry) → StandsIn journal page.now → page.now.start ≤ from.old → from.old ≤ length journal
         → LooksOn port journal from.old from.new (L.state link.old) (L.state link.new) lane.old lane.new batch.old batch.new }
     ensures all { page.now.start ≤ from.old → end_of_page page.now ≤ from.new }
-    ensures input { (rules : Rules) (journal : List Entry) (port : ℕ) (first : LinkState)
-        → Input rules journal port first (L.state link.old) lane.old
-        → Input rules journal port first (L.state link.new) lane.new }
-    ensures turned { (turns : ℕ) → HadTurns lane.old turns → HadTurns lane.new turns }
+    ensures keeps { KeepsInput (L.state link.old) (L.state link.new) lane.old lane.new }
 {
     if *from < page.start() {
         return;
@@ -130,10 +115,7 @@ pub(crate) fn write_pages<L: Link>(
     requires to { port ≤ 8 }
     ensures writes { (journal : List Entry) → from.old ≤ length journal → IsWindow journal from.old shared.now
         → Writes port journal from.old from.new (L.state link.old) (L.state link.new) lane.old lane.new }
-    ensures input { (rules : Rules) (journal : List Entry) (port : ℕ) (first : LinkState)
-        → Input rules journal port first (L.state link.old) lane.old
-        → Input rules journal port first (L.state link.new) lane.new }
-    ensures turned { (turns : ℕ) → HadTurns lane.old turns → HadTurns lane.new turns }
+    ensures keeps { KeepsInput (L.state link.old) (L.state link.new) lane.old lane.new }
 {
     batch.clear();
     let pages = shared.pages();
@@ -158,10 +140,7 @@ pub(crate) fn write_entries<L: Link>(
     requires within { from.old ≤ length journal.now }
     ensures writes { Writes port journal.now from.old from.new (L.state link.old) (L.state link.new) lane.old lane.new }
     ensures all { from.new ≡ length journal.now }
-    ensures input { (rules : Rules) (journal : List Entry) (port : ℕ) (first : LinkState)
-        → Input rules journal port first (L.state link.old) lane.old
-        → Input rules journal port first (L.state link.new) lane.new }
-    ensures turned { (turns : ℕ) → HadTurns lane.old turns → HadTurns lane.new turns }
+    ensures keeps { KeepsInput (L.state link.old) (L.state link.new) lane.old lane.new }
 {
     batch.clear();
     while *from < journal.len() {
@@ -183,13 +162,10 @@ pub(crate) fn write_port<L: Link>(
     requires to { port ≤ switch.old.rules.ports }
     ensures same { (switch.new.rules ≡ switch.old.rules) × (switch.new.journal ≡ switch.old.journal) }
     ensures others { (other : ℕ) → 1 ≤ other → (other ≡ port → ⊥) → given_to switch.new other ≡ given_to switch.old other }
-    ensures input { (rules : Rules) (journal : List Entry) (first : LinkState)
-        → Input rules journal port first (L.state link.old) lane.old
-        → Input rules journal port first (L.state link.new) lane.new }
+    ensures keeps { KeepsInput (L.state link.old) (L.state link.new) lane.old lane.new }
     ensures output { (first : LinkState) → Output (given_to switch.old port) first (L.state link.old) lane.old
         → Output (given_to switch.new port) first (L.state link.new) lane.new }
-    ensures drained { lane.new.failed ≡ false → given_to switch.new port ≡ frames_to port switch.new.journal }
-    ensures turned { (turns : ℕ) → HadTurns lane.old turns → HadTurns lane.new turns }
+    ensures drained { given_to switch.new port ≡ frames_to port switch.new.journal }
 {
     let mut seen = switch.seen(port);
     write_entries(switch.journal(), port, &mut seen, batch, lane, link);

@@ -16,7 +16,7 @@ loop-at-preserved g c =
     let is_link = slice_get-get_or l.links at c.index-links-at.result in_links in
     let is_lane = slice_get-get_or l.lanes at c.index-lanes-at.result in_lanes in
     record {
-      turned = λ turns before. write_turned l.lanes turns at c.write_port.new.lane (get_or l.lanes at c.index-lanes-at.result) is_lane (l.invariant.turned turns before) w.turned;
+      turned = λ turns before. write_turned l.lanes turns at c.write_port.new.lane (get_or l.lanes at c.index-lanes-at.result) is_lane (l.invariant.turned turns before) w.keeps.turned;
       rules = w.same.0 ∙ l.invariant.rules;
       journal = w.same.1 ∙ l.invariant.journal;
       so_far = λ rules first run.
@@ -28,8 +28,8 @@ loop-at-preserved g c =
             output = output_kept old new (k + 1) (first k) (g.L.Link.state link) lane (w.others (k + 1) (omega arith) (λ e. apart (omega (arith, e)))) p.output;
           })
           (record {
-            input = input_kept rules old.journal new.journal (at + 1) (first at) (g.L.Link.state c.write_port.new.link) c.write_port.new.lane (ap (frames_from (at + 1)) w.same.1) (w.input rules old.journal (first at) before.input);
+            input = input_kept rules old.journal new.journal (at + 1) (first at) (g.L.Link.state c.write_port.new.link) c.write_port.new.lane (ap (frames_from (at + 1)) w.same.1) (w.keeps.input rules old.journal (at + 1) (first at) before.input);
             output = w.output (first at) before.output;
           });
-      drained = drained_step old new l.lanes at c.write_port.new.lane w.same.1 w.others w.drained l.invariant.drained;
+      drained = drained_step old new l.lanes at c.write_port.new.lane w.same.1 w.others (λ _. w.drained) l.invariant.drained;
     }

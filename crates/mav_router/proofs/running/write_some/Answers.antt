@@ -19,6 +19,6 @@ returns-clause-so_far g c = λ first so_far.
     let before = output_longer port taken old seen first (g.L.Link.state part.side.link) part.side.lane c.requires.ready.taken begins so_far.output in
     record {
       input = subst (λ (own : List SwitchEvent). Input c.args.rules.now (entries_in own) port first (g.L.Link.state w.new.link) w.new.lane) (sym turn.ensures.own)
-          (w.ensures.input c.args.rules.now (entries_in part.seat.own) port first so_far.input);
+          (w.ensures.keeps.input c.args.rules.now (entries_in part.seat.own) port first so_far.input);
       output = (w.ensures.writes seen within turn.ensures.window).output first before;
     }

@@ -1,6 +1,6 @@
 use Rattle.std.proofs.Common.{List, ℕ, ◌++◌, sym, subst}
 use Rattle.mav_router.specs.Outgoing.{GivenBut}
-use Rattle.mav_router.proofs.Outgoing.{given_all}
+use Rattle.mav_router.proofs.Outgoing.{given_all, keeps_then}
 use Rattle.mav_router.proofs.writing.pass_on.Goals as goal
 
 pub returns-then-run-clause-given : goal.returns-then-run-clause-given
@@ -10,5 +10,8 @@ returns-then-run-clause-given g c = λ frames more first is given.
     subst (λ (t : List ℕ). GivenBut all first (g.L.Link.state w.new.link) w.new.lane t) (sym c.flush.ensures.empty)
     (given_all all first (g.L.Link.state w.new.link) w.new.lane (w.ensures.output frames more first is (c.flush.ensures.output frames first given)))
 
-pub returns-then-run-clause-turned : goal.returns-then-run-clause-turned
-returns-then-run-clause-turned g c = λ turns had. c.write_run.ensures.turned turns (c.flush.ensures.turned turns had)
+pub returns-then-run-clause-keeps : goal.returns-then-run-clause-keeps
+returns-then-run-clause-keeps g c =
+    let f = c.flush in
+    let w = c.write_run in
+    keeps_then (g.L.Link.state c.args.link.now) (g.L.Link.state f.new.link) (g.L.Link.state w.new.link) c.args.lane.now f.new.lane w.new.lane f.ensures.keeps w.ensures.keeps

@@ -1,7 +1,7 @@
 use Rattle.std.proofs.Common.{◌≡◌, ◌≤◌, [], List, Some, length, slice_get, refl, subst, arith}
 use Rattle.std.proofs.lemmas.Option.{slice_get_read}
 use Rattle.mav_router.specs.PageState.{PageState}
-use Rattle.mav_router.proofs.Outgoing.{all_written, looks_then}
+use Rattle.mav_router.proofs.Outgoing.{all_written, keeps_then, looks_then}
 use Rattle.mav_router.proofs.Pages.{page_stands}
 use Rattle.mav_router.proofs.writing.write_pages.Goals as goal
 
@@ -24,8 +24,7 @@ loop-number-preserved g c =
           let low : page.start ≤ l.from = omega (arith, s.start_is, l.invariant.reaches journal w) in
           let so_far = l.invariant.looks journal within w in
           looks_then c.args.port journal from l.from p.new.from (g.L.Link.state c.args.link.now) (g.L.Link.state l.link) (g.L.Link.state p.new.link) c.args.lane.now l.lane p.new.lane [] l.batch p.new.batch so_far (p.ensures.looks journal s.stands low so_far.within);
-      input = λ rules journal port first i. p.ensures.input rules journal port first (l.invariant.input rules journal port first i);
-      turned = λ turns had. p.ensures.turned turns (l.invariant.turned turns had);
+      keeps = keeps_then (g.L.Link.state c.args.link.now) (g.L.Link.state l.link) (g.L.Link.state p.new.link) c.args.lane.now l.lane p.new.lane l.invariant.keeps p.ensures.keeps;
     }
 
 pub returns-clause-writes : goal.returns-clause-writes
@@ -34,8 +33,8 @@ returns-clause-writes g c = λ journal within w.
     let f = c.flush in
     all_written c.args.port journal c.args.from.now l.from (g.L.Link.state c.args.link.now) (g.L.Link.state l.link) (g.L.Link.state f.new.link) c.args.lane.now l.lane f.new.lane l.batch f.ensures.output (l.invariant.looks journal within w)
 
-pub returns-clause-input : goal.returns-clause-input
-returns-clause-input g c = λ rules journal port first i. c.flush.ensures.input rules journal port first (c.loop-number.invariant.input rules journal port first i)
-
-pub returns-clause-turned : goal.returns-clause-turned
-returns-clause-turned g c = λ turns had. c.flush.ensures.turned turns (c.loop-number.invariant.turned turns had)
+pub returns-clause-keeps : goal.returns-clause-keeps
+returns-clause-keeps g c =
+    let l = c.loop-number in
+    let f = c.flush in
+    keeps_then (g.L.Link.state c.args.link.now) (g.L.Link.state l.link) (g.L.Link.state f.new.link) c.args.lane.now l.lane f.new.lane l.invariant.keeps f.ensures.keeps

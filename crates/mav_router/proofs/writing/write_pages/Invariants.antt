@@ -1,10 +1,7 @@
-use Rattle.std.proofs.Common.{◌≤◌, [], ℕ, List, length}
-use Rattle.mav_links.specs.Links.{LinkState}
+use Rattle.std.proofs.Common.{◌≤◌, [], List, length}
 use Rattle.mav_router.specs.declared.entries.Entry.{Entry}
-use Rattle.mav_router.specs.Journal.{Rules}
-use Rattle.mav_router.specs.Outgoing.{LooksOn}
+use Rattle.mav_router.specs.Outgoing.{KeepsInput, LooksOn}
 use Rattle.mav_router.specs.Pages.{IsWindow}
-use Rattle.mav_router.specs.Runs.{Input, HadTurns}
 use Rattle.mav_router.proofs.Pages.{start_in}
 use Rattle.mav_router.proofs.writing.write_pages.Given as goal
 
@@ -12,6 +9,5 @@ abbrev pub invariant-loop-number : goal.invariant-loop-number
 invariant-loop-number g l = record {
   reaches : (journal : List Entry) → (w : IsWindow journal l.initial.from l.shared) → start_in w l.number ≤ l.from;
   looks : (journal : List Entry) → l.initial.from ≤ length journal → IsWindow journal l.initial.from l.shared → LooksOn l.port journal l.initial.from l.from (g.L.Link.state l.initial.link) (g.L.Link.state l.link) l.initial.lane l.lane [] l.batch;
-  input : (rules : Rules) (journal : List Entry) (port : ℕ) (first : LinkState) → Input rules journal port first (g.L.Link.state l.initial.link) l.initial.lane → Input rules journal port first (g.L.Link.state l.link) l.lane;
-  turned : (turns : ℕ) → HadTurns l.initial.lane turns → HadTurns l.lane turns;
+  keeps : KeepsInput (g.L.Link.state l.initial.link) (g.L.Link.state l.link) l.initial.lane l.lane;
 }
