@@ -34,7 +34,6 @@ pub(crate) struct FoundFrame {
 
 /// Frames with their judgements, in their order. Their bytes stand as they will in the journal, whose page they become: many
 /// where they were read, so that they aren't copied, and few in memory of their size.
-#[derive(Drop)]
 pub(crate) struct FoundFrames {
     bytes: Vec<u8>,
     items: Vec<FoundFrame>,
@@ -43,6 +42,20 @@ pub(crate) struct FoundFrames {
     next: Vec<FoundFrame>,
     heads: Vec<Head>,
     alloc: Global,
+}
+
+// By hand, so that whoever drops them proves one call.
+impl Drop for FoundFrames {
+    fn drop(self) {
+        let FoundFrames {
+            bytes: _bytes,
+            items: _items,
+            are_copied: _,
+            next: _next,
+            heads: _heads,
+            alloc: _,
+        } = self;
+    }
 }
 
 impl Model for FoundFrames {
