@@ -1,12 +1,13 @@
 /*
  * route_ref: a plain C baseline for `route --one` between open ports that are files.
  *
- *     route_ref [-b] IN:OUT..
+ *     route_ref [-b|-r] IN:OUT..
  *
  * In rounds it reads 4,096 bytes of each port, finds the frames of MAVLink 2 whose checksum is right,
  * looks up the ports behind which their target is, and then writes each frame there: by a write of
- * its own, or with -b 64 KiB at a time.  It knows
- * the messages that gen_route makes, keeps no journal, prints nothing and verifies no signature.
+ * its own, with -r by one write for each port and round, or with -b 64 KiB at a time, so that frames
+ * wait for some five rounds.  It knows the messages that gen_route makes, keeps no journal, prints
+ * nothing and verifies no signature.
  *
  *     gcc -std=c11 -O2 -o route_ref route_ref.c
  */
@@ -63,7 +64,7 @@ struct port {
 
 static struct port ports[PORTS];
 static int count;
-static bool buffers;
+static bool buffers, each_round;
 static uint8_t nodes[65536], systems[256];
 
 /* CRC_EXTRA and the offset of target_system, or -1. */
@@ -163,13 +164,15 @@ static void drain(struct port *p)
 		at += size + 2;
 	}
 	p->wait_len = 0;
+	if (each_round)
+		put(p->out, p->buffer, p->buffered), p->buffered = 0;
 }
 
 int main(int argc, char **argv)
 {
 	int at = 1;
-	if (at < argc && strcmp(argv[at], "-b") == 0)
-		buffers = true, at++;
+	if (at < argc && (strcmp(argv[at], "-b") == 0 || strcmp(argv[at], "-r") == 0))
+		buffers = true, each_round = argv[at++][1] == 'r';
 	for (; at < argc && count < PORTS; at++, count++) {
 		char *out = strchr(argv[at], ':');
 		if (!out)

@@ -211,7 +211,7 @@ fn give<K: Sink>(ended: Result<Label, RunEnd>, out: &mut K) -> Result<(), RunEnd
 }
 
 /// Runs a station on a link: it sends a heartbeat, gives its order, and takes turns until this has an end. After the link's
-/// end only time passes. The bytes that the order gave are written behind all lines. It stores nothing.
+/// end only time passes. The bytes that the order gave are written after all lines. It stores nothing.
 pub fn run_station<L: Link, K: Sink, C: Clock>(
     alloc: Global,
     key: Key,

@@ -106,7 +106,7 @@ fn take<T: Teller, K: Sink>(
     write_held(text, out)
 }
 
-// The input ended: writes what is told of what is held, and what comes behind it.
+// The input ended: writes what is told of what is held, and what comes after it.
 fn finish<T: Teller, K: Sink>(teller: &mut T, text: &mut Vec<u8>, out: &mut K) -> Result<(), RunEnd>
     requires { T.load teller.old ≤ 805306368 }
     ensures done { (taken : List ℕ) (before : Option (List ℕ))

@@ -50,7 +50,7 @@ fn time_of(bytes: &[u8]) -> u64
     u64::from_be_bytes(time)
 }
 
-// The bytes behind a time.
+// The bytes after a time.
 #[inline]
 fn frame_of(bytes: &[u8]) -> &[u8]
     requires { 8 ≤ length bytes.now }

@@ -50,7 +50,7 @@ pub(crate) trait Teller {
         ensures all { (ended : Bool) (taken told : List ℕ) → has_told self.new ended taken told
             → IfOk result (λ more. more ≡ false → told ≡ (telling self.new).told ended taken) };
 
-    /// Appends what comes behind all that was told of an input.
+    /// Appends what comes after all that was told of an input.
     fn close(&self, text: &mut Vec<u8>) -> Result<(), NoMemory>
         ensures { (taken told : List ℕ) → has_told self.now true taken told
             → told ≡ (telling self.now).told true taken

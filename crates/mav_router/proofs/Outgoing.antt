@@ -92,8 +92,8 @@ no_run port journal from to same = subst (λ (l : List Packet). Continues (frame
 pub run_after : (port : ℕ) (journal : List Entry) (from first to : ℕ) (text : List ℕ) → frames_to port (take first journal) ≡ frames_to port (take from journal) → IsRun port journal first to text → IsRun port journal from to text
 run_after port journal from first to text same run = subst (λ (l : List Packet). Continues l (frames_to port (take to journal)) text) same run
 
-continues_behind : (first before after : List Packet) (text : List ℕ) → Continues before after text → Continues (first ++ before) (first ++ after) text
-continues_behind first before after text c = record {
+continues_after : (first before after : List Packet) (text : List ℕ) → Continues before after text → Continues (first ++ before) (first ++ after) text
+continues_after first before after text c = record {
   frames = c.frames;
   goes = ap (λ (l : List Packet). first ++ l) c.goes ∙ sym (append_assoc first before c.frames);
   joined = c.joined;
@@ -109,7 +109,7 @@ run_in_page port journal page from to text s low high run =
     subst (λ (j : List Entry). IsRun port j (page.start + from) (page.start + to) text) (sym s.goes)
     (subst (λ (l : List Packet). Continues l (frames_to port (take (page.start + to) whole)) text) (sym given)
     (subst (λ (l : List Packet). Continues (first ++ frames_to port (take from page.entries)) l text) (sym then_)
-    (continues_behind first (frames_to port (take from page.entries)) (frames_to port (take to page.entries)) text run)))
+    (continues_after first (frames_to port (take from page.entries)) (frames_to port (take to page.entries)) text run)))
 
 -- ---- what is written, and what waits
 

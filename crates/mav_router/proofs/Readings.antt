@@ -63,9 +63,9 @@ bytes_skipped rules port bytes run held new skips more count journal why r progr
     }
 
 -- the first bytes of a buffer, and some of those behind them
-pub behind_front : (front count room : ℕ) (buf : List ℕ) → count ≤ room → take (front + count) buf ≡ take front buf ++ take count (slice_range buf front (front + room))
-behind_front front count room buf within =
-    take-add front count buf ∙ ap (λ (l : List ℕ). take front buf ++ l) (sym (take-take count (front + room - front) (drop front buf) (omega (arith, within))))
+pub first_and_after : (first count room : ℕ) (buf : List ℕ) → count ≤ room → take (first + count) buf ≡ take first buf ++ take count (slice_range buf first (first + room))
+first_and_after first count room buf within =
+    take-add first count buf ∙ ap (λ (l : List ℕ). take first buf ++ l) (sym (take-take count (first + room - first) (drop first buf) (omega (arith, within))))
 
 -- only the bytes of what a reader holds change
 pub only_bytes : (first held new : Held) (rest : List ℕ) → held ≡ record first { bytes = held.bytes } → new ≡ record held { bytes = rest } → new ≡ record first { bytes = new.bytes }

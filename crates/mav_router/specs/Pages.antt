@@ -42,6 +42,10 @@ pub record IsWindow (journal : List Entry) (from : ℕ) (pages : List PageState)
   pub consecutive : AreConsecutive (length before) pages
   pub reaches : length before ≤ from
 
+-- where its last page ends
+abbrev pub end_of_window : {journal : List Entry} {from : ℕ} {pages : List PageState} → IsWindow journal from pages → ℕ
+end_of_window {journal} {from} {pages} window = length window.before + length (entries_in_pages pages)
+
 -- some of the pages from a number on
 pub record SharesFrom (sealed : List PageState) (number : ℕ) (shared : List PageState) : Type 0 where
   pub count : ℕ

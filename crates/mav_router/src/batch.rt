@@ -1,4 +1,4 @@
-// Short runs of frames that wait for a port, put together to be written at once.
+// Runs of frames that wait for a port, put together to be written at once.
 ghost use Rattle.std.specs.Prelude.{◌≡◌, ◌≤◌, ◌+◌, ◌++◌, [], length, true, false, IfOk};
 
 use crate::NoMemory;
@@ -8,8 +8,8 @@ use std::marker::Model;
 // How many bytes wait at most.
 const MOST_BYTES: usize = 65_536;
 
-/// Runs with so many bytes are written by themselves: for fewer a call of the system costs more than a copy.
-pub(crate) const LONG_RUN: usize = 1024;
+/// Runs with so many bytes are written by themselves. A read finds fewer.
+pub(crate) const LONG_RUN: usize = 8192;
 
 /// The bytes of frames, one after another, at most 64 KiB. All memory is allocated at the start.
 #[derive(Drop)]
@@ -48,9 +48,9 @@ impl Batch {
         self.bytes.clear();
     }
 
-    /// Whether any short run fits.
+    /// Whether any run fits that isn't long.
     pub(crate) fn has_room(&self) -> bool
-        ensures { result ≡ true → length self.now + 1024 ≤ 65536 }
+        ensures { result ≡ true → length self.now + 8192 ≤ 65536 }
     {
         self.bytes.len() <= MOST_BYTES - LONG_RUN
     }

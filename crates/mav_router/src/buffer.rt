@@ -29,10 +29,10 @@ impl Model for Buffer {
 }
 
 // Puts some bytes at a buffer's start, and returns how many.
-fn put_front(buf: &mut [u8], bytes: &[u8]) -> usize
+fn put_first(buf: &mut [u8], bytes: &[u8]) -> usize
     requires { length bytes.now ≤ length buf.old }
     ensures count { result ≡ length bytes.now }
-    ensures front { take result buf.new ≡ bytes.now }
+    ensures first { take result buf.new ≡ bytes.now }
 {
     let count = bytes.len();
     buf[..count].copy_from_slice(bytes);
@@ -40,17 +40,17 @@ fn put_front(buf: &mut [u8], bytes: &[u8]) -> usize
 }
 
 // Reads the next bytes of a link into a buffer after its first ones.
-fn read_behind<L: Link>(link: &mut L, buf: &mut [u8], front: usize) -> Got
-    requires { front + 4096 ≤ length buf.old }
-    ensures within { GivesWithin result (slice_range buf.new front (front + 4096)) }
-    ensures front { take front buf.new ≡ take front buf.old }
-    ensures bytes { (L.state link.old).left ≡ prepend_known (given result (slice_range buf.new front (front + 4096))) (L.state link.new).left }
+fn read_after<L: Link>(link: &mut L, buf: &mut [u8], held: usize) -> Got
+    requires { held + 4096 ≤ length buf.old }
+    ensures within { GivesWithin result (slice_range buf.new held (held + 4096)) }
+    ensures first { take held buf.new ≡ take held buf.old }
+    ensures bytes { (L.state link.old).left ≡ prepend_known (given result (slice_range buf.new held (held + 4096))) (L.state link.new).left }
     ensures faults { CountsFault result (L.state link.old).faults (L.state link.new).faults }
     ensures idles { (L.state link.new).idles ≡ idles_after result (L.state link.old).idles }
     ensures end { result ≡ Got.End → IsSpent (L.state link.new).left }
     ensures sent { (L.state link.new).sent ≡ (L.state link.old).sent }
 {
-    link.read(&mut buf[front..front + PIECE])
+    link.read(&mut buf[held..held + PIECE])
 }
 
 impl Buffer {
@@ -68,27 +68,27 @@ impl Buffer {
     }
 
     /// Puts some bytes at the start, and returns how many.
-    pub(crate) fn put_front(&mut self, bytes: &[u8]) -> usize
+    pub(crate) fn put_first(&mut self, bytes: &[u8]) -> usize
         requires { length bytes.now ≤ 280 }
         ensures count { result ≡ length bytes.now }
-        ensures front { take result self.new ≡ bytes.now }
+        ensures first { take result self.new ≡ bytes.now }
     {
-        put_front(self.bytes.as_mut_slice(), bytes)
+        put_first(self.bytes.as_mut_slice(), bytes)
     }
 
     /// Reads a link once, at most 4,096 bytes, after the first ones.
-    pub(crate) fn read_behind<L: Link>(&mut self, link: &mut L, front: usize) -> Got
-        requires { front ≤ 280 }
-        ensures within { GivesWithin result (slice_range self.new front (front + 4096)) }
-        ensures front { take front self.new ≡ take front self.old }
-        ensures bytes { (L.state link.old).left ≡ prepend_known (given result (slice_range self.new front (front + 4096))) (L.state link.new).left }
+    pub(crate) fn read_after<L: Link>(&mut self, link: &mut L, held: usize) -> Got
+        requires { held ≤ 280 }
+        ensures within { GivesWithin result (slice_range self.new held (held + 4096)) }
+        ensures first { take held self.new ≡ take held self.old }
+        ensures bytes { (L.state link.old).left ≡ prepend_known (given result (slice_range self.new held (held + 4096))) (L.state link.new).left }
         ensures faults { CountsFault result (L.state link.old).faults (L.state link.new).faults }
         ensures idles { (L.state link.new).idles ≡ idles_after result (L.state link.old).idles }
         ensures end { result ≡ Got.End → IsSpent (L.state link.new).left }
         ensures sent { (L.state link.new).sent ≡ (L.state link.old).sent }
         ensures size { length self.new ≡ 4376 }
     {
-        read_behind(link, self.bytes.as_mut_slice(), front)
+        read_after(link, self.bytes.as_mut_slice(), held)
     }
 
     /// Gives the first bytes away, as they stand in memory, and takes new room in their place.

@@ -32,8 +32,8 @@ pub(crate) fn read_lane<L: Link>(lane: &mut Lane, link: &mut L, buf: &mut Buffer
         → Output frames first (L.state link.old) lane.old → Output frames first (L.state link.new) lane.new }
     ensures turned { (turns : ℕ) → turns + 1 < 2 ^ 64 → HadTurns lane.old turns → HadTurns lane.new (turns + 1) }
 {
-    let held = buf.put_front(lane.scanner.held());
-    match buf.read_behind(link, held) {
+    let held = buf.put_first(lane.scanner.held());
+    match buf.read_after(link, held) {
         Got::Bytes(count) => {
             lane.turns = lane.turns.saturating_add(1);
             lane.read = lane.read.saturating_add(count as u64);

@@ -4,7 +4,7 @@ ghost use Rattle.mav_frame.specs.Packet.{Packet};
 ghost use Rattle.mav_links.specs.Links.{LinkState};
 ghost use Rattle.mav_router.specs.Journal.{given_to, frames_to};
 ghost use Rattle.mav_router.specs.Outgoing.{GivenBut, Joins, KeepsInput, LooksOn, Writes};
-ghost use Rattle.mav_router.specs.Pages.{IsWindow, StandsIn, end_of_page};
+ghost use Rattle.mav_router.specs.Pages.{IsWindow, StandsIn, end_of_page, end_of_window};
 ghost use Rattle.mav_router.specs.Runs.{Output};
 ghost use Rattle.mav_router.specs.declared.entries.Entry.{Entry};
 
@@ -46,9 +46,9 @@ fn flush<L: Link>(batch: &mut Batch, lane: &mut Lane, link: &mut L)
     batch.clear();
 }
 
-// Writes what waits if a short run might not fit.
+// Writes what waits if one more run might not fit.
 fn make_room<L: Link>(batch: &mut Batch, lane: &mut Lane, link: &mut L)
-    ensures room { length batch.new + 1024 ≤ 65536 }
+    ensures room { length batch.new + 8192 ≤ 65536 }
     ensures given { (frames : List Packet) (first : LinkState)
         → GivenBut frames first (L.state link.old) lane.old batch.old
         → GivenBut frames first (L.state link.new) lane.new batch.new }
@@ -59,7 +59,7 @@ fn make_room<L: Link>(batch: &mut Batch, lane: &mut Lane, link: &mut L)
     }
 }
 
-// Writes frames that stand together behind what waits. If they are few and weren't copied yet, they wait too.
+// Writes frames that stand together after what waits. If they weren't copied yet, they wait too.
 fn pass_on<L: Link>(batch: &mut Batch, lane: &mut Lane, link: &mut L, run: Run<'_>)
     ensures given { (frames more : List Packet) (first : LinkState) → Joins run.entry.bytes.now more
         → GivenBut frames first (L.state link.old) lane.old batch.old
@@ -115,6 +115,7 @@ pub(crate) fn write_pages<L: Link>(
     requires to { port ≤ 8 }
     ensures writes { (journal : List Entry) → from.old ≤ length journal → IsWindow journal from.old shared.now
         → Writes port journal from.old from.new (L.state link.old) (L.state link.new) lane.old lane.new }
+    ensures all { (journal : List Entry) → (window : IsWindow journal from.old shared.now) → end_of_window window ≤ from.new }
     ensures keeps { KeepsInput (L.state link.old) (L.state link.new) lane.old lane.new }
 {
     batch.clear();

@@ -11,7 +11,7 @@ use Rattle.mav_frame.specs.declared.events.Event.TheVariants.{Frame, Skipped}
 use Rattle.mav_frame.proofs.EventsFound.{frame_event, skipped_event, short_event}
 use Rattle.mav_frame.proofs.Reasons.{lacks, incomplete}
 use Rattle.mav_stream.specs.Held.{Held}
-use Rattle.mav_stream.specs.Nexts.{Gives, Needs, NextIs, HasRoomBehind}
+use Rattle.mav_stream.specs.Nexts.{Gives, Needs, NextIs, HasRoomAfter}
 use Rattle.mav_stream.specs.declared.Next.{Next}
 use Rattle.mav_stream.specs.declared.Next.TheVariants.{Frame as NextFrame, Skipped as NextSkipped, Need as NextNeed}
 use Rattle.std.proofs.lemmas.Bool.{cases_lt}
@@ -87,7 +87,7 @@ room_as extras v b bytes h = let most = header v in elim (cases_lt (length b) (h
 pub has_room : (extras : List (ℕ × ℕ)) (reads_old : Bool) (b : List ℕ) → IsBytes b → IsIncomplete extras reads_old b → length b < 280
 has_room extras reads_old b bytes h = room_as extras (is_old_at reads_old b) b bytes h
 
-pub room_behind : (old new : Held) (answer : Next) → IsBytes old.bytes → NextIs old answer new → HasRoomBehind old answer new
-room_behind old new (NextFrame p) bytes g = fewer old.extras old.reads_old (Frame p) old.bytes new.bytes g.stands
-room_behind old new (NextSkipped c w) bytes g = fewer old.extras old.reads_old (Skipped c w) old.bytes new.bytes g.stands
-room_behind old new NextNeed bytes n = subst (λ (z : Held). length z.bytes < 280) (sym n.same) (has_room old.extras old.reads_old old.bytes bytes n.incomplete)
+pub room_after : (old new : Held) (answer : Next) → IsBytes old.bytes → NextIs old answer new → HasRoomAfter old answer new
+room_after old new (NextFrame p) bytes g = fewer old.extras old.reads_old (Frame p) old.bytes new.bytes g.stands
+room_after old new (NextSkipped c w) bytes g = fewer old.extras old.reads_old (Skipped c w) old.bytes new.bytes g.stands
+room_after old new NextNeed bytes n = subst (λ (z : Held). length z.bytes < 280) (sym n.same) (has_room old.extras old.reads_old old.bytes bytes n.incomplete)

@@ -32,7 +32,7 @@ given_by (Skipped byte why) = SkippedEvent byte why ∷ []
 given_by Need = []
 
 -- fewer bytes are held after an event, and at Need there is room for one more
-abbrev pub HasRoomBehind : Held → Next → Held → Type 0
-HasRoomBehind old (Frame packet) new = length new.bytes < length old.bytes
-HasRoomBehind old (Skipped byte why) new = length new.bytes < length old.bytes
-HasRoomBehind old Need new = length new.bytes < 280
+abbrev pub HasRoomAfter : Held → Next → Held → Type 0
+HasRoomAfter old (Frame packet) new = length new.bytes < length old.bytes
+HasRoomAfter old (Skipped byte why) new = length new.bytes < length old.bytes
+HasRoomAfter old Need new = length new.bytes < 280

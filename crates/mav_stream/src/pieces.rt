@@ -16,8 +16,7 @@ use x25_check::Extras;
 pub const MOST_HELD: usize = 280;
 
 /// A reader of one stream, which contracts see as the bytes that it holds: those of a frame with which the last read ended,
-/// at most 280. They are to be put in front of what the next read gives, and a scan made over both; what that leaves is
-/// kept.
+/// at most 280. They go before what the next read gives, and a scan is made over both; what that leaves is kept.
 #[derive(Drop)]
 pub struct PieceReader {
     table: ExtrasTable,

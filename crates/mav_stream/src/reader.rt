@@ -2,7 +2,7 @@
 ghost use Rattle.std.specs.Prelude.{◌≡◌, ◌-◌, ◌<◌, ◌++◌, ℕ, Bool, List, [], length, take, drop, min, slice_index, true, false};
 ghost use Rattle.mav_frame.specs.declared.events.Event.{Event};
 ghost use Rattle.mav_stream.specs.Held.{Held, nothing_held};
-ghost use Rattle.mav_stream.specs.Nexts.{NextIs, HasRoomBehind, given_by};
+ghost use Rattle.mav_stream.specs.Nexts.{NextIs, HasRoomAfter, given_by};
 ghost use Rattle.mav_stream.specs.Progress.{Progress, WholeAtNeed};
 
 use crate::Next;
@@ -69,7 +69,7 @@ impl Reader {
     pub fn next(&mut self) -> Next
         ensures next { NextIs self.old result self.new }
         // Fewer bytes are held, or there is room for more.
-        ensures room { HasRoomBehind self.old result self.new }
+        ensures room { HasRoomAfter self.old result self.new }
         // The events given and this one are a prefix of the parse.
         ensures progress { (extras : List (ℕ × ℕ)) (reads_old : Bool) (taken : List ℕ) (given : List Event) → Progress extras reads_old taken given self.old → Progress extras reads_old taken (given ++ given_by result) self.new }
         // At Need all of it was given.

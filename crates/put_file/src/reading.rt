@@ -55,7 +55,7 @@ fn read_all<S: Source>(input: &mut S, buf: &mut [u8], bytes: &mut Vec<u8>) -> Re
     Err(REFUSED)
 }
 
-// One read, whose bytes are put behind those of the reads before. Returns whether the input goes on.
+// One read, whose bytes are put after those of the reads before. Returns whether the input goes on.
 fn read_behind<S: Source>(
     input: &mut S,
     part: &mut [u8],

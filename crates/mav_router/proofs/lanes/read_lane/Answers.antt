@@ -1,7 +1,7 @@
 use Rattle.std.proofs.Common.{◌≡◌, ◌∙◌, ◌≤◌, ◌+◌, ◌-◌, ◌++◌, refl, sym, ap, subst, ℕ, List, length, take, drop, slice_range, arith, length-take}
 use Rattle.mav_stream.specs.Held.{Held}
 use Rattle.mav_router.specs.Runs.{Reading}
-use Rattle.mav_router.proofs.Readings.{behind_front, bytes_fed}
+use Rattle.mav_router.proofs.Readings.{first_and_after, bytes_fed}
 use Rattle.mav_router.proofs.PortSteps.{stopped_read, stopped_ended, input_read, input_idle, input_ended, scanner_ended}
 use Rattle.mav_router.proofs.lanes.read_lane.Goals as goal
 
@@ -9,17 +9,17 @@ pub returns-in-Bytes-clause-some : goal.returns-in-Bytes-clause-some
 returns-in-Bytes-clause-some g c = λ rules journal port first i.
     let lane = c.args.lane.now in
     let now = g.L.Link.state c.args.link.now in
-    let new = g.L.Link.state c.read_behind.new.link in
-    let front = c.put_front-held.result in
+    let new = g.L.Link.state c.read_after.new.link in
+    let first_bytes = c.put_first-held.result in
     let count = c.in-Bytes.count in
-    let buf = c.read_behind.new.self in
-    let part : List ℕ = slice_range buf front (front + 4096) in
+    let buf = c.read_after.new.self in
+    let part : List ℕ = slice_range buf first_bytes (first_bytes + 4096) in
     let got : List ℕ = take count part in
-    let within : count ≤ 4096 = omega (arith, c.in-Bytes.ensures.within.1, length-take (front + 4096 - front) (drop front buf)) in
+    let within : count ≤ 4096 = omega (arith, c.in-Bytes.ensures.within.1, length-take (first_bytes + 4096 - first_bytes) (drop first_bytes buf)) in
     let long : length got ≡ count = omega (arith, length-take count part, c.in-Bytes.ensures.within.1) in
     let live = i.ended ∙ c.requires.live in
-    let held : take front buf ≡ lane.scanner.bytes = c.in-Bytes.ensures.front ∙ (c.put_front-held.ensures.front ∙ c.held.ensures.list) in
-    let text : take (front + count) buf ≡ lane.scanner.bytes ++ got = behind_front front count 4096 buf within ∙ ap (λ (l : List ℕ). l ++ got) held in
+    let held : take first_bytes buf ≡ lane.scanner.bytes = c.in-Bytes.ensures.first ∙ (c.put_first-held.ensures.first ∙ c.held.ensures.list) in
+    let text : take (first_bytes + count) buf ≡ lane.scanner.bytes ++ got = first_and_after first_bytes count 4096 buf within ∙ ap (λ (l : List ℕ). l ++ got) held in
     record {
       bytes = i.bytes ++ got;
       reading = subst (λ (l : List ℕ). Reading rules port (i.bytes ++ got) (record lane.scanner { bytes = l }) lane.skipped journal) (sym text) (bytes_fed rules port i.bytes got lane.scanner lane.skipped journal live i.parsed.reading);
@@ -31,18 +31,18 @@ returns-in-Bytes-clause-some g c = λ rules journal port first i.
 
 pub returns-in-Idle-clause-none : goal.returns-in-Idle-clause-none
 returns-in-Idle-clause-none g c = λ rules journal port first i.
-    input_idle rules journal port first (g.L.Link.state c.args.link.now) (g.L.Link.state c.read_behind.new.link) c.args.lane.now c.saturating_add-lane-in-Idle.result c.requires.live i (omega (arith, c.saturating_add-lane-in-Idle.ensures)) c.in-Idle.ensures.idles c.in-Idle.ensures.bytes c.in-Idle.ensures.faults
+    input_idle rules journal port first (g.L.Link.state c.args.link.now) (g.L.Link.state c.read_after.new.link) c.args.lane.now c.saturating_add-lane-in-Idle.result c.requires.live i (omega (arith, c.saturating_add-lane-in-Idle.ensures)) c.in-Idle.ensures.idles c.in-Idle.ensures.bytes c.in-Idle.ensures.faults
 
 pub returns-in-End-clause-some : goal.returns-in-End-clause-some
 returns-in-End-clause-some g c = λ rules journal port first i.
     let lane = c.args.lane.now in
     let now = g.L.Link.state c.args.link.now in
-    let new = g.L.Link.state c.read_behind.new.link in
-    let front = c.put_front-held.result in
-    let buf = c.read_behind.new.self in
+    let new = g.L.Link.state c.read_after.new.link in
+    let first_bytes = c.put_first-held.result in
+    let buf = c.read_after.new.self in
     let over = c.end.new.self in
-    let held : take front buf ≡ lane.scanner.bytes = c.in-End.ensures.front ∙ (c.put_front-held.ensures.front ∙ c.held.ensures.list) in
-    let text : over.bytes ≡ take front buf = ap (λ (h : Held). h.bytes) c.end.ensures.held ∙ sym held in
+    let held : take first_bytes buf ≡ lane.scanner.bytes = c.in-End.ensures.first ∙ (c.put_first-held.ensures.first ∙ c.held.ensures.list) in
+    let text : over.bytes ≡ take first_bytes buf = ap (λ (h : Held). h.bytes) c.end.ensures.held ∙ sym held in
     let spent = c.in-End.ensures.end refl in
     record {
       bytes = i.bytes;

@@ -1,6 +1,8 @@
-use Rattle.std.proofs.Common.{◌≡◌, ◌≤◌, [], List, Some, length, slice_get, refl, subst, arith}
+use Rattle.std.proofs.Common.{◌≡◌, ◌≤◌, ◌+◌, [], List, Some, length, slice_get, refl, ap, subst, arith}
+use Rattle.std.proofs.lemmas.List.{take_all}
 use Rattle.std.proofs.lemmas.Option.{slice_get_read}
 use Rattle.mav_router.specs.PageState.{PageState}
+use Rattle.mav_router.specs.Pages.{entries_in_pages}
 use Rattle.mav_router.proofs.Outgoing.{all_written, keeps_then, looks_then}
 use Rattle.mav_router.proofs.Pages.{page_stands}
 use Rattle.mav_router.proofs.writing.write_pages.Goals as goal
@@ -32,6 +34,13 @@ returns-clause-writes g c = λ journal within w.
     let l = c.loop-number in
     let f = c.flush in
     all_written c.args.port journal c.args.from.now l.from (g.L.Link.state c.args.link.now) (g.L.Link.state l.link) (g.L.Link.state f.new.link) c.args.lane.now l.lane f.new.lane l.batch f.ensures.output (l.invariant.looks journal within w)
+
+pub returns-clause-all : goal.returns-clause-all
+returns-clause-all g c = λ journal w.
+    let l = c.loop-number in
+    let pages = c.args.shared.now in
+    let last : length pages ≤ l.number = omega (arith, c.loop-number-test.false, ap length c.pages-pages.ensures) in
+    subst (λ (seen : List PageState). length w.before + length (entries_in_pages seen) ≤ l.from) (take_all l.number pages last) (l.invariant.reaches journal w)
 
 pub returns-clause-keeps : goal.returns-clause-keeps
 returns-clause-keeps g c =

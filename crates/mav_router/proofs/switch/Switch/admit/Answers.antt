@@ -17,10 +17,4 @@ returns-clause-journal c =
 pub returns-clause-verdict : goal.returns-clause-verdict
 returns-clause-verdict c =
     let old = c.args.self.now in
-    let e = c.in_default-admit_found.ensures in
-    let kept = c.in_default.ensures.kept in
-    let is = kept.kept ∙ ap (λ (l : List Judged). l ++ kept.judged ∷ []) c.new-found.ensures in
-    let some : 0 < length c.keep.new.self = let n = ap length is in omega (arith, n) in
-    let legal = subst (λ (r : Rules). IsJournal r [] c.admit_found.new.self.journal) e.same.0 (e.legal some) in
-    let journal = one_admitted old.rules c.args.port old.journal c.admit_found.new.self.journal c.keep.new.self kept.judged c.args.frame.now e.admits.count is kept.frame e.admits.all e.admits.kept legal in
-    c.last_verdict.ensures old.journal (entry_after old.rules old.journal c.args.port c.args.frame.now) (ap (λ (s : SwitchState). s.journal) c.self-2.view_is ∙ journal)
+    c.last_verdict.ensures old.journal (entry_after old.rules old.journal c.args.port c.args.frame.now) (returns-clause-journal c)
