@@ -17,4 +17,5 @@ returns-clause-journal c =
 pub returns-clause-verdict : goal.returns-clause-verdict
 returns-clause-verdict c =
     let old = c.args.self.now in
-    c.last_verdict.ensures old.journal (entry_after old.rules old.journal c.args.port c.args.frame.now) (returns-clause-journal c)
+    c.last_verdict.ensures old.journal (entry_after old.rules old.journal c.args.port c.args.frame.now)
+    (ap (λ (s : SwitchState). s.journal) c.self-2.view_is ∙ returns-clause-journal c)
