@@ -329,6 +329,7 @@ impl Link {
     }
 
     // Sends a message, and reports it.
+    #[inline]
     fn transmit(
         &mut self,
         message: &Message,

@@ -57,11 +57,22 @@ pub enum News {
     File(FileEnd),
 }
 
+// Most calls tell one thing: the first piece of news takes room for itself alone.
+fn make_room(news: &mut Vec<News>)
+    ensures { news.new.items ≡ news.old.items }
+{
+    if news.is_empty() {
+        if let Err(_) = news.reserve_exact(1) {}
+    }
+}
+
 /// One piece of news more.
+#[inline]
 pub(crate) fn tell(news: &mut Vec<News>, piece: News) -> Result<(), NodeFault>
     ensures told { OnOk result (news.new.items ≡ news.old.items ++ piece ∷ []) }
     ensures fault { IfErr result (λ fault. fault ≡ NodeFault.NoMemory) }
 {
+    make_room(news);
     news.push(piece)?;
     Ok(())
 }
@@ -70,6 +81,7 @@ pub(crate) fn tell(news: &mut Vec<News>, piece: News) -> Result<(), NodeFault>
 pub(crate) fn report(news: &mut Vec<News>, piece: News) -> Result<(), NoMemory>
     ensures { OnOk result (events_of news.new.items ≡ events_of news.old.items ++ said_by piece ∷ []) }
 {
+    make_room(news);
     news.push(piece)?;
     Ok(())
 }
