@@ -165,7 +165,7 @@ impl Page {
             *at = first;
             return Run {
                 bytes: &[],
-                is_copied: true,
+                is_copied: false,
             };
         }
         let span = run_at(&self.heads, port, first, at);
