@@ -1,6 +1,7 @@
 -- What truncation keeps and cuts.
 use Rattle.std.proofs.Common.{◌≡◌, ◌≢◌, ℕ, zero, suc, ◌+◌, ◌-◌, ◌<◌, ◌≤◌, Bool, true, false, List, [], ◌∷◌, ◌++◌, length, get_or, take, replicate, sym, ap, ◌∙◌, refl, cond, eqb, arith, append_assoc}
 use Rattle.std.proofs.lemmas.List.{length-append, length-take-le, replicate-append-replicate, take_more}
+use Rattle.std.proofs.Math.Seq.{take-append_seam}
 use Rattle.std.proofs.lemmas.Bool.Decides.{nat_tests}
 use Rattle.field_layout.specs.Payload.{kept, without_trailing_zeros, truncated}
 
@@ -101,6 +102,11 @@ padded_same xs size fits =
     let few = length xs - length t in
     let count : few + (size - length xs) ≡ size - length t = omega (arith, truncated_le xs) in
     ap (λ (l : List ℕ). l ++ replicate (size - length xs) 0) (truncated_padded xs) ∙ (append_assoc t (replicate few 0) (replicate (size - length xs) 0) ∙ (ap (λ (l : List ℕ). t ++ l) (replicate-append-replicate few (size - length xs) 0) ∙ ap (λ (n : ℕ). t ++ replicate n 0) count))
+
+-- what is left is at the start
+pub taken_truncated : (xs : List ℕ) → take (length (truncated xs)) xs ≡ truncated xs
+taken_truncated xs =
+    ap (take (length (truncated xs))) (truncated_padded xs) ∙ take-append_seam (truncated xs) (replicate (length xs - length (truncated xs)) 0)
 
 -- ---- zeros at the end can't be distinguished from bytes past the end
 

@@ -135,6 +135,16 @@ impl Buffer {
         *out = self.bytes;
     }
 
+    /// The bytes that are sent: all but the zeros at the end, and at least the first (MAVLink guide, Packet Serialization:
+    /// Empty-Byte Payload Truncation).
+    pub fn truncated(&self) -> &[u8]
+        ensures bytes { result.now ≡ truncated self.now }
+        ensures short { length result.now ≤ 255 }
+    {
+        let payload = &self.bytes[..self.len];
+        &payload[..truncated_len(payload)]
+    }
+
     /// How many bytes are sent: all but the zeros at the end, and at least the first.
     pub fn truncated_len(&self) -> u8
         ensures { result ≡ length (truncated self.now) }

@@ -11,3 +11,4 @@ mod SignedBytes
 mod Versions
 pub mod RawFrames
 mod NewSignatures
+mod SealedBytes

@@ -2,6 +2,7 @@
 use Rattle.std.specs.Prelude.{ℕ, ◌≡◌, Bool, true, false, List, [], ◌∷◌, ◌++◌, length, Option, Some, None}
 use Rattle.x25_check.specs.Check.{check}
 use Rattle.x25_check.specs.Extras.{extra_of}
+use Rattle.mav_names.specs.declared.names.Name.{Name}
 use Rattle.mav_frame.specs.Numbers.{little_endian}
 use Rattle.mav_frame.specs.Packet.{SignatureBlock, Packet}
 
@@ -37,6 +38,23 @@ checked_bytes packet = header packet ++ packet.payload
 -- the checksum of a frame whose message has that CRC_EXTRA
 abbrev pub checksum : Packet → ℕ → ℕ
 checksum packet extra = check (checked_bytes packet ++ extra ∷ [])
+
+-- a frame of MAVLink 2 without compatibility flags, whose checksum isn't set
+abbrev pub unsealed : ℕ → Name → ℕ → List ℕ → Option SignatureBlock → Packet
+unsealed seq from id payload block = record {
+  old = false;
+  compat = 0;
+  seq = seq;
+  from = from;
+  id = id;
+  payload = payload;
+  check = 0;
+  block = block;
+}
+
+-- a frame with its checksum, if its message has that CRC_EXTRA
+abbrev pub sealed : ℕ → Packet → Packet
+sealed extra packet = record packet { check = checksum packet extra }
 
 -- the bytes of a frame
 abbrev pub encoding : Packet → List ℕ

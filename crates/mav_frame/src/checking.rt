@@ -5,13 +5,13 @@ ghost use Rattle.mav_frame.specs.Packet.{Packet, FitsFrame};
 ghost use Rattle.mav_frame.specs.Encoding.{Encodes, IsSealed, encoding};
 ghost use Rattle.mav_frame.specs.Looks.{IfFrame, IfWhole, block_at, check_offset, frame_size_at, header_size, id_at, is_old_at, look_by, look_header, look_known, look_of, packet_at};
 
-use crate::encoding::{OLD_STX, STX};
+use crate::encoding::{OLD_STX, STX, checksum};
 use crate::looks::{FrameCheck, Look, Why};
 use crate::numbers::{number_2, number_3, number_6};
 use crate::tables::CrcExtras;
 use crate::{Block, Frame};
 use mav_names::Name;
-use x25_check::{Extras, X25};
+use x25_check::Extras;
 
 // The bytes of the headers, of a checksum and of a signature block.
 const HEADER_BYTES: usize = 10;
@@ -171,10 +171,7 @@ fn check_known(extra: u8, old: bool, bytes: &[u8]) -> FrameCheck
         return FrameCheck::More(size - held);
     }
     let offset = offset_in(old, bytes);
-    let mut check = X25::new();
-    check.push_all(&bytes[1..offset]);
-    check.push(extra);
-    if number_2(bytes, offset) == check.value() {
+    if number_2(bytes, offset) == checksum(&bytes[1..offset], extra) {
         FrameCheck::Whole(size)
     } else {
         FrameCheck::NotHere(Why::BadCheck)

@@ -1,7 +1,9 @@
 // From a frame to its bytes.
-ghost use Rattle.std.specs.Prelude.{◌≡◌, ℕ, ◌+◌, ◌<◌, ◌^◌, ◌≤◌, ◌++◌, ◌∷◌, None, false, true, length, take, drop};
-ghost use Rattle.mav_frame.specs.Encoding.{block_bytes, checksum, encoding, header as header_bytes, header_of, stx_of};
+ghost use Rattle.std.specs.Prelude.{◌≡◌, ℕ, ◌+◌, ◌<◌, ◌^◌, ◌≤◌, ◌++◌, ◌∷◌, [], None, false, true, length, take, drop};
+ghost use Rattle.x25_check.specs.Check.{check};
+ghost use Rattle.mav_frame.specs.Encoding.{block_bytes, encoding, header as header_bytes, header_of, sealed, stx_of};
 ghost use Rattle.mav_frame.specs.Looks.{header_size};
+ghost use Rattle.mav_frame.specs.Numbers.{little_endian};
 
 use crate::checking::payload_of;
 use crate::numbers::{bytes_2, bytes_3, bytes_6};
@@ -44,7 +46,7 @@ impl Frame {
 
     /// Sets the checksum, if the message has that CRC_EXTRA.
     pub fn seal(&mut self, extra: u8)
-        ensures { self.exit.now ≡ record self.entry.now { check = checksum self.entry.now extra } }
+        ensures { self.exit.now ≡ sealed extra self.entry.now }
     {
         let mut check = X25::new();
         if self.old {
@@ -104,20 +106,31 @@ impl Frame {
     fn new_header(&self) -> [u8; 9]
         ensures { result ≡ header_of false self.now }
     {
-        let [low, middle, high] = bytes_3(self.id);
         let flags = if self.block.is_some() { 1 } else { 0 };
-        [
-            self.len,
-            flags,
-            self.compat,
-            self.seq,
-            self.from.sys,
-            self.from.comp,
-            low,
-            middle,
-            high,
-        ]
+        new_header(self.len, flags, self.compat, self.seq, self.from, self.id)
     }
+}
+
+/// The header of MAVLink 2 after STX: the payload's length, the incompatibility and the compatibility flags, the sequence
+/// number, the sender and the message id.
+pub(crate) fn new_header(len: u8, flags: u8, compat: u8, seq: u8, from: Name, id: u32) -> [u8; 9]
+    ensures { result ≡ len ∷ flags ∷ compat ∷ seq ∷ from.sys ∷ from.comp ∷ little_endian 3 id }
+{
+    let [low, middle, high] = bytes_3(id);
+    [
+        len, flags, compat, seq, from.sys, from.comp, low, middle, high,
+    ]
+}
+
+/// The checksum over some bytes and the CRC_EXTRA of a message.
+#[inline(always)]
+pub(crate) fn checksum(bytes: &[u8], extra: u8) -> u16
+    ensures { result ≡ check (bytes.now ++ extra ∷ []) }
+{
+    let mut sum = X25::new();
+    sum.push_all(bytes);
+    sum.push(extra);
+    sum.value()
 }
 
 /// Writes the bytes at an offset, and returns where they end.
@@ -148,8 +161,8 @@ fn put_header(frame: &Frame, out: &mut [u8; 280]) -> usize
     }
 }
 
-// Writes the signature block at an offset, if there is one, and returns where it ends.
-fn put_block(block: &Option<Block>, out: &mut [u8; 280], at: usize) -> usize
+/// Writes the signature block at an offset, if there is one, and returns where it ends.
+pub(crate) fn put_block(block: &Option<Block>, out: &mut [u8; 280], at: usize) -> usize
     requires { at + 13 ≤ 280 }
     ensures end { result ≡ at + length (block_bytes block.now) }
     ensures prefix { take result out.new ≡ take at out.old ++ block_bytes block.now }

@@ -1,9 +1,12 @@
 // A frame as bytes of its own.
-ghost use Rattle.std.specs.Prelude.{◌≡◌, IfSome, IsSome, Some};
+ghost use Rattle.std.specs.Prelude.{◌≡◌, ◌<◌, ◌^◌, length, IfSome, IsSome, Some};
+ghost use Rattle.mav_frame.specs.Encoding.{sealed, unsealed};
 
-use crate::encoding::put;
-use crate::raw::{SIGNATURE_BYTES, fits};
-use crate::{Frame, RawFrame, encode};
+use crate::encoding::{checksum, new_header, put, put_block};
+use crate::numbers::bytes_2;
+use crate::raw::{SIGNATURE_BYTES, fits, signed_fits};
+use crate::{Block, Frame, RawFrame, STX, encode};
+use mav_names::Name;
 use std::marker::Model;
 
 // A frame of MAVLink 2 with 255 bytes of payload and a signature block.
@@ -37,6 +40,32 @@ impl FrameBytes {
         fits(frame);
         let mut bytes = [0; MOST_BYTES];
         let size = encode(frame, &mut bytes);
+        FrameBytes { bytes, size }
+    }
+
+    /// A frame of MAVLink 2 with a signature block and without compatibility flags, whose checksum is that of a message
+    /// with that CRC_EXTRA.
+    pub fn sealed(
+        seq: u8,
+        from: Name,
+        id: u32,
+        payload: &[u8],
+        extra: u8,
+        block: Block,
+    ) -> FrameBytes
+        requires id { id < 2 ^ 24 }
+        requires payload { length payload.now < 256 }
+        ensures { result ≡ sealed extra (unsealed seq from id payload.now (Some block)) }
+    {
+        let header = new_header(payload.len() as u8, 1, 0, seq, from, id);
+        let mut bytes = [0; MOST_BYTES];
+        let at = put(&mut bytes, 0, &[STX]);
+        let at = put(&mut bytes, at, &header);
+        let at = put(&mut bytes, at, payload);
+        let check = checksum(&bytes[1..at], extra);
+        signed_fits(seq, from, id, payload, check, &block);
+        let at = put(&mut bytes, at, &bytes_2(check));
+        let size = put_block(&Some(block), &mut bytes, at);
         FrameBytes { bytes, size }
     }
 

@@ -1,6 +1,6 @@
 // A frame as the bytes that encode it.
-ghost use Rattle.std.specs.Prelude.{◌≡◌, ◌≤◌, ◌<◌, ◌∷◌, ◌++◌, length, is_some, All, IfSome, IsSome};
-ghost use Rattle.mav_frame.specs.Encoding.{encoding};
+ghost use Rattle.std.specs.Prelude.{◌≡◌, ◌≤◌, ◌<◌, ◌^◌, ◌∷◌, ◌++◌, length, is_some, All, IfSome, IsSome, Some};
+ghost use Rattle.mav_frame.specs.Encoding.{encoding, unsealed};
 ghost use Rattle.mav_frame.specs.Numbers.{little_endian};
 ghost use Rattle.mav_frame.specs.Packet.{FitsBlock, FitsFrame};
 ghost use Rattle.mav_frame.specs.Looks.{is_old_at, packet_at};
@@ -67,6 +67,21 @@ pub(crate) fn fits(frame: &Frame)
     let _check = frame.check;
     are_bytes(frame.payload_bytes());
     any_block_fits(&frame.block);
+}
+
+/// So are those of a signed frame of MAVLink 2.
+pub(crate) fn signed_fits(seq: u8, from: Name, id: u32, payload: &[u8], check: u16, block: &Block)
+    requires id { id < 2 ^ 24 }
+    requires payload { length payload.now < 256 }
+    ensures { FitsFrame (record (unsealed seq from id payload.now (Some block.now)) { check = check }) }
+{
+    let _seq = seq;
+    let _sys = from.sys;
+    let _comp = from.comp;
+    let _id = id;
+    let _check = check;
+    are_bytes(payload);
+    block_fits(block);
 }
 
 impl<'a> RawFrame<'a> {

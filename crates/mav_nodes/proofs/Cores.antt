@@ -10,11 +10,6 @@ use Rattle.mav_messages.specs.Plans.{message_of_plan}
 use Rattle.mav_sign.specs.declared.admission.Admit.{Admit}
 use Rattle.mav_sign.specs.declared.admission.Admit.TheVariants.{Admitted, Unsigned, BadSignature, BelowFloor, NotLater, TooOld, TooManyStreams}
 use Rattle.mav_sign.specs.History.{answer_to, stream_of, next_in, greatest_stamp}
-use Rattle.mav_sign.specs.Endpoints.{AnswerIs, HeardIs}
-use Rattle.mav_sign.specs.declared.heard.Heard.TheVariants.{Message as HeardMessage, Other as HeardOther, Dropped as HeardDropped}
-use Rattle.field_layout.specs.Payload.{Represents}
-use Rattle.mav_messages.specs.Messages.{profile_definition, definition_of, values_of}
-use Rattle.mav_nodes.proofs.PlanPayloads.{none_carried, no_service_carried}
 use Rattle.mav_nodes.specs.declared.news.News.{News}
 use Rattle.mav_nodes.specs.declared.link.Tried.TheVariants.{Plan, Service, Other, Dropped}
 use Rattle.mav_nodes.specs.declared.faults.NodeFault.{NodeFault}
@@ -26,7 +21,7 @@ use Rattle.mav_nodes.specs.Services.{ServiceStep}
 use Rattle.mav_nodes.specs.Steps.{Side, Rules, CoreStep, answers, with_core, steps, steps_noted, serves, takes, admits, hears}
 use Rattle.mav_nodes.specs.declared.steps.Step.{Step}
 use Rattle.mav_nodes.specs.Cores.{IsStep, IsNode, NodeDid, ends, says}
-use Rattle.mav_nodes.specs.Promises.{Fails, Did, LinkDid, Carries, IsAnswer, IsTried}
+use Rattle.mav_nodes.specs.Promises.{Fails, Did, LinkDid, IsAnswer, IsTried}
 
 pub if_ok : {A E : Type 0} {P Q : A → Type 0} (r : Result A E) → ((a : A) → P a → Q a) → IfOk r P → IfOk r Q
 if_ok (Ok a) f h = f a h
@@ -231,60 +226,3 @@ module _ {Core Services : Type 0} (rules : Rules Core Services) (clock : ℕ) wh
   pub hears_keep : (packet : Packet) (node : Side Core Services) → Keeps (hears rules clock packet node) node.link.extras
   hears_keep packet node =
       admits_keep (record node { link = tries packet node.link }) packet (answer_to node.link.key node.link.history packet) packet.block
-
--- the result of a frame, by what was received in it
-pub heard_plan : (packet : Packet) (from : Stream) (message : Message) (answer : Admit) (block : Option SignatureBlock) (plan : PlanMsg) → AnswerIs answer packet block (HeardMessage from message) → (profile_definition packet.id ≡ Some (definition_of message) → Represents (definition_of message) packet.payload (values_of message) → plan_in packet.id packet.payload ≡ Some plan) → IsAnswer answer packet block (Plan from plan)
-heard_plan packet from message Admitted (Some block) plan h f = (h.0, f h.1 h.2)
-heard_plan packet from message Admitted None plan h f = h
-heard_plan packet from message Unsigned block plan h f = absurd (let t : HeardMessage from message ≡ HeardDropped Unsigned = h in cc)
-heard_plan packet from message BadSignature block plan h f = absurd (let t : HeardMessage from message ≡ HeardDropped BadSignature = h in cc)
-heard_plan packet from message (BelowFloor floor) block plan h f = absurd (let t : HeardMessage from message ≡ HeardDropped (BelowFloor floor) = h in cc)
-heard_plan packet from message (NotLater last) block plan h f = absurd (let t : HeardMessage from message ≡ HeardDropped (NotLater last) = h in cc)
-heard_plan packet from message (TooOld local) block plan h f = absurd (let t : HeardMessage from message ≡ HeardDropped (TooOld local) = h in cc)
-heard_plan packet from message TooManyStreams block plan h f = absurd (let t : HeardMessage from message ≡ HeardDropped TooManyStreams = h in cc)
-
-pub heard_none : (packet : Packet) (from : Stream) (message : Message) (answer : Admit) (block : Option SignatureBlock) → AnswerIs answer packet block (HeardMessage from message) → (profile_definition packet.id ≡ Some (definition_of message) → Represents (definition_of message) packet.payload (values_of message) → Carries packet None None) → IsAnswer answer packet block Other
-heard_none packet from message Admitted (Some block) h f = f h.1 h.2
-heard_none packet from message Admitted None h f = h
-heard_none packet from message Unsigned block h f = absurd (let t : HeardMessage from message ≡ HeardDropped Unsigned = h in cc)
-heard_none packet from message BadSignature block h f = absurd (let t : HeardMessage from message ≡ HeardDropped BadSignature = h in cc)
-heard_none packet from message (BelowFloor floor) block h f = absurd (let t : HeardMessage from message ≡ HeardDropped (BelowFloor floor) = h in cc)
-heard_none packet from message (NotLater last) block h f = absurd (let t : HeardMessage from message ≡ HeardDropped (NotLater last) = h in cc)
-heard_none packet from message (TooOld local) block h f = absurd (let t : HeardMessage from message ≡ HeardDropped (TooOld local) = h in cc)
-heard_none packet from message TooManyStreams block h f = absurd (let t : HeardMessage from message ≡ HeardDropped TooManyStreams = h in cc)
-
-pub heard_service : (packet : Packet) (from : Stream) (message : Message) (answer : Admit) (block : Option SignatureBlock) (service : Message) → AnswerIs answer packet block (HeardMessage from message) → (profile_definition packet.id ≡ Some (definition_of message) → Represents (definition_of message) packet.payload (values_of message) → Carries packet None (Some service)) → IsAnswer answer packet block (Service from service)
-heard_service packet from message Admitted (Some block) service h f = (h.0, f h.1 h.2)
-heard_service packet from message Admitted None service h f = h
-heard_service packet from message Unsigned block service h f = absurd (let t : HeardMessage from message ≡ HeardDropped Unsigned = h in cc)
-heard_service packet from message BadSignature block service h f = absurd (let t : HeardMessage from message ≡ HeardDropped BadSignature = h in cc)
-heard_service packet from message (BelowFloor floor) block service h f = absurd (let t : HeardMessage from message ≡ HeardDropped (BelowFloor floor) = h in cc)
-heard_service packet from message (NotLater last) block service h f = absurd (let t : HeardMessage from message ≡ HeardDropped (NotLater last) = h in cc)
-heard_service packet from message (TooOld local) block service h f = absurd (let t : HeardMessage from message ≡ HeardDropped (TooOld local) = h in cc)
-heard_service packet from message TooManyStreams block service h f = absurd (let t : HeardMessage from message ≡ HeardDropped TooManyStreams = h in cc)
-
-pub heard_other : (packet : Packet) (from : Stream) (id : ℕ) (answer : Admit) (block : Option SignatureBlock) → AnswerIs answer packet block (HeardOther from id) → IsAnswer answer packet block Other
-heard_other packet from id Admitted (Some block) h = record {
-  plan_is = none_carried packet.id packet.payload h.2;
-  other_is = no_service_carried packet.id packet.payload h.2;
-}
-heard_other packet from id Admitted None h = h
-heard_other packet from id Unsigned block h = absurd (let t : HeardOther from id ≡ HeardDropped Unsigned = h in cc)
-heard_other packet from id BadSignature block h = absurd (let t : HeardOther from id ≡ HeardDropped BadSignature = h in cc)
-heard_other packet from id (BelowFloor floor) block h = absurd (let t : HeardOther from id ≡ HeardDropped (BelowFloor floor) = h in cc)
-heard_other packet from id (NotLater last) block h = absurd (let t : HeardOther from id ≡ HeardDropped (NotLater last) = h in cc)
-heard_other packet from id (TooOld local) block h = absurd (let t : HeardOther from id ≡ HeardDropped (TooOld local) = h in cc)
-heard_other packet from id TooManyStreams block h = absurd (let t : HeardOther from id ≡ HeardDropped TooManyStreams = h in cc)
-
--- the same, by a frame in its inner view
-pub plan_tried : {p q : Packet} → p ≡ q → (link : Link) (from : Stream) (message : Message) (plan : PlanMsg) → HeardIs link.key link.history q (HeardMessage from message) → (profile_definition p.id ≡ Some (definition_of message) → Represents (definition_of message) p.payload (values_of message) → plan_in p.id p.payload ≡ Some plan) → IsTried link q (Plan from plan)
-plan_tried {p} {q} e link from message plan h f =
-    subst (λ (z : Packet). IsTried link z (Plan from plan)) e (heard_plan p from message (answer_to link.key link.history p) p.block plan (subst (λ (z : Packet). HeardIs link.key link.history z (HeardMessage from message)) (sym e) h) f)
-
-pub service_tried : {p q : Packet} → p ≡ q → (link : Link) (from : Stream) (message service : Message) → HeardIs link.key link.history q (HeardMessage from message) → (profile_definition p.id ≡ Some (definition_of message) → Represents (definition_of message) p.payload (values_of message) → Carries p None (Some service)) → IsTried link q (Service from service)
-service_tried {p} {q} e link from message service h f =
-    subst (λ (z : Packet). IsTried link z (Service from service)) e (heard_service p from message (answer_to link.key link.history p) p.block service (subst (λ (z : Packet). HeardIs link.key link.history z (HeardMessage from message)) (sym e) h) f)
-
-pub none_tried : {p q : Packet} → p ≡ q → (link : Link) (from : Stream) (message : Message) → HeardIs link.key link.history q (HeardMessage from message) → (profile_definition p.id ≡ Some (definition_of message) → Represents (definition_of message) p.payload (values_of message) → Carries p None None) → IsTried link q Other
-none_tried {p} {q} e link from message h f =
-    subst (λ (z : Packet). IsTried link z Other) e (heard_none p from message (answer_to link.key link.history p) p.block (subst (λ (z : Packet). HeardIs link.key link.history z (HeardMessage from message)) (sym e) h) f)

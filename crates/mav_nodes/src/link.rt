@@ -6,8 +6,10 @@ ghost use Rattle.field_layout.specs.Payload.{Represents};
 ghost use Rattle.mav_messages.specs.Plans.{plan_of as plan_carried};
 ghost use Rattle.mav_messages.specs.Messages.{definition_of, values_of, profile_definition};
 ghost use Rattle.mav_nodes.specs.Payloads.{plan_in, service_in, service_of as service_carried, ItemFits, ServiceFits};
-ghost use Rattle.mav_sign.specs.Endpoints.{HasProfile, HeardIs};
-ghost use Rattle.mav_sign.specs.History.{answer_to};
+ghost use Rattle.mav_frame.specs.Packet.{SignatureBlock};
+ghost use Rattle.mav_sign.specs.Endpoints.{HasProfile};
+ghost use Rattle.mav_sign.specs.History.{answer_to, stream_of};
+ghost use Rattle.mav_sign.specs.declared.admission.Admit.TheVariants.{Admitted};
 ghost use Rattle.mav_sign.specs.Signing.{verified};
 ghost use Rattle.mav_sign.specs.Streams.{reader_of, ReadTo};
 ghost use Rattle.mav_frame.specs.declared.events.Event.{Event};
@@ -17,7 +19,7 @@ ghost use Rattle.mav_nodes.specs.Links.{Link as LinkState, IsEnd, IsLink, new_li
 ghost use Rattle.mav_nodes.specs.News.{NodeEvent, shown};
 ghost use Rattle.mav_nodes.specs.Steps.{answers};
 ghost use Rattle.mav_nodes.specs.Cores.{said_of_plans, said_of_outcome, says};
-ghost use Rattle.mav_nodes.specs.Promises.{Did, LinkDid, IsTried, Fails};
+ghost use Rattle.mav_nodes.specs.Promises.{Did, LinkDid, IsAnswer, IsTried, Fails};
 ghost use Rattle.mav_nodes.specs.Streams.{HasRead};
 
 use crate::news::tell;
@@ -26,8 +28,8 @@ use crate::stores::save_bound;
 use crate::{News, NoMemory, NodeFault};
 use mav_frame::{Frame, RawFrame};
 use mav_messages::Message;
-use mav_names::Stream;
-use mav_sign::{Admit, Endpoint, Heard, Key};
+use mav_names::{Name, Stream};
+use mav_sign::{Admit, Endpoint, Key};
 use plan_items::PlanMsg;
 use plan_store::Keeper;
 use std::alloc::Global;
@@ -269,13 +271,13 @@ impl Link {
     }
 
     // Tries one frame.
-    fn take<K: Keeper, C: Core>(
+    fn admit<K: Keeper, C: Core>(
         &mut self,
         frame: &RawFrame<'_>,
         core: &C,
         keeper: &mut K,
-    ) -> Result<Heard, NodeFault>
-        ensures heard { IfOk result (λ heard. (link : LinkState) → IsLink link self.old → HeardIs link.key link.history frame.now heard) }
+    ) -> Result<Admit, NodeFault>
+        ensures answer { IfOk result (λ answer. (link : LinkState) → IsLink link self.old → answer ≡ answer_to link.key link.history frame.now) }
         ensures link { OnOk result ((link : LinkState) → IsLink link self.old → IsLink (tries frame.now link) self.new) }
         ensures stored { OnOk result (Holds (K.contents keeper.old) (C.stored core.now) self.old.low → Holds (K.contents keeper.new) (C.stored core.now) self.new.low) }
         ensures reader { reader_of self.new.endpoint ≡ reader_of self.old.endpoint }
@@ -284,11 +286,12 @@ impl Link {
     {
         let verifies = self.endpoint.verifies(frame);
         self.raise_for(frame, verifies, core, keeper)?;
-        Ok(self.endpoint.take_judged(frame, verifies))
+        Ok(self.endpoint.admit_judged(frame, verifies))
     }
 
     /// Tries one frame, and returns the message that it carries for the node. The store has a bound for its timestamp before it is
     /// admitted.
+    #[inline]
     pub(crate) fn hear<K: Keeper, C: Core>(
         &mut self,
         frame: &RawFrame<'_>,
@@ -302,8 +305,8 @@ impl Link {
         ensures serves { Serves K.faults K.is_infallible keeper.old keeper.new }
         ensures fault { IfErr result (λ fault. HasFailedAt fault K.faults K.is_infallible keeper.old keeper.new) }
     {
-        let heard = self.take(frame, core, keeper)?;
-        Ok(result_of(frame, &heard))
+        let answer = self.admit(frame, core, keeper)?;
+        Ok(result_of(frame, answer))
     }
 
     /// Sends a message, and reports it. The store has a bound for its timestamp before.
@@ -422,23 +425,38 @@ impl Link {
     }
 }
 
-// The result of a frame, by what was received in it.
-fn result_of(frame: &RawFrame<'_>, heard: &Heard) -> Tried
-    ensures { (link : LinkState) → HeardIs link.key link.history frame.now heard.now → IsTried link frame.now result }
+// The message that an admitted frame of a stream carries for the node.
+fn carried(from: Stream, frame: &RawFrame<'_>) -> Tried
+    ensures { (block : SignatureBlock) → from ≡ stream_of frame.now block → IsAnswer Admitted frame.now (Some block) result }
 {
-    match heard {
-        Heard::Message(from, message) => {
-            let id = frame.id();
-            let payload = frame.payload();
-            match plan_of(id, payload, message) {
-                Some(plan) => Tried::Plan(*from, plan),
-                None => match service_of(id, payload, message) {
-                    Some(service) => Tried::Service(*from, service),
-                    None => Tried::Other,
-                },
-            }
+    let id = frame.id();
+    let payload = frame.payload();
+    let Some(message) = Message::read(id, payload) else {
+        return Tried::Other;
+    };
+    match plan_of(id, payload, &message) {
+        Some(plan) => Tried::Plan(from, plan),
+        None => match service_of(id, payload, &message) {
+            Some(service) => Tried::Service(from, service),
+            None => Tried::Other,
+        },
+    }
+}
+
+// The result of a frame, by the verdict on it.
+fn result_of(frame: &RawFrame<'_>, answer: Admit) -> Tried
+    ensures { (link : LinkState) → answer ≡ answer_to link.key link.history frame.now → IsTried link frame.now result }
+{
+    match (answer, frame.block()) {
+        (Admit::Admitted, Some(block)) => {
+            let Name { sys, comp } = frame.from();
+            let from = Stream {
+                sys,
+                comp,
+                link: block.link,
+            };
+            carried(from, frame)
         }
-        Heard::Other(_, _) => Tried::Other,
-        Heard::Dropped(answer) => Tried::Dropped(*answer),
+        _ => Tried::Dropped(answer),
     }
 }

@@ -6,28 +6,15 @@ use Rattle.field_layout.proofs.Unique.{truncated_represents}
 use Rattle.mav_names.specs.declared.names.Stream.{Stream}
 use Rattle.mav_messages.specs.declared.messages.Message.{Message}
 use Rattle.mav_messages.specs.Messages.{definition_of, values_of}
-use Rattle.mav_frame.specs.Packet.{Packet}
-use Rattle.mav_frame.specs.Encoding.{checksum}
+use Rattle.mav_frame.specs.Packet.{SignatureBlock}
+use Rattle.mav_frame.specs.Encoding.{sealed, unsealed}
 use Rattle.mav_sign.specs.Endpoints.{FrameOf}
-
--- the packet of a message, before its checksum
-abbrev pub unsealed : Stream → ℕ → ℕ → ℕ → List ℕ → List ℕ → Packet
-unsealed me seq id stamp payload sig = record {
-  old = false;
-  compat = 0;
-  seq = seq;
-  from = record { sys = me.sys; comp = me.comp };
-  id = id;
-  payload = payload;
-  check = 0;
-  block = Some record { link = me.link; stamp = stamp; sig = sig };
-}
 
 not_old : false ≡ true → ⊥
 not_old e = cc
 
-pub sealed_frame : (me : Stream) (extras : List (ℕ × ℕ)) (seq stamp : ℕ) (message : Message) (id extra : ℕ) (payload sig : List ℕ) → id ≡ (definition_of message).id → extra_of (definition_of message).id extras ≡ Some extra → FitsLayout (definition_of message) (values_of message) → payload ≡ truncated (serialised (definition_of message) (values_of message)) → FrameOf me extras seq stamp message (record (unsealed me seq id stamp payload sig) { check = checksum (unsealed me seq id stamp payload sig) extra })
-sealed_frame me extras seq stamp message id extra payload sig is known fits bytes = record {
+pub sealed_frame : (me : Stream) (extras : List (ℕ × ℕ)) (seq stamp : ℕ) (message : Message) (id extra : ℕ) (payload : List ℕ) (block : SignatureBlock) → id ≡ (definition_of message).id → extra_of (definition_of message).id extras ≡ Some extra → FitsLayout (definition_of message) (values_of message) → payload ≡ truncated (serialised (definition_of message) (values_of message)) → FrameOf me extras seq stamp message (sealed extra (unsealed seq (record { sys = me.sys; comp = me.comp }) id payload (Some block)))
+sealed_frame me extras seq stamp message id extra payload block is known fits bytes = record {
   version = refl;
   compat = refl;
   seq_is = refl;

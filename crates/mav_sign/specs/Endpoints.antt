@@ -63,7 +63,14 @@ HeardIs key history packet heard = AnswerIs (answer_to key history packet) packe
 abbrev pub after_frame : List ℕ → List Entry → Packet → List Entry
 after_frame key history packet = history ++ tried packet (answer_to key history packet) ∷ []
 
--- an endpoint takes a frame: by what its verifier keeps, and by each history that this represents
+-- an endpoint tries a frame: by what its verifier keeps, and by each history that this represents
+pub record Admits (old new : EndpointState) (packet : Packet) (answer : Admit) : Type 0 where
+  pub kept : answer ≡ kept_answer_to old.key old.stamps packet
+  pub answer_is : (history : List Entry) → Represents old.stamps history → answer ≡ answer_to old.key history packet
+  pub history : (history : List Entry) → Represents old.stamps history → Represents new.stamps (after_frame old.key history packet)
+  pub same : new ≡ record old { stamps = new.stamps }
+
+-- the same, with what is reported of it
 pub record Takes (old new : EndpointState) (packet : Packet) (reported : Heard) : Type 0 where
   pub kept : AnswerIs (kept_answer_to old.key old.stamps packet) packet packet.block reported
   pub heard : (history : List Entry) → Represents old.stamps history → HeardIs old.key history packet reported

@@ -8,7 +8,7 @@ ghost use Rattle.mav_sign.specs.Kept.{Represents, kept_answer_to, kept_next};
 ghost use Rattle.mav_frame.specs.declared.events.Event.{Event};
 ghost use Rattle.mav_stream.specs.Progress.{Progress};
 ghost use Rattle.mav_sign.specs.Streams.{reader_of, ReadTo, PartHeard};
-ghost use Rattle.mav_sign.specs.Endpoints.{HasProfile, AdmittedIs, AnswerIs, new_endpoint, HeardIs, after_frame, Takes, Told, FrontHeard, Received, FramesOf, FrameOf, Sends};
+ghost use Rattle.mav_sign.specs.Endpoints.{HasProfile, AdmittedIs, AnswerIs, Admits, new_endpoint, HeardIs, after_frame, Takes, Told, FrontHeard, Received, FramesOf, FrameOf, Sends};
 
 use crate::reading::{LEAST_FRAME_BYTES, append_frames, read_frame};
 use crate::stamps::stream_on;
@@ -151,12 +151,7 @@ impl Endpoint {
     /// Tries one frame, and keeps its timestamp if it is admitted; `receive` and `receive_part` do so with each frame
     /// of a parse. Doesn't allocate.
     pub fn take(&mut self, frame: &Frame) -> Heard
-        ensures kept { AnswerIs (kept_answer_to self.old.key self.old.stamps frame.now) frame.now frame.now.block result }
-        ensures heard { (history : List Entry) → Represents self.old.stamps history
-            → HeardIs self.old.key history frame.now result }
-        ensures history { (history : List Entry) → Represents self.old.stamps history
-            → Represents self.new.stamps (after_frame self.old.key history frame.now) }
-        ensures same { self.new ≡ record self.old { stamps = self.new.stamps } }
+        ensures { Takes self.old self.new frame.now result }
     {
         let mut bytes = [0; 280];
         let size = encode(frame, &mut bytes);
@@ -165,12 +160,21 @@ impl Endpoint {
         self.take_judged(&raw, verifies)
     }
 
-    /// What `take` does, for a frame as the bytes that encode it, of which it is already known whether it verifies.
-    pub fn take_judged(&mut self, frame: &RawFrame<'_>, verifies: bool) -> Heard
+    /// Tries one frame as the bytes that encode it, of which it is already known whether it verifies, and keeps its
+    /// timestamp if it is admitted.
+    pub fn admit_judged(&mut self, frame: &RawFrame<'_>, verifies: bool) -> Admit
+        requires { verifies ≡ verified self.old.key frame.now frame.now.block }
+        ensures { Admits self.old self.new frame.now result }
+    {
+        self.stamps.admit_judged(&self.key, frame, verifies)
+    }
+
+    // What `take` does, for such a frame.
+    fn take_judged(&mut self, frame: &RawFrame<'_>, verifies: bool) -> Heard
         requires { verifies ≡ verified self.old.key frame.now frame.now.block }
         ensures { Takes self.old self.new frame.now result }
     {
-        let answer = self.stamps.admit_judged(&self.key, frame, verifies);
+        let answer = self.admit_judged(frame, verifies);
         match (answer, frame.block()) {
             (Admit::Admitted, Some(block)) => message_of(
                 stream_on(frame.from(), block.link),
@@ -272,13 +276,13 @@ impl Endpoint {
     }
 
     // The frame of a message, with a block that is still to be signed.
-    fn frame_of(&self, message: &Message, stamp: u64) -> Frame
+    #[inline]
+    fn frame_of(&self, message: &Message, stamp: u64) -> FrameBytes
         requires { stamp < 2 ^ 48 }
         ensures frame { FrameOf self.now.me self.now.extras self.now.seq stamp message.now result }
         ensures block { IfSome result.block (λ block. (block.link ≡ self.now.me.link) × (block.stamp ≡ stamp)) }
     {
-        let mut payload = [0; 255];
-        let (id, len) = message.write(&mut payload);
+        let payload = message.payload();
         let from = Name {
             sys: self.me.sys,
             comp: self.me.comp,
@@ -288,16 +292,14 @@ impl Endpoint {
             stamp,
             sig: [0; 6],
         };
-        let mut frame = Frame::new(
-            0,
+        FrameBytes::sealed(
             self.seq,
             from,
-            id,
-            &payload[..usize::from(len)],
-            Some(block),
-        );
-        frame.seal(self.extra_of(message));
-        frame
+            message.id(),
+            payload.truncated(),
+            self.extra_of(message),
+            block,
+        )
     }
 
     // The CRC_EXTRA of a message.
@@ -324,7 +326,7 @@ impl Endpoint {
         ensures { Sends self.old self.new clock message.now result }
     {
         let stamp = self.stamps.next_stamp(clock)?;
-        let mut frame = FrameBytes::of(&self.frame_of(message, stamp));
+        let mut frame = self.frame_of(message, stamp);
         sign_bytes(&self.key, &mut frame);
         self.seq = self.seq.wrapping_add(1);
         Ok(frame)

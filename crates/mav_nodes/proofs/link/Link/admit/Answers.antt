@@ -4,12 +4,12 @@ use Rattle.std.proofs.lemmas.Result.{err_from_is_err_and}
 use Rattle.mav_frame.specs.Packet.{Packet}
 use Rattle.mav_sign.specs.History.{Entry, tried, answer_to}
 use Rattle.mav_sign.specs.Kept.{Represents}
-use Rattle.mav_sign.specs.Endpoints.{EndpointState, HeardIs, after_frame}
+use Rattle.mav_sign.specs.Endpoints.{EndpointState, after_frame}
 use Rattle.mav_sign.specs.Streams.{reader_of}
 use Rattle.mav_nodes.specs.Links.{Link, LinkView, IsEnd, IsLink, tries}
 use Rattle.mav_nodes.specs.LowBounds.{raised_if, raised_at}
 use Rattle.mav_nodes.specs.Stores.{Holds}
-use Rattle.mav_nodes.proofs.link.Link.take.Goals as goal
+use Rattle.mav_nodes.proofs.link.Link.admit.Goals as goal
 
 -- the endpoint, once the store has a bound
 end_then : (link : Link) (old : LinkView) (low : Option ℕ) (raised : LinkView) (inside : EndpointState) → IsLink link old → inside ≡ raised.endpoint → raised ≡ record old { low = low } → IsEnd link inside
@@ -36,7 +36,7 @@ tried_so link frame old raised inside after low is view view_low bound same hist
 pub returns-in_err-raise_for : goal.returns-in_err-raise_for
 returns-in_err-raise_for g c =
     let p = err_from_is_err_and c.from_residual.result c.from_residual.ensures.1 in
-    rw (p.1, p.2) (record { heard = tt; link = tt; stored = tt; reader = ap reader_of c.raise_for.ensures.endpoint; serves = c.raise_for.ensures.serves; fault = c.in_err-raise_for.ensures.fault })
+    rw (p.1, p.2) (record { answer = tt; link = tt; stored = tt; reader = ap reader_of c.raise_for.ensures.endpoint; serves = c.raise_for.ensures.serves; fault = c.in_err-raise_for.ensures.fault })
 
 pub returns : goal.returns
 returns g c =
@@ -46,12 +46,12 @@ returns g c =
     let view = ap (λ (v : LinkView). v.endpoint) c.self-2.view_is in
     let low = ap (λ (v : LinkView). v.low) c.self-2.view_is in
     record {
-      heard = λ link is.
+      answer = λ link is.
           let end = end_then link old _ raised c.self-2.inside.endpoint is view (c.in_ok-raise_for.ensures.low link is) in
-          subst (λ (key : List ℕ). HeardIs key link.history frame c.take_judged.result) end.key (c.take_judged.ensures.heard link.history end.history);
-      link = λ link is. tried_so link frame old raised c.self-2.inside.endpoint c.take_judged.new.self c.self-2.inside.low is view low (c.in_ok-raise_for.ensures.low link is) c.take_judged.ensures.same c.take_judged.ensures.history;
+          c.admit_judged.ensures.answer_is link.history end.history ∙ ap (λ (key : List ℕ). answer_to key link.history frame) end.key;
+      link = λ link is. tried_so link frame old raised c.self-2.inside.endpoint c.admit_judged.new.self c.self-2.inside.low is view low (c.in_ok-raise_for.ensures.low link is) c.admit_judged.ensures.same c.admit_judged.ensures.history;
       stored = λ held. subst (Holds (g.K.Keeper.contents c.raise_for.new.keeper) (g.C.Core.stored c.args.core.now)) (sym low) (c.in_ok-raise_for.ensures.stored held);
-      reader = ap reader_of c.take_judged.ensures.same ∙ (ap reader_of view ∙ ap reader_of c.raise_for.ensures.endpoint);
+      reader = ap reader_of c.admit_judged.ensures.same ∙ (ap reader_of view ∙ ap reader_of c.raise_for.ensures.endpoint);
       serves = c.raise_for.ensures.serves;
       fault = tt;
     }
