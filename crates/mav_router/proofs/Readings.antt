@@ -62,7 +62,7 @@ bytes_skipped rules port bytes run held new skips more count journal why r progr
       skipped = omega (arith, l, long, old, e);
     }
 
--- the first bytes of a buffer, and some of those behind them
+-- the first bytes of a buffer, and some of those after them
 pub first_and_after : (first count room : ℕ) (buf : List ℕ) → count ≤ room → take (first + count) buf ≡ take first buf ++ take count (slice_range buf first (first + room))
 first_and_after first count room buf within =
     take-add first count buf ∙ ap (λ (l : List ℕ). take first buf ++ l) (sym (take-take count (first + room - first) (drop first buf) (omega (arith, within))))

@@ -15,7 +15,7 @@ loop-number-preserved g c =
     let pages = c.args.shared.now in
     let page = c.index-pages-number.result in
     let there : slice_get pages l.number ≡ Some page =
-    subst (λ (all : List PageState). slice_get all l.number ≡ Some page) c.pages-pages.ensures (slice_get_read c.pages-pages.result.now (length c.pages-pages.result.now) l.number page refl c.loop-number-test.true c.index-pages-number.is) in
+    subst (λ (all : List PageState). slice_get all l.number ≡ Some page) c.pages-pages.ensures (slice_get_read c.pages-pages.result.now (length c.pages-pages.result.now) l.number page refl (omega (arith, c.loop-number-test.true)) c.index-pages-number.is) in
     record {
       reaches = λ journal w.
           let s = page_stands journal from pages w l.number page there in
