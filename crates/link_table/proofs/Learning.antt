@@ -1,40 +1,16 @@
 -- One more node is learned.
-use Rattle.std.proofs.Common.{◌≡◌, ◌∙◌, ◌<◌, ◌≤◌, ◌⊎◌, inl, inr, ℕ, ◌+◌, ◌-◌, ◌*◌, ◌^◌, ◌==◌, ◌&&◌, ◌||◌, not, Bool, true, false, List, [], ◌∷◌, ◌++◌, length, get_or, set, replicate, arith, refl, ap, sym, subst}
+use Rattle.std.proofs.Common.{◌≡◌, ◌∙◌, ◌<◌, ◌≤◌, inl, inr, ℕ, ◌+◌, ◌-◌, ◌*◌, ◌^◌, ◌==◌, ◌&&◌, ◌||◌, Bool, true, false, List, [], ◌∷◌, ◌++◌, length, get_or, set, replicate, arith, refl, ap, sym, subst}
 use Rattle.std.specs.Int.Bits.{bit_or}
 use Rattle.std.specs.List.{list_any}
 use Rattle.std.proofs.lemmas.Grind.{common_steps}
 use Rattle.std.proofs.lemmas.List.{get_or-replicate, get_or-set_same, get_or-set_other}
 use Rattle.std.proofs.lemmas.List.Folds.{list_any-append}
-use Rattle.std.proofs.lemmas.Bool.{cases_eq}
-use Rattle.std.proofs.lemmas.Nat.{and_or_self, and_or_apart, pow_apart, pow_pos, same_from_place}
+use Rattle.std.proofs.lemmas.Nat.{same_from_place}
 use Rattle.mav_names.specs.declared.names.Name.{Name}
 use Rattle.link_table.specs.Routing.{Learned}
-use Rattle.link_table.specs.Table.{Masks, Represents, has_bit}
-
--- two numbers are one, or not
-same_or : (m n : ℕ) → ((m ≡ n) × ((m == n) ≡ true)) ⊎ ((m ≡ n → ⊥) × ((m == n) ≡ false))
-same_or m n = elim (cases_eq m n) [ inl e ↦ inl (e, are m n e) | inr e ↦ inr (e, are_not m n e) ]
-  where
-    are : (m n : ℕ) → m ≡ n → (m == n) ≡ true
-    are m n e = grind (arith, common_steps)
-
-    are_not : (m n : ℕ) → (m ≡ n → ⊥) → (m == n) ≡ false
-    are_not m n e = grind (arith, common_steps)
-
-positive : (n : ℕ) → 0 < n → not (n == 0) ≡ true
-positive n some = grind (arith, common_steps)
-
--- a mask with one more bit
-bit_more : (mask at port : ℕ) → 1 ≤ at → 1 ≤ port → has_bit (bit_or mask (2 ^ (at - 1))) port ≡ ((at == port) || has_bit mask port)
-bit_more mask at port a p =
-    elim (same_or at port) [
-      | inl e ↦
-          let own : has_bit (bit_or mask (2 ^ (at - 1))) at ≡ true = ap (λ (n : ℕ). not (n == 0)) (and_or_self (2 ^ (at - 1)) mask) ∙ positive (2 ^ (at - 1)) (pow_pos (at - 1)) in
-          ap (has_bit (bit_or mask (2 ^ (at - 1)))) (sym e.0) ∙ (own ∙ ap (λ (b : Bool). b || has_bit mask port) (sym e.1))
-      | inr e ↦
-          ap (λ (n : ℕ). not (n == 0)) (and_or_apart (2 ^ (port - 1)) mask (2 ^ (at - 1)) (pow_apart (at - 1) (port - 1) (λ same. e.0 (omega (arith, a, p, same)))))
-          ∙ ap (λ (b : Bool). b || has_bit mask port) (sym e.1)
-    ]
+use Rattle.link_table.specs.Bits.{has_bit}
+use Rattle.link_table.proofs.Bits.{same_or, bit_more}
+use Rattle.link_table.specs.Table.{Masks, Represents}
 
 -- the bytes with one more bit in one of them
 marked : (masks : List ℕ) (index other at port : ℕ) → index < length masks → 1 ≤ at → 1 ≤ port → has_bit (get_or (set masks index (bit_or (get_or masks index 0) (2 ^ (at - 1)))) other 0) port ≡ (((at == port) && (index == other)) || has_bit (get_or masks other 0) port)

@@ -1,6 +1,6 @@
 -- What a table keeps of the nodes that were learned.
-use Rattle.std.specs.Prelude.{ℕ, ◌≡◌, ◌==◌, ◌+◌, ◌-◌, ◌*◌, ◌^◌, ◌<◌, ◌≤◌, Bool, not, List, slice_index}
-use Rattle.std.specs.Int.Bits.{bit_and}
+use Rattle.std.specs.Prelude.{ℕ, ◌≡◌, ◌+◌, ◌*◌, ◌<◌, ◌≤◌, List, slice_index}
+use Rattle.link_table.specs.Bits.{has_bit}
 use Rattle.link_table.specs.Routing.{Learned, system_learned, node_learned}
 
 -- a byte for each node and for each system, with a bit for each port
@@ -8,10 +8,6 @@ pub record Masks : Type 0 where
   pub ports : ℕ
   pub nodes : List ℕ
   pub systems : List ℕ
-
--- the bit of a port is set
-abbrev pub has_bit : ℕ → ℕ → Bool
-has_bit mask port = not (bit_and mask (2 ^ (port - 1)) == 0)
 
 -- the bits say what was learned
 pub record Represents (masks : Masks) (learned : List Learned) : Type 0 where

@@ -1,9 +1,11 @@
 // The table of learned nodes.
-ghost use Rattle.std.specs.Prelude.{◌≡◌, ◌+◌, ◌-◌, ◌*◌, ◌^◌, ◌<◌, ◌≤◌, ◌++◌, ◌∷◌, [], ℕ, List, length, slice_index, slice_set, IfOk};
+ghost use Rattle.std.specs.Prelude.{◌≡◌, ◌==◌, ◌+◌, ◌-◌, ◌*◌, ◌^◌, ◌<◌, ◌≤◌, ◌++◌, ◌∷◌, [], ℕ, List, not, nat_le, length, slice_index, slice_set, IfOk};
 ghost use Rattle.std.specs.Int.Bits.{bit_or};
-ghost use Rattle.link_table.specs.Routing.{Learned, is_behind, goes_out, ways_of};
-ghost use Rattle.link_table.specs.Table.{Represents, has_bit as mask_has};
+ghost use Rattle.link_table.specs.Bits.{has_bit as mask_has};
+ghost use Rattle.link_table.specs.Routing.{Learned, is_behind, ways_of};
+ghost use Rattle.link_table.specs.Table.{Represents};
 
+use crate::ways::bit_of;
 use crate::{NoMemory, Ways};
 use mav_names::Name;
 use std::alloc::Global;
@@ -34,24 +36,7 @@ impl Model for LinkTable {
 
     ghost view = { λ t. record { ports = t.ports; nodes = t.nodes.items; systems = t.systems.items } };
 
-    ghost invariant = { λ t. (t.ports ≤ 8) × (length t.nodes.items ≡ 65536) × (length t.systems.items ≡ 256) };
-}
-
-// The bit of a port.
-fn bit_of(port: u8) -> u8
-    requires from { 1 ≤ port }
-    requires to { port ≤ 8 }
-    ensures { result ≡ 2 ^ (port - 1) }
-{
-    1 << (port - 1)
-}
-
-fn has_bit(mask: u8, port: u8) -> bool
-    requires from { 1 ≤ port }
-    requires to { port ≤ 8 }
-    ensures { result ≡ mask_has mask port }
-{
-    mask & bit_of(port) != 0
+    ghost invariant = { λ t. ((1 ≤ t.ports) × (t.ports ≤ 8)) × (length t.nodes.items ≡ 65536) × (length t.systems.items ≡ 256) };
 }
 
 fn mark(masks: &mut Vec<u8>, index: usize, port: u8)
@@ -68,6 +53,25 @@ fn node_index(node: Name) -> usize
     ensures within { result < 65536 }
 {
     usize::from(node.sys) * 256 + usize::from(node.comp)
+}
+
+// The mask of the ports from 1 up to a number.
+fn first_ports(ports: u8) -> u8
+    requires from { 1 ≤ ports }
+    requires to { ports ≤ 8 }
+    ensures { (port : ℕ) → 1 ≤ port → port ≤ 8 → mask_has result port ≡ nat_le port ports }
+{
+    ALL_PORTS >> (8 - ports)
+}
+
+// The mask of all ports but one, or of all if the number isn't that of a port.
+fn other_ports(own: u8) -> u8
+    ensures { (port : ℕ) → 1 ≤ port → port ≤ 8 → mask_has result port ≡ not (port == own) }
+{
+    if own == 0 || own > 8 {
+        return ALL_PORTS;
+    }
+    ALL_PORTS - bit_of(own)
 }
 
 impl LinkTable {
@@ -113,30 +117,12 @@ impl LinkTable {
         }
     }
 
-    // Whether a message goes out at a port, by the mask of its ports and the port that it came in at.
-    fn goes_out(&self, mask: u8, own: u8, port: u8) -> bool
-        requires from { 1 ≤ port }
-        requires to { port ≤ 8 }
-        ensures { result ≡ goes_out self.now.ports (mask_has mask port) own port }
-    {
-        port <= self.ports && port != own && has_bit(mask, port)
-    }
-
     /// The ports at which a message for that target goes out; it came in at the port `own`, and never goes out there.
     pub fn ways(&self, own: u8, target: Name) -> Ways
         ensures { (learned : List Learned) → Represents self.now learned
             → result ≡ ways_of self.now.ports learned own target }
     {
-        let mask = self.ports_of(target);
-        Ways::of([
-            self.goes_out(mask, own, 1),
-            self.goes_out(mask, own, 2),
-            self.goes_out(mask, own, 3),
-            self.goes_out(mask, own, 4),
-            self.goes_out(mask, own, 5),
-            self.goes_out(mask, own, 6),
-            self.goes_out(mask, own, 7),
-            self.goes_out(mask, own, 8),
-        ])
+        let all_but_own = other_ports(own) & self.ports_of(target);
+        Ways::of(first_ports(self.ports) & all_but_own)
     }
 }

@@ -1,39 +1,59 @@
 // A set of ports.
-ghost use Rattle.std.specs.Prelude.{◌≡◌, ◌-◌, ◌≤◌, true, slice_set};
-ghost use Rattle.link_table.specs.Routing.{no_ways, has_port, has_both, common_ways};
+ghost use Rattle.std.specs.Prelude.{◌≡◌, ℕ, ◌-◌, ◌≤◌, ◌^◌, true, slice_set};
+ghost use Rattle.link_table.specs.Bits.{has_bit as mask_has, flags_of, mask_of};
+ghost use Rattle.link_table.specs.Routing.{no_ways, has_port, common_ways};
 
 use std::marker::Model;
 
 /// A set of the ports 1 to 8. Contracts see the list of eight flags.
 #[derive(Clone, Copy)]
 pub struct Ways {
-    flags: [bool; 8],
+    mask: u8,
 }
 
 impl Model for Ways {
-    ghost use Rattle.std.specs.Prelude.{List, Bool};
+    ghost use Rattle.std.specs.Prelude.{◌≡◌, List, Bool};
+    ghost use Rattle.link_table.specs.Bits.{flags_of, mask_of};
 
     ghost Value = { List Bool };
 
-    ghost view = { λ w. w.flags };
+    ghost view = { λ w. flags_of w.mask };
 
-    ghost inverse = { λ flags. record { flags = flags } };
+    ghost invariant = { λ w. mask_of (flags_of w.mask) ≡ w.mask };
+
+    ghost inverse = { λ flags. record { mask = mask_of flags } };
+}
+
+/// The bit of a port.
+pub(crate) fn bit_of(port: u8) -> u8
+    requires from { 1 ≤ port }
+    requires to { port ≤ 8 }
+    ensures { result ≡ 2 ^ (port - 1) }
+{
+    1 << (port - 1)
 }
 
 impl Ways {
-    pub(crate) fn of(flags: [bool; 8]) -> Ways
-        ensures { result ≡ flags }
+    /// The ports whose bits are set.
+    pub(crate) fn of(mask: u8) -> Ways
+        ensures { result ≡ flags_of mask }
     {
-        Ways { flags }
+        Ways { mask }
     }
 
     /// No port.
     pub fn none() -> Ways
         ensures { result ≡ no_ways }
     {
-        Ways {
-            flags: [false, false, false, false, false, false, false, false],
-        }
+        Ways::of(0)
+    }
+
+    /// A byte with a bit for each port, of which port 1 has the lowest.
+    #[inline]
+    pub fn mask(self) -> u8
+        ensures { (port : ℕ) → 1 ≤ port → port ≤ 8 → mask_has result port ≡ has_port self port }
+    {
+        self.mask
     }
 
     /// The set with one more port.
@@ -42,41 +62,23 @@ impl Ways {
         requires to { port ≤ 8 }
         ensures { result ≡ slice_set self (port - 1) true }
     {
-        let mut flags = self.flags;
-        flags[usize::from(port - 1)] = true;
-        Ways { flags }
+        Ways::of(self.mask | bit_of(port))
     }
 
     /// Whether the port is in the set.
+    #[inline]
     pub fn has(self, port: u8) -> bool
         requires from { 1 ≤ port }
         requires to { port ≤ 8 }
         ensures { result ≡ has_port self port }
     {
-        self.flags[usize::from(port - 1)]
+        (self.mask >> (port - 1)) % 2 == 1
     }
 
     /// The ports that are in both sets.
     pub fn common(self, other: Ways) -> Ways
         ensures { result ≡ common_ways self other }
     {
-        Ways::of([
-            self.both(other, 1),
-            self.both(other, 2),
-            self.both(other, 3),
-            self.both(other, 4),
-            self.both(other, 5),
-            self.both(other, 6),
-            self.both(other, 7),
-            self.both(other, 8),
-        ])
-    }
-
-    fn both(self, other: Ways, port: u8) -> bool
-        requires from { 1 ≤ port }
-        requires to { port ≤ 8 }
-        ensures { result ≡ has_both self other port }
-    {
-        self.has(port) && other.has(port)
+        Ways::of(self.mask & other.mask)
     }
 }
