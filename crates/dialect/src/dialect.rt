@@ -6,6 +6,7 @@ ghost use Rattle.mav_profile.specs.Messages.{definition_with, extras_of};
 ghost use Rattle.mav_profile.specs.Profile.{profile_definitions};
 
 use crate::layouts::Layouts;
+use crate::low_places::{LOW_IDS, low_places, place_at};
 use crate::profile::profile_layouts;
 use crate::reading::read_layouts;
 use crate::{DialectFault, NoMemory};
@@ -20,19 +21,21 @@ use x25_check::Extras;
 #[derive(Drop)]
 pub struct Dialect {
     layouts: Layouts,
+    low: Vec<Option<usize>>,
     extras: Extras,
 }
 
 impl Model for Dialect {
-    ghost use Rattle.std.specs.Prelude.{◌≡◌, List};
+    ghost use Rattle.std.specs.Prelude.{◌≡◌, List, length};
     ghost use Rattle.field_layout.specs.Definition.{Definition};
     ghost use Rattle.mav_profile.specs.Messages.{extras_of};
+    ghost use Rattle.dialect.specs.Places.{ArePlaces};
 
     ghost Value = { List Definition };
 
     ghost view = { λ d. d.layouts };
 
-    ghost invariant = { λ d. d.extras ≡ extras_of d.layouts };
+    ghost invariant = { λ d. (d.extras ≡ extras_of d.layouts) × (length d.low.items ≡ 1024) × ArePlaces d.layouts d.low.items };
 }
 
 // The CRC_EXTRA of each message by its id.
@@ -69,13 +72,23 @@ impl Dialect {
         ensures { IfOk result (λ dialect. dialect ≡ layouts) }
     {
         let extras = extras(alloc, layouts.as_slice())?;
-        Ok(Dialect { layouts, extras })
+        let low = low_places(alloc, &layouts)?;
+        Ok(Dialect {
+            layouts,
+            low,
+            extras,
+        })
     }
 
     /// The layout of a message id, found without a scan.
     pub fn get(&self, id: u32) -> Option<&Layout>
         ensures { option_copied result ≡ definition_with id self.now }
     {
+        let index = id as usize;
+        if index < LOW_IDS {
+            let place = place_at(&self.low, index)?;
+            return self.layouts.at(place);
+        }
         self.layouts.get(id)
     }
 

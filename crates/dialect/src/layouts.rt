@@ -2,6 +2,7 @@
 ghost use Rattle.std.specs.Prelude.{◌≡◌, ◌∷◌, ◌++◌, [], false, length, slice_get, OnOk, OnErr};
 ghost use Rattle.std.specs.Option.{option_copied};
 ghost use Rattle.dialect.specs.Grammar.{has_id};
+ghost use Rattle.dialect.specs.Places.{at_place};
 ghost use Rattle.mav_profile.specs.Messages.{definition_with};
 
 use crate::NoMemory;
@@ -57,11 +58,18 @@ impl Layouts {
         Ok(())
     }
 
+    /// The index of the layout of an id, found by its hash.
+    pub(crate) fn place(&self, id: u32) -> Option<usize>
+        ensures { at_place result self.now ≡ definition_with id self.now }
+    {
+        self.ids.get_index_of(&id)
+    }
+
     /// The layout of an id, found by its hash.
     pub(crate) fn get(&self, id: u32) -> Option<&Layout>
         ensures { option_copied result ≡ definition_with id self.now }
     {
-        let place = self.ids.get_index_of(&id)?;
+        let place = self.place(id)?;
         self.at(place)
     }
 
