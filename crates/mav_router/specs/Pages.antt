@@ -2,7 +2,12 @@
 use Rattle.std.specs.Prelude.{ℕ, ◌≡◌, ◌+◌, ◌<◌, ◌≤◌, List, [], ◌∷◌, ◌++◌, length, take, drop, slice_get, Some, ⊤}
 use Rattle.std.specs.List.{flat_map}
 use Rattle.mav_router.specs.declared.entries.Entry.{Entry}
+use Rattle.mav_router.specs.declared.entries.Outcome.{Outcome}
 use Rattle.mav_router.specs.PageState.{PageState}
+
+-- what became of the frame of an entry
+abbrev pub outcome_of : Entry → Outcome
+outcome_of entry = record { port = entry.port; admit = entry.admit; ways = entry.ways }
 
 -- the entries of pages, one after another
 abbrev pub entries_in_pages : List PageState → List Entry

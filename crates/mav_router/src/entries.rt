@@ -13,11 +13,11 @@ pub struct Entry {
     pub ways: Ways,
 }
 
-/// The port that a frame came in at, its verdict, and the ports that it goes to.
+/// The verdict on a frame, the port that it came in at, and the ports that it goes to.
 #[derive(Clone, Copy)]
 pub struct Outcome {
-    pub port: u8,
     pub admit: Admit,
+    pub port: u8,
     pub ways: Ways,
 }
 

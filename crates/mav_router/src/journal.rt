@@ -1,11 +1,11 @@
 // The journal of a router.
-ghost use Rattle.std.specs.Prelude.{◌≡◌, ◌<◌, ◌≤◌, ◌+◌, ◌-◌, ◌++◌, ◌∷◌, [], List, length, replicate, slice_get, Some, true, All, IfOk, IfErr, OnOk, OnErr, IsErrOf, vec_len, vec_capacity};
+ghost use Rattle.std.specs.Prelude.{◌≡◌, ◌<◌, ◌≤◌, ◌+◌, ◌-◌, ◌++◌, [], List, length, replicate, slice_get, Some, All, IfErr, OnOk, vec_len, vec_capacity};
 ghost use Rattle.mav_router.specs.declared.entries.Entry.{Entry};
 ghost use Rattle.mav_router.specs.Admitting.{IsAfter};
 ghost use Rattle.mav_router.specs.Found.{Admits, IsJudged, packets_of};
 ghost use Rattle.mav_router.specs.Faults.{IsSwitchFault};
 ghost use Rattle.mav_router.specs.Outgoing.{IsRun};
-ghost use Rattle.mav_router.specs.Pages.{entries_in_pages, AreIndexed, IsIn, IsWindow, StandsIn};
+ghost use Rattle.mav_router.specs.Pages.{entries_in_pages, outcome_of, AreIndexed, IsIn, IsWindow, StandsIn};
 
 use crate::entries::Outcome;
 use crate::found::FoundFrames;
@@ -110,31 +110,36 @@ impl Journal {
         self.page_of.len() + self.last.len()
     }
 
-    /// The frame of the entry at an index, from 0.
+    /// What became of the frame of the entry at an index, from 0, and the frame.
+    #[inline]
+    pub fn look(&self, index: usize) -> (Outcome, RawFrame<'_>)
+        requires { index < length self.now }
+        ensures { (entry : Entry) → slice_get self.now index ≡ Some entry → result ≡ (outcome_of entry, entry.frame) }
+    {
+        let before = self.page_of.len();
+        if index >= before {
+            return self.last.look(index - before);
+        }
+        let sealed = page_with(&self.sealed, &self.page_of, index);
+        sealed.look(index - sealed.start())
+    }
+
+    /// The frame of the entry at an index.
     pub fn frame(&self, index: usize) -> RawFrame<'_>
         requires { index < length self.now }
         ensures { (entry : Entry) → slice_get self.now index ≡ Some entry → result ≡ entry.frame }
     {
-        let before = self.page_of.len();
-        if index >= before {
-            return self.last.frame(index - before);
-        }
-        let sealed = page_with(&self.sealed, &self.page_of, index);
-        sealed.frame(index - sealed.start())
+        let (_, frame) = self.look(index);
+        frame
     }
 
     /// What became of it.
     pub fn outcome(&self, index: usize) -> Outcome
         requires { index < length self.now }
-        ensures { (entry : Entry) → slice_get self.now index ≡ Some entry
-            → result ≡ record { port = entry.port; admit = entry.admit; ways = entry.ways } }
+        ensures { (entry : Entry) → slice_get self.now index ≡ Some entry → result ≡ outcome_of entry }
     {
-        let before = self.page_of.len();
-        if index >= before {
-            return self.last.outcome(index - before);
-        }
-        let sealed = page_with(&self.sealed, &self.page_of, index);
-        sealed.outcome(index - sealed.start())
+        let (outcome, _) = self.look(index);
+        outcome
     }
 
     /// The entry at an index, from 0.
@@ -142,10 +147,11 @@ impl Journal {
         requires { index < length self.now }
         ensures { slice_get self.now index ≡ Some result }
     {
-        let Outcome { port, admit, ways } = self.outcome(index);
+        let (outcome, frame) = self.look(index);
+        let Outcome { port, admit, ways } = outcome;
         Entry {
             port,
-            frame: self.frame(index).to_frame(),
+            frame: frame.to_frame(),
             admit,
             ways,
         }

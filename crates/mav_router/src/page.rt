@@ -4,6 +4,7 @@ ghost use Rattle.link_table.specs.Routing.{has_port};
 ghost use Rattle.mav_router.specs.declared.entries.Entry.{Entry};
 ghost use Rattle.mav_router.specs.Journal.{frames_to};
 ghost use Rattle.mav_router.specs.Outgoing.{IsRun, SpansRun};
+ghost use Rattle.mav_router.specs.Pages.{outcome_of};
 ghost use Rattle.mav_router.specs.Spans.{AreHeld, entries_of};
 
 use crate::entries::Outcome;
@@ -133,21 +134,14 @@ impl Page {
         self.heads.len()
     }
 
-    /// The frame of the entry at an index, from 0.
-    pub(crate) fn frame(&self, index: usize) -> RawFrame<'_>
+    /// What became of the frame of the entry at an index, from 0, and the frame.
+    #[inline]
+    pub(crate) fn look(&self, index: usize) -> (Outcome, RawFrame<'_>)
         requires { index < length self.now }
-        ensures { (entry : Entry) → slice_get self.now index ≡ Some entry → result ≡ entry.frame }
+        ensures { (entry : Entry) → slice_get self.now index ≡ Some entry → result ≡ (outcome_of entry, entry.frame) }
     {
-        frame_in(&self.bytes, head_at(&self.heads, index).span)
-    }
-
-    /// What became of it.
-    pub(crate) fn outcome(&self, index: usize) -> Outcome
-        requires { index < length self.now }
-        ensures { (entry : Entry) → slice_get self.now index ≡ Some entry
-            → result ≡ record { port = entry.port; admit = entry.admit; ways = entry.ways } }
-    {
-        head_at(&self.heads, index).outcome
+        let head = head_at(&self.heads, index);
+        (head.outcome, frame_in(&self.bytes, head.span))
     }
 
     /// The bytes of frames that go out at the port, of the entries from `at` on: of the next one, and of those after it that

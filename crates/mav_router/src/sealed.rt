@@ -2,7 +2,7 @@
 ghost use Rattle.std.specs.Prelude.{◌≡◌, ◌≤◌, ◌<◌, ◌+◌, List, length, slice_get, Some, IfSome, IfOk, IfErr};
 ghost use Rattle.mav_router.specs.declared.entries.Entry.{Entry};
 ghost use Rattle.mav_router.specs.Outgoing.{IsRun};
-ghost use Rattle.mav_router.specs.Pages.{end_of_page, IsIn, StandsIn};
+ghost use Rattle.mav_router.specs.Pages.{end_of_page, outcome_of, IsIn, StandsIn};
 
 use crate::entries::Outcome;
 use crate::page::{Page, Run};
@@ -75,21 +75,13 @@ impl SealedPage {
         self.start + self.page.len()
     }
 
-    /// The frame of the entry at an index in the page.
-    pub(crate) fn frame(&self, at: usize) -> RawFrame<'_>
+    /// What became of the frame of the entry at an index in the page, and the frame.
+    #[inline]
+    pub(crate) fn look(&self, at: usize) -> (Outcome, RawFrame<'_>)
         requires { at < length self.now.entries }
-        ensures { (entry : Entry) → slice_get self.now.entries at ≡ Some entry → result ≡ entry.frame }
+        ensures { (entry : Entry) → slice_get self.now.entries at ≡ Some entry → result ≡ (outcome_of entry, entry.frame) }
     {
-        self.page.frame(at)
-    }
-
-    /// What became of it.
-    pub(crate) fn outcome(&self, at: usize) -> Outcome
-        requires { at < length self.now.entries }
-        ensures { (entry : Entry) → slice_get self.now.entries at ≡ Some entry
-            → result ≡ record { port = entry.port; admit = entry.admit; ways = entry.ways } }
-    {
-        self.page.outcome(at)
+        self.page.look(at)
     }
 
     /// The same as [`Page::run`], by the indices of the journal.

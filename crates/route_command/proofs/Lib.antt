@@ -1,4 +1,5 @@
 mod PortSteps
+mod PortTexts
 pub mod Pieces
 pub mod Runs
 pub mod Reports

@@ -1,24 +1,9 @@
--- The ports of a set, of which each is put with a comma before it.
-use Rattle.std.proofs.Common.{◌≡◌, ℕ, zero, suc, ◌+◌, ◌≤◌, ◌<◌, Bool, true, false, if◌then◌else◌, List, [], ◌∷◌, ◌++◌, codes, length, take, set, refl, sym, ap, ◌∙◌, arith, append_assoc, append-nil, length-take, take-take}
+-- The ports of a set: a space over the first comma, or a dash.
+use Rattle.std.proofs.Common.{◌≡◌, ℕ, zero, suc, ◌+◌, ◌≤◌, ◌<◌, Bool, true, false, if◌then◌else◌, List, [], ◌∷◌, ◌++◌, codes, length, take, set, refl, sym, ap, ◌∙◌, arith, append-nil, length-take, take-take}
 use Rattle.std.specs.Fmt.{decimal}
-use Rattle.std.proofs.lemmas.Fmt.{decimal_digit}
 use Rattle.std.proofs.Math.Seq.{take-append-add, take-set-lt}
 use Rattle.link_table.specs.Routing.{has_port}
 use Rattle.route_command.specs.Texts.{ports_from, ports_text}
-
--- a port that is in the set, and one that isn't
-pub port_in : (ways : List Bool) (port count : ℕ) (start new : List ℕ) → port < 10 → has_port ways port ≡ true → new ≡ start ++ (44 ∷ (48 + port) ∷ []) → new ++ ports_from false ways (port + 1) count ≡ start ++ ports_from false ways port (suc count)
-port_in ways port count start new few is put =
-    let rest : List ℕ = ports_from false ways (port + 1) count in
-    ap (λ (l : List ℕ). l ++ rest) put
-    ∙ (append_assoc start (44 ∷ (48 + port) ∷ []) rest
-    ∙ (ap (λ (l : List ℕ). start ++ (44 ∷ l ++ rest)) (sym (decimal_digit port few))
-    ∙ sym (ap (λ (t : Bool). start ++ (if t then codes "," ++ decimal port ++ rest else rest)) is)))
-
-pub port_out : (ways : List Bool) (port count : ℕ) (start : List ℕ) → has_port ways port ≡ false → start ++ ports_from false ways (port + 1) count ≡ start ++ ports_from false ways port (suc count)
-port_out ways port count start is =
-    let rest : List ℕ = ports_from false ways (port + 1) count in
-    sym (ap (λ (t : Bool). start ++ (if t then codes "," ++ decimal port ++ rest else rest)) is)
 
 -- what stood before what was put
 pub start_kept : (at end : ℕ) (old new part : List ℕ) → at ≤ length old → at ≤ end → take end new ≡ take at old ++ part → take at new ≡ take at old

@@ -5,8 +5,9 @@ ghost use Rattle.std.specs.declared.option.Option.{Option};
 ghost use Rattle.mav_ports.specs.Counts.{Rose};
 ghost use Rattle.mav_ports.specs.Puts.{Sent, SentPrefix};
 ghost use Rattle.mav_sign.specs.History.{is_admitted};
-ghost use Rattle.route_command.specs.Texts.{ports_from, ports_text, fate_text, frame_text, source_text, entry_line, entry_lines, link_of, stamp_of};
+ghost use Rattle.route_command.specs.Texts.{ports_text, fate_text, frame_text, source_text, entry_line, entry_lines, link_of, stamp_of};
 
+use crate::port_texts::put_further_ports;
 use link_table::Ways;
 use mav_frame::RawFrame;
 use mav_names::Name;
@@ -18,38 +19,6 @@ use run_status::{RunEnd, write_enough};
 
 /// More than a line has.
 pub(crate) const LINE_BYTES: usize = 128;
-
-// How many ports a router has at most.
-const MOST_PORTS: u8 = 8;
-
-// Puts a comma and a port, and returns the index after them if the port is in the set. They are always written, so that
-// no branch depends on the set.
-#[inline(always)]
-fn put_port(line: &mut [u8; 128], at: usize, ways: Ways, port: u8) -> usize
-    requires from { 1 ≤ port }
-    requires to { port ≤ 8 }
-    requires room { at + 2 ≤ 128 }
-    ensures index { (at ≤ result) × (result ≤ at + 2) }
-    ensures text { (count : ℕ) → take result line.new ++ ports_from false ways (port + 1) count
-        ≡ take at line.old ++ ports_from false ways port (count + 1) }
-{
-    let end = put_part(line, at, &[b',', b'0' + port], 2);
-    if ways.has(port) { end } else { at }
-}
-
-// Puts the ports of a set with a comma before each.
-#[inline(always)]
-fn put_further_ports(line: &mut [u8; 128], at: usize, ways: Ways) -> usize
-    requires { at ≤ 100 }
-    ensures index { (at ≤ result) × (result ≤ at + 16) }
-    ensures text { take result line.new ≡ take at line.old ++ ports_from false ways 1 8 }
-{
-    let mut end = at;
-    for port in 0..MOST_PORTS {
-        end = put_port(line, end, ways, port + 1);
-    }
-    end
-}
 
 // Puts a space and the ports of a set, or a dash. The space stands where the first comma was.
 #[inline(always)]
@@ -199,7 +168,8 @@ pub(crate) fn write_entries<K: Sink>(
 {
     let mut line = [0; LINE_BYTES];
     for at in 0..journal.len() {
-        put_entry(journal.outcome(at), &journal.frame(at), &mut line, lines)?;
+        let (outcome, frame) = journal.look(at);
+        put_entry(outcome, &frame, &mut line, lines)?;
         write_enough(lines, out)?;
     }
     Ok(())

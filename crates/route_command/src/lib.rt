@@ -12,5 +12,6 @@ mod commands;
 mod entry_lines;
 mod named;
 mod port_lines;
+mod port_texts;
 
 pub use commands::{route, route_alone};

@@ -20,7 +20,7 @@ returns-in_err-write_enough-clause-halted g c =
     let more = entry_lines (drop (c.loop-at.at + 1) journal) ++ rest in
     let now = g.K.Sink.sent c.loop-at.out in
     front_on before now (g.K.Sink.sent c.write_enough.new.out) whole c.put_entry.new.lines.items more c.in_err-write_enough.ensures.front
-    (held_more before now now whole c.loop-at.lines.items (entry_line entry.0) c.put_entry.new.lines.items more (c.in_ok-put_entry.ensures ∙ ap (λ (e : Entry). c.loop-at.lines.items ++ entry_line e) (λ i. record { port = (c.outcome.ensures entry.0 entry.1 i).port; frame = c.frame.ensures entry.0 entry.1 i; admit = (c.outcome.ensures entry.0 entry.1 i).admit; ways = (c.outcome.ensures entry.0 entry.1 i).ways }))
+    (held_more before now now whole c.loop-at.lines.items (entry_line entry.0) c.put_entry.new.lines.items more (c.in_ok-put_entry.ensures ∙ ap (λ (e : Entry). c.loop-at.lines.items ++ entry_line e) (λ i. record { port = (c.look-outcome.ensures entry.0 entry.1 i).0.port; frame = (c.look-outcome.ensures entry.0 entry.1 i).1; admit = (c.look-outcome.ensures entry.0 entry.1 i).0.admit; ways = (c.look-outcome.ensures entry.0 entry.1 i).0.ways }))
     (subst (λ (xs : List ℕ). Sent before now whole (c.loop-at.lines.items ++ xs)) (entries_left journal at entry.0 entry.0 rest (omega (arith, c.loop-at-test.true, c.len-at-end.ensures)) (sym (get_or_from_slice_get journal at entry.0 entry.0 entry.1))) (c.loop-at.invariant.sent before whole rest s))))
 
 pub loop-at-preserved : goal.loop-at-preserved
@@ -33,7 +33,7 @@ loop-at-preserved g c =
           let more = entry_lines (drop (c.loop-at.at + 1) journal) ++ rest in
           let now = g.K.Sink.sent c.loop-at.out in
           moved_on before now (g.K.Sink.sent c.write_enough.new.out) whole c.put_entry.new.lines.items c.write_enough.new.lines.items more c.in_ok-write_enough.ensures.moved
-          (held_more before now now whole c.loop-at.lines.items (entry_line entry.0) c.put_entry.new.lines.items more (c.in_ok-put_entry.ensures ∙ ap (λ (e : Entry). c.loop-at.lines.items ++ entry_line e) (λ i. record { port = (c.outcome.ensures entry.0 entry.1 i).port; frame = c.frame.ensures entry.0 entry.1 i; admit = (c.outcome.ensures entry.0 entry.1 i).admit; ways = (c.outcome.ensures entry.0 entry.1 i).ways }))
+          (held_more before now now whole c.loop-at.lines.items (entry_line entry.0) c.put_entry.new.lines.items more (c.in_ok-put_entry.ensures ∙ ap (λ (e : Entry). c.loop-at.lines.items ++ entry_line e) (λ i. record { port = (c.look-outcome.ensures entry.0 entry.1 i).0.port; frame = (c.look-outcome.ensures entry.0 entry.1 i).1; admit = (c.look-outcome.ensures entry.0 entry.1 i).0.admit; ways = (c.look-outcome.ensures entry.0 entry.1 i).0.ways }))
           (subst (λ (xs : List ℕ). Sent before now whole (c.loop-at.lines.items ++ xs)) (entries_left journal at entry.0 entry.0 rest (omega (arith, c.loop-at-test.true, c.len-at-end.ensures)) (sym (get_or_from_slice_get journal at entry.0 entry.0 entry.1))) (c.loop-at.invariant.sent before whole rest s)));
       refusals = c.in_ok-write_enough.ensures.sound ∙ c.loop-at.invariant.refusals;
     }
