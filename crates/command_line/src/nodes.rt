@@ -1,5 +1,5 @@
 // The plain words of `drone` and `station`.
-ghost use Rattle.std.specs.Prelude.{◌≡◌, true, false, map, string_bytes, IfOk, IfSome};
+ghost use Rattle.std.specs.Prelude.{◌≡◌, true, false, map, string_bytes, IfOk};
 ghost use Rattle.std.specs.Option.{MatchOption};
 ghost use Rattle.command_line.specs.declared.commands.Command.{Command};
 ghost use Rattle.command_line.specs.Numbers.{number_in};

@@ -1,7 +1,6 @@
 // What a station does, and how its words are read.
 ghost use Rattle.std.specs.Prelude.{◌≡◌, ◌≤◌, ◌++◌, map, length, drop, string_bytes, option_map, IfOk};
 ghost use Rattle.std.specs.List.{list_all};
-ghost use Rattle.std.specs.Str.{bytes_eq};
 ghost use Rattle.command_line.specs.Numbers.{number_in, is_digit, is_visible};
 ghost use Rattle.command_line.specs.OperationTexts.{plan_word, plan_named, cleared_named, is_wire, wire_in};
 ghost use Rattle.command_line.specs.OperationTexts.{padded, is_parameter, parameter_in, order_of, setting_of, file_named};

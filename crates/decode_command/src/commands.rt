@@ -1,9 +1,9 @@
 // The command `decode`.
-ghost use Rattle.std.specs.Prelude.{◌≡◌, ◌<◌, ◌≤◌, ◌+◌, [], true, false, length, IsErrOf};
+ghost use Rattle.std.specs.Prelude.{◌≡◌, ◌<◌, ◌+◌, [], false, length, IsErrOf};
 ghost use Rattle.std.specs.Result.{result_err};
 ghost use Rattle.run_status.specs.Seen.{before_status_over, input_of, output_of};
 ghost use Rattle.decode_command.specs.Decodes.{Drained, IsNew, IsWithin};
-ghost use Rattle.decode_command.specs.Spec.{decode_spec, most_input_bytes};
+ghost use Rattle.decode_command.specs.Spec.{decode_spec};
 
 use crate::decoder::Decoder;
 use crate::known::Known;

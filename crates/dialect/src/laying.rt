@@ -1,5 +1,5 @@
 // Laying a message out, in time that is linear in the number of its fields.
-ghost use Rattle.std.specs.Prelude.{◌≡◌, ◌≢◌, ◌<◌, ◌*◌, ◌≤◌, length, Some, None, IfOk, IfErr, IfSome, option_map, sum_by};
+ghost use Rattle.std.specs.Prelude.{◌≡◌, ◌≢◌, ◌<◌, length, Some, None, IfOk, IfErr, IfSome};
 ghost use Rattle.field_layout.specs.Definition.{all_fields, full_len_of};
 ghost use Rattle.field_layout.specs.Faults.{names_of, first_repeat, first_fault};
 ghost use Rattle.dialect.specs.Grammar.{layout_fault};

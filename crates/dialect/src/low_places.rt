@@ -1,5 +1,5 @@
 // The indices of the messages with low ids.
-ghost use Rattle.std.specs.Prelude.{◌≡◌, ◌<◌, ℕ, length, slice_get, Some, IfOk};
+ghost use Rattle.std.specs.Prelude.{◌≡◌, ◌<◌, length, slice_get, Some, IfOk};
 ghost use Rattle.dialect.specs.Places.{ArePlaces};
 
 use crate::NoMemory;

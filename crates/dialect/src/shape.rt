@@ -1,5 +1,5 @@
 // Messages as definitions write them.
-ghost use Rattle.std.specs.Prelude.{◌≡◌, codes, map, length, option_map, option_and_then, IfOk};
+ghost use Rattle.std.specs.Prelude.{◌≡◌, map, option_map, IfOk};
 ghost use Rattle.serde_json.specs.Find.{get};
 ghost use Rattle.serde_json.specs.View.{view};
 ghost use Rattle.dialect.specs.Shape as spec;

@@ -1,7 +1,6 @@
 // The types of fields as definitions write them.
 ghost use Rattle.std.specs.Prelude.{◌≡◌, ◌-◌, ◌≤◌, ◌==◌, length, position, find, slice_index};
 ghost use Rattle.std.specs.List.{list_all};
-ghost use Rattle.std.specs.Str.{bytes_eq};
 ghost use Rattle.dialect.specs.Types as spec;
 
 use field_layout::Ty;

@@ -1,5 +1,4 @@
 // The text of a dialect.
-ghost use Rattle.std.specs.Prelude.{◌≡◌};
 ghost use Rattle.std.specs.Result.{result_err};
 ghost use Rattle.mav_text.specs.LayoutText.{layout_text, dialect_text};
 ghost use Rattle.dialect_command.specs.Writes.{WroteText, count_line};

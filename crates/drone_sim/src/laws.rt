@@ -1,10 +1,10 @@
 // What holds of every drone, by the definitions alone.
-ghost use Rattle.std.specs.Prelude.{◌≡◌, ◌⊎◌, ◌+◌, ◌*◌, ◌<◌, ◌≤◌, ℕ, true, false, List, length, Option, Some, None, max};
+ghost use Rattle.std.specs.Prelude.{◌≡◌, ◌⊎◌, ◌+◌, ◌*◌, ◌<◌, ◌≤◌, ℕ, false, List, Some, None, max};
 ghost use Rattle.plan_items.specs.declared.items.Item.{Item};
 ghost use Rattle.plan_items.specs.declared.actions.Action.{Action};
 ghost use Rattle.drone_sim.specs.declared.courses.Course.TheVariants.{Disarmed, Resting, Flying, Returning};
 ghost use Rattle.drone_sim.specs.declared.points.Point.{Point};
-ghost use Rattle.drone_sim.specs.Sim.{SimState, new_sim, armed, acts, changes, sim_tick, is_armed};
+ghost use Rattle.drone_sim.specs.Sim.{SimState, new_sim, armed, acts, changes, sim_tick};
 ghost use Rattle.drone_sim.specs.Laws.{target_now, IsOnItsWay, PointInRange, LocationsInRange, SimInRange, SimTickInRange, ticks, AreWithin};
 
 /// In a tick each coordinate goes from where it was towards the target's, and never past it; a drone without a target

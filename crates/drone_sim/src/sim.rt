@@ -1,7 +1,7 @@
 // A simulated drone.
 ghost use Rattle.std.specs.Prelude.{◌≡◌, slice_get};
 ghost use Rattle.plan_items.specs.Plans.{items_of};
-ghost use Rattle.drone_sim.specs.Sim.{new_sim, armed as is_armed, acts, changes, news_of, stays, one_more, flies_to, captures_at, does_item, target_of as item_target, flies, returns, sim_tick};
+ghost use Rattle.drone_sim.specs.Sim.{new_sim, armed as is_armed, acts, changes, news_of, stays, flies_to, captures_at, does_item, target_of as item_target, flies, returns, sim_tick};
 
 use crate::moves::{is_at, moved};
 use crate::targets::{beyond, target_of};

@@ -1,6 +1,6 @@
 // What a file says so far.
 ghost use Rattle.std.specs.Prelude.{◌≡◌};
-ghost use Rattle.fence_command.specs.FenceFile.{empty_file, list_of};
+ghost use Rattle.fence_command.specs.FenceFile.{empty_file};
 ghost use Rattle.fence_command.specs.Files.{state_of};
 
 use drone_sim::Point;

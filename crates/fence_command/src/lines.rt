@@ -1,8 +1,7 @@
 // What one line of a file says.
-ghost use Rattle.std.specs.Prelude.{◌≡◌, length, true, false, Ok, Err, Some, None, IfErr, OnOk};
+ghost use Rattle.std.specs.Prelude.{◌≡◌, true, false, Ok, Err};
 ghost use Rattle.std.specs.declared.result.Result.{Result};
-ghost use Rattle.scenario_lines.specs.Faults.{IfBad};
-ghost use Rattle.scenario_lines.specs.Readings.{and_then, whole, signed};
+ghost use Rattle.scenario_lines.specs.Readings.{whole, signed};
 ghost use Rattle.fence_command.specs.FenceFile.{home_says, step_says, ticks_says, list_says, items_say, line_says, file_reason};
 ghost use Rattle.scenario_lines.specs.declared.faults.Reason.{Reason};
 ghost use Rattle.fence_command.specs.FenceFile.{FileState};

@@ -1,6 +1,5 @@
 // The lines that are written of a file.
-ghost use Rattle.std.specs.Prelude.{◌≡◌, ◌++◌, ◌≤◌, ◌<◌, ◌+◌, ◌^◌, OnOk, IfOk, string_bytes, length, is_some};
-ghost use Rattle.plan_items.specs.Validation.{goes_to_place};
+ghost use Rattle.std.specs.Prelude.{◌≡◌, ◌++◌, ◌≤◌, ◌<◌, ◌+◌, OnOk, IfOk, string_bytes, length, is_some};
 ghost use Rattle.drone_sim.specs.Sim.{location_of};
 ghost use Rattle.fence_watch.specs.Judging.{judged};
 ghost use Rattle.fence_command.specs.FenceText.{item_text, items_text, outside, next_from as next_start, ends_touching as leg_ends_touching, counted, touching, legs_text, breach_text, breaches_text, counts_text};

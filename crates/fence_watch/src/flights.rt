@@ -1,7 +1,6 @@
 // Flights against a fence.
 ghost use Rattle.std.specs.Prelude.{◌≡◌, IfOk};
 ghost use Rattle.plan_items.specs.Plans.{items_of};
-ghost use Rattle.drone_sim.specs.Sim.{new_sim, acts};
 ghost use Rattle.fence_watch.specs.Judging.{started as started_at, flown};
 
 use crate::{NoMemory, Point, Watch};

@@ -1,5 +1,5 @@
 // What the definitions by tests say of points and segments.
-ghost use Rattle.std.specs.Prelude.{◌≡◌, ◌↔◌, List, IsTrue};
+ghost use Rattle.std.specs.Prelude.{◌↔◌, List, IsTrue};
 ghost use Rattle.drone_sim.specs.declared.points.Point.{Point};
 ghost use Rattle.fence_watch.specs.declared.segments.Segment.{Segment};
 ghost use Rattle.fence_watch.specs.Segments.{Meet, meet};

@@ -1,8 +1,7 @@
 // A scenario that is played as its bytes come.
-ghost use Rattle.std.specs.Prelude.{◌≡◌, ◌≢◌, ◌≤◌, ◌+◌, ◌-◌, ◌∷◌, ◌++◌};
-ghost use Rattle.std.specs.Prelude.{[], List, ℕ, Bool, true, None, length, vec_len, IfOk, IfErr, OnOk, IsErrOf};
+ghost use Rattle.std.specs.Prelude.{◌≡◌, ◌≤◌, ◌+◌, ◌-◌, ◌∷◌, ◌++◌};
+ghost use Rattle.std.specs.Prelude.{[], List, ℕ, Bool, true, length, vec_len, IfOk, IfErr, OnOk, IsErrOf};
 ghost use Rattle.std.specs.declared.option.Option.{Option};
-ghost use Rattle.std.specs.Io.KnownBytes.{append_known};
 ghost use Rattle.mav_ports.specs.Counts.{Rose};
 ghost use Rattle.fleet_world.specs.WorldState.{empty_state, context_of};
 ghost use Rattle.fleet_world.specs.WorldView.{IsState};

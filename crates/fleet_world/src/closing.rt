@@ -1,5 +1,5 @@
 // What the end of a scenario reports.
-ghost use Rattle.std.specs.Prelude.{◌≡◌, ◌++◌, [], List, OnOk, slice_get};
+ghost use Rattle.std.specs.Prelude.{◌≡◌, ◌++◌, List, OnOk, slice_get};
 ghost use Rattle.fleet_report.specs.Events.{plan_text};
 ghost use Rattle.fleet_report.specs.Reports.{with_text};
 ghost use Rattle.fleet_world.specs.WorldState.{Node as StateNode, node_name};

@@ -1,5 +1,5 @@
 // Frames on their way: what a flow gives to the nodes.
-ghost use Rattle.std.specs.Prelude.{◌≡◌, ◌<◌, length, Some, OnOk, IfErr, slice_get};
+ghost use Rattle.std.specs.Prelude.{◌≡◌, ◌<◌, Some, OnOk, IfErr, slice_get};
 ghost use Rattle.mav_frame.specs.Packet.{Packet};
 ghost use Rattle.fleet_world.specs.WorldState.{WorldState};
 ghost use Rattle.fleet_world.specs.WorldView.{IsState};

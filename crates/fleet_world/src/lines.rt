@@ -1,5 +1,5 @@
 // What each line does.
-ghost use Rattle.std.specs.Prelude.{◌≡◌, ◌≤◌, [], false, OnOk, IfErr};
+ghost use Rattle.std.specs.Prelude.{◌≡◌, ◌≤◌, false, OnOk, IfErr};
 ghost use Rattle.scenario_lines.specs.Permits.{IsPermitted};
 ghost use Rattle.scenario_lines.specs.Reasons.{leaves_range, state_reason};
 ghost use Rattle.scenario_lines.specs.declared.lines.Line.TheVariants as line;

@@ -1,5 +1,5 @@
 // Calls of nodes, and what is reported of them.
-ghost use Rattle.std.specs.Prelude.{◌≡◌, ◌-◌, ◌+◌, nat_le, List, [], Some, map, length, option_map, slice_get, OnOk, IfOk, IfErr};
+ghost use Rattle.std.specs.Prelude.{◌≡◌, ◌-◌, ◌+◌, nat_le, List, [], Some, map, slice_get, OnOk, IfOk, IfErr};
 ghost use Rattle.mav_nodes.specs.Nodes.{DroneSide};
 ghost use Rattle.mav_nodes.specs.News.{NodeEvent, shown, events_of};
 ghost use Rattle.fleet_world.specs.WorldState.{WorldState, Node as StateNode, Drone as StateDrone};

@@ -1,5 +1,5 @@
 // The world of a scenario.
-ghost use Rattle.std.specs.Prelude.{◌≡◌, [], IfOk, IfErr, None, Some};
+ghost use Rattle.std.specs.Prelude.{◌≡◌, IfOk, IfErr, None, Some};
 ghost use Rattle.scenario_lines.specs.Faults.{IfBad};
 ghost use Rattle.scenario_lines.specs.Grammar.{line_of};
 ghost use Rattle.scenario_lines.specs.Permits.{IsPermitted};

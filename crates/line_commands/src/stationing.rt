@@ -1,5 +1,5 @@
 // The command `station`, with the key and the file that its line names.
-ghost use Rattle.std.specs.Prelude.{◌≡◌, length, Some, true, false, map, string_bytes, IsErr, IsErrOf, IfOk, IfErr, List, ℕ};
+ghost use Rattle.std.specs.Prelude.{◌≡◌, length, Some, false, map, string_bytes, IsErr, IsErrOf, IfOk, IfErr, List, ℕ};
 ghost use Rattle.std.specs.Result.{result_err};
 ghost use Rattle.std.specs.declared.option.Option.{Option};
 ghost use Rattle.command_line.specs.Forms.{has_given};

@@ -1,5 +1,5 @@
 // What the words ask to be made.
-ghost use Rattle.std.specs.Prelude.{◌≡◌, ◌⊎◌, None, [], IfOk, IsErrOf, map, string_bytes, option_map};
+ghost use Rattle.std.specs.Prelude.{◌⊎◌, IfOk, IsErrOf, map, string_bytes};
 ghost use Rattle.command_line.specs.Built.{built};
 ghost use Rattle.command_line.specs.Grammar.{AskNothing};
 ghost use Rattle.line_commands.specs.Wants.{Wants};

@@ -1,7 +1,7 @@
 // The reader of a log.
 ghost use Rattle.std.specs.Prelude.{◌≡◌, ◌-◌, ◌<◌, ◌++◌, ℕ, List, [], length, take, min, true, false};
 ghost use Rattle.log_rows.specs.LogParse.{LogEvent};
-ghost use Rattle.log_rows.specs.Progress.{LogHeld, LogProgress, IsWholeLog, no_bytes_held};
+ghost use Rattle.log_rows.specs.Progress.{LogHeld, LogProgress, no_bytes_held};
 ghost use Rattle.log_rows.specs.LogNexts.{next_row, held_after, given_by, HasRoomAfter, WholeAtNeed};
 
 use crate::rows::{Row, row_at};

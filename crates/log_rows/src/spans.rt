@@ -1,8 +1,8 @@
 // What is at the start of some bytes of a log.
-ghost use Rattle.std.specs.Prelude.{◌≡◌, ◌<◌, ◌≤◌, ◌++◌, ℕ, Bool, List, length, take, drop, true};
+ghost use Rattle.std.specs.Prelude.{◌≡◌, ◌<◌, ◌≤◌, ◌++◌, ℕ, List, length, take, drop, true};
 ghost use Rattle.mav_frame.specs.Looks.{frame_size_at, is_old_at};
 ghost use Rattle.log_rows.specs.LogParse.{LogEvent};
-ghost use Rattle.log_rows.specs.Progress.{LogHeld, LogProgress, IsWholeLog};
+ghost use Rattle.log_rows.specs.Progress.{LogProgress, IsWholeLog};
 ghost use Rattle.log_rows.specs.Rows.{row_encoding, first_row};
 ghost use Rattle.log_rows.specs.Spans.{log_span, span_events, span_size, held_behind, short_span, IfRow, IfSome, IfNeed};
 

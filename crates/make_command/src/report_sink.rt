@@ -1,6 +1,5 @@
 // A sink that keeps what it is sent.
-ghost use Rattle.std.specs.Prelude.{◌≡◌, ◌<◌, ◌++◌, Some, [], length};
-ghost use Rattle.mav_ports.specs.Puts.{taken, TakesWithin, CountsRefusal};
+ghost use Rattle.std.specs.Prelude.{◌≡◌, ◌<◌, Some, []};
 
 use mav_ports::{Put, Sink};
 use std::alloc::Global;

@@ -1,5 +1,5 @@
 // A frame, and the checksum that seals it.
-ghost use Rattle.std.specs.Prelude.{◌≡◌, ◌^◌, ◌<◌, ◌≤◌, None, length, take, true};
+ghost use Rattle.std.specs.Prelude.{◌≡◌, ◌^◌, ◌<◌, None, length, take, true};
 ghost use Rattle.mav_frame.specs.Packet.{Packet, SignatureBlock};
 ghost use Rattle.mav_frame.specs.Padding.{IsPadded, padded, unpadded};
 

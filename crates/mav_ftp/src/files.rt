@@ -1,5 +1,5 @@
 // The files of a server.
-ghost use Rattle.std.specs.Prelude.{◌≡◌, ◌<◌, ◌≤◌, [], ◌∷◌, ◌++◌, length, nat_lt, not, drop, position, is_some, IfOk, IfSome};
+ghost use Rattle.std.specs.Prelude.{◌≡◌, ◌<◌, ◌≤◌, [], ◌∷◌, ◌++◌, length, nat_lt, not, drop, position, IfOk, IfSome};
 ghost use Rattle.std.specs.List.{remove};
 ghost use Rattle.std.specs.Option.{option_map};
 ghost use Rattle.mav_ftp.specs.Payload.{most_file};

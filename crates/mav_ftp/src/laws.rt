@@ -1,5 +1,5 @@
 // What holds of every run, by the definitions alone.
-ghost use Rattle.std.specs.Prelude.{◌≡◌, ◌<◌, ◌≤◌, ◌^◌, ℕ, List, length, false, Some, None};
+ghost use Rattle.std.specs.Prelude.{◌≡◌, ◌<◌, ◌^◌, ℕ, List, length, false, Some, None};
 ghost use Rattle.mav_names.specs.Addresses.{same_stream};
 ghost use Rattle.mav_ftp.specs.Sessions.{Session, session_of};
 ghost use Rattle.mav_names.specs.declared.names.Stream.{Stream};

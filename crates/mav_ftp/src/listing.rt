@@ -1,5 +1,5 @@
 // The data of a listing.
-ghost use Rattle.std.specs.Prelude.{◌≡◌, ◌+◌, ◌≤◌, ◌++◌, [], ◌∷◌, nat_le, if◌then◌else◌, length, take, drop};
+ghost use Rattle.std.specs.Prelude.{◌≡◌, ◌+◌, ◌≤◌, ◌++◌, [], nat_le, if◌then◌else◌, length, take};
 ghost use Rattle.mav_ftp.specs.Payload.{most_data};
 ghost use Rattle.mav_ftp.specs.Listing.{entry, entries_within, is_root};
 

@@ -1,5 +1,5 @@
 // The payload of FILE_TRANSFER_PROTOCOL (MAVLink guide, File Transfer Protocol: Payload Format).
-ghost use Rattle.std.specs.Prelude.{◌≡◌, ◌+◌, ◌≤◌, ◌++◌, length, take, drop, slice_index};
+ghost use Rattle.std.specs.Prelude.{◌≡◌, ◌+◌, ◌≤◌, ◌++◌, length, take, drop};
 ghost use Rattle.std.specs.List.{list_all};
 ghost use Rattle.mav_ftp.specs.Payload.{fields_of, data_of, sized_data, ftp_header, ftp_payload, is_name_byte, is_file_name, most_data};
 

@@ -1,5 +1,5 @@
 // The sessions of a server by their numbers.
-ghost use Rattle.std.specs.Prelude.{◌≡◌, ◌<◌, ◌≤◌, length, slice_set, Some, None, IsSome, IfSome, IfNone, OnSome, OnOk, OnErr};
+ghost use Rattle.std.specs.Prelude.{◌≡◌, ◌<◌, ◌≤◌, length, slice_set, Some, None, IfSome, IfNone, OnSome, OnOk, OnErr};
 ghost use Rattle.std.specs.Option.{option_map};
 ghost use Rattle.mav_ftp.specs.Sessions.{is_free, free_session, unless_of, session_of, sessions_without, overwritten};
 ghost use Rattle.mav_ftp.specs.Steps.{write_error, with_bytes};

@@ -1,5 +1,4 @@
 // A link that its caller boxed.
-ghost use Rattle.std.specs.Prelude.{◌≡◌};
 
 use crate::Link;
 use mav_ports::{Got, Put};

@@ -1,5 +1,5 @@
 // A link over memory that fails and idles at the calls that its maker lists.
-ghost use Rattle.std.specs.Prelude.{◌≡◌, ◌<◌, ◌≤◌, ◌++◌, ◌∷◌, Some, true, length, [], IfOk, vec_len, vec_capacity};
+ghost use Rattle.std.specs.Prelude.{◌≡◌, ◌<◌, ◌≤◌, ◌++◌, ◌∷◌, true, length, [], IfOk, vec_len, vec_capacity};
 ghost use Rattle.mav_ports.specs.Gets.{given, GivesWithin, CountsFault, idles_after};
 ghost use Rattle.mav_ports.specs.Puts.{taken, TakesWithin, CountsRefusal};
 ghost use Rattle.mav_ports.specs.MemReads.{read_answer, after_read, buffer_after};

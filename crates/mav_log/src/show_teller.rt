@@ -1,10 +1,8 @@
 // What `log show` tells of a log.
 ghost use Rattle.std.specs.Prelude.{◌≡◌, ◌+◌, ◌<◌, ◌≤◌, ◌^◌, ◌++◌, length, drop, slice_index, true, OnOk, OnErr, IfOk};
-ghost use Rattle.std.specs.Fmt.{decimal};
-ghost use Rattle.mav_profile.specs.Messages.{definition_with, extras_of};
-ghost use Rattle.mav_frame.specs.Looks.{frame_size_at, id_at, is_old_at, packet_at};
+ghost use Rattle.mav_profile.specs.Messages.{extras_of};
+ghost use Rattle.mav_frame.specs.Looks.{frame_size_at, is_old_at};
 ghost use Rattle.mav_text.specs.FrameText.{skip_line};
-ghost use Rattle.mav_text.specs.TemplateText.{line_of};
 ghost use Rattle.log_rows.specs.Rows.{first_row, micros_at};
 ghost use Rattle.log_rows.specs.Progress.{no_bytes_held};
 ghost use Rattle.mav_log.specs.LogText.{counts_line, row_line};

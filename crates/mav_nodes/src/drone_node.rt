@@ -1,6 +1,6 @@
 // A drone as a node.
-ghost use Rattle.std.specs.Prelude.{◌≡◌, ◌≢◌, ◌≤◌, ◌++◌, ℕ, List, Bool, None, Some, [], length, IfOk, IfErr, OnOk, IfSome};
-ghost use Rattle.mav_nodes.specs.Stores.{Holds, Serves, HasFailed, AllKept};
+ghost use Rattle.std.specs.Prelude.{◌≡◌, ◌++◌, ℕ, List, Bool, Some, [], length, IfOk, IfErr, OnOk, IfSome};
+ghost use Rattle.mav_nodes.specs.Stores.{Serves, HasFailed, AllKept};
 ghost use Rattle.mav_nodes.specs.Images.{StoreHolds};
 ghost use Rattle.mav_nodes.specs.Nodes.{DroneSide, IsDrone, new_drone, drone_receives, drone_receives_keeping, drone_ticks, drone_beats, drone_sims};
 ghost use Rattle.mav_nodes.specs.Promises.{DroneDid, DroneDidKeeping, Fails, FailsKeeping};

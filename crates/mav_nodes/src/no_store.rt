@@ -1,5 +1,5 @@
 // The store of a node that stores nothing.
-ghost use Rattle.std.specs.Prelude.{◌≡◌, ◌≤◌, None, length, ⊤};
+ghost use Rattle.std.specs.Prelude.{None, ⊤};
 
 use plan_store::{KeepFault, Keeper, MAX_SAVED_BYTES};
 use std::alloc::Global;

@@ -3,7 +3,7 @@ ghost use Rattle.std.specs.Prelude.{◌≡◌, ◌++◌, ℕ, Bool, List, [], le
 ghost use Rattle.mav_frame.specs.declared.events.Event.{Event as StreamEvent};
 ghost use Rattle.mav_frame.specs.Packet.{Packet};
 ghost use Rattle.mav_sign.specs.Streams.{reader_of};
-ghost use Rattle.mav_nodes.specs.Steps.{Side, Rules, steps, steps_noted, serves, hears, hears_keeping, receives_keeping};
+ghost use Rattle.mav_nodes.specs.Steps.{Side, steps, steps_noted, serves, hears, hears_keeping, receives_keeping};
 ghost use Rattle.mav_nodes.specs.Services.{ServiceStep};
 ghost use Rattle.mav_nodes.specs.Links.{Link as LinkState, IsLink, sends};
 ghost use Rattle.mav_nodes.specs.Stores.{Holds, Serves, HasFailed, IsKept, AllKept};

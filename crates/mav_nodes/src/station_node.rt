@@ -1,6 +1,6 @@
 // A ground station as a node.
 ghost use Rattle.std.specs.Prelude.{◌≡◌, ◌++◌, ℕ, List, [], length, IfOk, IfErr, OnOk, OnErr, IsFalse, IsTrue};
-ghost use Rattle.plan_upload.specs.Station.{StationState, StationStep};
+ghost use Rattle.plan_upload.specs.Station.{StationStep};
 ghost use Rattle.mav_nodes.specs.Links.{Link as LinkState, IsLink};
 ghost use Rattle.mav_nodes.specs.Services.{ServiceStep, StationServices as StationServicesState};
 ghost use Rattle.mav_nodes.specs.Steps.{steps, serves};

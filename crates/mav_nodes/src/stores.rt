@@ -1,5 +1,5 @@
 // What a node saves in its store.
-ghost use Rattle.std.specs.Prelude.{◌≡◌, ◌≤◌, ◌<◌, ◌^◌, ℕ, None, Some, IfOk, IfErr, OnOk, IfSome};
+ghost use Rattle.std.specs.Prelude.{◌≡◌, ◌<◌, ◌^◌, None, Some, IfOk, IfErr, OnOk, IfSome};
 ghost use Rattle.mav_nodes.specs.Stores.{Holds, HoldsNearly, AreStored, Serves, HasFailed, HasFailedAt, IsKept};
 
 use crate::steps::Core;

@@ -1,5 +1,5 @@
 // A source over memory that fails and idles at the calls that its maker lists.
-ghost use Rattle.std.specs.Prelude.{◌≡◌, ◌<◌, ◌++◌, Some, IsTrue, length, [], drop};
+ghost use Rattle.std.specs.Prelude.{◌≡◌, ◌<◌, ◌++◌, Some, IsTrue, length, []};
 ghost use Rattle.mav_ports.specs.Gets.{given, GivesWithin, CountsFault, idles_after};
 ghost use Rattle.mav_ports.specs.MemReads.{reads_from_start, read_answer, after_read, buffer_after};
 

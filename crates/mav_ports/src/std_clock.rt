@@ -1,5 +1,5 @@
 // The system's clock.
-ghost use Rattle.std.specs.Prelude.{◌≡◌, ◌≤◌, ◌<◌, None, IfSome, MatchResult, unwrap_or};
+ghost use Rattle.std.specs.Prelude.{◌≡◌, ◌<◌, None, MatchResult, unwrap_or};
 ghost use Rattle.std.specs.Time.{system_time_nanos};
 ghost use Rattle.mav_ports.specs.Units.{units_at};
 

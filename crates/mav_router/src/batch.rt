@@ -1,5 +1,5 @@
 // Runs of frames that wait for a port, put together to be written at once.
-ghost use Rattle.std.specs.Prelude.{◌≡◌, ◌≤◌, ◌+◌, ◌++◌, [], length, true, false, IfOk};
+ghost use Rattle.std.specs.Prelude.{◌≡◌, ◌≤◌, ◌+◌, ◌++◌, [], length, true, IfOk};
 
 use crate::NoMemory;
 use std::alloc::Global;

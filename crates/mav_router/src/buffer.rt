@@ -1,7 +1,6 @@
 // What a port is read into.
 ghost use Rattle.std.specs.Prelude.{◌≡◌, ◌+◌, ◌≤◌, length, take, slice_range, IfOk};
 ghost use Rattle.std.specs.Io.KnownBytes.{prepend_known};
-ghost use Rattle.mav_links.specs.Links.{LinkState};
 ghost use Rattle.mav_ports.specs.Gets.{given, idles_after, CountsFault, GivesWithin, IsSpent};
 
 use crate::NoMemory;

@@ -1,11 +1,7 @@
 // The ports after all threads have ended.
-ghost use Rattle.std.specs.Prelude.{◌≡◌, ◌≤◌, ◌<◌, ◌⊎◌, ◌+◌, ℕ, List, length, map, take, true, false, slice_get, Some, None, IfSome, vec_len, vec_capacity};
-ghost use Rattle.mav_links.specs.Links.{LinkState};
+ghost use Rattle.std.specs.Prelude.{◌≡◌, ◌≤◌, ◌<◌, ◌⊎◌, ◌+◌, ℕ, length, map, slice_get, Some, None, IfSome, vec_len, vec_capacity};
 ghost use Rattle.mav_router.specs.declared.entries.SwitchFault.TheVariants.{NoMemory};
-ghost use Rattle.mav_router.specs.declared.entries.Entry.{Entry};
 ghost use Rattle.mav_router.specs.declared.parts.Halt.TheVariants.{Done, Fault};
-ghost use Rattle.mav_router.specs.Journal.{Rules, frames_to};
-ghost use Rattle.mav_router.specs.Runs.{Input, Output, HadTurns};
 ghost use Rattle.mav_router.specs.Crews.{HasFault};
 ghost use Rattle.mav_router.specs.Ends.{end_by};
 ghost use Rattle.mav_router.specs.Threads.{HasWrittenLeft};

@@ -2,7 +2,6 @@
 ghost use Rattle.std.specs.Prelude.{◌≡◌, ◌≤◌, ◌<◌, ◌-◌, ◌++◌, ◌∷◌, [], ℕ, List, length, drop, take, OnOk, OnErr, IfErr, IfSome, IfNone};
 ghost use Rattle.mav_router.specs.declared.entries.Entry.{Entry};
 ghost use Rattle.mav_router.specs.Journal.{Rules, Grows, frames_from};
-ghost use Rattle.mav_stream.specs.Held.{Held};
 ghost use Rattle.mav_stream.specs.Spans.{first_packet, held_after, next_span};
 ghost use Rattle.mav_router.specs.Runs.{Reading, AllRead};
 ghost use Rattle.mav_router.specs.Faults.{IsSwitchFault, StopsReading};

@@ -1,5 +1,4 @@
 // The history of a switch, which threads share.
-ghost use Rattle.std.specs.Prelude.{◌≡◌};
 
 use crate::{Entry, RouterRules, Switch};
 use turnstile::Journaled;

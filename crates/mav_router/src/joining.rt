@@ -1,5 +1,5 @@
 // Ports with the jobs of their threads, and back.
-ghost use Rattle.std.specs.Prelude.{◌≡◌, ◌≤◌, ◌+◌, ℕ, List, [], map, length, vec_len, vec_capacity, slice_get, Some, IfOk};
+ghost use Rattle.std.specs.Prelude.{◌≡◌, ◌≤◌, ◌+◌, ℕ, List, map, vec_len, vec_capacity, slice_get, Some, IfOk};
 ghost use Rattle.mav_router.specs.Threads.{IsStocked, IsPlaced};
 
 use crate::crew::PortJob;

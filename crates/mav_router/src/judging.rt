@@ -1,7 +1,7 @@
 // What of a frame doesn't depend on what came in before it.
 ghost use Rattle.std.specs.Prelude.{◌≡◌, ℕ, List};
 ghost use Rattle.mav_sign.specs.Signing.{verified};
-ghost use Rattle.mav_router.specs.Journal.{Rules, target_by};
+ghost use Rattle.mav_router.specs.Journal.{target_by};
 
 use crate::RouterRules;
 use dialect::Dialect;

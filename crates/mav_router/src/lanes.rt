@@ -1,8 +1,8 @@
 // What a router keeps of a port.
-ghost use Rattle.std.specs.Prelude.{◌+◌, ◌^◌, ◌≡◌, ◌≤◌, ◌++◌, ◌<◌, ℕ, List, length, take, slice_range, false, true, OnOk, OnErr, IfErr, IfSome, IfNone};
+ghost use Rattle.std.specs.Prelude.{◌+◌, ◌^◌, ◌≡◌, ◌≤◌, ◌<◌, ℕ, List, take, false, true, OnOk, OnErr, IfErr, IfSome, IfNone};
 ghost use Rattle.mav_frame.specs.Packet.{Packet};
 ghost use Rattle.mav_links.specs.Links.{LinkState};
-ghost use Rattle.mav_router.specs.Journal.{Rules, Grows, given_to, frames_to};
+ghost use Rattle.mav_router.specs.Journal.{Rules, Grows};
 ghost use Rattle.mav_router.specs.Runs.{Input, Output, HadTurns};
 ghost use Rattle.mav_router.specs.declared.entries.Entry.{Entry};
 ghost use Rattle.mav_router.specs.Faults.{IsSwitchFault, StopsInput};

@@ -1,8 +1,7 @@
 // The thread of a port.
-ghost use Rattle.std.specs.Prelude.{◌≡◌, ◌≤◌, ◌<◌, ◌+◌, ◌++◌, ◌^◌, ℕ, List, length, take, false, OnOk, OnErr, IfErr};
+ghost use Rattle.std.specs.Prelude.{◌≡◌, ◌≤◌, ◌<◌, ◌+◌, ◌^◌, ℕ, List, take, false, OnOk, OnErr, IfErr};
 ghost use mathlib.Core.List.{IsPrefix};
 ghost use Rattle.mav_links.specs.Links.{LinkState};
-ghost use Rattle.mav_stream.specs.Held.{Held};
 ghost use Rattle.mav_router.specs.Runs.{Reading, AllRead, HadTurns};
 ghost use Rattle.mav_router.specs.Faults.{IsSwitchFault, StopsReading};
 ghost use Rattle.mav_router.specs.History.{entries_in};

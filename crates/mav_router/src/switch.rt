@@ -1,8 +1,8 @@
 // The switch.
-ghost use Rattle.std.specs.Prelude.{◌≡◌, ◌⊎◌, ◌+◌, ◌-◌, ◌<◌, ◌≤◌, ◌++◌, ◌∷◌, [], ℕ, List, length, take, slice_index, slice_get, Some, None, Err, IfOk, IfErr, OnOk, OnErr, OnSome, IfSome, IfNone, IsErrOf, true, false, All};
+ghost use Rattle.std.specs.Prelude.{◌≡◌, ◌+◌, ◌-◌, ◌<◌, ◌≤◌, ◌++◌, ◌∷◌, [], ℕ, List, length, take, slice_index, slice_get, Some, None, Err, IfOk, IfErr, OnOk, OnErr, OnSome, IfSome, IfNone, IsErrOf, true, All};
 ghost use Rattle.mav_sign.specs.Streams.{listed};
 ghost use Rattle.mav_sign.specs.Kept.{Represents};
-ghost use Rattle.link_table.specs.Routing.{Learned, has_port, ways_of};
+ghost use Rattle.link_table.specs.Routing.{has_port};
 ghost use Rattle.link_table.specs.Table.{Represents as StandsFor};
 ghost use Rattle.mav_router.specs.Journal.{Rules, SwitchState, entry_after, admit_after, IsJournal, frames_to, frames_at, given_to};
 ghost use Rattle.mav_router.specs.Found.{Admits, IsJudged, packets_of};

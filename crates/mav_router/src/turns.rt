@@ -1,9 +1,9 @@
 // What a thread does in its turn.
 ghost use Rattle.std.specs.Prelude.{◌≡◌, ◌≤◌, length, All, IfErr};
 ghost use mathlib.Core.List.{IsPrefix};
-ghost use Rattle.mav_router.specs.Found.{IsJudged, Admits, Takes, packets_of};
+ghost use Rattle.mav_router.specs.Found.{IsJudged, Takes, packets_of};
 ghost use Rattle.mav_router.specs.Pages.{IsWindow};
-ghost use Rattle.mav_router.specs.History.{entries_in, history_of};
+ghost use Rattle.mav_router.specs.History.{entries_in};
 ghost use Rattle.mav_router.specs.Parts.{IsSeated};
 ghost use Rattle.mav_router.specs.Faults.{IsSwitchFault};
 

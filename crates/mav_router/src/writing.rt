@@ -1,5 +1,5 @@
 // What goes out at a port.
-ghost use Rattle.std.specs.Prelude.{◌≡◌, ◌≤◌, ◌+◌, ◌++◌, ℕ, List, [], length, false};
+ghost use Rattle.std.specs.Prelude.{◌≡◌, ◌≤◌, ◌+◌, ◌++◌, ℕ, List, [], length};
 ghost use Rattle.mav_frame.specs.Packet.{Packet};
 ghost use Rattle.mav_links.specs.Links.{LinkState};
 ghost use Rattle.mav_router.specs.Journal.{given_to, frames_to};

@@ -2,13 +2,13 @@
 ghost use Rattle.std.specs.Prelude.{◌≡◌, ℕ, ◌+◌, ◌*◌, ◌^◌, ◌<◌, ◌≤◌, None, false, take, length, vec_len, vec_capacity, ◌++◌, ◌∷◌, [], List, IfOk, IfSome, OnOk, OnErr};
 ghost use Rattle.x25_check.specs.Extras.{extra_of};
 ghost use Rattle.mav_messages.specs.Messages.{definition_of};
-ghost use Rattle.mav_sign.specs.History.{Entry, sent, started, answer_to, stamp_given, next_in, greatest_stamp};
+ghost use Rattle.mav_sign.specs.History.{Entry, sent, started, answer_to, stamp_given, next_in};
 ghost use Rattle.mav_sign.specs.Signing.{verified};
 ghost use Rattle.mav_sign.specs.Kept.{Represents, kept_answer_to, kept_next};
 ghost use Rattle.mav_frame.specs.declared.events.Event.{Event};
 ghost use Rattle.mav_stream.specs.Progress.{Progress};
 ghost use Rattle.mav_sign.specs.Streams.{reader_of, ReadTo, PartHeard};
-ghost use Rattle.mav_sign.specs.Endpoints.{HasProfile, AdmittedIs, AnswerIs, Admits, new_endpoint, HeardIs, after_frame, Takes, Told, FrontHeard, Received, FramesOf, FrameOf, Sends};
+ghost use Rattle.mav_sign.specs.Endpoints.{HasProfile, AdmittedIs, Admits, new_endpoint, Takes, Told, FrontHeard, Received, FramesOf, FrameOf, Sends};
 
 use crate::reading::{LEAST_FRAME_BYTES, append_frames, read_frame};
 use crate::stamps::stream_on;

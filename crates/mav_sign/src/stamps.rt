@@ -1,7 +1,7 @@
 // What a verifier keeps: the timestamps that it admitted and sent.
 ghost use Rattle.std.specs.Prelude.{◌≡◌, ◌+◌, ◌<◌, ◌^◌, ◌++◌, ◌∷◌, [], List, max, false, Some, IfOk, OnErr};
 ghost use Rattle.mav_sign.specs.Signing.{verified};
-ghost use Rattle.mav_sign.specs.History.{Entry, tried, sent, started, stamp_answer, answer_to, is_admitted, last_of, local_of, next_in, stamp_given};
+ghost use Rattle.mav_sign.specs.History.{Entry, tried, sent, started, answer_to, is_admitted, last_of, local_of, next_in, stamp_given};
 ghost use Rattle.mav_sign.specs.Kept.{IsStream, Represents, KeptAfter, stream_number, stamp_at, local_kept, kept_answer, kept_answer_to, kept_next};
 
 use crate::signing::verifies_raw;

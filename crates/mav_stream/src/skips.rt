@@ -1,5 +1,5 @@
 // How many bytes that begin no frame are skipped one by one for one reason.
-ghost use Rattle.std.specs.Prelude.{◌≡◌, ◌+◌, ◌-◌, ◌<◌, ◌≤◌, ℕ, [], length, drop, slice_index, true, false};
+ghost use Rattle.std.specs.Prelude.{◌≡◌, ◌+◌, ◌-◌, ◌<◌, ◌≤◌, ℕ, [], length, slice_index, true, false};
 ghost use Rattle.mav_frame.specs.declared.looks.Why.TheVariants.{NotStx, UnknownFlag, UnknownId};
 ghost use Rattle.mav_stream.specs.Skips.{is_stx, skips_at};
 ghost use Rattle.mav_stream.specs.Skips as spec;

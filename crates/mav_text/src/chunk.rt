@@ -1,5 +1,5 @@
 // Texts that are put together in a fixed chunk of bytes, of which those up to an index count.
-ghost use Rattle.std.specs.Prelude.{◌≡◌, ◌+◌, ◌/◌, ◌%◌, ◌≤◌, ◌∷◌, [], ◌++◌, length, replicate, take, vec_len, slice_index, slice_range, slice_set, IfOk};
+ghost use Rattle.std.specs.Prelude.{◌≡◌, ◌+◌, ◌/◌, ◌%◌, ◌≤◌, ◌++◌, length, replicate, take, vec_len, slice_index, slice_range, slice_set, IfOk};
 
 use crate::NoMemory;
 

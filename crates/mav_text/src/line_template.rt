@@ -1,5 +1,5 @@
 // What is kept of a message, so that its frames are written fast.
-ghost use Rattle.std.specs.Prelude.{◌≡◌, ◌+◌, ◌≤◌, ◌∷◌, ◌++◌, [], length, take, drop, vec_len, OnOk, OnErr, IfOk, IfSome, is_some};
+ghost use Rattle.std.specs.Prelude.{◌≡◌, ◌+◌, ◌≤◌, ◌∷◌, ◌++◌, [], length, take, vec_len, OnOk, OnErr, IfOk, IfSome, is_some};
 ghost use Rattle.std.specs.Fmt.{decimal};
 ghost use Rattle.field_layout.specs.Definition.{all_fields};
 ghost use Rattle.mav_frame.specs.Looks.{frame_size_at, header_size, packet_at};

@@ -1,5 +1,5 @@
 // The drone's side of the parameter protocol.
-ghost use Rattle.std.specs.Prelude.{◌≡◌, ◌<◌, [], length, map, position, Some, None, IfOk, IfErr, IfSome, OnOk};
+ghost use Rattle.std.specs.Prelude.{◌≡◌, ◌<◌, [], length, map, position, Some, None, IfOk, IfErr, OnOk};
 ghost use Rattle.mav_names.specs.Addresses.{is_for_node};
 ghost use Rattle.param_proto.specs.Params.{normal};
 ghost use Rattle.param_proto.specs.Server.{untyped, new_server, server_step, taken_from, next_answer, word_in, place_of, params_set, value_at, values_from, asked_for, value_set, serves, with_word};

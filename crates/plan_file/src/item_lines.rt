@@ -1,5 +1,5 @@
 // What one line of a file adds to a plan.
-ghost use Rattle.std.specs.Prelude.{◌≡◌, ◌++◌, [], length, Some, None, OnOk, OnErr, IfErr};
+ghost use Rattle.std.specs.Prelude.{◌≡◌, ◌++◌, [], length, Some, None, OnOk, IfErr};
 ghost use Rattle.plan_items.specs.Plans.{items_of};
 ghost use Rattle.scenario_lines.specs.LineContext.{context_of};
 ghost use Rattle.scenario_lines.specs.Permits.{IsPermitted};

@@ -1,10 +1,10 @@
 // A stored image as plans.
-ghost use Rattle.std.specs.Prelude.{◌≡◌, ◌+◌, ◌*◌, ◌<◌, ◌≤◌, ◌^◌, [], ◌∷◌, ◌++◌, ℕ, List, length, slice_range, flat_map, IfOk, IfSome, IsNone, IsErrOf, IfErr};
+ghost use Rattle.std.specs.Prelude.{◌≡◌, ◌+◌, ◌*◌, ◌<◌, ◌≤◌, ◌^◌, ◌∷◌, ◌++◌, ℕ, List, length, slice_range, flat_map, IfOk, IfSome, IsNone, IsErrOf};
 ghost use Rattle.std.specs.Int.{w16, w32, w64, to_le_bytes};
 ghost use Rattle.plan_items.specs.Kinds.{number_of};
 ghost use Rattle.plan_items.specs.Plans.{items_of};
 ghost use Rattle.plan_items.specs.declared.items.Item.{Item};
-ghost use Rattle.plan_image.specs.Plans.{Plans, IsHoldable};
+ghost use Rattle.plan_image.specs.Plans.{IsHoldable};
 ghost use Rattle.plan_image.specs.Image.{item_bytes, plan_bytes, ItemInRange, InRange, IsImageOf, IsImage};
 
 use crate::NoMemory;

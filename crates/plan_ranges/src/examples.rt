@@ -2,7 +2,7 @@
 ghost use Rattle.std.specs.Prelude.{◌≡◌, true, Some};
 ghost use Rattle.plan_items.specs.declared.messages.PlanMsg.TheVariants.{Item as Give, Request, Ping};
 ghost use Rattle.plan_upload.specs.Addresses.{node_of, everyone};
-ghost use Rattle.plan_upload.specs.Drone.{drone_step, drone_tick};
+ghost use Rattle.plan_upload.specs.Drone.{drone_step};
 ghost use Rattle.plan_upload.specs.Station.{station_step, station_cancel};
 ghost use Rattle.plan_ranges.specs.Ranges.{InRange, DroneInRange, StationInRange};
 ghost use Rattle.plan_ranges.specs.Examples.{drone_255, station_254, widest_item, widest_message, uploading_drone, uploading_station};

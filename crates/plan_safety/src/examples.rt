@@ -1,5 +1,5 @@
 // The laws speak of something: executions that install, clear, download, refuse and lose.
-ghost use Rattle.std.specs.Prelude.{ℕ, ◌≡◌, List, [], ◌∷◌, ◌++◌, None, true, false};
+ghost use Rattle.std.specs.Prelude.{◌≡◌, [], ◌∷◌, ◌++◌, None, true, false};
 ghost use Rattle.plan_items.specs.declared.kinds.PlanKind.TheVariants.{Mission};
 ghost use Rattle.plan_upload.specs.Plans.{plan_at};
 ghost use Rattle.plan_upload.specs.Station.{Told_installed, Told_not_installed, Told_unknown, Told_cleared, Told_got, Told_ended};

@@ -2,7 +2,7 @@
 ghost use Rattle.std.specs.Prelude.{◌≡◌, Some, IfOk, true};
 ghost use Rattle.plan_items.specs.Kinds.{number_of};
 ghost use Rattle.plan_items.specs.Plans.{items_of};
-ghost use Rattle.plan_upload.specs.Drone.{fresh_drone, closed, drone_step, drone_tick};
+ghost use Rattle.plan_upload.specs.Drone.{fresh_drone, drone_step, drone_tick};
 ghost use Rattle.plan_upload.specs.Gathering.{stream_of};
 ghost use Rattle.plan_upload.specs.Heard.{is_heard};
 ghost use Rattle.plan_upload.specs.Plans.{no_plans, plan_at, IsHoldable};

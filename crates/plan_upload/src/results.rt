@@ -1,5 +1,5 @@
 // The last upload result of each stream of which a drone keeps one.
-ghost use Rattle.std.specs.Prelude.{◌≡◌, [], length, IsTrue, IfOk, position};
+ghost use Rattle.std.specs.Prelude.{◌≡◌, [], IsTrue, IfOk, position};
 ghost use Rattle.plan_upload.specs.Addresses.{same_stream};
 ghost use Rattle.plan_upload.specs.Drone.{result_of, with_result};
 ghost use Rattle.plan_upload.specs.Room.{has_place};

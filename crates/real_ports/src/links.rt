@@ -1,5 +1,4 @@
 // A link to the outside world.
-ghost use Rattle.std.specs.Prelude.{◌≡◌};
 
 use log_replay::Replay;
 use mav_links::{ClosingStream, FileLink, Link, TcpLink, UdpLink};

@@ -1,8 +1,6 @@
 // The command `route`.
-ghost use Rattle.std.specs.Prelude.{◌≡◌, ◌≤◌, ◌++◌, ◌⊎◌, ℕ, List, [], length, true, IfErr, IsErrOf, OnOk, Some, None};
+ghost use Rattle.std.specs.Prelude.{◌≡◌, ◌≤◌, length, true, IsErrOf, None};
 ghost use Rattle.std.specs.Result.{result_err};
-ghost use Rattle.mav_ports.specs.Counts.{Rose};
-ghost use Rattle.mav_ports.specs.Puts.{SentPrefix};
 ghost use Rattle.route_command.specs.Texts.{route_text};
 ghost use Rattle.route_command.specs.Routes.{ports_of, rules_of, end_of_ports, end_of_fault, WroteAll, RoutesBeforeStatus};
 

@@ -1,5 +1,5 @@
 // The lines of the ports.
-ghost use Rattle.std.specs.Prelude.{◌≡◌, ◌≤◌, ◌+◌, ◌++◌, ◌⊎◌, ℕ, List, length, OnOk};
+ghost use Rattle.std.specs.Prelude.{◌≡◌, ◌≤◌, ◌+◌, ◌++◌, length, OnOk};
 ghost use Rattle.route_command.specs.Texts.{how_word, port_line, port_lines};
 ghost use Rattle.route_command.specs.Routes.{is_turns, has_turns};
 

@@ -1,5 +1,5 @@
 // Routers with a thread for each port.
-ghost use Rattle.std.specs.Prelude.{◌≡◌, ◌≤◌, length};
+ghost use Rattle.std.specs.Prelude.{◌≡◌};
 
 use crate::failing::FRAMES;
 use dialect::Dialect;

@@ -1,5 +1,5 @@
 // Lines that are held until there are enough of them to be written.
-ghost use Rattle.std.specs.Prelude.{◌≡◌, List, ℕ, [], ◌++◌, OnOk, IfErr, IsErrOf};
+ghost use Rattle.std.specs.Prelude.{◌≡◌, List, ℕ, [], OnOk, IfErr, IsErrOf};
 ghost use Rattle.std.specs.declared.option.Option.{Option};
 ghost use Rattle.mav_ports.specs.Counts.{Rose};
 ghost use Rattle.mav_ports.specs.Puts.{Sent, SentPrefix};

@@ -1,5 +1,5 @@
 // The lines of a report, and what they are counted by.
-ghost use Rattle.std.specs.Prelude.{◌≡◌, ◌++◌, IfOk, OnOk, map, string_bytes};
+ghost use Rattle.std.specs.Prelude.{◌≡◌, ◌++◌, IfOk, OnOk, map};
 ghost use Rattle.scenario_maker.specs.Sums.{report_lines, begins, is_plan, is_numbered, counted, frames_in, plans_in};
 ghost use Rattle.scenario_maker.specs.Generator.{line_text, text_of};
 

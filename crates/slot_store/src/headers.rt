@@ -1,8 +1,6 @@
 // The headers of the two slots, and what they say.
-ghost use Rattle.std.specs.Prelude.{◌≡◌, ◌≤◌, length, IfOk};
-ghost use Rattle.std.specs.Int.{w64, from_le_bytes};
-ghost use Rattle.slot_store.specs.Disks.{LeavesNoMore, LeavesOnly, CountsDiskFault};
-ghost use Rattle.slot_store.specs.Layout.{start_of, header_at, headers_of, next_generation, current, is_out_of_range, are_foreign, spare, new_generation, header_of, with_header};
+ghost use Rattle.std.specs.Prelude.{◌≡◌, length};
+ghost use Rattle.slot_store.specs.Layout.{start_of, next_generation, current, is_out_of_range, are_foreign, spare, new_generation, header_of, with_header};
 
 use crate::{Disk, DiskFault};
 

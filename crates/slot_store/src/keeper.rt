@@ -3,7 +3,7 @@ ghost use Rattle.std.specs.Prelude.{◌≡◌, ◌≤◌, None, length, IfOk, If
 ghost use Rattle.mav_ports.specs.Counts.{Rose};
 ghost use Rattle.plan_store.specs.Keeps.{CountsStoreFault};
 ghost use Rattle.slot_store.specs.Disks.{LeavesAlone, LeavesNoMore, LeavesOnly, CountsDiskFault};
-ghost use Rattle.slot_store.specs.Layout.{contents, is_foreign, headers_of};
+ghost use Rattle.slot_store.specs.Layout.{contents, is_foreign};
 ghost use Rattle.slot_store.specs.Crashes.{MayHold, Holds, HoldsAsBefore, HoldsAsBeforeOr, IsRead, IsSound};
 
 use crate::headers::Headers;

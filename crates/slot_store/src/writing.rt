@@ -1,5 +1,5 @@
 // How a save writes to the spare slot.
-ghost use Rattle.std.specs.Prelude.{◌≡◌, ◌≤◌, ◌+◌, length, take, true, false, OnOk, IfOk};
+ghost use Rattle.std.specs.Prelude.{◌≡◌, ◌≤◌, ◌+◌, length, take, true, OnOk, IfOk};
 ghost use Rattle.slot_store.specs.Disks.{SameOutside, Writes, LeavesAlone, LeavesOnly, CountsDiskFault};
 ghost use Rattle.slot_store.specs.Layout.{start_of, header_at, contents, slot_body, MayClose, Closes};
 ghost use Rattle.slot_store.specs.Crashes.{IsRead, HoldsEither};

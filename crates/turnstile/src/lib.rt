@@ -16,7 +16,7 @@ mod steps;
 mod tests;
 mod turn;
 
-ghost use Rattle.std.specs.Prelude.{◌≡◌, ℕ, List, length};
+ghost use Rattle.std.specs.Prelude.{◌≡◌, List, length};
 
 pub use held::Held;
 pub use laws::each_label_has_its_own;

@@ -1,5 +1,5 @@
 // Two threads at one lock, in lockstep.
-ghost use Rattle.std.specs.Prelude.{◌≡◌, length, vec_len, All};
+ghost use Rattle.std.specs.Prelude.{◌≡◌, length, All};
 ghost use Rattle.turnstile.specs.Participants.{CanEnter};
 ghost use mathlib.Core.List.{IsPrefix};
 

@@ -1,5 +1,5 @@
 // The lock, and what its participants do with it.
-ghost use Rattle.std.specs.Prelude.{◌≡◌, ◌+◌, ◌<◌, ◌≤◌, length, IfOk, vec_len, All, sum_by, true, replicate};
+ghost use Rattle.std.specs.Prelude.{◌≡◌, ◌+◌, ◌<◌, length, IfOk, vec_len, All, sum_by, true, replicate};
 ghost use mathlib.Core.List.{IsPrefix};
 ghost use Rattle.turnstile.specs.Participants.{opened, entered, left, CanEnter, HasItsOwn};
 ghost use Rattle.turnstile.specs.Merging.{Continues};

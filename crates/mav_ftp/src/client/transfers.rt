@@ -1,7 +1,7 @@
 // An open operation: what it asks, and what a reply makes of it.
 ghost use Rattle.std.specs.Prelude.{◌≡◌, ◌+◌, ◌≤◌, ◌<◌, ◌++◌, [], length, nat_lt, IsTrue, IfOk, OnOk, OnErr};
 ghost use Rattle.mav_ftp.specs.Payload.{most_data, most_file};
-ghost use Rattle.mav_ftp.specs.Client.{Writing, transfer_request, request_data, offset_of, opcode_of, least_size, is_reply, entries_in, next_write, acknowledged, denied, replied, idle_limit, most_taken};
+ghost use Rattle.mav_ftp.specs.Client.{Writing, transfer_request, request_data, offset_of, least_size, is_reply, entries_in, next_write, acknowledged, denied, replied, idle_limit, most_taken};
 ghost use Rattle.mav_ftp.specs.Replies.{next_seq};
 ghost use Rattle.mav_ftp.specs.ClientView.{stage_view, in_session, IsStage, course_of};
 

@@ -1,6 +1,5 @@
 // Phase 5: the station waits for the count of a download.
 ghost use Rattle.std.specs.Prelude.{◌≡◌};
-ghost use Rattle.plan_items.specs.Kinds.{number_of};
 ghost use Rattle.plan_upload.specs.Operations.{listing_view};
 ghost use Rattle.plan_upload.specs.Station.{Listing_items, with_operation, phase_step, phase_tick, counted};
 
