@@ -1,6 +1,5 @@
 -- The bytes from an index on, eight at a time.
-use Rattle.std.proofs.Common.{◌≡◌, ℕ, suc, ◌+◌, ◌-◌, ◌<◌, ◌≤◌, List, ◌∷◌, ◌++◌, length, take, drop, get_or, ap, ◌∙◌, arith, drop-cons, take-append-drop}
-use Rattle.std.proofs.lemmas.List.{take_all, length-drop}
+use Rattle.std.proofs.Common.{◌≡◌, ℕ, suc, ◌+◌, ◌<◌, ◌≤◌, List, ◌∷◌, ◌++◌, length, take, drop, get_or, ap, ◌∙◌, arith, drop-cons}
 use Rattle.std.proofs.Math.Seq.{take-add}
 use Rattle.x25_check.specs.Eights.{eight_at}
 
@@ -29,9 +28,3 @@ eight_more xs at inside =
     step xs (at + 6) (at + 7) 1 (omega arith) (omega arith)
     ∙ ap (λ (t : List ℕ). x 6 ∷ t) (
     step xs (at + 7) (at + 8) 0 (omega arith) (omega arith)))))))))
-
--- a prefix, and all after it
-pub all_parted : (xs : List ℕ) (at : ℕ) → take at xs ++ take (length xs - at) (drop at xs) ≡ xs
-all_parted xs at =
-    ap (λ (ys : List ℕ). take at xs ++ ys) (take_all (length xs - at) (drop at xs) (omega (arith, length-drop at xs)))
-    ∙ take-append-drop at xs

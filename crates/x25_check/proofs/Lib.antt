@@ -1,4 +1,4 @@
-pub mod Bytewise
+pub mod BitSteps
 pub mod Slicing
 pub mod TableEntries
 pub mod Eights

@@ -1,9 +1,9 @@
--- Bytes that are checked eight at a time: what each of them makes of a register that was 0, put together.
+-- Bytes that are checked several at a time: what each of them makes of a register that was 0, put together.
 use Rattle.std.proofs.Common.{◌≡◌, ℕ, zero, suc, ◌+◌, ◌*◌, ◌/◌, ◌%◌, ◌^◌, ◌<◌, ◌==◌, List, [], ◌∷◌, length, bit_xor, fold, replicate, refl, ap, sym, ◌∙◌, arith}
 use lib.Bits.{xor_zero_r, xor_zero_l, xor_assoc, xor_comm, xor_shifted}
 use Rattle.x25_check.specs.Check.{after_bit, after_byte, check_from}
 use Rattle.x25_check.specs.Eights.{zero_byte, zeros}
-use Rattle.x25_check.proofs.Bytewise.{stepped, half_xor, low_xor, bits_first, zeros_above}
+use Rattle.x25_check.proofs.BitSteps.{stepped, half_xor, low_xor, bits_first, zeros_above}
 
 -- ---- a register that is the sum of two
 
@@ -69,7 +69,29 @@ spreads_out r (byte ∷ bytes) all =
     ∙ (ap (λ z. bit_xor z (spread bytes)) (zeros_sum (suc n) r byte)
     ∙ xor_assoc (zeros (suc n) r) (zeros (suc n) byte) (spread bytes)))
 
--- ---- eight bytes
+-- ---- a register's two bytes
+
+-- a register is its high byte, shifted up, with its low one
+halves : (r : ℕ) → r ≡ bit_xor (r / 256 * 2 ^ 8) (r % 256)
+halves r =
+    let whole : r ≡ r / 256 * 256 + r % 256 = omega arith in
+    whole ∙ sym (xor_shifted (r / 256) 8 (r % 256) (omega arith))
+
+parted : (k r : ℕ) → zeros (suc k) r ≡ bit_xor (zeros k (r / 256)) (zeros (suc k) (r % 256))
+parted k r =
+    ap (zeros (suc k)) (halves r)
+    ∙ (zeros_sum (suc k) (r / 256 * 2 ^ 8) (r % 256)
+    ∙ ap (λ z. bit_xor (zeros k z) (zeros (suc k) (r % 256))) (comes_down (r / 256)))
+
+pub one_byte : (r n : ℕ) → n < 256 → bit_xor (r / 2 ^ 8) (zeros 1 (bit_xor n (r % 256))) ≡ after_byte r n
+one_byte r n h =
+    let high : ℕ = r / 256 in let low : ℕ = zeros 1 (r % 256) in let byte : ℕ = zeros 1 n in
+    ap (bit_xor high) (zeros_sum 1 n (r % 256) ∙ xor_comm byte low)
+    ∙ (sym (xor_assoc high low byte)
+    ∙ (ap (λ z. bit_xor z byte) (sym (parted 0 r))
+    ∙ (sym (zeros_sum 1 r n) ∙ sym (by_zeros r n h))))
+
+-- ---- four bytes, and eight
 
 four_terms : (a l b h : ℕ) → bit_xor (bit_xor a l) (bit_xor b h) ≡ bit_xor (bit_xor h l) (bit_xor a b)
 four_terms a l b h =
@@ -78,20 +100,27 @@ four_terms a l b h =
     ∙ (xor_comm a (bit_xor (bit_xor h l) b)
     ∙ (xor_assoc (bit_xor h l) b a ∙ ap (λ z. bit_xor (bit_xor h l) z) (xor_comm b a))))
 
--- a register's two bytes
-parted : (r : ℕ) → zeros 8 r ≡ bit_xor (zeros 7 (r / 256)) (zeros 8 (r % 256))
-parted r =
-    let whole : r ≡ bit_xor (r / 256 * 2 ^ 8) (r % 256) = (let s : r ≡ r / 256 * 256 + r % 256 = omega arith in s) ∙ sym (xor_shifted (r / 256) 8 (r % 256) (omega arith)) in
-    ap (zeros 8) whole ∙ (zeros_sum 8 (r / 256 * 2 ^ 8) (r % 256) ∙ ap (λ z. bit_xor (zeros 7 z) (zeros 8 (r % 256))) (comes_down (r / 256)))
+-- the register's two bytes, in the first two of several
+first_two : (k r a b rest : ℕ) → bit_xor (bit_xor (zeros (suc k) (bit_xor a (r % 256))) (zeros k (bit_xor b (r / 256)))) rest ≡ bit_xor (zeros (suc k) r) (bit_xor (zeros (suc k) a) (bit_xor (zeros k b) rest))
+first_two k r a b rest =
+    let low : ℕ = zeros (suc k) (r % 256) in let high : ℕ = zeros k (r / 256) in
+    let first : ℕ = zeros (suc k) a in let second : ℕ = zeros k b in
+    (λ i. bit_xor (bit_xor (zeros_sum (suc k) a (r % 256) i) (zeros_sum k b (r / 256) i)) rest)
+    ∙ (ap (λ z. bit_xor z rest) (four_terms first low second high)
+    ∙ (xor_assoc (bit_xor high low) (bit_xor first second) rest
+    ∙ (λ i. bit_xor (sym (parted k r) i) (xor_assoc first second rest i))))
+
+pub four_bytes : (r a b c d : ℕ) → AreBytes (a ∷ b ∷ c ∷ d ∷ []) → bit_xor (bit_xor (zeros 4 (bit_xor a (r % 256))) (zeros 3 (bit_xor b (r / 256)))) (bit_xor (zeros 2 c) (zeros 1 d)) ≡ check_from r (a ∷ b ∷ c ∷ d ∷ [])
+four_bytes r a b c d all =
+    let last : zeros 1 d ≡ bit_xor (zeros 1 d) 0 = sym (xor_zero_r (zeros 1 d)) in
+    ap (λ z. bit_xor (bit_xor (zeros 4 (bit_xor a (r % 256))) (zeros 3 (bit_xor b (r / 256)))) (bit_xor (zeros 2 c) z)) last
+    ∙ (first_two 3 r a b (bit_xor (zeros 2 c) (bit_xor (zeros 1 d) 0))
+    ∙ sym (spreads_out r (a ∷ b ∷ c ∷ d ∷ []) all))
 
 pub eight_bytes : (r a b c d e f g h : ℕ) → AreBytes (a ∷ b ∷ c ∷ d ∷ e ∷ f ∷ g ∷ h ∷ []) → bit_xor (bit_xor (zeros 8 (bit_xor a (r % 256))) (zeros 7 (bit_xor b (r / 256)))) (bit_xor (zeros 6 c) (bit_xor (zeros 5 d) (bit_xor (zeros 4 e) (bit_xor (zeros 3 f) (bit_xor (zeros 2 g) (zeros 1 h)))))) ≡ check_from r (a ∷ b ∷ c ∷ d ∷ e ∷ f ∷ g ∷ h ∷ [])
 eight_bytes r a b c d e f g h all =
-    let rest : ℕ = bit_xor (zeros 6 c) (bit_xor (zeros 5 d) (bit_xor (zeros 4 e) (bit_xor (zeros 3 f) (bit_xor (zeros 2 g) (zeros 1 h))))) in
-    let last : bit_xor (zeros 1 h) 0 ≡ zeros 1 h = xor_zero_r (zeros 1 h) in
-    let low : ℕ = zeros 8 (r % 256) in let high : ℕ = zeros 7 (r / 256) in let first : ℕ = zeros 8 a in let second : ℕ = zeros 7 b in
-    (λ i. bit_xor (bit_xor (zeros_sum 8 a (r % 256) i) (zeros_sum 7 b (r / 256) i)) rest)
-    ∙ (ap (λ z. bit_xor z rest) (four_terms first low second high)
-    ∙ (xor_assoc (bit_xor high low) (bit_xor first second) rest
-    ∙ ((λ i. bit_xor (sym (parted r) i) (xor_assoc first second rest i))
-    ∙ ((λ i. bit_xor (zeros 8 r) (bit_xor first (bit_xor second (bit_xor (zeros 6 c) (bit_xor (zeros 5 d) (bit_xor (zeros 4 e) (bit_xor (zeros 3 f) (bit_xor (zeros 2 g) (sym last i)))))))))
-    ∙ sym (spreads_out r (a ∷ b ∷ c ∷ d ∷ e ∷ f ∷ g ∷ h ∷ []) all)))))
+    let last : zeros 1 h ≡ bit_xor (zeros 1 h) 0 = sym (xor_zero_r (zeros 1 h)) in
+    let rest = λ (z : ℕ). bit_xor (zeros 6 c) (bit_xor (zeros 5 d) (bit_xor (zeros 4 e) (bit_xor (zeros 3 f) (bit_xor (zeros 2 g) z)))) in
+    ap (λ z. bit_xor (bit_xor (zeros 8 (bit_xor a (r % 256))) (zeros 7 (bit_xor b (r / 256)))) (rest z)) last
+    ∙ (first_two 7 r a b (rest (bit_xor (zeros 1 h) 0))
+    ∙ sym (spreads_out r (a ∷ b ∷ c ∷ d ∷ e ∷ f ∷ g ∷ h ∷ []) all))

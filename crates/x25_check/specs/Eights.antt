@@ -1,4 +1,4 @@
--- Eight bytes at a time.
+-- Several bytes at a time.
 use Rattle.std.specs.Prelude.{ℕ, zero, suc, ◌+◌, List, [], ◌∷◌, slice_index, fold, replicate}
 use Rattle.x25_check.specs.Check.{after_bit}
 
@@ -16,3 +16,8 @@ abbrev pub eight_at : ℕ → List ℕ → List ℕ
 eight_at at bytes =
     slice_index bytes at ∷ slice_index bytes (at + 1) ∷ slice_index bytes (at + 2) ∷ slice_index bytes (at + 3) ∷
     slice_index bytes (at + 4) ∷ slice_index bytes (at + 5) ∷ slice_index bytes (at + 6) ∷ slice_index bytes (at + 7) ∷ []
+
+-- the four bytes from an index on
+abbrev pub four_at : ℕ → List ℕ → List ℕ
+four_at at bytes =
+    slice_index bytes at ∷ slice_index bytes (at + 1) ∷ slice_index bytes (at + 2) ∷ slice_index bytes (at + 3) ∷ []

@@ -1,7 +1,7 @@
 // The checksum of a packet.
-ghost use Rattle.std.specs.Prelude.{◌≡◌, ℕ, ◌+◌, ◌<◌, ◌≤◌, ◌^◌, length};
+ghost use Rattle.std.specs.Prelude.{◌≡◌, ℕ, ◌+◌, ◌≤◌, length, drop};
 ghost use Rattle.x25_check.specs.Check.{after_byte, check_from};
-ghost use Rattle.x25_check.specs.Eights.{eight_at};
+ghost use Rattle.x25_check.specs.Eights.{eight_at, four_at};
 
 use crate::tables::after_zeros;
 use std::marker::Model;
@@ -19,14 +19,13 @@ impl Model for X25 {
     ghost view = { λ x. x.register };
 }
 
-// The register after one more byte: the eight steps of its bits at once.
+// The register after one more byte: the entry of that byte and the register's low one, with the high one shifted down.
+#[inline(always)]
 fn after(register: u16, byte: u8) -> u16
     ensures { result ≡ after_byte register byte }
 {
     let low = byte ^ (register % 256) as u8;
-    let mixed = low ^ (low << 4);
-    let wide = mixed as u16;
-    (register >> 8) ^ (wide << 8) ^ (wide << 3) ^ (wide >> 4)
+    (register >> 8) ^ after_zeros(0, low)
 }
 
 // The register after the eight bytes from an index on: what each of them makes of a register that was 0, with the
@@ -49,6 +48,21 @@ fn after_eight(register: u16, bytes: &[u8], at: usize) -> u16
     (first ^ second) ^ (third ^ (fourth ^ (fifth ^ (sixth ^ (seventh ^ eighth)))))
 }
 
+// The register after the four bytes from an index on, as after eight.
+#[inline(always)]
+fn after_four(register: u16, bytes: &[u8], at: usize) -> u16
+    requires { at + 4 ≤ length bytes.now }
+    ensures { result ≡ check_from register (four_at at bytes.now) }
+{
+    let third = after_zeros(1, bytes[at + 2]);
+    let fourth = after_zeros(0, bytes[at + 3]);
+    let low = (register % 256) as u8;
+    let high = (register / 256) as u8;
+    let first = after_zeros(3, bytes[at] ^ low);
+    let second = after_zeros(2, bytes[at + 1] ^ high);
+    (first ^ second) ^ (third ^ fourth)
+}
+
 // The register after some bytes, one by one.
 #[inline(always)]
 fn after_each(register: u16, bytes: &[u8]) -> u16
@@ -61,6 +75,19 @@ fn after_each(register: u16, bytes: &[u8]) -> u16
     now
 }
 
+// The register after the bytes from an index on, four at once if there are as many.
+#[inline(always)]
+fn after_rest(register: u16, bytes: &[u8], at: usize) -> u16
+    requires { at ≤ length bytes.now }
+    ensures { result ≡ check_from register (drop at bytes.now) }
+{
+    if bytes.len() - at < 4 {
+        return after_each(register, &bytes[at..]);
+    }
+    let now = after_four(register, bytes, at);
+    after_each(now, &bytes[at + 4..])
+}
+
 // The register after some bytes, eight at a time.
 fn after_all(register: u16, bytes: &[u8]) -> u16
     ensures { result ≡ check_from register bytes.now }
@@ -71,7 +98,7 @@ fn after_all(register: u16, bytes: &[u8]) -> u16
         now = after_eight(now, bytes, at);
         at += 8;
     }
-    after_each(now, &bytes[at..])
+    after_rest(now, bytes, at)
 }
 
 impl X25 {

@@ -45,6 +45,14 @@ impl Extras {
         Some(self.pairs[at].1)
     }
 
+    /// The pairs of an id and its CRC_EXTRA, with ascending ids.
+    #[inline]
+    pub fn pairs(&self) -> &[(u32, u8)]
+        ensures { result.now ≡ self.now }
+    {
+        &self.pairs
+    }
+
     /// A copy of the same pairs.
     pub fn copy(&self) -> Result<Extras, NoMemory>
         ensures { IfOk result (λ copied. copied ≡ self.now) }

@@ -1,7 +1,7 @@
-use Rattle.std.proofs.Common.{ℕ, ◌-◌, List, drop, length, take, sym, ap, ◌∙◌, arith}
+use Rattle.std.proofs.Common.{ℕ, drop, take, sym, ap, ◌∙◌, take-append-drop, arith}
 use Rattle.x25_check.specs.Check.{check_from}
 use Rattle.x25_check.specs.Eights.{eight_at}
-use Rattle.x25_check.proofs.Eights.{eight_more, all_parted}
+use Rattle.x25_check.proofs.Eights.{eight_more}
 use Rattle.x25_check.proofs.Parts.{check_from-append}
 use Rattle.x25_check.proofs.check.after_all.Goals as goal
 
@@ -20,8 +20,7 @@ loop-at-preserved c =
 pub returns : goal.returns
 returns c =
     let l = c.loop-at in let bytes = c.args.bytes.now in let register : ℕ = c.args.register in
-    let rest : List ℕ = take (length bytes - l.at) (drop l.at bytes) in
-    c.after_each.ensures
-    ∙ (ap (λ (r : ℕ). check_from r rest) l.invariant.now
-    ∙ (sym (check_from-append register (take l.at bytes) rest)
-    ∙ ap (check_from register) (all_parted bytes l.at)))
+    c.after_rest.ensures
+    ∙ (ap (λ (r : ℕ). check_from r (drop l.at bytes)) l.invariant.now
+    ∙ (sym (check_from-append register (take l.at bytes) (drop l.at bytes))
+    ∙ ap (check_from register) (take-append-drop l.at bytes)))
