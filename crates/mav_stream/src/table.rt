@@ -1,5 +1,5 @@
 // The CRC_EXTRA byte of each message id, in an array for the low ids that most messages have.
-ghost use Rattle.std.specs.Prelude.{◌≡◌, ℕ, ◌<◌, length, slice_index, IfOk};
+ghost use Rattle.std.specs.Prelude.{◌≡◌, ◌<◌, ◌∷◌, ℕ, List, length, slice_index, None, IfOk};
 ghost use Rattle.x25_check.specs.Extras.{extra_of};
 ghost use Rattle.mav_stream.specs.Entries.{byte_of};
 
@@ -34,16 +34,6 @@ impl Model for ExtrasTable {
     ghost invariant = { λ t. (length t.low.items ≡ 65536) × ((id : ℕ) → id < 65536 → byte_of (slice_index t.low.items id) ≡ extra_of id t.extras) };
 }
 
-// The entry of an id, by its CRC_EXTRA.
-fn entry_for(extra: Option<u8>) -> u16
-    ensures { byte_of result ≡ extra }
-{
-    match extra {
-        Some(byte) => u16::from(byte),
-        None => UNKNOWN,
-    }
-}
-
 // What an entry represents.
 #[inline(always)]
 fn extra_in(entry: u16) -> Option<u8>
@@ -56,13 +46,31 @@ fn extra_in(entry: u16) -> Option<u8>
     }
 }
 
-// Writes the entry of each id.
-fn fill(low: &mut [u16], extras: &Extras)
+// Writes the entry of a pair's id, if it has one.
+#[inline(always)]
+fn put(low: &mut [u16], pair: (u32, u8))
     requires { length low.old ≡ 65536 }
-    ensures { (id : ℕ) → id < 65536 → byte_of (slice_index low.new id) ≡ extra_of id extras.now }
+    ensures length { length low.new ≡ 65536 }
+    ensures entries { (id : ℕ) (pairs : List (ℕ × ℕ)) → id < 65536 → byte_of (slice_index low.old id) ≡ extra_of id pairs → byte_of (slice_index low.new id) ≡ extra_of id (pair ∷ pairs) }
 {
-    for id in 0..LOW_IDS {
-        low[id] = entry_for(extras.get(id as u32));
+    let (id, extra) = pair;
+    let index = id as usize;
+    if index < LOW_IDS {
+        low[index] = u16::from(extra);
+    }
+}
+
+// Writes the entries of all pairs, the last one first, so that of pairs with the same id the first one stands.
+fn fill(low: &mut [u16], pairs: &[(u32, u8)])
+    requires length { length low.old ≡ 65536 }
+    requires unknown { (id : ℕ) → id < 65536 → byte_of (slice_index low.old id) ≡ None }
+    ensures length { length low.new ≡ 65536 }
+    ensures entries { (id : ℕ) → id < 65536 → byte_of (slice_index low.new id) ≡ extra_of id pairs.now }
+{
+    let mut left = pairs.len();
+    while left > 0 {
+        left -= 1;
+        put(low, pairs[left]);
     }
 }
 
@@ -71,7 +79,7 @@ impl ExtrasTable {
         ensures { IfOk result (λ table. table ≡ extras) }
     {
         let mut low = vec![in alloc; UNKNOWN; LOW_IDS]?;
-        fill(&mut low, &extras);
+        fill(&mut low, extras.pairs());
         Ok(ExtrasTable { extras, low })
     }
 }
