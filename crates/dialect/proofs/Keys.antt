@@ -1,5 +1,5 @@
 -- Lists of keys that are kept with the elements that have them.
-use Rattle.std.proofs.Common.{◌≡◌, ℕ, ◌+◌, ◌<◌, ◌≤◌, Bool, true, false, not, ◌||◌, if◌then◌else◌, cond, ltb, List, [], ◌∷◌, ◌++◌, length, get_or, take, map, slice_get, position, find, Option, Some, None, Ok, Err, OnOk, refl, sym, ap, subst, ◌∙◌, arith}
+use Rattle.std.proofs.Common.{◌≡◌, ℕ, ◌+◌, ◌<◌, ◌≤◌, Bool, true, false, not, ◌||◌, if◌then◌else◌, cond, ltb, List, [], ◌∷◌, ◌++◌, length, get_or, take, map, slice_get, position, find, Option, Some, None, Ok, Err, OnOk, refl, sym, ap, ◌∙◌, arith}
 use Rattle.std.proofs.lemmas.Bool.Decides.{nat_tests}
 use Rattle.std.proofs.lemmas.List.{map-append, append-nil, length-map, take_at, take_more}
 use Rattle.std.proofs.lemmas.List.Elements.{filter_map-append}
@@ -28,29 +28,33 @@ module _ {X Y : Type 0} (f : X → Y) (p : Y → Bool) where
   position_or_len-map [] = refl
   position_or_len-map (x ∷ xs) = ap (λ k. cond (not (p (f x))) (1 + k) 0) (position_or_len-map xs)
 
-  first-with : (xs : List X) → find (λ x. p (f x)) xs ≡ slice_get xs (position_or_len p (map f xs))
-  first-with xs = find_at (λ x. p (f x)) xs ∙ ap (slice_get xs) (sym (position_or_len-map xs))
+  -- the first index of a key is that of its element
+  pub position-map : (xs : List X) → position p (map f xs) ≡ position (λ x. p (f x)) xs
+  position-map xs =
+      ap (λ k. cond (ltb k (length (map f xs))) (Some k) None) (position_or_len-map xs)
+      ∙ ap (λ count. cond (ltb (position_or_len (λ x. p (f x)) xs) count) (Some (position_or_len (λ x. p (f x)) xs)) None) (length-map xs f)
 
-  -- the element at the first index of such a key is the first that has one
-  pub find-position-map : (xs : List X) (k : ℕ) → position p (map f xs) ≡ Some k → find (λ x. p (f x)) xs ≡ slice_get xs k
-  find-position-map xs k there =
-      let at : position_or_len p (map f xs) ≡ k =
-      elim (ltb (position_or_len p (map f xs)) (length (map f xs))) as (λ below. cond below (Some (position_or_len p (map f xs))) None ≡ Some k → position_or_len p (map f xs) ≡ k) [
+module _ {X : Type 0} (p : X → Bool) (xs : List X) where
+  -- the first element that passes is at the first index of one
+  pub find-position : (k : ℕ) → position p xs ≡ Some k → find p xs ≡ slice_get xs k
+  find-position k there =
+      let at : position_or_len p xs ≡ k =
+      elim (ltb (position_or_len p xs) (length xs)) as (λ below. cond below (Some (position_or_len p xs)) None ≡ Some k → position_or_len p xs ≡ k) [
         | true ↦ λ h. cc
         | false ↦ λ h. absurd (cc)
       ] there in
-      first-with xs ∙ ap (slice_get xs) at
+      find_at p xs ∙ ap (slice_get xs) at
 
-  -- and nothing has such a key if no index does
-  pub find-nowhere-map : (xs : List X) → position p (map f xs) ≡ None → find (λ x. p (f x)) xs ≡ None
-  find-nowhere-map xs none =
-      let end = position_or_len p (map f xs) in
-      let past : length (map f xs) ≤ end =
-      elim (ltb end (length (map f xs))) as (λ below. ltb end (length (map f xs)) ≡ below → cond below (Some end) None ≡ None → length (map f xs) ≤ end) [
+  -- and no element passes if there is no such index
+  pub find-nowhere : position p xs ≡ None → find p xs ≡ None
+  find-nowhere none =
+      let end = position_or_len p xs in
+      let past : length xs ≤ end =
+      elim (ltb end (length xs)) as (λ below. ltb end (length xs) ≡ below → cond below (Some end) None ≡ None → length xs ≤ end) [
         | true ↦ λ t h. absurd (none-some end (sym h))
         | false ↦ λ t h. grind (arith, nat_tests)
       ] refl none in
-      first-with xs ∙ slice_get_past xs end (subst (λ n. n ≤ end) (length-map xs f) past)
+      find_at p xs ∙ slice_get_past xs end past
 
 -- a new name is added after the others
 pub names-insert_key : (keys : List (Vec ℕ)) (text : Vec ℕ) (name : List ℕ) (known : List (List ℕ))

@@ -13,18 +13,18 @@ use Rattle.field_layout.specs.Faults.{names_of, repeats_at, first_repeat, name_f
 use Rattle.field_layout.proofs.Faultless.{size_positive}
 use Rattle.field_layout.proofs.Names.{name_of_field, length-names}
 
-module _ (def : Definition) (place : ℕ) (field : Field) (there : slice_get (all_fields def) place ≡ Some field) where
+module _ (def : Definition) (index : ℕ) (field : Field) (there : slice_get (all_fields def) index ≡ Some field) where
   -- the names up to an index, and that of the field there
-  pub take-names : place < length (all_fields def) → take (place + 1) (names_of def) ≡ take place (names_of def) ++ field.name ∷ []
+  pub take-names : index < length (all_fields def) → take (index + 1) (names_of def) ≡ take index (names_of def) ++ field.name ∷ []
   take-names within =
-      let inside : place < length (names_of def) = omega (arith, length-names def) in
-      take_more (names_of def) place [] inside ∙ ap (λ name. take place (names_of def) ++ name ∷ []) (name_of_field def place field there)
+      let inside : index < length (names_of def) = omega (arith, length-names def) in
+      take_more (names_of def) index [] inside ∙ ap (λ name. take index (names_of def) ++ name ∷ []) (name_of_field def index field there)
 
   -- the test of a name against those before it
-  pub repeats_at-tested : (name : List ℕ) (known : List (List ℕ)) (answer : Bool) → name ≡ field.name → known ≡ take place (names_of def)
-      → answer ≡ list_any (bytes_eq name) known → repeats_at (names_of def) place ≡ answer
+  pub repeats_at-tested : (name : List ℕ) (known : List (List ℕ)) (answer : Bool) → name ≡ field.name → known ≡ take index (names_of def)
+      → answer ≡ list_any (bytes_eq name) known → repeats_at (names_of def) index ≡ answer
   repeats_at-tested name known answer same before tested =
-      ap (λ text. list_any (bytes_eq text) (take place (names_of def))) (name_of_field def place field there ∙ sym same)
+      ap (λ text. list_any (bytes_eq text) (take index (names_of def))) (name_of_field def index field there ∙ sym same)
       ∙ ap (list_any (bytes_eq name)) (sym before) ∙ sym tested
 
 -- each field has a byte
@@ -45,17 +45,17 @@ first_fault-too_long def len some single is many =
     ∙ ap (λ test. if test then Some (TooLong len) else None) long
 
 -- a repeated name
-pub first_fault-twice_named : (def : Definition) (place : ℕ) (field : Field) (name : List ℕ) → length def.fields ≢ 0 → first_repeat (names_of def) ≡ Some place
-    → slice_get (all_fields def) place ≡ Some field → name ≡ field.name → first_fault def ≡ Some (TwiceNamed name)
-first_fault-twice_named def place field name some repeated there same =
+pub first_fault-twice_named : (def : Definition) (index : ℕ) (field : Field) (name : List ℕ) → length def.fields ≢ 0 → first_repeat (names_of def) ≡ Some index
+    → slice_get (all_fields def) index ≡ Some field → name ≡ field.name → first_fault def ≡ Some (TwiceNamed name)
+first_fault-twice_named def index field name some repeated there same =
     let based : (length def.fields == 0) ≡ false = grind (arith, nat_tests) in
     ap (λ test. if test then Some NoFields else name_fault (names_of def) (full_len_of def) (first_repeat (names_of def))) based
     ∙ ap (name_fault (names_of def) (full_len_of def)) repeated
-    ∙ ap (λ text. Some (TwiceNamed text)) (name_of_field def place field there ∙ sym same)
+    ∙ ap (λ text. Some (TwiceNamed text)) (name_of_field def index field there ∙ sym same)
 
 -- the bytes of one more field
-pub sum_by-take : (fields : List Field) (place : ℕ) (field : Field) → slice_get fields place ≡ Some field
-    → sum_by size_of (take (place + 1) fields) ≡ sum_by size_of (take place fields) + size_of field
-sum_by-take fields place field there =
-    sum_by_more size_of fields place field (slice_get_within fields place field there)
-    ∙ ap (λ (here : Field). sum_by size_of (take place fields) + size_of here) (get_or_from_slice_get fields place field field there)
+pub sum_by-take : (fields : List Field) (index : ℕ) (field : Field) → slice_get fields index ≡ Some field
+    → sum_by size_of (take (index + 1) fields) ≡ sum_by size_of (take index fields) + size_of field
+sum_by-take fields index field there =
+    sum_by_more size_of fields index field (slice_get_within fields index field there)
+    ∙ ap (λ (here : Field). sum_by size_of (take index fields) + size_of here) (get_or_from_slice_get fields index field field there)

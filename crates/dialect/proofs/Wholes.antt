@@ -32,7 +32,7 @@ module _ (values : List Value) (i : ℕ) (value : Value) (within : i < length va
 
 pub one_longer : (known more : List Definition) (def : Definition) (start i : ℕ) → more ≡ known ++ def ∷ []
     → length known ≡ start + i → length more ≡ start + (i + 1)
-one_longer known more def start i appended place = omega (arith, ap length appended ∙ length-append known (def ∷ []), place)
+one_longer known more def start i appended count = omega (arith, ap length appended ∙ length-append known (def ∷ []), count)
 
 -- no message is left
 pub all_done : (values : List Value) (i : ℕ) (known : List Definition) (whole : Result (List Definition) DialectFault) → length values ≤ i

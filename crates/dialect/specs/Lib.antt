@@ -4,4 +4,4 @@ pub mod Shape
 pub mod Spelled
 pub mod Grammar
 pub mod ProfileTable
-pub mod Places
+pub mod Indices

@@ -6,7 +6,7 @@ ghost use Rattle.mav_profile.specs.Messages.{definition_with, extras_of};
 ghost use Rattle.mav_profile.specs.Profile.{profile_definitions};
 
 use crate::layouts::Layouts;
-use crate::low_places::{LOW_IDS, low_places, place_at};
+use crate::low_indices::{LOW_IDS, index_at, low_indices};
 use crate::profile::profile_layouts;
 use crate::reading::read_layouts;
 use crate::{DialectFault, NoMemory};
@@ -21,6 +21,7 @@ use x25_check::Extras;
 #[derive(Drop)]
 pub struct Dialect {
     layouts: Layouts,
+    // For each id below 1,024 the index of its message, if there is one.
     low: Vec<Option<usize>>,
     extras: Extras,
 }
@@ -29,13 +30,13 @@ impl Model for Dialect {
     ghost use Rattle.std.specs.Prelude.{◌≡◌, List, length};
     ghost use Rattle.field_layout.specs.Definition.{Definition};
     ghost use Rattle.mav_profile.specs.Messages.{extras_of};
-    ghost use Rattle.dialect.specs.Places.{ArePlaces};
+    ghost use Rattle.dialect.specs.Indices.{AreIndices};
 
     ghost Value = { List Definition };
 
     ghost view = { λ d. d.layouts };
 
-    ghost invariant = { λ d. (d.extras ≡ extras_of d.layouts) × (length d.low.items ≡ 1024) × ArePlaces d.layouts d.low.items };
+    ghost invariant = { λ d. (d.extras ≡ extras_of d.layouts) × (length d.low.items ≡ 1024) × AreIndices d.layouts d.low.items };
 }
 
 // The CRC_EXTRA of each message by its id.
@@ -72,7 +73,7 @@ impl Dialect {
         ensures { IfOk result (λ dialect. dialect ≡ layouts) }
     {
         let extras = extras(alloc, layouts.as_slice())?;
-        let low = low_places(alloc, &layouts)?;
+        let low = low_indices(alloc, &layouts)?;
         Ok(Dialect {
             layouts,
             low,
@@ -81,22 +82,22 @@ impl Dialect {
     }
 
     /// The layout of a message id, found without a scan.
+    #[inline]
     pub fn get(&self, id: u32) -> Option<&Layout>
         ensures { option_copied result ≡ definition_with id self.now }
     {
-        let index = id as usize;
-        if index < LOW_IDS {
-            let place = place_at(&self.low, index)?;
-            return self.layouts.at(place);
+        if id < LOW_IDS {
+            let index = index_at(&self.low, id)?;
+            return self.layouts.at(index);
         }
         self.layouts.get(id)
     }
 
     /// The layout of the message at an index, in the order read.
-    pub fn at(&self, place: usize) -> Option<&Layout>
-        ensures { option_copied result ≡ slice_get self.now place }
+    pub fn at(&self, index: usize) -> Option<&Layout>
+        ensures { option_copied result ≡ slice_get self.now index }
     {
-        self.layouts.at(place)
+        self.layouts.at(index)
     }
 
     /// How many messages it has.

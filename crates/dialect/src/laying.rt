@@ -13,15 +13,15 @@ use std::alloc::Global;
 const MAX_FIELDS: usize = 255;
 
 // The first index whose name an earlier index has.
-fn repeated_place(alloc: Global, def: &MessageDef) -> Result<Option<usize>, NoMemory>
-    ensures first { IfOk result (λ place. place ≡ first_repeat (names_of def.now)) }
-    ensures within { IfOk result (λ place. IfSome place (λ place. place < length (all_fields def.now))) }
+fn repeated_index(alloc: Global, def: &MessageDef) -> Result<Option<usize>, NoMemory>
+    ensures first { IfOk result (λ index. index ≡ first_repeat (names_of def.now)) }
+    ensures within { IfOk result (λ index. IfSome index (λ index. index < length (all_fields def.now))) }
 {
     let mut names = NameSet::new(alloc);
-    for place in 0..def.field_count() {
-        let name = def.field(place).name.bytes();
+    for index in 0..def.field_count() {
+        let name = def.field(index).name.bytes();
         if names.has(name) {
-            return Ok(Some(place));
+            return Ok(Some(index));
         }
         names.add(name)?;
     }
@@ -33,8 +33,8 @@ fn payload_len(def: &MessageDef) -> u128
     ensures { result ≡ full_len_of def.now }
 {
     let mut len: u128 = 0;
-    for place in 0..def.field_count() {
-        len += def.field(place).size() as u128;
+    for index in 0..def.field_count() {
+        len += def.field(index).size() as u128;
     }
     len
 }
@@ -53,8 +53,8 @@ fn fault_of_many(alloc: Global, def: &MessageDef) -> Result<LayoutFault, NoMemor
     if def.base_count() == 0 {
         return Ok(LayoutFault::NoFields);
     }
-    if let Some(place) = repeated_place(alloc, def)? {
-        let name = copied(alloc, &def.field(place).name)?;
+    if let Some(index) = repeated_index(alloc, def)? {
+        let name = copied(alloc, &def.field(index).name)?;
         return Ok(LayoutFault::TwiceNamed { name });
     }
     let len = payload_len(def);

@@ -2,7 +2,7 @@
 ghost use Rattle.std.specs.Prelude.{◌≡◌, ◌∷◌, ◌++◌, [], false, length, slice_get, OnOk, OnErr};
 ghost use Rattle.std.specs.Option.{option_copied};
 ghost use Rattle.dialect.specs.Grammar.{has_id};
-ghost use Rattle.dialect.specs.Places.{at_place};
+ghost use Rattle.dialect.specs.Indices.{index_with};
 ghost use Rattle.mav_profile.specs.Messages.{definition_with};
 
 use crate::NoMemory;
@@ -59,8 +59,8 @@ impl Layouts {
     }
 
     /// The index of the layout of an id, found by its hash.
-    pub(crate) fn place(&self, id: u32) -> Option<usize>
-        ensures { at_place result self.now ≡ definition_with id self.now }
+    pub(crate) fn index_of(&self, id: u32) -> Option<usize>
+        ensures { result ≡ index_with id self.now }
     {
         self.ids.get_index_of(&id)
     }
@@ -69,15 +69,16 @@ impl Layouts {
     pub(crate) fn get(&self, id: u32) -> Option<&Layout>
         ensures { option_copied result ≡ definition_with id self.now }
     {
-        let place = self.place(id)?;
-        self.at(place)
+        let index = self.index_of(id)?;
+        self.at(index)
     }
 
     /// The layout at an index in the order in which they were added.
-    pub(crate) fn at(&self, place: usize) -> Option<&Layout>
-        ensures { option_copied result ≡ slice_get self.now place }
+    #[inline]
+    pub(crate) fn at(&self, index: usize) -> Option<&Layout>
+        ensures { option_copied result ≡ slice_get self.now index }
     {
-        self.layouts.get(place)
+        self.layouts.get(index)
     }
 
     pub(crate) fn as_slice(&self) -> &[Layout]

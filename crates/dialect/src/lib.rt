@@ -9,7 +9,7 @@ mod faults;
 mod known;
 mod laying;
 mod layouts;
-mod low_places;
+mod low_indices;
 mod message;
 mod name_set;
 mod names;

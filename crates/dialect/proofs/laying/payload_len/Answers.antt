@@ -3,8 +3,8 @@ use Rattle.field_layout.specs.Definition.{all_fields}
 use Rattle.dialect.proofs.ManyFields.{sum_by-take}
 use Rattle.dialect.proofs.laying.payload_len.Goals as goal
 
-pub loop-place-preserved : goal.loop-place-preserved
-loop-place-preserved c =
-    let more = sum_by-take (all_fields c.args.def.now) c.loop-place.place c.field.result.now c.field.ensures in
-    let bytes = c.loop-place.invariant.0 in
+pub loop-index-preserved : goal.loop-index-preserved
+loop-index-preserved c =
+    let more = sum_by-take (all_fields c.args.def.now) c.loop-index.index c.field.result.now c.field.ensures in
+    let bytes = c.loop-index.invariant.0 in
     (omega (arith, more, bytes), omega arith)

@@ -5,10 +5,10 @@ use Rattle.dialect.proofs.Wholes.{one_fails, one_read, one_longer, all_done}
 use Rattle.dialect.proofs.reading.read_each.Goals as goal
 
 pub loop-value-init : goal.loop-value-init
-loop-value-init c = record { all = refl; place = omega arith }
+loop-value-init c = record { all = refl; count = omega arith }
 
 pub read_message-requires : goal.read_message-requires
-read_message-requires c = omega (arith, c.loop-value.invariant.place, c.requires, c.loop-value-test.true)
+read_message-requires c = omega (arith, c.loop-value.invariant.count, c.requires, c.loop-value-test.true)
 
 pub returns-in_err-layout-clause-read : goal.returns-in_err-layout-clause-read
 returns-in_err-layout-clause-read c =
@@ -43,7 +43,7 @@ loop-value-preserved c =
     record {
       all = one_read c.args.values.now c.loop-value.value-index c.value-item.result c.loop-value-test.true c.value-item.is
           c.loop-value.known _ c.loop-value.invariant.all c.in_ok-layout.layout c.add.new.self c.in_ok-layout.ensures.read c.in_ok-add.ensures;
-      place = one_longer c.loop-value.known c.add.new.self c.in_ok-layout.layout _ c.loop-value.value-index c.in_ok-add.ensures c.loop-value.invariant.place;
+      count = one_longer c.loop-value.known c.add.new.self c.in_ok-layout.layout _ c.loop-value.value-index c.in_ok-add.ensures c.loop-value.invariant.count;
     }
 
 pub returns-clause-read : goal.returns-clause-read

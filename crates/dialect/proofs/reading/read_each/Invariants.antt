@@ -7,5 +7,5 @@ use Rattle.dialect.proofs.reading.read_each.Given as goal
 abbrev pub invariant-loop-value : goal.invariant-loop-value
 invariant-loop-value l = record {
   all : definitions_behind l.known (map view (drop l.value-index l.values)) ≡ definitions_behind l.initial.known (map view l.values);
-  place : length l.known ≡ length l.initial.known + l.value-index;
+  count : length l.known ≡ length l.initial.known + l.value-index;
 }
