@@ -22,7 +22,7 @@ ghost use Rattle.mav_nodes.specs.Cores.{said_of_plans, said_of_outcome, says};
 ghost use Rattle.mav_nodes.specs.Promises.{Did, LinkDid, IsAnswer, IsTried, Fails};
 ghost use Rattle.mav_nodes.specs.Streams.{HasRead};
 
-use crate::news::tell;
+use crate::news::tell_sent;
 use crate::steps::{Core, Step, tell_outcome, tell_plans};
 use crate::stores::save_bound;
 use crate::{News, NoMemory, NodeFault};
@@ -346,7 +346,7 @@ impl Link {
         ensures fault { IfErr result (λ fault. Fails fault (λ (link : LinkState). IsEnd link self.old.endpoint) (λ (link : LinkState). sends clock message.now link) ⊥) }
     {
         let frame = self.endpoint.send_bytes(message, clock)?;
-        tell(news, News::Sent(frame, *message))
+        tell_sent(news, frame, message)
     }
 
     /// Sends a reply, if there is one.

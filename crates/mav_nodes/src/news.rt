@@ -1,5 +1,6 @@
 // What happens in a node.
 ghost use Rattle.std.specs.Prelude.{◌≡◌, ◌++◌, ◌∷◌, [], OnOk, IfErr};
+ghost use Rattle.mav_nodes.specs.declared.news.News.TheVariants.{Sent, Dropped};
 ghost use Rattle.mav_nodes.specs.News.{said_by, events_of};
 
 use crate::{NoMemory, NodeFault};
@@ -84,6 +85,31 @@ pub(crate) fn report(news: &mut Vec<News>, piece: News) -> Result<(), NoMemory>
     make_room(news);
     news.push(piece)?;
     Ok(())
+}
+
+/// A frame that was sent, and the message that it carries.
+#[inline]
+pub(crate) fn tell_sent(
+    news: &mut Vec<News>,
+    frame: FrameBytes,
+    message: &Message,
+) -> Result<(), NodeFault>
+    ensures told { OnOk result (news.new.items ≡ news.old.items ++ Sent frame message.now ∷ []) }
+    ensures fault { IfErr result (λ fault. fault ≡ NodeFault.NoMemory) }
+{
+    make_room(news);
+    news.push(News::Sent(frame, *message))?;
+    Ok(())
+}
+
+/// A frame that wasn't admitted. The compiler zeroes a function's locals whether they are used or not, so what is rare has
+/// a function of its own.
+#[inline(never)]
+pub(crate) fn tell_dropped(news: &mut Vec<News>, answer: Admit) -> Result<(), NodeFault>
+    ensures told { OnOk result (news.new.items ≡ news.old.items ++ Dropped answer ∷ []) }
+    ensures fault { IfErr result (λ fault. fault ≡ NodeFault.NoMemory) }
+{
+    tell(news, News::Dropped(answer))
 }
 
 /// These pieces of news more.

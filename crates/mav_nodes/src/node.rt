@@ -12,7 +12,7 @@ ghost use Rattle.mav_nodes.specs.Promises.{LinkDid, Fails, SpentKeeping, FailsKe
 ghost use Rattle.mav_nodes.specs.Streams.{HasRead, NodePart, PartFails};
 
 use crate::link::{Link, Tried};
-use crate::news::{tell, tell_all};
+use crate::news::{tell_all, tell_dropped};
 use crate::services::{Served, Services};
 use crate::steps::Core;
 use crate::stores::save_step;
@@ -130,7 +130,7 @@ fn hear<K: Keeper, C: Core, V: Services<C>>(
         }
         Tried::Other => Ok(true),
         Tried::Dropped(answer) => {
-            tell(news, News::Dropped(answer))?;
+            tell_dropped(news, answer)?;
             Ok(true)
         }
     }

@@ -1,6 +1,7 @@
 // What a node's core does, and how it is reported.
 ghost use Rattle.std.specs.Prelude.{◌≡◌, ◌++◌, ◌∷◌, [], OnOk, IfErr};
-ghost use Rattle.mav_nodes.specs.News.{Shows_emptied, events_of};
+ghost use Rattle.plan_upload.specs.Outcomes.{told_of};
+ghost use Rattle.mav_nodes.specs.News.{Shows_installed, Shows_emptied, Shows_ended, events_of};
 ghost use Rattle.mav_nodes.specs.Cores.{said_of_plans, said_of_outcome};
 
 use crate::news::tell;
@@ -84,8 +85,8 @@ pub(crate) fn tell_plans(news: &mut Vec<News>, plans: PlanNews) -> Result<(), No
 {
     match plans {
         PlanNews::Same => Ok(()),
-        PlanNews::Installed(kind, count, by) => tell(news, News::Installed { kind, count, by }),
-        PlanNews::Emptied(Some(kind)) => tell(news, News::Emptied { kind }),
+        PlanNews::Installed(kind, count, by) => tell_installed(news, kind, count, by),
+        PlanNews::Emptied(Some(kind)) => tell_emptied(news, kind),
         PlanNews::Emptied(None) => {
             tell_emptied(news, PlanKind::Mission)?;
             tell_emptied(news, PlanKind::Fence)?;
@@ -94,11 +95,34 @@ pub(crate) fn tell_plans(news: &mut Vec<News>, plans: PlanNews) -> Result<(), No
     }
 }
 
+// The compiler zeroes a function's locals whether they are used or not, so each rare piece of news has a function of its own.
+#[inline(never)]
+fn tell_installed(
+    news: &mut Vec<News>,
+    kind: PlanKind,
+    count: u16,
+    by: Stream,
+) -> Result<(), NodeFault>
+    ensures told { OnOk result (events_of news.new.items ≡ events_of news.old.items ++ Shows_installed kind count by ∷ []) }
+    ensures fault { IfErr result (λ fault. fault ≡ NodeFault.NoMemory) }
+{
+    tell(news, News::Installed { kind, count, by })
+}
+
+#[inline(never)]
 fn tell_emptied(news: &mut Vec<News>, kind: PlanKind) -> Result<(), NodeFault>
     ensures told { OnOk result (events_of news.new.items ≡ events_of news.old.items ++ Shows_emptied kind ∷ []) }
     ensures fault { IfErr result (λ fault. fault ≡ NodeFault.NoMemory) }
 {
     tell(news, News::Emptied { kind })
+}
+
+#[inline(never)]
+fn tell_ended(news: &mut Vec<News>, outcome: Outcome) -> Result<(), NodeFault>
+    ensures told { OnOk result (events_of news.new.items ≡ events_of news.old.items ++ Shows_ended (told_of outcome) ∷ []) }
+    ensures fault { IfErr result (λ fault. fault ≡ NodeFault.NoMemory) }
+{
+    tell(news, News::Outcome(outcome))
 }
 
 /// Reports an outcome, if there is one.
@@ -107,7 +131,7 @@ pub(crate) fn tell_outcome(news: &mut Vec<News>, outcome: Option<Outcome>) -> Re
     ensures fault { IfErr result (λ fault. fault ≡ NodeFault.NoMemory) }
 {
     match outcome {
-        Some(outcome) => tell(news, News::Outcome(outcome)),
+        Some(outcome) => tell_ended(news, outcome),
         None => Ok(()),
     }
 }

@@ -43,15 +43,15 @@ returns-in-Other-clause-done g c =
     let same = hears_other (rules_of g.C.Core.taken g.V.Services.noted g.V.Services.served true) c.args.clock node frame (subst (IsTried node.link c.args.frame.now) c.in-Other.is (c.in_ok-from.ensures.tried node.link is.link)) in
     subst (λ (o : Outcome (Side g.row.C.Denot g.row.V.Denot)). NodeDid o c.hear.new.self c.args.core.now c.args.services.now before before) (sym same) (record { link = c.in_ok-from.ensures.link node.link is.link; core = is.core; served = is.served }, sym (append-nil (events_of before)))
 
-pub returns-in_ok-tell-in-Dropped-clause-done : goal.returns-in_ok-tell-in-Dropped-clause-done
-returns-in_ok-tell-in-Dropped-clause-done g c =
+pub returns-in_ok-tell_dropped-in-Dropped-clause-done : goal.returns-in_ok-tell_dropped-in-Dropped-clause-done
+returns-in_ok-tell_dropped-in-Dropped-clause-done g c =
     λ node is.
     let frame = c.args.frame.now in
     let before = c.args.news.now.items in
-    let after = c.tell.new.news.items in
+    let after = c.tell_dropped.new.news.items in
     let why = c.in-Dropped.answer in
     let same = hears_dropped (rules_of g.C.Core.taken g.V.Services.noted g.V.Services.served true) c.args.clock node frame why (subst (IsTried node.link c.args.frame.now) c.in-Dropped.is (c.in_ok-from.ensures.tried node.link is.link)) in
-    subst (λ (o : Outcome (Side g.row.C.Denot g.row.V.Denot)). NodeDid o c.hear.new.self c.args.core.now c.args.services.now before after) (sym same) (record { link = c.in_ok-from.ensures.link node.link is.link; core = is.core; served = is.served }, ap events_of c.in_ok-tell-in-Dropped.ensures.told ∙ map-append said_by before (NewsDropped why ∷ []))
+    subst (λ (o : Outcome (Side g.row.C.Denot g.row.V.Denot)). NodeDid o c.hear.new.self c.args.core.now c.args.services.now before after) (sym same) (record { link = c.in_ok-from.ensures.link node.link is.link; core = is.core; served = is.served }, ap events_of c.in_ok-tell_dropped-in-Dropped.ensures.told ∙ map-append said_by before (NewsDropped why ∷ []))
 
 pub returns-in_ok-serve-in-Service-clause-done : goal.returns-in_ok-serve-in-Service-clause-done
 returns-in_ok-serve-in-Service-clause-done g c =
@@ -144,10 +144,10 @@ pub returns-in_err-serve-in-Service-clause-serves : goal.returns-in_err-serve-in
 returns-in_err-serve-in-Service-clause-serves g c =
     serves_both g.K.Keeper.faults g.K.Keeper.is_infallible c.args.keeper.now c.hear.new.keeper c.serve.new.keeper c.hear.ensures.serves c.serve.ensures.serves
 
-pub returns-in_err-tell-in-Dropped : goal.returns-in_err-tell-in-Dropped
-returns-in_err-tell-in-Dropped g c =
-    let p = err_from_is_err_and c.from_residual-in_err-tell-in-Dropped.result c.from_residual-in_err-tell-in-Dropped.ensures.1 in
-    rw (p.1, p.2, c.in_err-tell-in-Dropped.ensures.fault) (record {
+pub returns-in_err-tell_dropped-in-Dropped : goal.returns-in_err-tell_dropped-in-Dropped
+returns-in_err-tell_dropped-in-Dropped g c =
+    let p = err_from_is_err_and c.from_residual-in_err-tell_dropped-in-Dropped.result c.from_residual-in_err-tell_dropped-in-Dropped.ensures.1 in
+    rw (p.1, p.2, c.in_err-tell_dropped-in-Dropped.ensures.fault) (record {
       done = tt;
       unkept = tt;
       stored = tt;
@@ -162,8 +162,8 @@ returns-in-Other-clause-unkept g c = inl refl
 pub returns-in-Other-clause-stored : goal.returns-in-Other-clause-stored
 returns-in-Other-clause-stored g c = c.in_ok-from.ensures.stored
 
-pub returns-in_ok-tell-in-Dropped-clause-unkept : goal.returns-in_ok-tell-in-Dropped-clause-unkept
-returns-in_ok-tell-in-Dropped-clause-unkept g c = inl refl
+pub returns-in_ok-tell_dropped-in-Dropped-clause-unkept : goal.returns-in_ok-tell_dropped-in-Dropped-clause-unkept
+returns-in_ok-tell_dropped-in-Dropped-clause-unkept g c = inl refl
 
-pub returns-in_ok-tell-in-Dropped-clause-stored : goal.returns-in_ok-tell-in-Dropped-clause-stored
-returns-in_ok-tell-in-Dropped-clause-stored g c = c.in_ok-from.ensures.stored
+pub returns-in_ok-tell_dropped-in-Dropped-clause-stored : goal.returns-in_ok-tell_dropped-in-Dropped-clause-stored
+returns-in_ok-tell_dropped-in-Dropped-clause-stored g c = c.in_ok-from.ensures.stored

@@ -48,10 +48,10 @@ returns-in_err-frame-clause-fault c =
     none_left c.args.clock _ c.args.message.now link c.in_err-frame.ensures.spent (c.in_err-frame.ensures.stamp link.history is_inside.history)))
 
 pub returns-clause-sent : goal.returns-clause-sent
-returns-clause-sent c = if_ok c.tell.result (λ done told link is.
+returns-clause-sent c = if_ok c.tell_sent.result (λ done told link is.
     let inside = subst (IsEnd link) (sym (ap (λ (v : LinkView). v.endpoint) c.self.view_is)) is in
     let sent = c.in_ok-frame.ensures in
-    sent_did c.args.clock _ c.args.message.now link c.self.inside.endpoint c.send_bytes.new.self c.in_ok-frame.frame c.args.news.now.items c.tell.new.news.items inside sent.frame sent.left (sent.stamp link.history inside.history) (sent.history link.history inside.history) sent.same told) c.tell.ensures.told
+    sent_did c.args.clock _ c.args.message.now link c.self.inside.endpoint c.send_bytes.new.self c.in_ok-frame.frame c.args.news.now.items c.tell_sent.new.news.items inside sent.frame sent.left (sent.stamp link.history inside.history) (sent.history link.history inside.history) sent.same told) c.tell_sent.ensures.told
 
 pub returns-clause-fault : goal.returns-clause-fault
-returns-clause-fault c = if_err c.tell.result (λ fault is. fails_for_memory fault _ _ _ is) c.tell.ensures.fault
+returns-clause-fault c = if_err c.tell_sent.result (λ fault is. fails_for_memory fault _ _ _ is) c.tell_sent.ensures.fault
