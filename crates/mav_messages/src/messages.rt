@@ -69,8 +69,8 @@ impl Message {
         }
     }
 
-    // The bytes of each field's words, in wire order.
-    fn serialise(&self, payload: &mut Buffer)
+    /// Writes the payload with all of its bytes, each field's words in wire order. Its `truncated` bytes are sent.
+    pub fn serialise(&self, payload: &mut Buffer)
         requires { payload.old ≡ [] }
         ensures bytes { payload.new ≡ serialised (definition_of self.now) (values_of self.now) }
         ensures fits { FitsLayout (definition_of self.now) (values_of self.now) }
@@ -98,17 +98,6 @@ impl Message {
         }
     }
 
-    /// The payload with all of its bytes, whose `truncated` ones are sent.
-    #[inline]
-    pub fn payload(&self) -> Buffer
-        ensures bytes { result ≡ serialised (definition_of self.now) (values_of self.now) }
-        ensures fits { FitsLayout (definition_of self.now) (values_of self.now) }
-    {
-        let mut payload = Buffer::new();
-        self.serialise(&mut payload);
-        payload
-    }
-
     /// Writes the payload into `out`, with zeros after it, and returns the id and the payload's length without the
     /// zeros at its end, which is at least 1 (MAVLink guide, Packet Serialization: Empty-Byte Payload Truncation).
     pub fn write(&self, out: &mut [u8; 255]) -> (u32, u8)
@@ -119,7 +108,8 @@ impl Message {
             ≡ truncated (serialised (definition_of self.now) (values_of self.now)) ++ replicate (255 - result.1) 0 }
         ensures fits { FitsLayout (definition_of self.now) (values_of self.now) }
     {
-        let payload = self.payload();
+        let mut payload = Buffer::new();
+        self.serialise(&mut payload);
         payload.copy_to(out);
         (self.id(), payload.truncated_len())
     }

@@ -13,6 +13,7 @@ ghost use Rattle.mav_sign.specs.Endpoints.{HasProfile, AdmittedIs, Admits, new_e
 use crate::reading::{LEAST_FRAME_BYTES, append_frames, read_frame};
 use crate::stamps::stream_on;
 use crate::{Admit, Heard, Key, NoMemory, Stamps, StampsSpent, sign_bytes, verifies_raw};
+use field_layout::Buffer;
 use mav_frame::{Block, Frame, FrameBytes, Look, RawFrame, encode, look};
 use mav_messages::Message;
 use mav_names::{Name, Stream};
@@ -282,7 +283,8 @@ impl Endpoint {
         ensures frame { FrameOf self.now.me self.now.extras self.now.seq stamp message.now result }
         ensures block { IfSome result.block (λ block. (block.link ≡ self.now.me.link) × (block.stamp ≡ stamp)) }
     {
-        let payload = message.payload();
+        let mut payload = Buffer::new();
+        message.serialise(&mut payload);
         let from = Name {
             sys: self.me.sys,
             comp: self.me.comp,

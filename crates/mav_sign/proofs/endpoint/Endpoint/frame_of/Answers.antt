@@ -13,6 +13,6 @@ returns-clause-frame c =
     let me = c.self.inside.me in
     let extras = c.self.inside.extras in
     let known : extra_of (definition_of message).id extras ≡ Some c.extra_of.result = ap (λ (s : EndpointState). extra_of (definition_of message).id s.extras) c.self.view_is ∙ c.extra_of.ensures in
-    let bytes = c.truncated.ensures.bytes ∙ ap truncated c.payload-payload.ensures.bytes in
-    let frame = sealed_frame me extras c.self.inside.seq c.args.stamp message c.id.result c.extra_of.result c.truncated.result.now _ c.id.ensures known c.payload-payload.ensures.fits bytes in
+    let bytes = c.truncated.ensures.bytes ∙ ap truncated c.serialise.ensures.bytes in
+    let frame = sealed_frame me extras c.self.inside.seq c.args.stamp message c.id.result c.extra_of.result c.truncated.result.now _ c.id.ensures known c.serialise.ensures.fits bytes in
     subst (λ (s : EndpointState). FrameOf s.me s.extras s.seq c.args.stamp message c.sealed.result) c.self.view_is (subst (λ (p : Packet). FrameOf me extras c.self.inside.seq c.args.stamp message p) (sym c.sealed.ensures) frame)
