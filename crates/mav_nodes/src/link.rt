@@ -10,7 +10,6 @@ ghost use Rattle.mav_frame.specs.Packet.{SignatureBlock};
 ghost use Rattle.mav_sign.specs.Endpoints.{HasProfile};
 ghost use Rattle.mav_sign.specs.History.{answer_to, stream_of};
 ghost use Rattle.mav_sign.specs.declared.admission.Admit.TheVariants.{Admitted};
-ghost use Rattle.mav_sign.specs.Signing.{verified};
 ghost use Rattle.mav_sign.specs.Streams.{reader_of, ReadTo};
 ghost use Rattle.mav_frame.specs.declared.events.Event.{Event};
 ghost use Rattle.mav_nodes.specs.LowBounds.{bound_for, raised, raised_for, raised_if};
@@ -248,23 +247,21 @@ impl Link {
         Ok(())
     }
 
-    // Stores a bound for the frame's timestamp, if the frame will be admitted.
+    // Stores a bound for the frame's timestamp, if the frame will be admitted by this verdict.
     fn raise_for<K: Keeper, C: Core>(
         &mut self,
+        answer: Admit,
         frame: &RawFrame<'_>,
-        verifies: bool,
         core: &C,
         keeper: &mut K,
     ) -> Result<(), NodeFault>
-        requires { verifies ≡ verified self.old.endpoint.key frame.now frame.now.block }
-        ensures low { OnOk result ((link : LinkState) → IsLink link self.old
-            → self.new ≡ record self.old { low = raised_if self.old.low (answer_to link.key link.history frame.now) frame.now.block }) }
+        ensures low { OnOk result (self.new ≡ record self.old { low = raised_if self.old.low answer frame.now.block }) }
         ensures stored { OnOk result (Holds (K.contents keeper.old) (C.stored core.now) self.old.low → Holds (K.contents keeper.new) (C.stored core.now) self.new.low) }
         ensures endpoint { self.new.endpoint ≡ self.old.endpoint }
         ensures serves { Serves K.faults K.is_infallible keeper.old keeper.new }
         ensures fault { IfErr result (λ fault. HasFailedAt fault K.faults K.is_infallible keeper.old keeper.new) }
     {
-        match admitted_stamp(self.endpoint.test_judged(frame, verifies), frame) {
+        match admitted_stamp(answer, frame) {
             Some(stamp) => self.raise(stamp, core, keeper),
             None => Ok(()),
         }
@@ -285,8 +282,10 @@ impl Link {
         ensures fault { IfErr result (λ fault. HasFailedAt fault K.faults K.is_infallible keeper.old keeper.new) }
     {
         let verifies = self.endpoint.verifies(frame);
-        self.raise_for(frame, verifies, core, keeper)?;
-        Ok(self.endpoint.admit_judged(frame, verifies))
+        let answer = self.endpoint.test_judged(frame, verifies);
+        self.raise_for(answer, frame, core, keeper)?;
+        self.endpoint.keep_verdict(frame, answer);
+        Ok(answer)
     }
 
     /// Tries one frame, and returns the message that it carries for the node. The store has a bound for its timestamp before it is

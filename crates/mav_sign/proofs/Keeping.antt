@@ -1,14 +1,16 @@
 -- What is kept still represents the history.
 use Rattle.std.proofs.Common.{◌≡◌, ℕ, ◌+◌, ◌<◌, max, Bool, true, false, ◌==◌, List, [], ◌∷◌, ◌++◌, Option, Some, None, length, map, sym, ap, ◌∙◌, refl, subst, arith}
 use Rattle.std.specs.Prelude.{is_some, if◌then◌else◌, nat_lt, option_map}
+use Rattle.std.specs.Str.{bytes_eq}
 use Rattle.std.proofs.lemmas.Bool.Decides.{nat_tests}
 use Rattle.std.proofs.lemmas.List.{map-append}
 use Rattle.mav_names.specs.declared.names.Stream.{Stream}
 use Rattle.mav_frame.specs.Packet.{Packet, SignatureBlock}
 use Rattle.mav_sign.specs.declared.admission.Admit.{Admit}
 use Rattle.mav_sign.specs.declared.admission.Admit.TheVariants.{Admitted, Unsigned, BadSignature, BelowFloor, NotLater, TooOld, TooManyStreams}
-use Rattle.mav_sign.specs.History.{Entry, tried, sent, Stamped, stream_of, stamped, admitted_by, admitted_in, sent_in, low_of, unless_below, same_stream, greatest, greatest_of, latest, stamps_of, last_of, accepted_in, streams_of, answer_after, unless_old, stamp_answer, local_of, is_admitted}
-use Rattle.mav_sign.specs.Kept.{Kept, IsStream, Represents, Admits, KeptAfter, stream_number, stamp_at, kept_answer, local_kept}
+use Rattle.mav_sign.specs.Signing.{signature_of}
+use Rattle.mav_sign.specs.History.{Entry, tried, sent, one_minute, stream_limit, block_answer, answer_to, Stamped, stream_of, stamped, admitted_by, admitted_in, sent_in, low_of, unless_below, same_stream, greatest, greatest_of, latest, stamps_of, last_of, accepted_in, streams_of, answer_after, unless_old, stamp_answer, local_of, is_admitted}
+use Rattle.mav_sign.specs.Kept.{Kept, IsStream, Represents, Admits, KeptAfter, stream_number, stamp_at, kept_answer, kept_answer_to, local_kept}
 use Rattle.mav_sign.proofs.Histories.{low_same, admitted_more, admitted_same, sent_more, sent_same, greatest_more, greatest_of_more, latest_more, same_self, same_is, stamps_more, stamps_same, streams_more, streams_unchanged}
 
 -- ---- a stream and its number
@@ -69,6 +71,42 @@ later (y ∷ ys) streams local stamp admitted =
       | true ↦ λ test _. grind (arith, nat_tests)
       | false ↦ λ test wrong. absurd (cc)
     ] refl admitted
+
+-- the verdict on a signed frame is
+pub verdict_same : (key : List ℕ) (kept : Kept) (history : List Entry) (packet : Packet) (block : SignatureBlock) → packet.block ≡ Some block → IsStream (stream_of packet block) → Represents kept history → kept_answer_to key kept packet ≡ answer_to key history packet
+verdict_same key kept history packet block signed bytes of =
+    let right = bytes_eq block.sig (signature_of key packet block.link block.stamp) in
+    ap (λ (o : Option SignatureBlock). block_answer key (kept_answer kept) packet o) signed
+    ∙ (ap (λ (a : Admit). if right then a else BadSignature) (answer_same kept history (stream_of packet block) block.stamp bytes of)
+    ∙ sym (ap (λ (o : Option SignatureBlock). block_answer key (λ stream stamp. stamp_answer stream stamp history) packet o) signed))
+
+-- a signed frame is admitted by its timestamp
+pub admitted_stamp : (key : List ℕ) (kept : Kept) (packet : Packet) (block : SignatureBlock) → packet.block ≡ Some block → kept_answer_to key kept packet ≡ Admitted → kept_answer kept (stream_of packet block) block.stamp ≡ Admitted
+admitted_stamp key kept packet block signed admitted =
+    elim (bytes_eq block.sig (signature_of key packet block.link block.stamp)) as (λ t. (if t then kept_answer kept (stream_of packet block) block.stamp else BadSignature) ≡ Admitted → kept_answer kept (stream_of packet block) block.stamp ≡ Admitted) [
+      | true ↦ λ is. is
+      | false ↦ λ wrong. absurd (cc)
+    ] (sym (ap (λ (o : Option SignatureBlock). block_answer key (kept_answer kept) packet o) signed) ∙ admitted)
+
+room_left : (streams : ℕ) → (if nat_lt streams stream_limit then Admitted else TooManyStreams) ≡ Admitted → streams < 256
+room_left streams admitted =
+    elim (nat_lt streams stream_limit) as (λ t. nat_lt streams stream_limit ≡ t → (if t then Admitted else TooManyStreams) ≡ Admitted → streams < 256) [
+      | true ↦ λ test _. grind (arith, nat_tests)
+      | false ↦ λ test wrong. absurd (cc)
+    ] refl admitted
+
+room_for_new : (streams local stamp : ℕ) → answer_after None streams local stamp ≡ Admitted → streams < 256
+room_for_new streams local stamp admitted =
+    elim (nat_lt (stamp + one_minute) local) as (λ t. (if t then TooOld local else (if nat_lt streams stream_limit then Admitted else TooManyStreams)) ≡ Admitted → streams < 256) [
+      | true ↦ λ wrong. absurd (cc)
+      | false ↦ λ is. room_left streams is
+    ] admitted
+
+-- a new stream that is admitted has room
+pub has_room : (kept : Kept) (stream : Stream) (stamp : ℕ) → kept_answer kept stream stamp ≡ Admitted → stamp_at (stream_number stream) kept.last ≡ None → length kept.last < 256
+has_room kept stream stamp admitted none =
+    let last = above_low kept.low stamp (answer_after (stamp_at (stream_number stream) kept.last) (length kept.last) (local_kept kept) stamp) admitted in
+    room_for_new (length kept.last) (local_kept kept) stamp (sym (ap (λ (o : Option ℕ). answer_after o (length kept.last) (local_kept kept) stamp) none) ∙ last)
 
 -- ---- one more entry
 
@@ -147,8 +185,18 @@ after_sent kept history stamp above of =
 
 -- ---- a tried frame
 
-pub after_tried : (old new : Kept) (history : List Entry) (packet : Packet) (block : SignatureBlock) (answer : Admit) → packet.block ≡ Some block → IsStream (stream_of packet block) → answer ≡ kept_answer old (stream_of packet block) block.stamp → KeptAfter answer (stream_of packet block) block.stamp old new → Represents old history → Represents new (history ++ tried packet answer ∷ [])
-after_tried old new history packet block Admitted signed bytes answer kept of = after_admitted old new history packet block signed bytes (sym answer) kept of
+-- what isn't admitted changes nothing
+pub kept_same : (answer : Admit) (stream : Stream) (stamp : ℕ) (old new : Kept) → is_admitted answer ≡ false → KeptAfter answer stream stamp old new → new ≡ old
+kept_same Admitted stream stamp old new refused kept = absurd (let wrong : true ≡ false = refused in cc)
+kept_same Unsigned stream stamp old new refused kept = kept
+kept_same BadSignature stream stamp old new refused kept = kept
+kept_same (BelowFloor floor) stream stamp old new refused kept = kept
+kept_same (NotLater last) stream stamp old new refused kept = kept
+kept_same (TooOld local) stream stamp old new refused kept = kept
+kept_same TooManyStreams stream stamp old new refused kept = kept
+
+pub after_tried : (old new : Kept) (history : List Entry) (packet : Packet) (block : SignatureBlock) (answer : Admit) → packet.block ≡ Some block → IsStream (stream_of packet block) → (answer ≡ Admitted → kept_answer old (stream_of packet block) block.stamp ≡ Admitted) → KeptAfter answer (stream_of packet block) block.stamp old new → Represents old history → Represents new (history ++ tried packet answer ∷ [])
+after_tried old new history packet block Admitted signed bytes answer kept of = after_admitted old new history packet block signed bytes (answer refl) kept of
 after_tried old new history packet block Unsigned signed bytes answer kept of = subst (λ k. Represents k (history ++ tried packet Unsigned ∷ [])) (sym kept) (after_refused old history packet Unsigned refl of)
 after_tried old new history packet block BadSignature signed bytes answer kept of = subst (λ k. Represents k (history ++ tried packet BadSignature ∷ [])) (sym kept) (after_refused old history packet BadSignature refl of)
 after_tried old new history packet block (BelowFloor floor) signed bytes answer kept of = subst (λ k. Represents k (history ++ tried packet (BelowFloor floor) ∷ [])) (sym kept) (after_refused old history packet (BelowFloor floor) refl of)

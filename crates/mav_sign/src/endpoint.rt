@@ -170,6 +170,15 @@ impl Endpoint {
         self.stamps.admit_judged(&self.key, frame, verifies)
     }
 
+    /// What is left to do of `admit_judged` once `test_judged` has returned this verdict: keeps the frame's timestamp if it is
+    /// admitted.
+    pub fn keep_verdict(&mut self, frame: &RawFrame<'_>, answer: Admit)
+        requires { answer ≡ kept_answer_to self.old.key self.old.stamps frame.now }
+        ensures { Admits self.old self.new frame.now answer }
+    {
+        self.stamps.keep_verdict(&self.key, frame, answer);
+    }
+
     // What `take` does, for such a frame.
     fn take_judged(&mut self, frame: &RawFrame<'_>, verifies: bool) -> Heard
         requires { verifies ≡ verified self.old.key frame.now frame.now.block }

@@ -1,5 +1,6 @@
 // What a verifier keeps: the timestamps that it admitted and sent.
 ghost use Rattle.std.specs.Prelude.{◌≡◌, ◌+◌, ◌<◌, ◌^◌, ◌++◌, ◌∷◌, [], List, max, false, Some, IfOk, OnErr};
+ghost use Rattle.mav_sign.specs.declared.admission.Admit.TheVariants.{Admitted};
 ghost use Rattle.mav_sign.specs.Signing.{verified};
 ghost use Rattle.mav_sign.specs.History.{Entry, tried, sent, started, answer_to, is_admitted, last_of, local_of, next_in, stamp_given};
 ghost use Rattle.mav_sign.specs.Kept.{IsStream, Represents, KeptAfter, stream_number, stamp_at, local_kept, kept_answer, kept_answer_to, kept_next};
@@ -119,6 +120,18 @@ impl Stamps {
         Admit::Admitted
     }
 
+    // Keeps a timestamp by the verdict on it: if it is admitted.
+    fn keep_stamp(&mut self, stream: Stream, stamp: u64, answer: Admit)
+        requires small { stamp < 2 ^ 48 }
+        requires right { answer ≡ Admitted → kept_answer self.old stream stamp ≡ Admitted }
+        ensures { KeptAfter answer stream stamp self.old self.new }
+    {
+        if let Admit::Admitted = answer {
+            self.last.put(stream, stamp);
+            self.accepted = self.accepted.max(stamp);
+        }
+    }
+
     // Tries a timestamp whose signature is right.
     fn admit_stamp(&mut self, stream: Stream, stamp: u64) -> Admit
         requires { stamp < 2 ^ 48 }
@@ -126,10 +139,7 @@ impl Stamps {
         ensures kept { KeptAfter result stream stamp self.old self.new }
     {
         let answer = self.answer(stream, stamp);
-        if let Admit::Admitted = answer {
-            self.last.put(stream, stamp);
-            self.accepted = self.accepted.max(stamp);
-        }
+        self.keep_stamp(stream, stamp, answer);
         answer
     }
 
@@ -194,6 +204,25 @@ impl Stamps {
             return Admit::BadSignature;
         }
         self.admit_stamp(stream_on(frame.from(), block.link), block.stamp)
+    }
+
+    /// What is left to do of `admit_judged` once `test_judged` has returned this verdict: keeps the frame's timestamp if it is
+    /// admitted.
+    pub fn keep_verdict(&mut self, key: &Key, frame: &RawFrame<'_>, answer: Admit)
+        requires { answer ≡ kept_answer_to key.now self.old frame.now }
+        ensures unchanged { is_admitted answer ≡ false → self.new ≡ self.old }
+        ensures answer { (history : List Entry) → Represents self.old history
+            → answer ≡ answer_to key.now history frame.now }
+        ensures history { (history : List Entry) → Represents self.old history
+            → Represents self.new (history ++ tried frame.now answer ∷ []) }
+    {
+        let _ = key;
+        match frame.block() {
+            Some(block) => {
+                self.keep_stamp(stream_on(frame.from(), block.link), block.stamp, answer)
+            }
+            None => {}
+        }
     }
 
     /// The timestamp that `next_stamp` would return at that clock. Nothing changes.

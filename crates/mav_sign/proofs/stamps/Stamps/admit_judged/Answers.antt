@@ -30,4 +30,4 @@ returns-clause-history c =
     c.admit_stamp.ensures.answer ∙ (ap (λ (s : Stream). kept_answer old s c.block-2.inside.stamp) is ∙ ap (kept_answer old stream) stamp) in
     let kept : KeptAfter c.admit_stamp.result stream block.stamp old c.admit_stamp.new.self =
     subst (λ (s : Stream). KeptAfter c.admit_stamp.result s block.stamp old c.admit_stamp.new.self) is (subst (λ (n : ℕ). KeptAfter c.admit_stamp.result c.stream_on.result n old c.admit_stamp.new.self) stamp c.admit_stamp.ensures.kept) in
-    after_tried old c.admit_stamp.new.self history packet block c.admit_stamp.result signed bytes answer kept of
+    after_tried old c.admit_stamp.new.self history packet block c.admit_stamp.result signed bytes (λ is. sym answer ∙ is) kept of
