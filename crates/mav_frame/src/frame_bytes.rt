@@ -1,5 +1,5 @@
 // A frame as bytes of its own.
-ghost use Rattle.std.specs.Prelude.{◌≡◌, ◌<◌, ◌^◌, length, IfSome, IsSome, Some};
+ghost use Rattle.std.specs.Prelude.{◌≡◌, ◌<◌, ◌^◌, [], length, IfSome, IsSome, Some, None};
 ghost use Rattle.mav_frame.specs.Encoding.{sealed, unsealed};
 
 use crate::encoding::{checksum, new_header, put, put_block};
@@ -43,30 +43,33 @@ impl FrameBytes {
         FrameBytes { bytes, size }
     }
 
-    /// A frame of MAVLink 2 with a signature block and without compatibility flags, whose checksum is that of a message
-    /// with that CRC_EXTRA.
-    pub fn sealed(
-        seq: u8,
-        from: Name,
-        id: u32,
-        payload: &[u8],
-        extra: u8,
-        block: Block,
-    ) -> FrameBytes
+    /// The frame of MAVLink 2 without payload and signature block whose numbers and checksum are 0: a place for the bytes of
+    /// another.
+    #[inline]
+    pub fn new() -> FrameBytes
+        ensures { result ≡ unsealed 0 (record { sys = 0; comp = 0 }) 0 [] None }
+    {
+        let mut bytes = [0; MOST_BYTES];
+        let size = put(&mut bytes, 0, &[STX, 0, 0, 0, 0, 0, 0, 0, 0, 0, 0, 0]);
+        FrameBytes { bytes, size }
+    }
+
+    /// Makes it a frame of MAVLink 2 with a signature block and without compatibility flags, whose checksum is that of a
+    /// message with that CRC_EXTRA.
+    pub fn seal(&mut self, seq: u8, from: Name, id: u32, payload: &[u8], extra: u8, block: Block)
         requires id { id < 2 ^ 24 }
         requires payload { length payload.now < 256 }
-        ensures { result ≡ sealed extra (unsealed seq from id payload.now (Some block)) }
+        ensures { self.new ≡ sealed extra (unsealed seq from id payload.now (Some block)) }
     {
         let header = new_header(payload.len() as u8, 1, 0, seq, from, id);
-        let mut bytes = [0; MOST_BYTES];
-        let at = put(&mut bytes, 0, &[STX]);
-        let at = put(&mut bytes, at, &header);
-        let at = put(&mut bytes, at, payload);
-        let check = checksum(&bytes[1..at], extra);
+        let at = put(&mut self.bytes, 0, &[STX]);
+        let at = put(&mut self.bytes, at, &header);
+        let at = put(&mut self.bytes, at, payload);
+        let check = checksum(&self.bytes[1..at], extra);
         signed_fits(seq, from, id, payload, check, &block);
-        let at = put(&mut bytes, at, &bytes_2(check));
-        let size = put_block(&Some(block), &mut bytes, at);
-        FrameBytes { bytes, size }
+        let at = put(&mut self.bytes, at, &bytes_2(check));
+        let size = put_block(&Some(block), &mut self.bytes, at);
+        self.size = size;
     }
 
     /// The frame, whose bytes these are.

@@ -25,7 +25,7 @@ use crate::news::tell_sent;
 use crate::steps::{Core, Step, tell_outcome, tell_plans};
 use crate::stores::save_bound;
 use crate::{News, NoMemory, NodeFault};
-use mav_frame::{Frame, RawFrame};
+use mav_frame::{Frame, FrameBytes, RawFrame};
 use mav_messages::Message;
 use mav_names::{Name, Stream};
 use mav_sign::{Admit, Endpoint, Key};
@@ -344,7 +344,8 @@ impl Link {
         ensures reader { reader_of self.new.endpoint ≡ reader_of self.old.endpoint }
         ensures fault { IfErr result (λ fault. Fails fault (λ (link : LinkState). IsEnd link self.old.endpoint) (λ (link : LinkState). sends clock message.now link) ⊥) }
     {
-        let frame = self.endpoint.send_bytes(message, clock)?;
+        let mut frame = FrameBytes::new();
+        self.endpoint.send_bytes(message, clock, &mut frame)?;
         tell_sent(news, frame, message)
     }
 

@@ -1,5 +1,5 @@
 -- One end of signed links: what it receives and sends.
-use Rattle.std.specs.Prelude.{ℕ, ◌≡◌, ◌+◌, ◌%◌, ◌<◌, ◌≤◌, false, List, [], ◌∷◌, ◌++◌, fold, drop, All, Option, Some, None, IsSome, IfSome, IfOk, OnOk, OnErr}
+use Rattle.std.specs.Prelude.{ℕ, ◌≡◌, ◌+◌, ◌%◌, ◌<◌, ◌≤◌, false, List, [], ◌∷◌, ◌++◌, fold, drop, All, Option, Some, None, Ok, Err, IsSome, IfSome, IfOk, OnOk, OnErr}
 use Rattle.std.specs.declared.result.Result.{Result}
 use Rattle.std.specs.List.{filter_map}
 use Rattle.x25_check.specs.Extras.{extra_of}
@@ -158,6 +158,11 @@ pub record SentFrame (key : List ℕ) (me : Stream) (extras : List (ℕ × ℕ))
   pub carries : FrameOf me extras seq stamp message packet
   pub block : IfSome packet.block (λ block. (block.link ≡ me.link) × (block.stamp ≡ stamp))
   pub verifies : Verifies key packet packet.block
+
+-- the result of a call that writes a frame, with the frame
+abbrev pub with_frame : {A Fault : Type 0} → Packet → Result A Fault → Result Packet Fault
+with_frame packet (Ok done) = Ok packet
+with_frame packet (Err fault) = Err fault
 
 -- an endpoint makes the frame that carries a message, by what its verifier keeps and by each history that this represents;
 -- or no timestamp is left, and nothing has changed

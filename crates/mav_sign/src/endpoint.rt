@@ -8,7 +8,7 @@ ghost use Rattle.mav_sign.specs.Kept.{Represents, kept_answer_to, kept_next};
 ghost use Rattle.mav_frame.specs.declared.events.Event.{Event};
 ghost use Rattle.mav_stream.specs.Progress.{Progress};
 ghost use Rattle.mav_sign.specs.Streams.{reader_of, ReadTo, PartHeard};
-ghost use Rattle.mav_sign.specs.Endpoints.{HasProfile, AdmittedIs, Admits, new_endpoint, Takes, Told, FrontHeard, Received, FramesOf, FrameOf, Sends};
+ghost use Rattle.mav_sign.specs.Endpoints.{HasProfile, AdmittedIs, Admits, new_endpoint, Takes, Told, FrontHeard, Received, FramesOf, FrameOf, Sends, with_frame};
 
 use crate::reading::{LEAST_FRAME_BYTES, append_frames, read_frame};
 use crate::stamps::stream_on;
@@ -285,12 +285,11 @@ impl Endpoint {
         }
     }
 
-    // The frame of a message, with a block that is still to be signed.
-    #[inline]
-    fn frame_of(&self, message: &Message, stamp: u64) -> FrameBytes
+    // Writes the frame of a message, with a block that is still to be signed.
+    fn write_frame(&self, message: &Message, stamp: u64, frame: &mut FrameBytes)
         requires { stamp < 2 ^ 48 }
-        ensures frame { FrameOf self.now.me self.now.extras self.now.seq stamp message.now result }
-        ensures block { IfSome result.block (λ block. (block.link ≡ self.now.me.link) × (block.stamp ≡ stamp)) }
+        ensures frame { FrameOf self.now.me self.now.extras self.now.seq stamp message.now frame.new }
+        ensures block { IfSome frame.new.block (λ block. (block.link ≡ self.now.me.link) × (block.stamp ≡ stamp)) }
     {
         let mut payload = Buffer::new();
         message.serialise(&mut payload);
@@ -303,14 +302,14 @@ impl Endpoint {
             stamp,
             sig: [0; 6],
         };
-        FrameBytes::sealed(
+        frame.seal(
             self.seq,
             from,
             message.id(),
             payload.truncated(),
             self.extra_of(message),
             block,
-        )
+        );
     }
 
     // The CRC_EXTRA of a message.
@@ -326,20 +325,27 @@ impl Endpoint {
     pub fn send(&mut self, message: &Message, clock: u64) -> Result<Frame, StampsSpent>
         ensures { Sends self.old self.new clock message.now result }
     {
-        match self.send_bytes(message, clock) {
-            Ok(frame) => Ok(frame.raw().to_frame()),
+        let mut frame = FrameBytes::new();
+        match self.send_bytes(message, clock, &mut frame) {
+            Ok(()) => Ok(frame.raw().to_frame()),
             Err(spent) => Err(spent),
         }
     }
 
-    /// The same frame as the bytes that encode it.
-    pub fn send_bytes(&mut self, message: &Message, clock: u64) -> Result<FrameBytes, StampsSpent>
-        ensures { Sends self.old self.new clock message.now result }
+    /// Writes the same frame, as the bytes that encode it, in the place of another.
+    pub fn send_bytes(
+        &mut self,
+        message: &Message,
+        clock: u64,
+        frame: &mut FrameBytes,
+    ) -> Result<(), StampsSpent>
+        ensures sends { Sends self.old self.new clock message.now (with_frame frame.new result) }
+        ensures kept { OnErr result (frame.new ≡ frame.old) }
     {
         let stamp = self.stamps.next_stamp(clock)?;
-        let mut frame = self.frame_of(message, stamp);
-        sign_bytes(&self.key, &mut frame);
+        self.write_frame(message, stamp, frame);
+        sign_bytes(&self.key, frame);
         self.seq = self.seq.wrapping_add(1);
-        Ok(frame)
+        Ok(())
     }
 }

@@ -39,19 +39,19 @@ sent_did clock kept message link old new packet before after is frame left stamp
       ap events_of told ∙ map-append said_by before (Sent packet message ∷ []) ∙ ap (λ (p : Packet). events_of before ++ Shows_sent p message ∷ []) whole,
     )
 
-pub returns-in_err-frame-clause-fault : goal.returns-in_err-frame-clause-fault
-returns-in_err-frame-clause-fault c =
+pub returns-in_err-send_bytes-clause-fault : goal.returns-in_err-send_bytes-clause-fault
+returns-in_err-send_bytes-clause-fault c =
     let e = err_from_is_err_and c.from_residual.result c.from_residual.ensures.1 in
     let inside = ap (λ (v : LinkView). v.endpoint) c.self.view_is in
     rw e.1 (subst (λ (f : NodeFault). Fails f (λ (link : Link). IsEnd link c.args.self.now.endpoint) (λ (link : Link). sends c.args.clock c.args.message.now link) ⊥) (sym e.2) (λ link is.
     let is_inside = subst (IsEnd link) (sym inside) is in
-    none_left c.args.clock _ c.args.message.now link c.in_err-frame.ensures.spent (c.in_err-frame.ensures.stamp link.history is_inside.history)))
+    none_left c.args.clock _ c.args.message.now link c.in_err-send_bytes.ensures.sends.spent (c.in_err-send_bytes.ensures.sends.stamp link.history is_inside.history)))
 
 pub returns-clause-sent : goal.returns-clause-sent
 returns-clause-sent c = if_ok c.tell_sent.result (λ done told link is.
     let inside = subst (IsEnd link) (sym (ap (λ (v : LinkView). v.endpoint) c.self.view_is)) is in
-    let sent = c.in_ok-frame.ensures in
-    sent_did c.args.clock _ c.args.message.now link c.self.inside.endpoint c.send_bytes.new.self c.in_ok-frame.frame c.args.news.now.items c.tell_sent.new.news.items inside sent.frame sent.left (sent.stamp link.history inside.history) (sent.history link.history inside.history) sent.same told) c.tell_sent.ensures.told
+    let sent = c.in_ok-send_bytes.ensures.sends in
+    sent_did c.args.clock _ c.args.message.now link c.self.inside.endpoint c.send_bytes.new.self c.send_bytes.new.frame c.args.news.now.items c.tell_sent.new.news.items inside sent.frame sent.left (sent.stamp link.history inside.history) (sent.history link.history inside.history) sent.same told) c.tell_sent.ensures.told
 
 pub returns-clause-fault : goal.returns-clause-fault
 returns-clause-fault c = if_err c.tell_sent.result (λ fault is. fails_for_memory fault _ _ _ is) c.tell_sent.ensures.fault
