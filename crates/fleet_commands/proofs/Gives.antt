@@ -5,11 +5,13 @@ use Rattle.mav_names.specs.declared.names.Name.{Name}
 use Rattle.mav_names.specs.Addresses.{same_name, node_of}
 use Rattle.mav_frame.specs.Packet.{Packet}
 use Rattle.mav_frame.specs.Encoding.{encoding}
-use Rattle.fleet_world.specs.WorldState.{WorldState, Node, Drone, Station, named, node_name}
+use Rattle.node_reports.specs.Nodes.{Node, Drone, Station, node_name}
+use Rattle.node_reports.specs.Calls.{node_receives, node_flies}
+use Rattle.fleet_world.specs.WorldState.{WorldState, named}
 use Rattle.mav_nodes.specs.Nodes.{StationSide}
 use Rattle.scenario_lines.specs.declared.roster.Named.{Named}
 use Rattle.scenario_lines.specs.declared.roster.Role.TheVariants.{Drone as DroneRole, Station as StationRole}
-use Rattle.fleet_world.specs.Steps.{Step, StepError, and_then, node_receives, given_to, given_from, given_to_all, flow_next, flows, calls, node_flies, flies}
+use Rattle.fleet_world.specs.Steps.{Step, StepError, and_then, given_to, given_from, given_to_all, flow_next, flows, calls, flies}
 use Rattle.fleet_invariants.specs.Sound.{Sound}
 use Rattle.fleet_invariants.specs.Kept.{Kept, StepKeeps, Keeps}
 use Rattle.fleet_invariants.proofs.Lists.{within}

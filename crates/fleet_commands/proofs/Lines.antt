@@ -24,10 +24,12 @@ use Rattle.scenario_lines.specs.LineContext.{has_name, has_drone}
 use Rattle.scenario_lines.specs.LineContext as context
 use Rattle.scenario_lines.specs.Grammar.{against}
 use Rattle.scenario_lines.specs.Permits.{IsPermitted}
-use Rattle.fleet_world.specs.WorldState.{WorldState, Node, Drone, Station, node_name, names_of, stream_of, is_station_named, is_drone_named, drones_in, stations_in, context_of}
+use Rattle.node_reports.specs.Nodes.{Node, Drone, Station, node_name}
+use Rattle.node_reports.specs.Calls.{node_receives, node_beats, node_ticks, as_station, as_drone}
+use Rattle.fleet_world.specs.WorldState.{WorldState, names_of, stream_of, is_station_named, is_drone_named, drones_in, stations_in, context_of}
 use Rattle.fleet_world.specs.declared.locations.Location.{Location}
 use Rattle.scenario_lines.specs.ItemRows.{items_from}
-use Rattle.fleet_world.specs.Steps.{Step, StepError, most_drones, most_stations, most_restarts, starts_again, restarts_at, restarts_found, restart_line, node_receives, node_beats, node_ticks, node_does, as_station, as_drone, station_line, orders, upload_begins, orders_at, orders_found, orders_to, begins, cancels, clears, gets, asks, command_busy, params_busy, commands, lists_params, delivers, after_line, location_in, locates_as}
+use Rattle.fleet_world.specs.Steps.{Step, StepError, most_drones, most_stations, most_restarts, starts_again, restarts_at, restarts_found, restart_line, node_does, station_line, orders, upload_begins, orders_at, orders_found, orders_to, begins, cancels, clears, gets, asks, command_busy, params_busy, commands, lists_params, delivers, after_line, location_in, locates_as}
 use Rattle.fleet_world.specs.Authentic.{AuthenticLine}
 use Rattle.fleet_invariants.specs.Sound.{link_of, SoundDrone, Sound}
 use Rattle.fleet_invariants.specs.Kept.{LineFits}

@@ -39,11 +39,13 @@ use Rattle.mav_nodes.specs.Restarts.{restarted_drone, drone_restarts}
 use Rattle.fleet_report.specs.Events.{Event, Restarted}
 use Rattle.scenario_lines.specs.declared.lines.Line.{Line}
 use Rattle.scenario_lines.specs.declared.lines.Line.TheVariants.{Blank, Drone as DroneLine, Station as StationLine, Item as OneItem, Items, Empty, Begin, Cancel, Clear, Get, Command, Params, Heartbeat, Deliver, Flow, Noise, Tick, Clock, Restart, Sim, WhereIs}
-use Rattle.fleet_world.specs.WorldState.{WorldState, Node, Drone, Station, node_name, stream_of, is_named, is_station_named, is_drone_named, drones_in, stations_in}
+use Rattle.node_reports.specs.Nodes.{Node, Drone, Station, node_name}
+use Rattle.node_reports.specs.Calls.{as_drone, as_station, node_receives, node_beats, node_ticks, node_flies}
+use Rattle.fleet_world.specs.WorldState.{WorldState, stream_of, is_named, is_station_named, is_drone_named, drones_in, stations_in}
 use Rattle.std.specs.List.{list_any}
 use Rattle.fleet_world.specs.declared.locations.Location.{Location}
 use Rattle.fleet_invariants.proofs.Hearing.{flown_silent}
-use Rattle.fleet_world.specs.Steps.{Step, StepError, behind, and_then, most_frames, most_drones, most_stations, most_restarts, packets_in, as_drone, as_station, node_does, node_receives, node_beats, node_ticks, calls_at, calls_found, calls, given_to, given_from, given_to_all, flow_next, flows, delivers, restarts_at, restarts_found, starts_again, restart_line, station_line, orders, upload_begins, orders_at, orders_found, orders_to, asks, command_busy, params_busy, after_line, node_flies, flies, location_in, locates_as}
+use Rattle.fleet_world.specs.Steps.{Step, StepError, behind, and_then, most_frames, most_drones, most_stations, most_restarts, packets_in, node_does, calls_at, calls_found, calls, given_to, given_from, given_to_all, flow_next, flows, delivers, restarts_at, restarts_found, starts_again, restart_line, station_line, orders, upload_begins, orders_at, orders_found, orders_to, asks, command_busy, params_busy, after_line, flies, location_in, locates_as}
 use Rattle.fleet_invariants.proofs.Lists.{stays_where, more_there}
 use Rattle.fleet_invariants.proofs.Tests.{by_test}
 use Rattle.fleet_invariants.proofs.Nodes.{Silent}

@@ -9,8 +9,10 @@ use Rattle.mav_frame.specs.Packet.{Packet}
 use Rattle.mav_nodes.specs.Links.{Outcome}
 use Rattle.mav_nodes.specs.Nodes.{DroneSide, StationSide, drone_receives, station_receives, drone_ticks, station_ticks, drone_beats, station_beats, drone_sims}
 use Rattle.fleet_report.specs.Events.{Event}
-use Rattle.fleet_world.specs.WorldState.{WorldState, Node, Drone, Station, node_name, is_named}
-use Rattle.fleet_world.specs.Steps.{Step, StepError, behind, most_frames, packets_in, as_drone, as_station, node_does, node_receives, node_beats, node_ticks, calls_at, calls_found, calls, node_flies}
+use Rattle.node_reports.specs.Nodes.{Node, Drone, Station, node_name}
+use Rattle.node_reports.specs.Calls.{as_drone, as_station, node_receives, node_beats, node_ticks, node_flies}
+use Rattle.fleet_world.specs.WorldState.{WorldState, is_named}
+use Rattle.fleet_world.specs.Steps.{Step, StepError, behind, most_frames, packets_in, node_does, calls_at, calls_found, calls}
 use Rattle.fleet_invariants.specs.Sound.{link_of, IsSent, Sound}
 use Rattle.fleet_invariants.specs.Kept.{IsAmong, Known}
 use Rattle.fleet_invariants.proofs.Lists.{which}

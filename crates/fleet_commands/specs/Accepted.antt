@@ -8,7 +8,8 @@ use Rattle.command_proto.specs.Commander.{open_command}
 use Rattle.mav_nodes.specs.Nodes.{StationSide}
 use Rattle.scenario_lines.specs.declared.lines.Line.{Line}
 use Rattle.scenario_lines.specs.declared.lines.Line.TheVariants.{Blank, Drone as DroneLine, Station as StationLine, Item as OneItem, Items, Empty, Begin, Cancel, Clear, Get, Command, Params, Heartbeat, Deliver, Flow, Noise, Tick, Clock, Restart, Sim, WhereIs}
-use Rattle.fleet_world.specs.WorldState.{WorldState, Node, Drone, Station, is_station_named}
+use Rattle.node_reports.specs.Nodes.{Node, Drone, Station}
+use Rattle.fleet_world.specs.WorldState.{WorldState, is_station_named}
 use Rattle.fleet_world.specs.Steps.{Step, StepError, after_line}
 use Rattle.fleet_world.specs.Scenario.{Played, at_start, line_played, lines_played}
 use Rattle.scenario_lines.specs.FileLines.{whole_lines, unfinished, without_cr}

@@ -4,7 +4,8 @@ use Rattle.mav_names.specs.declared.names.Name.{Name}
 use Rattle.mav_names.specs.Addresses.{node_of}
 use Rattle.mav_frame.specs.Packet.{Packet}
 use Rattle.mav_nodes.specs.Nodes.{DroneSide, StationSide}
-use Rattle.fleet_world.specs.WorldState.{WorldState, Drone, Station}
+use Rattle.node_reports.specs.Nodes.{Drone, Station}
+use Rattle.fleet_world.specs.WorldState.{WorldState}
 use Rattle.fleet_world.specs.Scenario.{played, at_start, lines_played}
 use Rattle.scenario_lines.specs.FileLines.{whole_lines}
 use Rattle.fleet_world.specs.Authentic.{Authentic}

@@ -12,7 +12,8 @@ use Rattle.mav_nodes.specs.Nodes.{DroneSide, drone_rules}
 use Rattle.mav_nodes.specs.Restarts.{restarted_drone}
 use Rattle.scenario_lines.specs.declared.lines.Line.{Line}
 use Rattle.scenario_lines.specs.declared.lines.Line.TheVariants.{Blank, Drone as DroneLine, Station as StationLine, Item as OneItem, Items, Empty, Begin, Cancel, Clear, Get, Command, Params, Heartbeat, Deliver, Flow, Noise, Tick, Clock, Restart, Sim, WhereIs}
-use Rattle.fleet_world.specs.WorldState.{WorldState, Drone}
+use Rattle.node_reports.specs.Nodes.{Drone}
+use Rattle.fleet_world.specs.WorldState.{WorldState}
 use Rattle.fleet_world.specs.Steps.{Step, StepError, after_line}
 use Rattle.fleet_commands.specs.Done.{step_at}
 

@@ -7,8 +7,10 @@ use Rattle.mav_names.specs.declared.names.Name.{Name}
 use Rattle.mav_nodes.specs.Links.{Done, Outcome}
 use Rattle.mav_nodes.specs.Nodes.{station_begins, station_cancels, station_clears, station_gets, station_commands, station_lists_params}
 use Rattle.plan_ranges.specs.Ranges.{ItemInRange}
-use Rattle.fleet_world.specs.WorldState.{WorldState, Node, stream_of}
-use Rattle.fleet_world.specs.Steps.{most_frames, packets_in, node_does, node_receives, node_beats, node_ticks, as_station, node_flies}
+use Rattle.node_reports.specs.Nodes.{Node}
+use Rattle.node_reports.specs.Calls.{node_receives, node_beats, node_ticks, as_station, node_flies}
+use Rattle.fleet_world.specs.WorldState.{WorldState, stream_of}
+use Rattle.fleet_world.specs.Steps.{most_frames, packets_in, node_does}
 use Rattle.fleet_invariants.specs.Kept.{OutcomeReads, StepKeeps, Keeps}
 use Rattle.fleet_invariants.specs.Laws.{EveryCallKeeps}
 use Rattle.fleet_invariants.proofs.Tests.{by_test, at_most}

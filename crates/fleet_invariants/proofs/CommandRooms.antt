@@ -2,7 +2,8 @@
 use Rattle.std.proofs.Common.{◌≡◌, ℕ, ◌+◌, ◌<◌, false, nat_lt, not, List, [], ◌∷◌, length, Option, Some, None, refl, arith}
 use Rattle.command_proto.specs.declared.commands.LastCommand.{LastCommand}
 use Rattle.command_proto.specs.Executor.{most_streams, last_in, has_no_room}
-use Rattle.fleet_world.specs.WorldState.{Node, Drone, Station, drones_in, stations_in}
+use Rattle.node_reports.specs.Nodes.{Node, Drone, Station}
+use Rattle.fleet_world.specs.WorldState.{drones_in, stations_in}
 use Rattle.fleet_invariants.specs.Laws.{EveryCommandHasRoom}
 use Rattle.fleet_invariants.proofs.Rooms.{commands_few}
 

@@ -25,8 +25,9 @@ use Rattle.mav_nodes.proofs.Sendings.{heartbeats_fit}
 use Rattle.plan_ranges.specs.Ranges.{InRange, ItemInRange, NameInRange, StreamInRange}
 use Rattle.plan_ranges.proofs.DroneRanges as drones
 use Rattle.plan_ranges.proofs.StationRanges as stations
-use Rattle.fleet_world.specs.WorldState.{WorldState, Node, Drone, Station, stream_of}
-use Rattle.fleet_world.specs.Steps.{as_drone, as_station, node_receives, node_beats, node_ticks, node_flies}
+use Rattle.node_reports.specs.Nodes.{Node, Drone, Station}
+use Rattle.node_reports.specs.Calls.{as_drone, as_station, node_receives, node_beats, node_ticks, node_flies}
+use Rattle.fleet_world.specs.WorldState.{WorldState, stream_of}
 use Rattle.fleet_invariants.specs.Kept.{Known}
 use Rattle.fleet_world.proofs.Systems.{drone_tick_stays}
 use Rattle.fleet_invariants.proofs.Roles.{drone_tick_plans, station_tick_stays, station_cancel_stays, begin_stays}

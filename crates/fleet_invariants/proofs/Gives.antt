@@ -8,8 +8,10 @@ use Rattle.mav_frame.specs.Encoding.{encoding}
 use Rattle.plan_upload.specs.Addresses.{same_name}
 use Rattle.mav_nodes.specs.Links.{Outcome}
 use Rattle.fleet_report.specs.Events.{Event}
-use Rattle.fleet_world.specs.WorldState.{WorldState, Node, node_name, is_named}
-use Rattle.fleet_world.specs.Steps.{Step, StepError, behind, and_then, node_receives, calls_at, calls_found, calls, given_to, given_from, given_to_all, flow_next, flows, node_flies, flies}
+use Rattle.node_reports.specs.Nodes.{Node, node_name}
+use Rattle.node_reports.specs.Calls.{node_receives, node_flies}
+use Rattle.fleet_world.specs.WorldState.{WorldState, is_named}
+use Rattle.fleet_world.specs.Steps.{Step, StepError, behind, and_then, calls_at, calls_found, calls, given_to, given_from, given_to_all, flow_next, flows, flies}
 use Rattle.fleet_invariants.specs.Sound.{Sound}
 use Rattle.fleet_invariants.specs.Kept.{StepKeeps, Keeps}
 use Rattle.fleet_invariants.specs.Laws.{CallKeeps, EveryGivingKeeps}

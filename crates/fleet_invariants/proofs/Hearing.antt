@@ -36,7 +36,8 @@ use Rattle.mav_nodes.proofs.Sendings.{plan_reads_back, service_reads_back}
 use Rattle.plan_ranges.specs.Ranges.{InRange, NameInRange, StreamInRange, StationStepInRange}
 use Rattle.plan_ranges.proofs.DroneRanges as drones
 use Rattle.plan_ranges.proofs.StationRanges as stations
-use Rattle.fleet_world.specs.WorldState.{WorldState, Node, Drone, Station, node_name}
+use Rattle.node_reports.specs.Nodes.{Node, Drone, Station, node_name}
+use Rattle.fleet_world.specs.WorldState.{WorldState}
 use Rattle.fleet_world.specs.Steps.{packets_in}
 use Rattle.fleet_invariants.specs.Sound.{link_of, has_heard, IsSent}
 use Rattle.fleet_invariants.specs.Kept.{IsAmong}

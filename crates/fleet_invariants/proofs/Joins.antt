@@ -11,7 +11,8 @@ use Rattle.drone_sim.specs.Laws.{PointInRange}
 use Rattle.mav_nodes.specs.Nodes.{new_drone, new_station}
 use Rattle.scenario_lines.specs.LineContext.{is_called, has_name}
 use Rattle.scenario_lines.specs.LineContext as context
-use Rattle.fleet_world.specs.WorldState.{WorldState, Node, Drone, Station, node_name, named, names_of, stream_of, drones_in, stations_in}
+use Rattle.node_reports.specs.Nodes.{Node, Drone, Station, node_name}
+use Rattle.fleet_world.specs.WorldState.{WorldState, named, names_of, stream_of, drones_in, stations_in}
 use Rattle.fleet_world.specs.Steps.{most_drones, most_stations}
 use Rattle.plan_upload.specs.Plans.{no_plans}
 use Rattle.fleet_invariants.proofs.Rooms.{roomy_fresh}

@@ -25,10 +25,12 @@ use Rattle.scenario_lines.specs.declared.lines.Line.TheVariants.{Blank, Drone as
 use Rattle.scenario_lines.specs.LineContext.{is_in_role, has_name, has_drone}
 use Rattle.scenario_lines.specs.LineContext as context
 use Rattle.scenario_lines.specs.Grammar.{against, first_reason}
-use Rattle.fleet_world.specs.WorldState.{WorldState, Node, Drone, Station, node_name, names_of, stream_of, is_station_named, drones_in, stations_in}
+use Rattle.node_reports.specs.Nodes.{Node, Drone, Station, node_name}
+use Rattle.node_reports.specs.Calls.{node_receives, node_beats, node_ticks, as_station}
+use Rattle.fleet_world.specs.WorldState.{WorldState, names_of, stream_of, is_station_named, drones_in, stations_in}
 use Rattle.fleet_world.specs.declared.locations.Location.{Location}
 use Rattle.scenario_lines.specs.ItemRows.{items_from}
-use Rattle.fleet_world.specs.Steps.{Step, StepError, rests, most_drones, most_stations, most_restarts, starts_again, restart_line, node_receives, node_beats, node_ticks, node_does, as_station, station_line, orders, upload_begins, orders_at, orders_found, orders_to, begins, cancels, clears, gets, asks, command_busy, params_busy, commands, lists_params, delivers, after_line, location_in, locates_as}
+use Rattle.fleet_world.specs.Steps.{Step, StepError, rests, most_drones, most_stations, most_restarts, starts_again, restart_line, node_does, station_line, orders, upload_begins, orders_at, orders_found, orders_to, begins, cancels, clears, gets, asks, command_busy, params_busy, commands, lists_params, delivers, after_line, location_in, locates_as}
 use Rattle.fleet_invariants.specs.Sound.{link_of, Sound}
 use Rattle.fleet_invariants.specs.Kept.{StepKeeps, Keeps, names_joined, KeepsLine}
 use Rattle.fleet_invariants.specs.Laws.{EveryLineKeeps}

@@ -21,7 +21,8 @@ use Rattle.plan_ranges.specs.Ranges.{ItemInRange}
 use Rattle.scenario_lines.specs.declared.roster.Named.{Named}
 use Rattle.scenario_lines.specs.declared.roster.Role.{Role}
 use Rattle.scenario_lines.specs.declared.roster.Role.TheVariants.{Drone as DroneRole, Station as StationRole}
-use Rattle.fleet_world.specs.WorldState.{WorldState, Node, Drone, Station, node_name, named, names_of, stream_of, drones_in, stations_in}
+use Rattle.node_reports.specs.Nodes.{Node, Drone, Station, node_name}
+use Rattle.fleet_world.specs.WorldState.{WorldState, named, names_of, stream_of, drones_in, stations_in}
 use Rattle.fleet_world.specs.Steps.{most_frames, most_drones, most_stations, most_restarts}
 use Rattle.fleet_invariants.specs.Sound.{ahead, link_of, has_heard, IsSent, WasStamped, SoundLink, SoundCore, Sound}
 use Rattle.fleet_invariants.specs.Kept.{Follows, Kept}

@@ -16,7 +16,8 @@ use Rattle.mav_nodes.specs.Links.{Link, Done, Outcome, done, behind, and_then, t
 use Rattle.mav_nodes.specs.Services.{DroneServices, StationServices}
 use Rattle.mav_nodes.specs.Steps.{Side, CoreStep, answers, with_core, steps}
 use Rattle.plan_ranges.specs.Ranges.{InRange, DroneInRange, StationInRange}
-use Rattle.fleet_world.specs.WorldState.{WorldState, Node, Drone, Station, named, names_of}
+use Rattle.node_reports.specs.Nodes.{Node, Drone, Station}
+use Rattle.fleet_world.specs.WorldState.{WorldState, named, names_of}
 use Rattle.fleet_world.specs.Steps.{packets_in}
 use Rattle.fleet_invariants.specs.Sound.{link_of, Roomy, has_heard}
 use Rattle.fleet_invariants.specs.Kept.{IsAmong, AllRead, Kept}

@@ -13,8 +13,10 @@ use Rattle.mav_nodes.specs.Nodes.{DroneSide, drone_beats}
 use Rattle.mav_nodes.specs.Restarts.{started_again, restarted_drone, drone_restarts}
 use Rattle.plan_ranges.proofs.DroneRanges as drones
 use Rattle.fleet_report.specs.Events.{Event, Restarted}
-use Rattle.fleet_world.specs.WorldState.{WorldState, Node, Drone, Station, named, is_drone_named}
-use Rattle.fleet_world.specs.Steps.{Step, StepError, as_drone, behind, most_restarts, node_does, restarts_at, restarts_found, starts_again, restart_line}
+use Rattle.node_reports.specs.Nodes.{Node, Drone, Station}
+use Rattle.node_reports.specs.Calls.{as_drone}
+use Rattle.fleet_world.specs.WorldState.{WorldState, named, is_drone_named}
+use Rattle.fleet_world.specs.Steps.{Step, StepError, behind, most_restarts, node_does, restarts_at, restarts_found, starts_again, restart_line}
 use Rattle.fleet_invariants.specs.Sound.{link_of, has_heard, SoundLink, SoundDrone, Sound}
 use Rattle.fleet_invariants.specs.Kept.{Kept, Keeps}
 use Rattle.fleet_invariants.proofs.Lists.{nowhere}

@@ -7,7 +7,8 @@ use Rattle.mav_nodes.specs.Links.{Link, Done, Outcome, done, behind, and_then, s
 use Rattle.mav_nodes.specs.Services.{ServiceStep, DroneServices, StationServices}
 use Rattle.mav_nodes.specs.Steps.{Side, with_core, serves}
 use Rattle.mav_nodes.specs.Nodes.{DroneSide, StationSide}
-use Rattle.fleet_world.specs.WorldState.{WorldState, Node, Drone, Station}
+use Rattle.node_reports.specs.Nodes.{Node, Drone, Station}
+use Rattle.fleet_world.specs.WorldState.{WorldState}
 use Rattle.fleet_world.specs.Steps.{packets_in}
 use Rattle.fleet_invariants.specs.Sound.{SoundLink, has_heard}
 use Rattle.fleet_invariants.specs.Services.{SoundDroneServices, SoundStationServices}

@@ -19,7 +19,8 @@ use Rattle.scenario_lines.specs.declared.roster.Named.{Named}
 use Rattle.scenario_lines.specs.declared.roster.Role.TheVariants.{Drone as DroneRole, Station as StationRole}
 use Rattle.plan_ranges.specs.Ranges.{Is8, Is16, Is32, ItemInRange}
 use Rattle.drone_sim.specs.Laws.{PointInRange}
-use Rattle.fleet_world.specs.WorldState.{WorldState, Node, named, names_of}
+use Rattle.node_reports.specs.Nodes.{Node}
+use Rattle.fleet_world.specs.WorldState.{WorldState, named, names_of}
 use Rattle.fleet_world.specs.Steps.{Step, StepError}
 use Rattle.fleet_invariants.specs.Sound.{link_of, IsSent, Sound}
 

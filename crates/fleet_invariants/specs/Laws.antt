@@ -20,8 +20,10 @@ use Rattle.scenario_lines.specs.LineContext.{LineContext}
 use Rattle.scenario_lines.specs.Grammar.{line_of}
 use Rattle.scenario_lines.specs.Reasons.{reason_against}
 use Rattle.scenario_lines.specs.Permits.{IsPermitted}
-use Rattle.fleet_world.specs.WorldState.{WorldState, Node, Drone, Station, stream_of, context_of}
-use Rattle.fleet_world.specs.Steps.{node_receives, node_beats, node_ticks, node_does, as_station, given_to, given_from, given_to_all, flows, calls, after_line, Stamps_spent, node_flies}
+use Rattle.node_reports.specs.Nodes.{Node, Drone, Station}
+use Rattle.node_reports.specs.Calls.{node_receives, node_beats, node_ticks, as_station, node_flies}
+use Rattle.fleet_world.specs.WorldState.{WorldState, stream_of, context_of}
+use Rattle.fleet_world.specs.Steps.{node_does, given_to, given_from, given_to_all, flows, calls, after_line, Stamps_spent}
 use Rattle.fleet_world.specs.Scenario.{Played, Not_done, played, lines_played}
 use Rattle.scenario_lines.specs.FileLines.{whole_lines, unfinished, without_cr}
 use Rattle.fleet_world.specs.Authentic.{AuthenticBytes, AuthenticLine, AuthenticLines, Authentic}

@@ -21,7 +21,8 @@ use Rattle.mav_nodes.specs.LowBounds.{headroom, stored_low}
 use Rattle.mav_nodes.specs.Links.{Link}
 use Rattle.mav_nodes.specs.Payloads.{ItemFits, ServiceFits}
 use Rattle.mav_nodes.specs.Signed.{signed_packet}
-use Rattle.fleet_world.specs.WorldState.{WorldState, Node, Drone, Station, node_name, stream_of, drones_in, stations_in}
+use Rattle.node_reports.specs.Nodes.{Node, Drone, Station, node_name}
+use Rattle.fleet_world.specs.WorldState.{WorldState, stream_of, drones_in, stations_in}
 use Rattle.fleet_world.specs.Steps.{most_frames, most_drones, most_stations, most_restarts}
 use Rattle.fleet_invariants.specs.Services.{SoundDroneServices, SoundStationServices}
 

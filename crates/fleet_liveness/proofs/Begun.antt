@@ -28,8 +28,11 @@ use Rattle.mav_nodes.specs.Nodes.{DroneSide, StationSide, station_does, station_
 use Rattle.scenario_lines.specs.declared.roster.Named.{Named}
 use Rattle.scenario_lines.specs.declared.lines.Line.TheVariants.{Begin}
 use Rattle.scenario_lines.specs.LineContext.{drone_name}
-use Rattle.fleet_world.specs.WorldState.{WorldState, Node, Drone, Station, node_name, named, stream_of, names_of, drones_in, is_station_named}
-use Rattle.fleet_world.specs.Steps.{Step, reported_by, as_station, node_does, flows, station_line, upload_begins, orders_at, orders_found, after_line}
+use Rattle.node_reports.specs.Nodes.{Node, Drone, Station, node_name}
+use Rattle.node_reports.specs.Calls.{as_station}
+use Rattle.node_reports.specs.Reporting.{reported_by}
+use Rattle.fleet_world.specs.WorldState.{WorldState, named, stream_of, names_of, drones_in, is_station_named}
+use Rattle.fleet_world.specs.Steps.{Step, node_does, flows, station_line, upload_begins, orders_at, orders_found, after_line}
 use Rattle.fleet_invariants.specs.Sound.{Sound}
 use Rattle.fleet_invariants.specs.Kept.{StepKeeps, OutcomeReads}
 use Rattle.fleet_invariants.proofs.Lists.{some_is, nowhere, within, set_there, set_elsewhere, last_there, at_end}

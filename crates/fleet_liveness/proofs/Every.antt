@@ -11,7 +11,8 @@ use Rattle.mav_sign.specs.History.{low_of, last_of}
 use Rattle.scenario_lines.specs.declared.lines.Line.TheVariants.{Begin, Flow}
 use Rattle.scenario_lines.specs.Grammar.{line_of}
 use Rattle.scenario_lines.specs.LineContext.{drone_name}
-use Rattle.fleet_world.specs.WorldState.{Drone, Station, node_name, stream_of, drones_in}
+use Rattle.node_reports.specs.Nodes.{Drone, Station, node_name}
+use Rattle.fleet_world.specs.WorldState.{stream_of, drones_in}
 use Rattle.fleet_world.specs.Steps.{Step, flows, after_line}
 use Rattle.fleet_world.specs.Scenario.{ScenarioError, Played, at_start, goes_on, line_played, last_played, rest_played, unless_stopped, lines_played, played}
 use Rattle.scenario_lines.specs.FileLines.{whole_lines, unfinished}

@@ -17,8 +17,11 @@ use Rattle.mav_nodes.specs.Signed.{signed_packet}
 use Rattle.mav_nodes.specs.Steps.{Side, Rules, CoreStep, receives}
 use Rattle.mav_nodes.specs.Nodes.{drone_rules, station_rules}
 use Rattle.fleet_report.specs.Events.{Event}
-use Rattle.fleet_world.specs.WorldState.{WorldState, Node, Drone, Station, stream_of}
-use Rattle.fleet_world.specs.Steps.{Step, packets_in, reported_by, as_drone, as_station, node_receives, node_does}
+use Rattle.node_reports.specs.Nodes.{Node, Drone, Station}
+use Rattle.node_reports.specs.Calls.{as_drone, as_station, node_receives}
+use Rattle.node_reports.specs.Reporting.{reported_by}
+use Rattle.fleet_world.specs.WorldState.{WorldState, stream_of}
+use Rattle.fleet_world.specs.Steps.{Step, packets_in, node_does}
 use Rattle.fleet_invariants.specs.Sound.{link_of, Sound}
 use Rattle.fleet_invariants.specs.Kept.{Keeps, OutcomeReads}
 use Rattle.fleet_invariants.proofs.Calls.{sound_does}

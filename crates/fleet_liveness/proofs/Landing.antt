@@ -17,8 +17,10 @@ use Rattle.mav_frame.specs.Packet.{Packet}
 use Rattle.mav_frame.specs.Encoding.{encoding}
 use Rattle.scenario_lines.specs.LineContext.{drone_name}
 use Rattle.fleet_report.specs.Events.{Event}
-use Rattle.fleet_world.specs.WorldState.{WorldState, Node, Drone, Station, node_name, named, stream_of, names_of}
-use Rattle.fleet_world.specs.Steps.{Step, node_receives, node_does, given_to, given_from, given_to_all, flow_next, flows}
+use Rattle.node_reports.specs.Nodes.{Node, Drone, Station, node_name}
+use Rattle.node_reports.specs.Calls.{node_receives}
+use Rattle.fleet_world.specs.WorldState.{WorldState, named, stream_of, names_of}
+use Rattle.fleet_world.specs.Steps.{Step, node_does, given_to, given_from, given_to_all, flow_next, flows}
 use Rattle.fleet_invariants.proofs.Lists.{some_is, within}
 use Rattle.fleet_invariants.proofs.Tests.{differ}
 use Rattle.fleet_invariants.proofs.Restated.{sound_restated}

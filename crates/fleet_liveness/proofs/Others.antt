@@ -19,8 +19,10 @@ use Rattle.mav_nodes.specs.Links.{Link, tries}
 use Rattle.mav_nodes.specs.Nodes.{DroneSide, StationSide, drone_core, drone_rules, station_rules, change_events, station_does, told_events}
 use Rattle.mav_nodes.specs.Steps.{CoreStep}
 use Rattle.fleet_report.specs.Events.{Event}
-use Rattle.fleet_world.specs.WorldState.{WorldState, Node, Drone, Station, stream_of, names_of}
-use Rattle.fleet_world.specs.Steps.{Step, packets_in, node_receives, node_does}
+use Rattle.node_reports.specs.Nodes.{Node, Drone, Station}
+use Rattle.node_reports.specs.Calls.{node_receives}
+use Rattle.fleet_world.specs.WorldState.{WorldState, stream_of, names_of}
+use Rattle.fleet_world.specs.Steps.{Step, packets_in, node_does}
 use Rattle.fleet_invariants.specs.Sound.{Holds, Sound}
 use Rattle.fleet_invariants.proofs.Lists.{set_there, set_elsewhere, more_there, in_either, some_is, nowhere, IsAt}
 use Rattle.fleet_invariants.proofs.Histories.{Leaves, Nothing, Stamp, leaves, trying_previous}

@@ -12,7 +12,8 @@ use Rattle.mav_nodes.specs.News.{NodeEvent, Sends}
 use Rattle.mav_nodes.specs.Nodes.{told_events}
 use Rattle.scenario_lines.specs.LineContext.{drone_name}
 use Rattle.fleet_report.specs.Events.{Event, Sent, Installed, Ended}
-use Rattle.fleet_world.specs.Steps.{packets_in, reported_by}
+use Rattle.node_reports.specs.Reporting.{reported_by}
+use Rattle.fleet_world.specs.Steps.{packets_in}
 use Rattle.fleet_liveness.specs.Uncontended.{Upload, Installs}
 use Rattle.fleet_liveness.proofs.Stages.{Stage, Pings, Replies, Cancels, Settles, Counts, Asks, Gives, Acks, is_up, is_last, changes}
 

@@ -17,8 +17,10 @@ use Rattle.scenario_lines.specs.declared.roster.Role.{Role}
 use Rattle.scenario_lines.specs.declared.roster.Role.TheVariants.{Drone as DroneRole, Station as StationRole}
 use Rattle.scenario_lines.specs.LineContext.{drone_name}
 use Rattle.fleet_report.specs.Events.{Event}
-use Rattle.fleet_world.specs.WorldState.{WorldState, Node, Drone, Station, node_name, named, names_of}
-use Rattle.fleet_world.specs.Steps.{Step, node_receives, node_does, given_to, given_from}
+use Rattle.node_reports.specs.Nodes.{Node, Drone, Station, node_name}
+use Rattle.node_reports.specs.Calls.{node_receives}
+use Rattle.fleet_world.specs.WorldState.{WorldState, named, names_of}
+use Rattle.fleet_world.specs.Steps.{Step, node_does, given_to, given_from}
 use Rattle.fleet_invariants.proofs.Lists.{some_is, within}
 use Rattle.fleet_invariants.proofs.Tests.{eq_true, differ, name_same, number_same}
 use Rattle.fleet_liveness.proofs.Names.{names_apart}

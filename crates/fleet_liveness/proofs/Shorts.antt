@@ -32,8 +32,10 @@ use Rattle.mav_nodes.specs.Steps.{Side, Rules, with_core, answers, steps, serves
 use Rattle.command_proto.specs.Commander.{commander_step}
 use Rattle.param_proto.specs.Client.{client_step}
 use Rattle.fleet_report.specs.Events.{Event}
-use Rattle.fleet_world.specs.WorldState.{WorldState, Node, Drone, Station, node_name, named, names_of}
-use Rattle.fleet_world.specs.Steps.{Step, StepError, rests, packets_in, node_receives, node_does, most_frames, given_to, given_from, given_to_all, flow_next, flows}
+use Rattle.node_reports.specs.Nodes.{Node, Drone, Station, node_name}
+use Rattle.node_reports.specs.Calls.{as_drone, as_station, node_receives}
+use Rattle.fleet_world.specs.WorldState.{WorldState, named, names_of}
+use Rattle.fleet_world.specs.Steps.{Step, StepError, rests, packets_in, node_does, most_frames, given_to, given_from, given_to_all, flow_next, flows}
 use Rattle.fleet_world.specs.Steps as world
 use Rattle.fleet_invariants.specs.Services.{param_count}
 use Rattle.fleet_invariants.specs.Sound.{Sound}
@@ -157,11 +159,11 @@ module _ {Core Services : Type 0} (rules : Rules Core Services) (quiet : Quiet r
       (at_most_more (most_answers + 0) most_answers (and_then (hears rules clock p y) (hears_all rules clock [])) (omega arith)
       (at_most_then most_answers 0 (hears rules clock p y) (hears_all rules clock []) (short_admits (record y { link = tries p y.link }) few p (answer_to y.link.key y.link.history p) p.block) (λ z. omega arith)))
 
-drone_at_most : (n : ℕ) (o : Outcome DroneSide) → AtMost n o → AtMost n (world.as_drone o)
+drone_at_most : (n : ℕ) (o : Outcome DroneSide) → AtMost n o → AtMost n (as_drone o)
 drone_at_most n None h = tt
 drone_at_most n (Some d) h = h
 
-station_at_most : (n : ℕ) (o : Outcome StationSide) → AtMost n o → AtMost n (world.as_station o)
+station_at_most : (n : ℕ) (o : Outcome StationSide) → AtMost n o → AtMost n (as_station o)
 station_at_most n None h = tt
 station_at_most n (Some d) h = h
 

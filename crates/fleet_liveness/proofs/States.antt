@@ -14,7 +14,8 @@ use Rattle.mav_sign.specs.declared.admission.Admit.TheVariants.{Admitted}
 use Rattle.mav_sign.specs.History.{Entry, tried, sent, Stamped, same_stream, answer_to, admitted_in, stamps_of, low_of, last_of, previous_in, accepted_in, streams_of, next_in}
 use Rattle.mav_sign.proofs.Histories.{low_same, greatest_some}
 use Rattle.mav_nodes.specs.Links.{Link, tries, sent_at}
-use Rattle.fleet_world.specs.WorldState.{WorldState, Node, Drone, Station, node_name, stream_of, drones_in, stations_in}
+use Rattle.node_reports.specs.Nodes.{Node, Drone, Station, node_name}
+use Rattle.fleet_world.specs.WorldState.{WorldState, stream_of, drones_in, stations_in}
 use Rattle.fleet_invariants.specs.Sound.{link_of, Holds, Sound}
 use Rattle.fleet_invariants.proofs.Lists.{some_is}
 use Rattle.fleet_invariants.proofs.Histories.{next_later, trying_previous}

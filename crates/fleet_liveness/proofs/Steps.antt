@@ -8,8 +8,11 @@ use Rattle.mav_frame.specs.Encoding.{encoding}
 use Rattle.plan_upload.specs.Addresses.{same_name}
 use Rattle.mav_nodes.specs.Links.{Done, Outcome}
 use Rattle.fleet_report.specs.Events.{Event}
-use Rattle.fleet_world.specs.WorldState.{WorldState, Node, node_name}
-use Rattle.fleet_world.specs.Steps.{Step, StepError, behind, and_then, packets_in, reported_by, node_receives, node_does, most_frames, given_to}
+use Rattle.node_reports.specs.Nodes.{Node, node_name}
+use Rattle.node_reports.specs.Calls.{node_receives}
+use Rattle.node_reports.specs.Reporting.{reported_by}
+use Rattle.fleet_world.specs.WorldState.{WorldState}
+use Rattle.fleet_world.specs.Steps.{Step, StepError, behind, and_then, packets_in, node_does, most_frames, given_to}
 use Rattle.fleet_invariants.specs.Kept.{StepKeeps, Keeps}
 use Rattle.fleet_invariants.proofs.Tests.{by_test}
 

@@ -23,8 +23,11 @@ use Rattle.mav_nodes.specs.Nodes.{DroneSide, StationSide, drone_core, drone_rule
 use Rattle.mav_nodes.specs.Services.{drone_notes}
 use Rattle.mav_nodes.specs.Steps.{CoreStep}
 use Rattle.fleet_report.specs.Events.{Event}
-use Rattle.fleet_world.specs.WorldState.{WorldState, Node, Drone, Station, node_name, stream_of, names_of}
-use Rattle.fleet_world.specs.Steps.{Step, packets_in, reported_by, node_receives, node_does}
+use Rattle.node_reports.specs.Nodes.{Node, Drone, Station, node_name}
+use Rattle.node_reports.specs.Calls.{node_receives}
+use Rattle.node_reports.specs.Reporting.{reported_by}
+use Rattle.fleet_world.specs.WorldState.{WorldState, stream_of, names_of}
+use Rattle.fleet_world.specs.Steps.{Step, packets_in, node_does}
 use Rattle.fleet_invariants.specs.Sound.{Holds, Sound}
 use Rattle.fleet_invariants.proofs.Histories.{sending_is}
 use Rattle.fleet_invariants.proofs.Lists.{set_there, set_elsewhere, at_end, last_there}

@@ -11,7 +11,8 @@ use Rattle.mav_frame.specs.Packet.{Packet}
 use Rattle.mav_sign.specs.History.{last_of, previous_in}
 use Rattle.mav_nodes.specs.Links.{Link}
 use Rattle.scenario_lines.specs.LineContext.{drone_name}
-use Rattle.fleet_world.specs.WorldState.{WorldState, Drone, Station, node_name, stream_of}
+use Rattle.node_reports.specs.Nodes.{Drone, Station, node_name}
+use Rattle.fleet_world.specs.WorldState.{WorldState, stream_of}
 use Rattle.fleet_invariants.specs.Sound.{Sound}
 use Rattle.fleet_liveness.proofs.Hearing.{Carries}
 use Rattle.fleet_liveness.proofs.States.{IsAbove}

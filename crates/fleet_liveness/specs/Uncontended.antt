@@ -14,7 +14,8 @@ use Rattle.mav_sign.specs.History.{low_of, last_of}
 use Rattle.scenario_lines.specs.declared.lines.Line.TheVariants.{Begin, Flow}
 use Rattle.scenario_lines.specs.Grammar.{line_of}
 use Rattle.fleet_report.specs.Events.{Event, Installed, Ended}
-use Rattle.fleet_world.specs.WorldState.{WorldState, Drone, Station, node_name, stream_of, drones_in}
+use Rattle.node_reports.specs.Nodes.{Drone, Station, node_name}
+use Rattle.fleet_world.specs.WorldState.{WorldState, stream_of, drones_in}
 use Rattle.fleet_world.specs.Scenario.{Played, at_start, line_played, last_played, lines_played, played}
 use Rattle.scenario_lines.specs.FileLines.{whole_lines, unfinished, without_cr}
 

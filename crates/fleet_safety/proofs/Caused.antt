@@ -37,9 +37,11 @@ use Rattle.mav_nodes.specs.Nodes.{DroneSide, StationSide, drone_rules, station_r
 use Rattle.fleet_report.specs.Events.{Event}
 use Rattle.scenario_lines.specs.declared.lines.Line.{Line}
 use Rattle.scenario_lines.specs.declared.lines.Line.TheVariants as line
-use Rattle.fleet_world.specs.WorldState.{WorldState, Node, Drone, Station, node_name, stream_of, is_named, is_drone_named, is_station_named}
+use Rattle.node_reports.specs.Nodes.{Node, Drone, Station, node_name}
+use Rattle.node_reports.specs.Calls.{as_drone, as_station, node_beats, node_ticks, node_flies}
+use Rattle.fleet_world.specs.WorldState.{WorldState, stream_of, is_named, is_drone_named, is_station_named}
 use Rattle.fleet_world.specs.declared.locations.Location.{Location}
-use Rattle.fleet_world.specs.Steps.{Step, StepError, as_drone, as_station, given_to, given_to_all, node_does, node_beats, node_ticks, station_line, restart_line, orders, upload_begins, command_busy, params_busy, asks, node_flies, calls, location_in, locates_as}
+use Rattle.fleet_world.specs.Steps.{Step, StepError, given_to, given_to_all, node_does, station_line, restart_line, orders, upload_begins, command_busy, params_busy, asks, calls, location_in, locates_as}
 use Rattle.fleet_invariants.specs.Sound.{link_of, SoundCore, Sound}
 use Rattle.fleet_invariants.proofs.Heard.{heard_is}
 use Rattle.fleet_safety.specs.Actions.{Action, Order, Accepts_upload, Accepts_clear, Accepts_get, spoken, spoken_in, asking, command_at, params_at, moves, ticks, comes_to, accepted, cancelled, ticked, beaten, restarted_at, restarted, at_drone, if_drone, to_drone, upload_at, clear_at, get_at, cancel_at, if_admitted, if_plan, if_sent, hearing, index_of, ordering, node_hears, state_with, at_index, if_found, at_node, and_next, at_station, if_ordered, to_station, acts, hears_then, frames_heard, datagram_heard, frame_given, row_given, flown, flow_actions, delivered, calls_of, simmed, flight_actions}

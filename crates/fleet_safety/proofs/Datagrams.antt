@@ -13,8 +13,11 @@ use Rattle.mav_nodes.specs.Links.{Done, Outcome, done}
 use Rattle.mav_nodes.specs.Links as links
 use Rattle.mav_nodes.specs.Steps.{hears, hears_all}
 use Rattle.mav_nodes.specs.Nodes.{DroneSide, StationSide, drone_rules, station_rules}
-use Rattle.fleet_world.specs.WorldState.{WorldState, Node, Drone, Station, node_name}
-use Rattle.fleet_world.specs.Steps.{packets_in, reported_by, as_drone, as_station, node_receives}
+use Rattle.node_reports.specs.Nodes.{Node, Drone, Station, node_name}
+use Rattle.node_reports.specs.Calls.{as_drone, as_station, node_receives}
+use Rattle.node_reports.specs.Reporting.{reported_by}
+use Rattle.fleet_world.specs.WorldState.{WorldState}
+use Rattle.fleet_world.specs.Steps.{packets_in}
 use Rattle.fleet_invariants.specs.Sound.{link_of}
 use Rattle.fleet_invariants.specs.Kept.{AllRead}
 use Rattle.fleet_safety.specs.Actions.{Action, Order, spoken, spoken_in, node_hears, state_with, hearing, hears_then, frames_heard}

@@ -40,7 +40,7 @@ use Rattle.mav_nodes.specs.Payloads.{plan_in, service_in}
 use Rattle.mav_nodes.specs.Services.{ServiceStep, DroneServices, drone_serves, drone_notes, drone_flies}
 use Rattle.mav_nodes.specs.Steps.{answers, with_core, steps, serves, takes, admits, hears}
 use Rattle.mav_nodes.specs.Nodes.{DroneSide, change_events, drone_core, drone_rules, drone_ticks, drone_heartbeat, drone_beats, tick_answer, drone_sims}
-use Rattle.fleet_world.specs.WorldState.{Node, Drone}
+use Rattle.node_reports.specs.Nodes.{Node, Drone}
 use Rattle.fleet_world.specs.Steps.{packets_in}
 use Rattle.fleet_safety.specs.Reporting.{sent_seen, reported, changes_reported, ends_reported, step_reported, refused_reported}
 use Rattle.fleet_safety.specs.Actions.{Order, speaks_all, moves, ticks, comes_to, index_of, if_admitted, if_plan, if_sent, hearing}

@@ -12,7 +12,8 @@ use Rattle.plan_safety.proofs.Fleet.{All}
 use Rattle.plan_safety.proofs.Induction as induction
 use Rattle.plan_ranges.specs.Ranges.{DroneInRange, StationInRange}
 use Rattle.mav_nodes.specs.Links.{Done, Outcome}
-use Rattle.fleet_world.specs.WorldState.{Node, Drone, Station, node_name, stream_of}
+use Rattle.node_reports.specs.Nodes.{Node, Drone, Station, node_name}
+use Rattle.fleet_world.specs.WorldState.{stream_of}
 use Rattle.fleet_world.specs.Steps.{packets_in}
 use Rattle.fleet_invariants.specs.Sound.{link_of}
 use Rattle.fleet_invariants.specs.Kept.{AllRead}

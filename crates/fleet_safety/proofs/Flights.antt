@@ -2,8 +2,9 @@
 use Rattle.std.proofs.Common.{ℕ, zero, suc}
 use Rattle.mav_names.specs.declared.names.Name.{Name}
 use Rattle.plan_safety.specs.World.{Nodes, Distinct, World}
+use Rattle.node_reports.specs.Calls.{node_flies}
 use Rattle.fleet_world.specs.WorldState.{WorldState}
-use Rattle.fleet_world.specs.Steps.{node_flies, calls, flies}
+use Rattle.fleet_world.specs.Steps.{calls, flies}
 use Rattle.fleet_invariants.specs.Sound.{Sound}
 use Rattle.fleet_invariants.specs.Laws.{EveryCallKeeps, SentKnown}
 use Rattle.fleet_safety.specs.Actions.{at_node, simmed, flight_actions}

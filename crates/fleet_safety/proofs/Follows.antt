@@ -7,7 +7,8 @@ use Rattle.plan_safety.specs.World.{Nodes, World, happens}
 use Rattle.plan_safety.specs.Frames.{Frame}
 use Rattle.plan_safety.specs.Store.{StoreEvent}
 use Rattle.plan_safety.specs.History.{Step, step, steps_of, final, history}
-use Rattle.fleet_world.specs.WorldState.{WorldState, Drone}
+use Rattle.node_reports.specs.Nodes.{Drone}
+use Rattle.fleet_world.specs.WorldState.{WorldState}
 use Rattle.fleet_safety.specs.Reporting.{seen, reported}
 use Rattle.fleet_safety.specs.Actions.{Action}
 use Rattle.fleet_safety.specs.Safe.{events_of, report_of, orders_of, state_after}

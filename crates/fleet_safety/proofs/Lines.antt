@@ -17,9 +17,11 @@ use Rattle.scenario_lines.specs.declared.lines.Line.TheVariants as line
 use Rattle.scenario_lines.specs.LineContext.{has_name}
 use Rattle.scenario_lines.specs.Grammar.{against}
 use Rattle.scenario_lines.specs.Permits.{IsPermitted}
-use Rattle.fleet_world.specs.WorldState.{WorldState, Node, Drone, Station, node_name, stream_of, names_of, context_of, drones_in, stations_in}
+use Rattle.node_reports.specs.Nodes.{Node, Drone, Station, node_name}
+use Rattle.node_reports.specs.Calls.{node_ticks, node_beats, node_receives}
+use Rattle.fleet_world.specs.WorldState.{WorldState, stream_of, names_of, context_of, drones_in, stations_in}
 use Rattle.scenario_lines.specs.ItemRows.{items_from}
-use Rattle.fleet_world.specs.Steps.{Step, StepError, node_ticks, node_beats, node_receives, rests, joins, station_line, begins, cancels, clears, gets, commands, lists_params, calls, delivers, flows, after_line, most_drones, most_stations, most_restarts, starts_again, restart_line, flies, locates, location_in}
+use Rattle.fleet_world.specs.Steps.{Step, StepError, rests, joins, station_line, begins, cancels, clears, gets, commands, lists_params, calls, delivers, flows, after_line, most_drones, most_stations, most_restarts, starts_again, restart_line, flies, locates, location_in}
 use Rattle.fleet_world.specs.Authentic.{AuthenticLine}
 use Rattle.fleet_invariants.proofs.Restated.{sound_restated}
 use Rattle.fleet_invariants.specs.Sound.{Sound}

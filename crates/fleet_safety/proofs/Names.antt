@@ -8,7 +8,8 @@ use Rattle.plan_ranges.specs.Ranges.{StreamInRange}
 use Rattle.plan_safety.specs.World.{Nodes, Distinct}
 use Rattle.plan_safety.proofs.Keys.{bool_split, differ, both_true, either_true, eq_true, name_eq, name_same, not_true}
 use Rattle.scenario_lines.specs.LineContext.{has_name, has_drone, has_station, same_name as alike_names}
-use Rattle.fleet_world.specs.WorldState.{Node, Drone as DroneNode, Station as StationNode, node_name, stream_of, names_of}
+use Rattle.node_reports.specs.Nodes.{Node, Drone as DroneNode, Station as StationNode, node_name}
+use Rattle.fleet_world.specs.WorldState.{stream_of, names_of}
 use Rattle.fleet_invariants.specs.Sound.{link_of}
 use Rattle.fleet_safety.specs.Safe.{nodes_of}
 use Rattle.fleet_safety.proofs.Lists.{some_is, at_end, set_there, set_elsewhere, more_there}

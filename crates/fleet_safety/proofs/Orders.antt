@@ -21,8 +21,10 @@ use Rattle.param_proto.specs.Client.{Operation as ParamOperation}
 use Rattle.mav_nodes.specs.Links.{Outcome}
 use Rattle.mav_nodes.specs.Nodes.{StationSide, drone_ticks, drone_beats, station_ticks, station_beats, station_begins, station_cancels, station_clears, station_gets, station_commands, station_lists_params, drone_sims}
 use Rattle.scenario_lines.specs.LineContext.{has_drone}
-use Rattle.fleet_world.specs.WorldState.{WorldState, Node, Drone, Station, node_name, stream_of, names_of, is_station_named}
-use Rattle.fleet_world.specs.Steps.{Step, StepError, node_ticks, node_beats, node_does, as_station, refuses, orders, upload_begins, orders_at, orders_found, orders_to, begins, cancels, clears, gets, command_busy, params_busy, asks, commands, lists_params, node_flies}
+use Rattle.node_reports.specs.Nodes.{Node, Drone, Station, node_name}
+use Rattle.node_reports.specs.Calls.{node_ticks, node_beats, as_station, node_flies}
+use Rattle.fleet_world.specs.WorldState.{WorldState, stream_of, names_of, is_station_named}
+use Rattle.fleet_world.specs.Steps.{Step, StepError, node_does, refuses, orders, upload_begins, orders_at, orders_found, orders_to, begins, cancels, clears, gets, command_busy, params_busy, asks, commands, lists_params}
 use Rattle.fleet_report.specs.Events.{Event, Command_refused, Params_refused}
 use Rattle.fleet_invariants.specs.Sound.{Sound}
 use Rattle.fleet_invariants.specs.Laws.{OrderKeeps, EveryCallKeeps, EachCallKeeps}

@@ -16,7 +16,8 @@ use Rattle.scenario_lines.specs.declared.faults.Reason.TheVariants.{Long}
 use Rattle.scenario_lines.specs.declared.lines.Line.{Line}
 use Rattle.scenario_lines.specs.Grammar.{line_of, most_line_bytes}
 use Rattle.scenario_lines.specs.Reasons.{reason_against}
-use Rattle.fleet_world.specs.WorldState.{WorldState, Drone, empty_state, context_of}
+use Rattle.node_reports.specs.Nodes.{Drone}
+use Rattle.fleet_world.specs.WorldState.{WorldState, empty_state, context_of}
 use Rattle.fleet_world.specs.Steps.{Step, StepError, after_line}
 use Rattle.fleet_world.specs.Scenario.{Played, ScenarioError, Bad, Too_many_lines, Not_done, stopped, goes_on, judged, line_played, unless_stopped, lines_played, at_start, last_played, part_played, rest_played, played}
 use Rattle.scenario_lines.specs.FileLines.{most_lines, without_cr, whole_lines, unfinished}

@@ -21,7 +21,8 @@ use Rattle.mav_names.specs.declared.names.Name.{Name}
 use Rattle.mav_nodes.specs.News.{NodeEvent, Sends, Installs as NodeInstalls, Empties as NodeEmpties, Drops, Ends, Ends_command, Gives_param, Ends_params, Reaches, Captures, Ends_file}
 use Rattle.mav_nodes.specs.Nodes.{change_events, told_events}
 use Rattle.fleet_report.specs.Events as report
-use Rattle.fleet_world.specs.Steps.{packets_in, reported_by}
+use Rattle.node_reports.specs.Reporting.{reported_by}
+use Rattle.fleet_world.specs.Steps.{packets_in}
 use Rattle.fleet_safety.specs.Reporting.{ProtocolEvent, Installed, event_seen, seen, changes_reported, ends_reported, frames_reported, frame_reported, reported, reported_in, step_reported, refused_reported}
 
 -- one list of events and then another

@@ -20,9 +20,12 @@ use Rattle.mav_nodes.specs.LowBounds.{stored_low}
 use Rattle.mav_nodes.specs.Links.{Outcome}
 use Rattle.mav_nodes.specs.Restarts.{started_again, restarted_drone}
 use Rattle.fleet_report.specs.Events.{Restarted}
+use Rattle.node_reports.specs.Nodes.{Node, Drone, Station, node_name}
+use Rattle.node_reports.specs.Calls.{node_beats}
+use Rattle.node_reports.specs.Reporting.{reported_by}
 use Rattle.fleet_world.specs.declared.faults.Bound.TheVariants.{Frames}
-use Rattle.fleet_world.specs.WorldState.{WorldState, Node, Drone, Station, node_name, is_drone_named}
-use Rattle.fleet_world.specs.Steps.{Step, StepError, At_limit, behind, most_frames, most_restarts, packets_in, reported_by, node_does, node_beats, restarts_at, restarts_found, starts_again, restart_line}
+use Rattle.fleet_world.specs.WorldState.{WorldState, is_drone_named}
+use Rattle.fleet_world.specs.Steps.{Step, StepError, At_limit, behind, most_frames, most_restarts, packets_in, node_does, restarts_at, restarts_found, starts_again, restart_line}
 use Rattle.fleet_invariants.specs.Sound.{SoundDrone, Sound}
 use Rattle.fleet_invariants.specs.Laws.{EveryCallKeeps}
 use Rattle.fleet_invariants.proofs.Lists.{set_there, set_twice}

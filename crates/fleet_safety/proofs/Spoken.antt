@@ -16,7 +16,7 @@ use Rattle.mav_sign.specs.History.{next_in, greatest_stamp}
 use Rattle.mav_nodes.specs.News.{NodeEvent, Sends, Installs, Empties, Drops, Ends, Ends_command, Gives_param, Ends_params, Reaches, Captures, Ends_file}
 use Rattle.mav_nodes.specs.Links.{Link, Done, Outcome, done, behind, and_then, sends_all, sent_at}
 use Rattle.mav_nodes.specs.Steps.{Side, with_core, answers}
-use Rattle.fleet_world.specs.WorldState.{Node, node_name}
+use Rattle.node_reports.specs.Nodes.{Node, node_name}
 use Rattle.fleet_world.specs.Steps.{packets_in}
 use Rattle.fleet_invariants.specs.Kept.{Reads, AllRead}
 use Rattle.fleet_safety.specs.Reporting.{reported}

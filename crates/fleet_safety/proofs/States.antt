@@ -18,9 +18,12 @@ use Rattle.plan_safety.specs.History.{final}
 use Rattle.plan_safety.proofs.Keys.{by_test}
 use Rattle.mav_sign.specs.Signing.{Verifies}
 use Rattle.mav_nodes.specs.Links.{Outcome}
-use Rattle.fleet_world.specs.WorldState.{WorldState, Node, Drone, node_name, is_named}
+use Rattle.node_reports.specs.Nodes.{Node, Drone, node_name}
+use Rattle.node_reports.specs.Calls.{node_receives}
+use Rattle.node_reports.specs.Reporting.{reported_by}
+use Rattle.fleet_world.specs.WorldState.{WorldState, is_named}
 use Rattle.fleet_world.specs.declared.locations.Location.{Location}
-use Rattle.fleet_world.specs.Steps.{Step, StepError, rests, behind, and_then, most_frames, packets_in, reported_by, node_does, node_receives, calls_at, calls_found, calls, given_to, given_from, given_to_all, flow_next, flows, delivers, locates_as}
+use Rattle.fleet_world.specs.Steps.{Step, StepError, rests, behind, and_then, most_frames, packets_in, node_does, calls_at, calls_found, calls, given_to, given_from, given_to_all, flow_next, flows, delivers, locates_as}
 use Rattle.fleet_invariants.proofs.Restated.{sound_restated}
 use Rattle.fleet_invariants.proofs.Heard.{reads_alone}
 use Rattle.fleet_invariants.specs.Sound.{link_of, Sound}

@@ -44,7 +44,7 @@ use Rattle.mav_nodes.specs.Steps.{answers, with_core, steps, serves, takes, admi
 use Rattle.mav_nodes.specs.Nodes.{StationSide, told_events, station_does, station_core, station_rules, services_tick, station_ticks, station_heartbeat, station_beats, station_begins, station_cancels, station_clears, station_gets, station_commands, station_lists_params}
 use Rattle.command_proto.specs.Commander.{commands, commander_step, commander_tick}
 use Rattle.param_proto.specs.Client.{lists, client_step, client_tick}
-use Rattle.fleet_world.specs.WorldState.{Node, Station}
+use Rattle.node_reports.specs.Nodes.{Node, Station}
 use Rattle.fleet_world.specs.Steps.{packets_in}
 use Rattle.fleet_invariants.specs.Kept.{Reads}
 use Rattle.fleet_safety.specs.Reporting.{sent_seen, changes_reported, ends_reported, step_reported, refused_reported}

@@ -23,8 +23,8 @@ use Rattle.mav_nodes.specs.FileServices.{TransferStep, transfer_waits}
 use Rattle.mav_nodes.specs.Services.{StationServices, station_waits, command_of, asks_command, asks_params}
 use Rattle.mav_nodes.specs.Steps.{Side, Rules, CoreStep, answers, with_core, steps, takes, admits, hears}
 use Rattle.mav_nodes.specs.Nodes.{DroneSide, StationSide, told_events, station_does, drone_rules, station_rules, drone_ticks, services_tick, station_ticks, station_commands, station_lists_params, tick_answer}
-use Rattle.fleet_world.specs.WorldState.{Node, Drone, Station}
-use Rattle.fleet_world.specs.Steps.{as_drone, as_station, node_ticks}
+use Rattle.node_reports.specs.Nodes.{Node, Drone, Station}
+use Rattle.node_reports.specs.Calls.{as_drone, as_station, node_ticks}
 use Rattle.fleet_invariants.specs.Sound.{link_of}
 use Rattle.fleet_invariants.proofs.Files.{says_few, tick_says, waits_idly}
 use Rattle.fleet_safety.specs.Actions.{waits, speaks, speaks_all, spoken, spoken_in, node_hears}

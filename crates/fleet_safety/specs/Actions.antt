@@ -35,8 +35,11 @@ use Rattle.mav_nodes.specs.Nodes.{DroneSide, StationSide, drone_rules, station_r
 use Rattle.scenario_lines.specs.declared.lines.Line.{Line}
 use Rattle.scenario_lines.specs.declared.lines.Line.TheVariants as line
 use Rattle.fleet_report.specs.Events.{Event, Restarted}
-use Rattle.fleet_world.specs.WorldState.{WorldState, Node, Drone, Station, stream_of, node_name, is_named, is_drone_named, is_station_named}
-use Rattle.fleet_world.specs.Steps.{Step, StepError, packets_in, reported_by, as_drone, as_station, node_beats, node_ticks, node_does, given_to, given_to_all, delivers, station_line, restart_line, orders, upload_begins, asks, command_busy, params_busy, after_line, node_flies, calls, locates}
+use Rattle.node_reports.specs.Nodes.{Node, Drone, Station, node_name}
+use Rattle.node_reports.specs.Calls.{as_drone, as_station, node_beats, node_ticks, node_flies}
+use Rattle.node_reports.specs.Reporting.{reported_by}
+use Rattle.fleet_world.specs.WorldState.{WorldState, stream_of, is_named, is_drone_named, is_station_named}
+use Rattle.fleet_world.specs.Steps.{Step, StepError, packets_in, node_does, given_to, given_to_all, delivers, station_line, restart_line, orders, upload_begins, asks, command_busy, params_busy, after_line, calls, locates}
 use Rattle.fleet_world.specs.Scenario.{ScenarioError, Played, at_start, line_played, lines_played}
 use Rattle.scenario_lines.specs.FileLines.{whole_lines, unfinished, without_cr}
 use Rattle.fleet_world.specs.Authentic.{line_done}

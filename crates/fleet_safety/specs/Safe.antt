@@ -13,7 +13,8 @@ use Rattle.plan_safety.specs.Safety.{IsExecution}
 use Rattle.plan_safety.specs.History.{Step, store_of, IsHistory, IsHeld, Uploaded, final, history}
 use Rattle.scenario_lines.specs.LineContext.{has_drone, has_station}
 use Rattle.fleet_report.specs.Events.{Event}
-use Rattle.fleet_world.specs.WorldState.{Node, Drone, WorldState, empty_state, names_of}
+use Rattle.node_reports.specs.Nodes.{Node, Drone}
+use Rattle.fleet_world.specs.WorldState.{WorldState, empty_state, names_of}
 use Rattle.fleet_world.specs.Scenario.{Played}
 use Rattle.fleet_safety.specs.Reporting.{seen, reported}
 use Rattle.fleet_safety.specs.Actions.{Action, Order, Accepts_upload, Accepts_clear, Accepts_get, Accepts_cancel}

@@ -7,12 +7,12 @@ use Rattle.plan_upload.specs.Plans.{Plans}
 use Rattle.plan_upload.specs.Drone.{DroneState}
 use Rattle.fleet_report.specs.Events.{plan_text}
 use Rattle.fleet_report.specs.Reports.{ReportState, with_text}
+use Rattle.node_reports.specs.Nodes.{Node, Drone, Station, node_name}
+use Rattle.node_reports.proofs.Reporting.{with_text-none, with_text-both}
 use Rattle.fleet_world.specs.declared.nodes.Node.{Node as ViewNode}
-use Rattle.fleet_world.specs.WorldState.{Node, Drone, Station, node_name}
 use Rattle.fleet_world.specs.WorldView.{IsNode, Fleet, IsFleet}
 use Rattle.fleet_world.specs.Closing.{closing_at}
 use Rattle.fleet_world.specs.Steps.{closing_of, closing_text}
-use Rattle.fleet_world.proofs.Reporting.{with_text-none, with_text-both}
 use Rattle.fleet_world.proofs.NodeLists.{AtPlace, none, one, at_index}
 
 abbrev pub plans_text : Name → Plans → List ℕ

@@ -6,14 +6,15 @@ use Rattle.mav_nodes.specs.declared.faults.NodeFault.{NodeFault}
 use Rattle.mav_nodes.specs.declared.faults.NodeFault.TheVariants.{StampsSpent, Store, NoMemory}
 use Rattle.mav_nodes.specs.Links.{Outcome}
 use Rattle.mav_nodes.specs.declared.news.News.{News}
+use Rattle.node_reports.specs.Nodes.{Node, Station}
+use Rattle.node_reports.specs.Calls.{as_station}
 use Rattle.fleet_world.specs.declared.nodes.Node.{Node as ViewNode}
 use Rattle.std.proofs.Math.Seq.{set-get_or}
 use Rattle.mav_nodes.specs.Nodes.{StationSide, station_obeys}
 use Rattle.mav_nodes.specs.declared.orders.Order.{Order}
 use Rattle.mav_nodes.specs.declared.faults.OrderFault.{OrderFault}
 use Rattle.mav_nodes.specs.declared.faults.OrderFault.TheVariants.{Begin as BeginFails, Op as OpFails, Command as CommandFails, Param as ParamFails, File as FileFails, Node as StationFails}
-use Rattle.fleet_world.specs.WorldState.{Node, Station, named}
-use Rattle.fleet_world.specs.Steps.{as_station}
+use Rattle.fleet_world.specs.WorldState.{named}
 use Rattle.fleet_world.specs.WorldView.{IsNode, Fleet, IsFleet}
 use Rattle.fleet_world.specs.Promises.{NodeOutcome, Moved, FleetOutcome, CallFails, Follows, Refuses}
 use Rattle.fleet_world.specs.StoredDrones.{FailsBy}

@@ -6,7 +6,8 @@ use Rattle.std.proofs.lemmas.Bool.{and_parts, eqb-true}
 use borrow.Author.Tests.{ltb-true}
 use Rattle.mav_names.specs.declared.names.Name.{Name}
 use Rattle.plan_upload.specs.Addresses.{node_of, same_name}
-use Rattle.fleet_world.specs.WorldState.{Node, Drone, Station, is_drone_named, is_station_named}
+use Rattle.node_reports.specs.Nodes.{Node, Drone, Station}
+use Rattle.fleet_world.specs.WorldState.{is_drone_named, is_station_named}
 
 pub record FoundBy (p : Node → Bool) (nodes : List Node) (k : ℕ) : Type 0 where
   pub node : Node

@@ -29,13 +29,14 @@ use Rattle.plan_items.specs.Plans.{items_of}
 use Rattle.plan_upload.specs.Kinds.{clear_number}
 use Rattle.plan_upload.specs.Drone.{DroneState, drone_tick}
 use Rattle.plan_upload.specs.Station.{StationState, station_tick, station_cancel, begin_upload, begin_clear, begin_get}
-use Rattle.fleet_world.specs.WorldState.{Node, Drone, Station, named}
+use Rattle.node_reports.specs.Nodes.{Node, Drone, Station}
+use Rattle.node_reports.specs.Calls.{as_drone, as_station, node_receives, node_beats, node_ticks, node_flies}
+use Rattle.fleet_world.specs.WorldState.{named}
 use Rattle.fleet_world.specs.declared.calls.Call.{Call}
 use Rattle.fleet_world.specs.declared.calls.Call.TheVariants.{Take, Noise, Heartbeat, Tick, Sim, Restart}
 use Rattle.fleet_world.specs.declared.nodes.Node.{Node as ViewNode}
 use Rattle.fleet_world.specs.declared.nodes.Node.TheVariants.{Drone as ViewDrone, Station as ViewStation}
 use Rattle.fleet_world.specs.WorldView.{IsNode}
-use Rattle.fleet_world.specs.Steps.{as_drone, as_station, node_receives, node_beats, node_ticks, node_flies}
 use Rattle.fleet_world.specs.NodeSteps.{node_restarts, node_called}
 use Rattle.fleet_world.proofs.Systems.{drone_stays, drone_tick_stays}
 

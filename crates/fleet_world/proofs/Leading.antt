@@ -9,17 +9,19 @@ use Rattle.plan_upload.specs.Addresses.{same_name}
 use Rattle.mav_names.specs.declared.names.Name.{Name}
 use Rattle.fleet_report.specs.Events.{Event}
 use Rattle.fleet_report.specs.Reports.{ReportState}
+use Rattle.node_reports.specs.Nodes.{Node, node_name}
+use Rattle.node_reports.specs.Calls.{node_receives, node_flies}
+use Rattle.node_reports.specs.Reporting.{reported_by, reports}
+use Rattle.node_reports.proofs.Reporting.{reports-none, reports-both}
 use Rattle.fleet_world.specs.declared.faults.WorldFault.{WorldFault}
 use Rattle.fleet_world.specs.declared.faults.WorldFault.TheVariants.{Limit, Node as NodeFails, NoMemory}
 use Rattle.mav_nodes.specs.declared.faults.NodeFault.TheVariants.{StampsSpent, Store as NodeStore, NoMemory as NoNodeMemory}
 use Rattle.fleet_world.specs.declared.faults.Bound.TheVariants.{Frames}
-use Rattle.fleet_world.specs.WorldState.{WorldState, Node, node_name}
+use Rattle.fleet_world.specs.WorldState.{WorldState}
 use Rattle.fleet_world.specs.WorldView.{WorldView, IsState}
-use Rattle.fleet_world.specs.Steps.{Step, StepError, At_limit, rests, behind, and_then, most_frames, packets_in, reported_by, node_does, node_receives, given_to, given_from, given_to_all, flow_next, flows, calls, node_flies, flies}
+use Rattle.fleet_world.specs.Steps.{Step, StepError, At_limit, rests, behind, and_then, most_frames, packets_in, node_does, given_to, given_from, given_to_all, flow_next, flows, calls, flies}
 use Rattle.fleet_world.specs.Flowing.{IsTaken}
-use Rattle.fleet_world.specs.NodeSteps.{reports}
 use Rattle.fleet_world.specs.Promises.{WorldOutcome, IsStepError}
-use Rattle.fleet_world.proofs.Reporting.{reports-none, reports-both}
 use Rattle.fleet_world.proofs.WorldCalls.{sent_length, past_end}
 
 behind-nil : (r : Result Step StepError) → r ≡ behind [] r

@@ -2,11 +2,11 @@ pub mod CutBytes
 pub mod NodeLists
 pub mod Systems
 pub mod KeptNames
-pub mod ListedValues
+pub mod ListedCalls
 pub mod FleetCalls
 pub mod Lookups
 pub mod Found
-pub mod Reporting
+pub mod QuietSteps
 pub mod NewsReports
 pub mod WorldCalls
 pub mod Leading

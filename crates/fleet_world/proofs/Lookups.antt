@@ -6,10 +6,11 @@ use Rattle.std.proofs.Common.{◌<◌, ◌≤◌, drop, get_or, drop-cons, add-o
 use Rattle.mav_names.specs.declared.names.Name.{Name}
 use Rattle.scenario_lines.specs.declared.roster.Role.TheVariants.{Drone as DroneRole, Station as StationRole}
 use Rattle.scenario_lines.specs.LineContext.{is_called, is_in_role}
+use Rattle.node_reports.specs.Nodes.{Node, Drone, Station}
 use Rattle.fleet_world.specs.declared.nodes.Node.{Node as ViewNode}
 use Rattle.fleet_world.specs.declared.nodes.Node.TheVariants.{Drone as ViewDrone, Station as ViewStation}
 use Rattle.fleet_world.specs.Counts.{is_drone_view, counted}
-use Rattle.fleet_world.specs.WorldState.{Node, Drone, Station, named, names_of, is_named, is_drone_named, is_station_named, drones_in, stations_in}
+use Rattle.fleet_world.specs.WorldState.{named, names_of, is_named, is_drone_named, is_station_named, drones_in, stations_in}
 use Rattle.fleet_world.specs.WorldView.{AreNodes, Fleet, IsFleet}
 
 -- a search goes by the tests of the elements

@@ -7,12 +7,12 @@ use Rattle.mav_nodes.specs.declared.faults.NodeFault.TheVariants.{StampsSpent, S
 use Rattle.mav_nodes.specs.Links.{Outcome, done}
 use Rattle.mav_nodes.specs.Nodes.{DroneSide, StationSide, StationView, IsStation}
 use Rattle.mav_nodes.specs.Promises.{Fails, Did, StationDid}
+use Rattle.node_reports.specs.Nodes.{Node, Drone, Station}
+use Rattle.node_reports.specs.Calls.{as_drone, as_station}
 use Rattle.fleet_world.specs.declared.nodes.Node.{Node as ViewNode}
 use Rattle.fleet_world.specs.declared.nodes.Node.TheVariants.{Drone as ViewDrone, Station as ViewStation}
 use Rattle.fleet_world.specs.StoredDrones.{StoredView, IsStoredDrone, FailsBy}
-use Rattle.fleet_world.specs.WorldState.{Node, Drone, Station}
 use Rattle.fleet_world.specs.WorldView.{IsNode}
-use Rattle.fleet_world.specs.Steps.{as_drone, as_station}
 use Rattle.fleet_world.specs.Promises.{NodeOutcome}
 
 pub if_err : {A E : Type 0} {P Q : E → Type 0} (r : Result A E) → ((e : E) → P e → Q e) → IfErr r P → IfErr r Q

@@ -2,8 +2,9 @@
 use Rattle.std.proofs.Common.{◌≡◌, ℕ, zero, suc, List, [], ◌∷◌, ◌++◌, slice_get, slice_set, option_map, Some, None, refl, sym, ap, ◌∙◌, subst}
 use Rattle.scenario_lines.specs.declared.roster.Named.{Named}
 use Rattle.mav_names.specs.declared.names.Name.{Name}
+use Rattle.node_reports.specs.Nodes.{Node, Drone, Station, node_name}
 use Rattle.fleet_world.specs.declared.nodes.Node.{Node as ViewNode}
-use Rattle.fleet_world.specs.WorldState.{Node, Drone, Station, named, names_of, node_name}
+use Rattle.fleet_world.specs.WorldState.{named, names_of}
 use Rattle.fleet_world.specs.WorldView.{IsNode, AreNodes, Fleet, IsFleet}
 
 -- ---- one of them

@@ -26,20 +26,22 @@ use Rattle.mav_nodes.specs.declared.faults.OrderFault.{OrderFault}
 use Rattle.mav_nodes.specs.declared.faults.OrderFault.TheVariants.{Begin as BeginFails, Op as OpFails, Command as CommandFails, Param as ParamFails, File as FileFails, Node as StationFails}
 use Rattle.mav_nodes.specs.declared.faults.NodeFault.{NodeFault}
 use Rattle.mav_nodes.specs.declared.faults.NodeFault.TheVariants.{StampsSpent, Store as NodeStore, NoMemory as NoNodeMemory}
+use Rattle.node_reports.specs.Nodes.{Node, Station}
+use Rattle.node_reports.specs.Calls.{as_station}
+use Rattle.node_reports.specs.ParamLists.{params_of, HaveValues}
+use Rattle.node_reports.proofs.Reporting.{reports-none, reports-one}
+use Rattle.node_reports.proofs.ListedValues.{obeys_known}
 use Rattle.fleet_world.specs.StoredDrones.{FailsBy}
 use Rattle.fleet_report.specs.Events.{Refused, Command_refused, Params_refused}
 use Rattle.fleet_report.specs.Reports.{ReportState}
 use Rattle.fleet_world.specs.declared.faults.WorldFault.{WorldFault}
 use Rattle.fleet_world.specs.declared.faults.WorldFault.TheVariants.{Node as NodeFails}
-use Rattle.fleet_world.specs.WorldState.{WorldState, Node, Station, stream_of, is_station_named}
+use Rattle.fleet_world.specs.WorldState.{WorldState, stream_of, is_station_named}
 use Rattle.fleet_world.specs.WorldView.{IsFleet, WorldView, IsState}
-use Rattle.fleet_world.specs.Steps.{Step, StepError, as_station, node_does, station_line, upload_begins, orders_at, orders_found, orders_to, begins, asks, command_busy, params_busy, commands, lists_params}
+use Rattle.fleet_world.specs.Steps.{Step, StepError, node_does, station_line, upload_begins, orders_at, orders_found, orders_to, begins, asks, command_busy, params_busy, commands, lists_params}
 use Rattle.fleet_world.specs.NodeSteps.{reports_news, handed_back, obeys_unless, obeys_or, obeys}
 use Rattle.fleet_world.specs.Promises.{Moved, Follows, Refuses, WorldOutcome, IsStepError, RefusalReported, IsGivenUp}
 use Rattle.fleet_world.proofs.Found.{FoundStation, found_station}
-use Rattle.fleet_world.proofs.Reporting.{reports-none, reports-one}
-use Rattle.fleet_world.specs.ParamLists.{params_of, HaveValues}
-use Rattle.fleet_world.proofs.ListedValues.{obeys_known}
 use Rattle.fleet_world.proofs.WorldCalls.{NodesOnly, moved_state, moved_outcome, moved_error}
 
 -- ---- an order that was followed

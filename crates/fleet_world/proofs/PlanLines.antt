@@ -6,7 +6,7 @@ use Rattle.plan_items.specs.declared.items.Item.{Item}
 use Rattle.plan_upload.specs.Plans.{Plans}
 use Rattle.fleet_report.specs.Events.{plan_text}
 use Rattle.fleet_report.specs.Reports.{ReportState, with_text}
-use Rattle.fleet_world.proofs.Reporting.{with_text-both}
+use Rattle.node_reports.proofs.Reporting.{with_text-both}
 
 pub plans_put : {T E : Type 0} (r : Result T E) (name : Name) (plans : Plans) (start a b end : ReportState) (x y z : List Item) → x ≡ plans.mission → y ≡ plans.fence → z ≡ plans.rally
     → a ≡ with_text start (plan_text name 0 x) → b ≡ with_text a (plan_text name 1 y) → OnOk r (end ≡ with_text b (plan_text name 2 z))

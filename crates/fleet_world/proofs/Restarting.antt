@@ -20,19 +20,22 @@ use Rattle.mav_nodes.specs.Nodes.{DroneSide, DroneView, IsDrone, new_drone}
 use Rattle.mav_nodes.specs.Promises.{Did, DroneDid}
 use Rattle.fleet_report.specs.Events.{Event, Restarted}
 use Rattle.fleet_report.specs.Reports.{ReportState, reported}
+use Rattle.node_reports.specs.Nodes.{Node, Drone}
+use Rattle.node_reports.specs.Calls.{as_drone}
+use Rattle.node_reports.specs.Reporting.{reports}
+use Rattle.node_reports.proofs.Reporting.{reports-none, reports-both, reports-one}
 use Rattle.fleet_world.specs.declared.faults.Bound.TheVariants.{Restarts}
 use Rattle.fleet_world.specs.declared.faults.WorldFault.{WorldFault}
 use Rattle.fleet_world.specs.declared.faults.WorldFault.TheVariants.{Limit, Node as NodeFails, NoMemory}
 use Rattle.mav_nodes.specs.declared.faults.NodeFault.TheVariants.{StampsSpent, Store as NodeStore, NoMemory as NoNodeMemory}
 use Rattle.fleet_world.specs.StoredDrones.{StoredView, IsStoredDrone}
-use Rattle.fleet_world.specs.WorldState.{WorldState, Node, Drone, is_drone_named}
+use Rattle.fleet_world.specs.WorldState.{WorldState, is_drone_named}
 use Rattle.fleet_world.specs.WorldView.{IsFleet, WorldView, IsState}
-use Rattle.fleet_world.specs.Steps.{Step, StepError, At_limit, rests, behind, most_restarts, as_drone, node_does, calls_at, restarts_at, restarts_found, starts_again, restart_line}
-use Rattle.fleet_world.specs.NodeSteps.{reports, node_restarts, restarts_as}
+use Rattle.fleet_world.specs.Steps.{Step, StepError, At_limit, rests, behind, most_restarts, node_does, calls_at, restarts_at, restarts_found, starts_again, restart_line}
+use Rattle.fleet_world.specs.NodeSteps.{node_restarts, restarts_as}
 use Rattle.fleet_world.specs.Promises.{WorldOutcome, IsStepError}
 use Rattle.fleet_world.proofs.KeptNames.{SideKeeps, sys_of}
 use Rattle.fleet_world.proofs.Found.{FoundDrone, found_drone}
-use Rattle.fleet_world.proofs.Reporting.{reports-none, reports-both, reports-one}
 
 -- ---- a drone and its store
 

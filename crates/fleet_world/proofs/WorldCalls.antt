@@ -11,17 +11,19 @@ use Rattle.mav_nodes.specs.Links.{Done, Outcome}
 use Rattle.mav_nodes.specs.declared.news.News.{News}
 use Rattle.fleet_report.specs.Events.{Missing}
 use Rattle.fleet_report.specs.Reports.{ReportState, reported}
+use Rattle.node_reports.specs.Nodes.{Node, node_name}
+use Rattle.node_reports.specs.Calls.{node_receives}
+use Rattle.node_reports.specs.ParamLists.{params_of, HaveValues}
+use Rattle.node_reports.proofs.Reporting.{reports-none, reports-one}
+use Rattle.node_reports.proofs.ListedValues.{ListsKnown}
 use Rattle.fleet_world.specs.declared.faults.WorldFault.{WorldFault}
 use Rattle.fleet_world.specs.declared.calls.Call.TheVariants.{Take}
-use Rattle.fleet_world.specs.WorldState.{WorldState, Node, node_name}
+use Rattle.fleet_world.specs.WorldState.{WorldState}
 use Rattle.fleet_world.specs.WorldView.{IsFleet, Kept, kept_as, bytes_of, WorldView, IsState}
-use Rattle.fleet_world.specs.Steps.{Step, StepError, rests, node_does, node_receives, calls, calls_at, given_to, delivers}
+use Rattle.fleet_world.specs.Steps.{Step, StepError, rests, node_does, calls, calls_at, given_to, delivers}
 use Rattle.fleet_world.specs.Flowing.{IsSender}
 use Rattle.fleet_world.specs.NodeSteps.{reports_news, called}
 use Rattle.fleet_world.specs.Promises.{Moved, FleetOutcome, WorldOutcome, IsStepError}
-use Rattle.fleet_world.specs.ParamLists.{params_of, HaveValues}
-use Rattle.fleet_world.proofs.Reporting.{reports-none, reports-one}
-use Rattle.fleet_world.proofs.ListedValues.{ListsKnown}
 
 -- ---- what a node has reported
 

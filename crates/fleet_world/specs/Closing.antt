@@ -1,6 +1,6 @@
 -- What the end of a scenario reports of the node at an index.
 use Rattle.std.specs.Prelude.{ℕ, List, [], Option, Some, None}
-use Rattle.fleet_world.specs.WorldState.{Node}
+use Rattle.node_reports.specs.Nodes.{Node}
 use Rattle.fleet_world.specs.Steps.{closing_of}
 
 abbrev pub closing_at : Option Node → List ℕ

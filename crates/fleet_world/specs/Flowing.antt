@@ -2,7 +2,7 @@
 use Rattle.std.specs.Prelude.{ℕ, ◌≡◌, ◌+◌, ◌<◌, ◌≤◌, Bool, length, Option, Some, None}
 use Rattle.mav_frame.specs.Packet.{Packet}
 use Rattle.plan_upload.specs.Addresses.{same_name}
-use Rattle.fleet_world.specs.WorldState.{Node, node_name}
+use Rattle.node_reports.specs.Nodes.{Node, node_name}
 use Rattle.fleet_world.specs.WorldView.{WorldView}
 
 -- whether the node, if there is one, sent the frame

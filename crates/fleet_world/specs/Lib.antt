@@ -7,7 +7,6 @@ pub mod WorldView
 pub mod Counts
 pub mod Cuts
 pub mod NodeSteps
-pub mod ParamLists
 pub mod Promises
 pub mod Flowing
 pub mod Closing

@@ -12,18 +12,16 @@ use Rattle.plan_items.specs.declared.plans.Plan.{Plan}
 use Rattle.plan_items.specs.Plans.{items_of}
 use Rattle.plan_upload.specs.declared.faults.OpFault.{OpFault}
 use Rattle.plan_upload.specs.Addresses.{node_of}
-use Rattle.fleet_report.specs.Events.{Event, Refused, Command_refused, Params_refused, Restarted, events_text}
-use Rattle.fleet_report.specs.Reports.{ReportState, with_text}
+use Rattle.fleet_report.specs.Events.{Refused, Command_refused, Params_refused, Restarted}
+use Rattle.node_reports.specs.Nodes.{Node, Drone, Station}
+use Rattle.node_reports.specs.Calls.{as_drone, as_station, node_receives, node_beats, node_ticks, node_flies}
+use Rattle.node_reports.specs.Reporting.{reported_by}
 use Rattle.fleet_world.specs.declared.faults.Bound.TheVariants.{Frames}
 use Rattle.fleet_world.specs.declared.calls.Call.{Call}
 use Rattle.fleet_world.specs.declared.calls.Call.TheVariants.{Take, Noise, Heartbeat, Tick, Sim, Restart}
-use Rattle.fleet_world.specs.WorldState.{WorldState, Node, Drone, Station}
+use Rattle.fleet_world.specs.WorldState.{WorldState}
 use Rattle.fleet_world.specs.WorldView.{Kept, WorldView, bytes_of}
-use Rattle.fleet_world.specs.Steps.{Step, StepError, At_limit, behind, most_frames, packets_in, reported_by, as_drone, as_station, node_does, node_receives, node_beats, node_ticks, node_flies}
-
--- a report with the text of these events more
-abbrev pub reports : ReportState → List Event → ReportState
-reports report events = with_text report (events_text report.frames events)
+use Rattle.fleet_world.specs.Steps.{Step, StepError, At_limit, behind, most_frames, packets_in, node_does}
 
 -- a node of this name has done this: its frames are the next of the scenario
 abbrev pub reports_news : WorldState → Name → List NodeEvent → Result Step StepError

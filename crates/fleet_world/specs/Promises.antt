@@ -18,14 +18,15 @@ use Rattle.plan_items.specs.Plans.{items_of}
 use Rattle.plan_upload.specs.declared.faults.OpFault.TheVariants.{NoMemory as NoOpMemory}
 use Rattle.fleet_report.specs.Events.{Refused, Command_refused, Params_refused, events_text}
 use Rattle.fleet_report.specs.Reports.{ReportState, reported}
+use Rattle.node_reports.specs.Nodes.{Node}
+use Rattle.node_reports.specs.Reporting.{reported_by, reports}
 use Rattle.fleet_world.specs.declared.nodes.Node.{Node as ViewNode}
 use Rattle.fleet_world.specs.declared.faults.WorldFault.{WorldFault}
 use Rattle.fleet_world.specs.declared.faults.WorldFault.TheVariants.{Limit, Node as NodeFails, NoMemory}
 use Rattle.fleet_world.specs.StoredDrones.{FailsBy}
-use Rattle.fleet_world.specs.WorldState.{Node, WorldState}
+use Rattle.fleet_world.specs.WorldState.{WorldState}
 use Rattle.fleet_world.specs.WorldView.{IsNode, Fleet, IsFleet, Kept, kept_as, WorldView, IsState}
-use Rattle.fleet_world.specs.Steps.{Step, StepError, At_limit, Stamps_spent, packets_in, reported_by}
-use Rattle.fleet_world.specs.NodeSteps.{reports}
+use Rattle.fleet_world.specs.Steps.{Step, StepError, At_limit, Stamps_spent, packets_in}
 
 -- ---- of one node
 

@@ -10,19 +10,22 @@ use Rattle.plan_upload.specs.declared.faults.OpFault.{OpFault}
 use Rattle.plan_upload.specs.Addresses.{node_of, same_name}
 use Rattle.plan_upload.specs.Refusals.{upload_refusal, refusal}
 use Rattle.mav_nodes.specs.News.{NodeEvent, Sends, Installs, Empties, Drops, Ends, Ends_command, Gives_param, Ends_params, Reaches, Captures, Ends_file}
-use Rattle.mav_nodes.specs.Links.{Outcome, done}
+use Rattle.mav_nodes.specs.Links.{Outcome}
 use Rattle.command_proto.specs.Commander.{open_command}
 use Rattle.param_proto.specs.Client.{Operation as ParamOperation}
 use Rattle.mav_nodes.specs.Restarts.{drone_restarts}
-use Rattle.mav_nodes.specs.Nodes.{DroneSide, StationSide, new_drone, drone_receives, drone_beats, drone_ticks, drone_sims, new_station, station_receives, station_beats, station_ticks, station_begins, station_cancels, station_clears, station_gets, station_commands, station_lists_params}
+use Rattle.mav_nodes.specs.Nodes.{DroneSide, StationSide, new_drone, new_station, station_begins, station_cancels, station_clears, station_gets, station_commands, station_lists_params}
 use Rattle.scenario_lines.specs.declared.lines.Line.{Line}
 use Rattle.scenario_lines.specs.declared.lines.Line.TheVariants.{Blank, Drone as DroneLine, Station as StationLine, Item as OneItem, Items, Empty, Begin, Cancel, Clear, Get, Command, Params, Heartbeat, Deliver, Flow, Noise, Tick, Clock, Restart, Sim, WhereIs}
 use Rattle.scenario_lines.specs.ItemRows.{items_from}
-use Rattle.fleet_report.specs.Events.{Event, Sent, Installed, Emptied, Dropped, Missing, Restarted, Refused, Ended, Command_ended, Params_ended, Param_given, Command_refused, Params_refused, Reached, Captured, Located, plan_text}
+use Rattle.fleet_report.specs.Events.{Event, Missing, Restarted, Refused, Command_refused, Params_refused, Located, plan_text}
+use Rattle.node_reports.specs.Nodes.{Node, Drone, Station, node_name}
+use Rattle.node_reports.specs.Calls.{as_drone, as_station, node_receives, node_beats, node_ticks, node_flies}
+use Rattle.node_reports.specs.Reporting.{reported_by}
 use Rattle.fleet_world.specs.declared.locations.Location.{Location}
 use Rattle.fleet_world.specs.declared.faults.Bound.{Bound}
 use Rattle.fleet_world.specs.declared.faults.Bound.TheVariants.{Frames, Drones, Stations, Restarts}
-use Rattle.fleet_world.specs.WorldState.{WorldState, Node, Drone, Station, stream_of, node_name, is_named, is_drone_named, is_station_named, drones_in, stations_in}
+use Rattle.fleet_world.specs.WorldState.{WorldState, stream_of, is_named, is_drone_named, is_station_named, drones_in, stations_in}
 
 pub record Step : Type 0 where
   pub state : WorldState
@@ -75,46 +78,6 @@ packets_in (Ends_params values ∷ es) = packets_in es
 packets_in (Reaches item ∷ es) = packets_in es
 packets_in (Captures total ∷ es) = packets_in es
 packets_in (Ends_file end ∷ es) = packets_in es
-
--- what is reported of what happened in a node, after so many frames were sent
-abbrev pub reported_by : Name → ℕ → List NodeEvent → List Event
-reported_by node before [] = []
-reported_by node before (Sends packet message ∷ es) = Sent (before + 1) packet message ∷ reported_by node (before + 1) es
-reported_by node before (Installs kind items by ∷ es) = Installed node (number_of kind) items (node_of by) ∷ reported_by node before es
-reported_by node before (Empties kind ∷ es) = Emptied node (number_of kind) ∷ reported_by node before es
-reported_by node before (Drops answer ∷ es) = Dropped node answer ∷ reported_by node before es
-reported_by node before (Ends outcome ∷ es) = Ended node outcome ∷ reported_by node before es
-reported_by node before (Ends_command result ∷ es) = Command_ended node result ∷ reported_by node before es
-reported_by node before (Gives_param param ∷ es) = Param_given node param ∷ reported_by node before es
-reported_by node before (Ends_params values ∷ es) = Params_ended node values ∷ reported_by node before es
-reported_by node before (Reaches item ∷ es) = Reached node item ∷ reported_by node before es
-reported_by node before (Captures total ∷ es) = Captured node total ∷ reported_by node before es
-reported_by node before (Ends_file end ∷ es) = reported_by node before es
-
-abbrev pub as_drone : Outcome DroneSide → Outcome Node
-as_drone None = None
-as_drone (Some d) = done (Drone d.node) d.events
-
-abbrev pub as_station : Outcome StationSide → Outcome Node
-as_station None = None
-as_station (Some d) = done (Station d.node) d.events
-
-abbrev pub node_receives : ℕ → List ℕ → Node → Outcome Node
-node_receives clock datagram (Drone n) = as_drone (drone_receives clock datagram n)
-node_receives clock datagram (Station n) = as_station (station_receives clock datagram n)
-
-abbrev pub node_beats : ℕ → Node → Outcome Node
-node_beats clock (Drone n) = as_drone (drone_beats clock n)
-node_beats clock (Station n) = as_station (station_beats clock n)
-
-abbrev pub node_ticks : ℕ → Node → Outcome Node
-node_ticks clock (Drone n) = as_drone (drone_ticks clock n)
-node_ticks clock (Station n) = as_station (station_ticks clock n)
-
--- one tick of a drone's simulator; a station does nothing
-abbrev pub node_flies : ℕ → Node → Outcome Node
-node_flies clock (Drone n) = as_drone (drone_sims clock n)
-node_flies clock (Station n) = done (Station n) []
 
 -- the node at index `k` has done this: its frames are the next of the scenario
 abbrev pub node_does : WorldState → ℕ → Name → Outcome Node → Result Step StepError

@@ -5,14 +5,10 @@ use Rattle.mav_names.specs.declared.names.Stream.{Stream}
 use Rattle.mav_frame.specs.Packet.{Packet}
 use Rattle.plan_items.specs.declared.items.Item.{Item}
 use Rattle.plan_upload.specs.Addresses.{node_of, same_name}
-use Rattle.mav_nodes.specs.Nodes.{DroneSide, StationSide}
+use Rattle.node_reports.specs.Nodes.{Node, Drone, Station, node_name}
 use Rattle.scenario_lines.specs.declared.roster.Named.{Named}
 use Rattle.scenario_lines.specs.declared.roster.Role.TheVariants.{Drone as DroneRole, Station as StationRole}
 use Rattle.scenario_lines.specs.LineContext.{LineContext}
-
-pub data Node : Type 0 where
-  Drone : (node : DroneSide) → Node
-  Station : (node : StationSide) → Node
 
 pub record WorldState : Type 0 where
   pub key : List ℕ  -- of all nodes
@@ -29,10 +25,6 @@ empty_state key = record { key = key; nodes = []; sent = []; given = 0; draft = 
 -- every node signs on link 0
 abbrev pub stream_of : Name → Stream
 stream_of name = record { sys = name.sys; comp = name.comp; link = 0 }
-
-abbrev pub node_name : Node → Name
-node_name (Drone n) = node_of n.link.me
-node_name (Station n) = node_of n.link.me
 
 abbrev pub named : Node → Named
 named (Drone n) = record { role = DroneRole; name = node_of n.link.me }

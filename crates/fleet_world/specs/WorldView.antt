@@ -7,10 +7,11 @@ use Rattle.mav_nodes.specs.Nodes.{IsStation}
 use Rattle.plan_items.specs.declared.items.Item.{Item}
 use Rattle.scenario_lines.specs.declared.roster.Named.{Named}
 use Rattle.scenario_lines.specs.LineContext.{LineContext}
+use Rattle.node_reports.specs.Nodes.{Node, Drone, Station}
 use Rattle.fleet_world.specs.declared.nodes.Node.{Node as ViewNode}
 use Rattle.fleet_world.specs.declared.nodes.Node.TheVariants.{Drone as ViewDrone, Station as ViewStation}
 use Rattle.fleet_world.specs.StoredDrones.{IsStoredDrone}
-use Rattle.fleet_world.specs.WorldState.{WorldState, Node, Drone, Station, names_of}
+use Rattle.fleet_world.specs.WorldState.{WorldState, names_of}
 
 -- a node: its end of the links represents the history
 abbrev pub IsNode : Node → ViewNode → Type 0

@@ -2,7 +2,7 @@
 ghost use Rattle.std.specs.Prelude.{◌≡◌, ◌++◌, List, OnOk, slice_get};
 ghost use Rattle.fleet_report.specs.Events.{plan_text};
 ghost use Rattle.fleet_report.specs.Reports.{with_text};
-ghost use Rattle.fleet_world.specs.WorldState.{Node as StateNode, node_name};
+ghost use Rattle.node_reports.specs.Nodes.{Node as StateNode, node_name};
 ghost use Rattle.fleet_world.specs.WorldView.{IsNode, IsFleet};
 ghost use Rattle.fleet_world.specs.Closing.{closing_at};
 ghost use Rattle.fleet_world.specs.Steps.{closing_of, closing_text};

@@ -1,11 +1,13 @@
 // The nodes of a world: their names, their key and their clock.
 ghost use Rattle.std.specs.Prelude.{◌≡◌, if◌then◌else◌, ◌+◌, ◌<◌, ◌^◌, ◌++◌, ◌∷◌, None, Some, [], List, length, position, option_map, slice_get, IfOk, IfErr, OnOk};
 ghost use Rattle.mav_nodes.specs.Nodes.{StationSide, new_drone, new_station, station_obeys};
-ghost use Rattle.fleet_world.specs.WorldState.{Node as StateNode, Drone as StateDrone, Station as StateStation, node_name, is_named, is_drone_named, is_station_named, drones_in, stations_in, stream_of};
+ghost use Rattle.node_reports.specs.Nodes.{Node as StateNode, Drone as StateDrone, Station as StateStation, node_name};
+ghost use Rattle.node_reports.specs.Calls.{as_station};
+ghost use Rattle.node_reports.specs.ParamLists.{params_of};
+ghost use Rattle.fleet_world.specs.WorldState.{is_named, is_drone_named, is_station_named, drones_in, stations_in, stream_of};
 ghost use Rattle.fleet_world.specs.WorldView.{no_fleet, IsFleet};
-ghost use Rattle.fleet_world.specs.Steps.{as_station, location_at, location_in};
+ghost use Rattle.fleet_world.specs.Steps.{location_at, location_in};
 ghost use Rattle.fleet_world.specs.NodeSteps.{node_called};
-ghost use Rattle.fleet_world.specs.ParamLists.{params_of};
 ghost use Rattle.fleet_world.specs.Promises.{FleetOutcome, Moved, CallFails, Follows, Refuses};
 ghost use Rattle.fleet_world.specs.Counts.{is_drone_view, counted};
 

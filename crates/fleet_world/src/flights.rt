@@ -1,6 +1,7 @@
 // Drones that fly, and where they are.
 ghost use Rattle.std.specs.Prelude.{◌≡◌, OnOk, IfErr};
-ghost use Rattle.fleet_world.specs.Steps.{calls, node_flies, flies, locates};
+ghost use Rattle.node_reports.specs.Calls.{node_flies};
+ghost use Rattle.fleet_world.specs.Steps.{calls, flies, locates};
 ghost use Rattle.fleet_world.specs.Promises.{Does, Fails};
 
 use crate::calls::Call;

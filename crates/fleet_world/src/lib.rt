@@ -21,7 +21,6 @@ mod sent;
 mod stored_drone;
 mod world;
 
-pub use events::report_piece;
 pub use faults::{Bound, WorldFault};
 use std::alloc::AllocError;
 pub use world::World;

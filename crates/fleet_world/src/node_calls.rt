@@ -2,11 +2,12 @@
 ghost use Rattle.std.specs.Prelude.{◌≡◌, ◌-◌, ◌+◌, nat_le, List, [], Some, map, slice_get, OnOk, IfOk, IfErr};
 ghost use Rattle.mav_nodes.specs.Nodes.{DroneSide};
 ghost use Rattle.mav_nodes.specs.News.{NodeEvent, shown, events_of};
-ghost use Rattle.fleet_world.specs.WorldState.{WorldState, Node as StateNode, Drone as StateDrone};
+ghost use Rattle.node_reports.specs.Nodes.{Node as StateNode, Drone as StateDrone};
+ghost use Rattle.node_reports.specs.ParamLists.{params_of, HaveValues};
+ghost use Rattle.fleet_world.specs.WorldState.{WorldState};
 ghost use Rattle.fleet_world.specs.WorldView.{IsFleet, IsState};
 ghost use Rattle.fleet_world.specs.Steps.{most_frames, calls, calls_at, delivers};
 ghost use Rattle.fleet_world.specs.NodeSteps.{called, datagram_of, reports_news, restarts_as};
-ghost use Rattle.fleet_world.specs.ParamLists.{params_of, HaveValues};
 ghost use Rattle.fleet_world.specs.Promises.{FleetOutcome, CallFails, WorldOutcome, IsStepError};
 
 use crate::calls::Call;

@@ -1,12 +1,13 @@
 // A node, whichever it is.
 ghost use Rattle.std.specs.Prelude.{◌≡◌, None, Some, [], IfOk, IfErr};
 ghost use Rattle.mav_nodes.specs.Nodes.{StationSide, station_obeys};
-ghost use Rattle.fleet_world.specs.WorldState.{Node as StateNode, Station as StateStation};
+ghost use Rattle.node_reports.specs.Nodes.{Node as StateNode, Station as StateStation};
+ghost use Rattle.node_reports.specs.Calls.{as_station};
+ghost use Rattle.node_reports.specs.ParamLists.{params_of};
 ghost use Rattle.fleet_world.specs.StoredDrones.{FailsBy};
 ghost use Rattle.fleet_world.specs.WorldView.{IsNode};
-ghost use Rattle.fleet_world.specs.Steps.{as_station, location_of};
+ghost use Rattle.fleet_world.specs.Steps.{location_of};
 ghost use Rattle.fleet_world.specs.NodeSteps.{node_called};
-ghost use Rattle.fleet_world.specs.ParamLists.{params_of};
 ghost use Rattle.fleet_world.specs.Promises.{NodeOutcome, Follows, Refuses};
 
 use crate::calls::Call;

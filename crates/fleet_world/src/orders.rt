@@ -5,9 +5,11 @@ ghost use Rattle.plan_items.specs.Kinds.{number_of};
 ghost use Rattle.plan_items.specs.Plans.{items_of};
 ghost use Rattle.plan_upload.specs.Kinds.{clear_number};
 ghost use Rattle.plan_upload.specs.Addresses.{node_of};
-ghost use Rattle.fleet_world.specs.WorldState.{WorldState, Node as StateNode, Station as StateStation};
+ghost use Rattle.node_reports.specs.Nodes.{Node as StateNode, Station as StateStation};
+ghost use Rattle.node_reports.specs.Calls.{as_station};
+ghost use Rattle.fleet_world.specs.WorldState.{WorldState};
 ghost use Rattle.fleet_world.specs.WorldView.{IsFleet, IsState};
-ghost use Rattle.fleet_world.specs.Steps.{as_station, station_line, orders_to, begins, clears, gets, commands, lists_params};
+ghost use Rattle.fleet_world.specs.Steps.{station_line, orders_to, begins, clears, gets, commands, lists_params};
 ghost use Rattle.fleet_world.specs.NodeSteps.{obeys};
 ghost use Rattle.fleet_world.specs.Promises.{Moved, Follows, Refuses, WorldOutcome, IsStepError, RefusalReported, IsGivenUp, Does, Fails};
 

@@ -17,9 +17,9 @@ use Rattle.mav_nodes.specs.Links.{Outcome, done, behind, and_then}
 use Rattle.mav_nodes.specs.Stores.{Serves, HasFailed, AllKept}
 use Rattle.mav_nodes.specs.Promises.{Did}
 use Rattle.mav_nodes.proofs.StoreCalls.{serves_both, failed_then, then_failed}
-use Rattle.fleet_world.specs.WorldState.{Node, node_name}
-use Rattle.fleet_world.specs.ParamLists.{params_of, HaveValues}
-use Rattle.fleet_world.proofs.ListedValues.{ListsKnown}
+use Rattle.node_reports.specs.Nodes.{Node, node_name}
+use Rattle.node_reports.specs.ParamLists.{params_of, HaveValues}
+use Rattle.node_reports.proofs.ListedValues.{ListsKnown}
 use Rattle.run_status.specs.declared.input_errors.InputError.TheVariants.{StampsSpent}
 use Rattle.run_status.specs.declared.live_ends.LiveEnd.TheVariants.{StoreFault}
 use Rattle.run_status.specs.declared.run_ends.RunEnd.{RunEnd}

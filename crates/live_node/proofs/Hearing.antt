@@ -12,8 +12,8 @@ use Rattle.mav_nodes.specs.Promises.{Did}
 use Rattle.mav_nodes.specs.Steps.{hears_all, hears_keeping}
 use Rattle.mav_nodes.specs.Nodes.{DroneSide, DroneView, IsDrone, StationSide, StationView, IsStation, drone_rules_keeping, station_rules}
 use Rattle.mav_nodes.specs.Streams.{HasRead, GrowsBy, DronePart, StationPart, DronePartFails, StationPartFails}
-use Rattle.fleet_world.specs.WorldState.{Node, Drone, Station}
-use Rattle.fleet_world.specs.Steps.{as_drone, as_station}
+use Rattle.node_reports.specs.Nodes.{Node, Drone, Station}
+use Rattle.node_reports.specs.Calls.{as_drone, as_station}
 use Rattle.live_node.specs.declared.nodes.LiveNode.{LiveNode}
 use Rattle.live_node.specs.declared.nodes.LiveNode.TheVariants.{Drone as LiveDrone, Station as LiveStation}
 use Rattle.live_node.specs.Nodes.{IsLive, HasHeard}

@@ -3,7 +3,7 @@ use Rattle.std.proofs.Common.{◌≡◌, ℕ, List, [], ◌∷◌, Option, Some,
 use Rattle.mav_nodes.specs.declared.faults.StartFault.{StartFault}
 use Rattle.mav_nodes.specs.declared.faults.StartFault.TheVariants.{Store, BadKept, NoMemory as NoStartMemory}
 use Rattle.mav_nodes.specs.Nodes.{DroneSide}
-use Rattle.fleet_world.specs.WorldState.{Node, Drone}
+use Rattle.node_reports.specs.Nodes.{Node, Drone}
 use Rattle.run_status.specs.declared.input_errors.InputError.TheVariants.{Bad, AtLimit, StampsSpent}
 use Rattle.run_status.specs.declared.live_ends.LiveEnd.TheVariants.{RefusedWith, NoAnswer, StoreFault, PortTurns, PortFault}
 use Rattle.run_status.specs.declared.run_ends.RunEnd.{RunEnd}

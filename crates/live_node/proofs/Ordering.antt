@@ -15,8 +15,8 @@ use Rattle.mav_nodes.specs.declared.faults.OrderFault.TheVariants.{Begin, Op, Co
 use Rattle.mav_ftp.specs.declared.client.faults.FtpFault.{FtpFault}
 use Rattle.mav_nodes.specs.Nodes.{StationSide, StationView, IsStation, IsAccepted, order_refusal, order_fault, command_refusal, params_refusal, file_refusal}
 use Rattle.mav_nodes.specs.Promises.{OrderFails}
-use Rattle.fleet_world.specs.WorldState.{Node, Drone, Station}
-use Rattle.fleet_world.specs.Steps.{as_station}
+use Rattle.node_reports.specs.Nodes.{Node, Drone, Station}
+use Rattle.node_reports.specs.Calls.{as_station}
 use Rattle.run_status.specs.declared.input_errors.InputError.TheVariants.{StampsSpent}
 use Rattle.run_status.specs.declared.live_ends.LiveEnd.TheVariants.{StoreFault}
 use Rattle.run_status.specs.declared.run_ends.RunEnd.{RunEnd}

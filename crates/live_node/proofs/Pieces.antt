@@ -10,7 +10,7 @@ use Rattle.mav_nodes.specs.News.{shown}
 use Rattle.mav_nodes.specs.Stores.{Serves, HasFailed}
 use Rattle.mav_nodes.proofs.StoreCalls.{then_failed}
 use Rattle.mav_nodes.specs.Streams.{GrowsBy}
-use Rattle.fleet_world.specs.WorldState.{Node, Drone, Station, node_name}
+use Rattle.node_reports.specs.Nodes.{Node, Drone, Station, node_name}
 use Rattle.run_status.specs.declared.input_errors.InputError.TheVariants.{StampsSpent}
 use Rattle.run_status.specs.declared.live_ends.LiveEnd.TheVariants.{StoreFault}
 use Rattle.run_status.specs.declared.run_ends.RunEnd.{RunEnd}

@@ -10,7 +10,7 @@ use Rattle.mav_ports.specs.declared.sources.Got.TheVariants.{Failed}
 use Rattle.mav_ports.proofs.Known.{prepend_known_nil}
 use Rattle.mav_links.specs.Links.{Pauses, pauses_after}
 use Rattle.mav_nodes.specs.News.{shown}
-use Rattle.fleet_world.specs.WorldState.{Node, node_name}
+use Rattle.node_reports.specs.Nodes.{Node, node_name}
 use Rattle.run_status.specs.declared.input_errors.InputError.TheVariants.{StampsSpent}
 use Rattle.run_status.specs.declared.live_ends.LiveEnd.TheVariants.{StoreFault, PortFault}
 use Rattle.run_status.specs.declared.run_ends.RunEnd.{RunEnd}

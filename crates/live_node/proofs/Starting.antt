@@ -15,7 +15,7 @@ use Rattle.std.proofs.lemmas.List.Elements.{All-nil}
 use Rattle.mav_links.specs.Links.{LinkState}
 use Rattle.mav_nodes.specs.Stores.{Serves}
 use Rattle.mav_nodes.specs.Streams.{HasRead}
-use Rattle.fleet_world.specs.WorldState.{Drone}
+use Rattle.node_reports.specs.Nodes.{Drone}
 use Rattle.live_node.specs.declared.nodes.LiveNode.TheVariants.{Drone as LiveDrone}
 use Rattle.live_node.specs.declared.tellers.Teller.{Teller}
 use Rattle.live_node.specs.Runs.{Outside, outside, Stores}

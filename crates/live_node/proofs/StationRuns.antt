@@ -14,8 +14,8 @@ use Rattle.mav_nodes.specs.Steps.{with_core}
 use Rattle.mav_nodes.specs.Nodes.{StationSide, StationView, IsStation, new_station}
 use Rattle.mav_nodes.specs.Stores.{Serves}
 use Rattle.mav_nodes.specs.Streams.{HasRead}
-use Rattle.fleet_world.specs.WorldState.{Node, Drone, Station}
-use Rattle.fleet_world.specs.Steps.{as_drone, as_station}
+use Rattle.node_reports.specs.Nodes.{Node, Drone, Station}
+use Rattle.node_reports.specs.Calls.{as_drone, as_station}
 use Rattle.run_status.specs.declared.input_errors.InputError.TheVariants.{Bad, AtLimit, StampsSpent}
 use Rattle.run_status.specs.declared.live_ends.LiveEnd.TheVariants.{RefusedWith, NoAnswer, StoreFault, PortTurns, PortFault}
 use Rattle.run_status.specs.declared.run_ends.RunEnd.{RunEnd}

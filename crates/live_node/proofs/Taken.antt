@@ -2,7 +2,7 @@
 use Rattle.std.proofs.Common.{◌≡◌, inl, inr, ℕ, ◌+◌, List, [], ◌∷◌, ◌++◌, ap, ◌∙◌}
 use Rattle.std.specs.Prelude.{length}
 use Rattle.std.proofs.lemmas.List.{length-append}
-use Rattle.fleet_world.specs.WorldState.{Node}
+use Rattle.node_reports.specs.Nodes.{Node}
 use Rattle.run_status.specs.declared.run_ends.RunEnd.{RunEnd}
 use Rattle.live_node.specs.declared.nodes.LiveNode.{LiveNode}
 use Rattle.live_node.specs.declared.tellers.Teller.{Teller}

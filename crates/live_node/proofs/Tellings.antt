@@ -6,8 +6,8 @@ use Rattle.param_proto.specs.declared.params.Param.{Param}
 use Rattle.mav_nodes.specs.News.{NodeEvent, shown, said_by, events_of}
 use Rattle.mav_nodes.specs.declared.news.News.{News}
 use Rattle.fleet_report.specs.Reports.{ReportState, with_text}
-use Rattle.fleet_world.specs.ParamLists.{HaveValues}
-use Rattle.fleet_world.proofs.NewsReports.{Split, split, have_both}
+use Rattle.node_reports.specs.ParamLists.{HaveValues}
+use Rattle.node_reports.proofs.NewsPieces.{Split, split, have_both}
 use Rattle.live_node.specs.declared.tellers.Teller.{Teller}
 use Rattle.live_node.specs.Texts.{count_over, lines_of, tells}
 use Rattle.mav_ports.proofs.Known.{sent_start}

@@ -6,7 +6,7 @@ use Rattle.std.proofs.lemmas.Grind.{flat_map-append}
 use Rattle.mav_names.specs.declared.names.Name.{Name}
 use Rattle.mav_nodes.specs.News.{NodeEvent, shown}
 use Rattle.fleet_report.specs.Events.{events_text}
-use Rattle.fleet_world.specs.Steps.{reported_by}
+use Rattle.node_reports.specs.Reporting.{reported_by}
 use Rattle.live_node.specs.declared.tellers.Ending.{Ending}
 use Rattle.live_node.specs.declared.tellers.Teller.{Teller}
 use Rattle.live_node.specs.Texts.{frame_bytes, frames_text, count_with, count_over, lines_of, ending_in, ending_over, first_of, tells}

@@ -10,7 +10,7 @@ use Rattle.mav_ports.specs.Counts.{next_count}
 use Rattle.mav_links.specs.Links.{LinkState, pauses_after}
 use Rattle.mav_frame.specs.declared.events.Event.{Event}
 use Rattle.mav_sign.specs.Streams.{reader_of}
-use Rattle.fleet_world.specs.WorldState.{Node}
+use Rattle.node_reports.specs.Nodes.{Node}
 use Rattle.run_status.specs.declared.run_ends.RunEnd.{RunEnd}
 use Rattle.live_node.specs.declared.nodes.LiveNode.{LiveNode}
 use Rattle.live_node.specs.declared.tellers.Teller.{Teller}

@@ -11,7 +11,7 @@ use Rattle.mav_ports.specs.Counts.{next_count}
 use Rattle.mav_ports.proofs.Known.{prepend_known_twice}
 use Rattle.mav_links.specs.Links.{LinkState, Pauses, pauses_after}
 use Rattle.mav_frame.specs.declared.events.Event.{Event}
-use Rattle.fleet_world.specs.WorldState.{Node}
+use Rattle.node_reports.specs.Nodes.{Node}
 use Rattle.run_status.specs.declared.input_errors.InputError.TheVariants.{StampsSpent}
 use Rattle.run_status.specs.declared.run_ends.RunEnd.{RunEnd}
 use Rattle.run_status.specs.declared.run_ends.RunEnd.TheVariants.{Stopped}

@@ -6,8 +6,8 @@ use Rattle.mav_nodes.specs.declared.orders.Order.{Order}
 use Rattle.mav_nodes.specs.Links.{Outcome, done, and_then}
 use Rattle.mav_nodes.specs.Steps.{hears_all, hears_keeping}
 use Rattle.mav_nodes.specs.Nodes.{drone_rules_keeping, station_rules, station_obeys}
-use Rattle.fleet_world.specs.WorldState.{Node, Drone, Station}
-use Rattle.fleet_world.specs.Steps.{as_drone, as_station, node_ticks, node_beats, node_flies}
+use Rattle.node_reports.specs.Nodes.{Node, Drone, Station}
+use Rattle.node_reports.specs.Calls.{as_drone, as_station, node_ticks, node_beats, node_flies}
 
 pub data LiveCall : Type 0 where
   -- frames, one after another; `keeps` says for each whether a drone's store keeps what the frame changes

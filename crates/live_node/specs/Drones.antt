@@ -11,7 +11,7 @@ use Rattle.mav_nodes.specs.Stores.{HasFailed}
 use Rattle.mav_nodes.specs.Nodes.{DroneSide, new_drone}
 use Rattle.mav_nodes.specs.Restarts.{stored_drone}
 use Rattle.mav_nodes.specs.Starts.{StartFails}
-use Rattle.fleet_world.specs.WorldState.{Node, Drone}
+use Rattle.node_reports.specs.Nodes.{Node, Drone}
 use Rattle.run_status.specs.declared.input_errors.Place.TheVariants.{Store as StorePlace}
 use Rattle.run_status.specs.declared.input_errors.Reason.TheVariants.{Kept as KeptReason}
 use Rattle.run_status.specs.declared.input_errors.InputError.TheVariants.{Bad}

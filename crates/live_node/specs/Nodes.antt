@@ -5,7 +5,7 @@ use Rattle.mav_nodes.specs.Links.{LinkView}
 use Rattle.mav_nodes.specs.Nodes.{IsDrone, IsStation}
 use Rattle.mav_nodes.specs.Images.{StoreHolds}
 use Rattle.mav_nodes.specs.Streams.{HasRead}
-use Rattle.fleet_world.specs.WorldState.{Node, Drone, Station}
+use Rattle.node_reports.specs.Nodes.{Node, Drone, Station}
 use Rattle.live_node.specs.declared.nodes.LiveNode.{LiveNode}
 use Rattle.live_node.specs.declared.nodes.LiveNode.TheVariants.{Drone as LiveDrone, Station as LiveStation}
 

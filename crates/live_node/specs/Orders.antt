@@ -6,7 +6,7 @@ use Rattle.mav_nodes.specs.declared.orders.Order.{Order}
 use Rattle.mav_nodes.specs.declared.faults.OrderFault.{OrderFault}
 use Rattle.mav_nodes.specs.declared.faults.OrderFault.TheVariants.{Begin, Op, Command, Param, File, Node as NodeFails}
 use Rattle.mav_nodes.specs.Nodes.{StationSide, order_refusal, command_refusal, params_refusal, file_refusal}
-use Rattle.fleet_world.specs.WorldState.{Node, Drone, Station}
+use Rattle.node_reports.specs.Nodes.{Node, Drone, Station}
 use Rattle.run_status.specs.declared.input_errors.Place.TheVariants.{Operation}
 use Rattle.run_status.specs.declared.input_errors.Reason.TheVariants.{Refused}
 use Rattle.run_status.specs.declared.input_errors.InputError.TheVariants.{Bad, StampsSpent}

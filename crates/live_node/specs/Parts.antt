@@ -8,7 +8,7 @@ use Rattle.mav_nodes.specs.declared.news.News.{News}
 use Rattle.mav_nodes.specs.Links.{Outcome}
 use Rattle.mav_nodes.specs.Promises.{Did}
 use Rattle.mav_nodes.specs.Streams.{GrowsBy}
-use Rattle.fleet_world.specs.WorldState.{Node}
+use Rattle.node_reports.specs.Nodes.{Node}
 use Rattle.live_node.specs.declared.nodes.LiveNode.{LiveNode}
 use Rattle.live_node.specs.Nodes.{IsLive, HasHeard, end_of}
 use Rattle.live_node.specs.Calls.{extras_at, node_hears}

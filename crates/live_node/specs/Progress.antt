@@ -11,7 +11,7 @@ use Rattle.mav_nodes.specs.News.{NodeEvent, shown}
 use Rattle.mav_nodes.specs.Links.{done}
 use Rattle.mav_nodes.specs.Streams.{GrowsBy}
 use Rattle.fleet_report.specs.Reports.{ReportState, with_text}
-use Rattle.fleet_world.specs.WorldState.{Node, node_name}
+use Rattle.node_reports.specs.Nodes.{Node, node_name}
 use Rattle.run_status.specs.declared.input_errors.InputError.TheVariants.{StampsSpent}
 use Rattle.run_status.specs.declared.run_ends.RunEnd.{RunEnd}
 use Rattle.run_status.specs.declared.run_ends.RunEnd.TheVariants.{Stopped}

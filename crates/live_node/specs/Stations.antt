@@ -10,7 +10,7 @@ use Rattle.mav_nodes.specs.declared.orders.Order.{Order}
 use Rattle.mav_nodes.specs.News.{NodeEvent}
 use Rattle.mav_nodes.specs.Links.{done}
 use Rattle.mav_nodes.specs.Nodes.{new_station}
-use Rattle.fleet_world.specs.WorldState.{Node, Station}
+use Rattle.node_reports.specs.Nodes.{Node, Station}
 use Rattle.run_status.specs.declared.input_errors.Place.TheVariants.{Operation}
 use Rattle.run_status.specs.declared.input_errors.Reason.TheVariants.{Refused as RefusedReason}
 use Rattle.run_status.specs.declared.input_errors.InputError.TheVariants.{Bad, StampsSpent}

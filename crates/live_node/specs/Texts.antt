@@ -8,7 +8,7 @@ use Rattle.mav_nodes.specs.declared.news.FileEnd.{FileEnd}
 use Rattle.mav_nodes.specs.declared.news.FileEnd.TheVariants.{Done as Gives, Refused as Was_refused, NoAnswer}
 use Rattle.mav_nodes.specs.News.{NodeEvent, Sends, Ends, Ends_command, Gives_param, Ends_params, Ends_file, Shown, Shows_sent}
 use Rattle.fleet_report.specs.Events.{events_text}
-use Rattle.fleet_world.specs.Steps.{reported_by}
+use Rattle.node_reports.specs.Reporting.{reported_by}
 use Rattle.live_node.specs.declared.tellers.Ending.{Ending}
 use Rattle.live_node.specs.declared.tellers.Ending.TheVariants.{Done, Refused, Unanswered}
 use Rattle.live_node.specs.declared.tellers.Teller.{Teller}

@@ -2,7 +2,7 @@
 ghost use Rattle.std.specs.Prelude.{◌≡◌, List, [], IfOk, IfErr};
 ghost use Rattle.std.specs.Result.{result_err};
 ghost use Rattle.mav_nodes.specs.Nodes.{DroneSide};
-ghost use Rattle.fleet_world.specs.WorldState.{Node, Drone as StateDrone};
+ghost use Rattle.node_reports.specs.Nodes.{Node, Drone as StateDrone};
 ghost use Rattle.live_node.specs.Calls.{LiveCall};
 ghost use Rattle.live_node.specs.Ports.{FaultsBy, IsRunEnd};
 ghost use Rattle.live_node.specs.Runs.{Outside, outside, stores_of};

@@ -4,7 +4,7 @@ ghost use Rattle.std.specs.declared.option.Option.{Option};
 ghost use Rattle.std.specs.Result.{result_err};
 ghost use Rattle.mav_links.specs.Links.{LinkState};
 ghost use Rattle.mav_sign.specs.Streams.{reader_of};
-ghost use Rattle.fleet_world.specs.WorldState.{Node};
+ghost use Rattle.node_reports.specs.Nodes.{Node};
 ghost use Rattle.live_node.specs.Nodes.{end_of};
 ghost use Rattle.live_node.specs.Calls.{LiveCall};
 ghost use Rattle.live_node.specs.Turns.{Turn};

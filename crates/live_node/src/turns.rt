@@ -3,7 +3,7 @@ ghost use Rattle.std.specs.Prelude.{◌≡◌, ◌<◌, ◌++◌, [], ℕ, List,
 ghost use Rattle.std.specs.Result.{result_err};
 ghost use Rattle.mav_frame.specs.declared.events.Event.{Event};
 ghost use Rattle.mav_sign.specs.Streams.{reader_of};
-ghost use Rattle.fleet_world.specs.WorldState.{Node};
+ghost use Rattle.node_reports.specs.Nodes.{Node};
 ghost use Rattle.live_node.specs.Nodes.{HasHeard, end_of};
 ghost use Rattle.live_node.specs.Calls.{LiveCall};
 ghost use Rattle.live_node.specs.Ports.{FaultsBy, SameRead, IsRunEnd};

@@ -4,7 +4,7 @@ use Rattle.std.specs.List.{list_all, slice_split}
 use Rattle.std.proofs.lemmas.List.Elements.{All-nil, All-cons}
 use Rattle.std.proofs.lemmas.List.Splits.{slice_split_at}
 use Rattle.key_file.specs.KeyText.{default_key}
-use Rattle.fleet_world.specs.WorldState.{Node}
+use Rattle.node_reports.specs.Nodes.{Node}
 use Rattle.fleet_world.specs.Authentic.{AuthenticLines, Authentic}
 use Rattle.fleet_world.specs.Scenario.{Played, unless_stopped, lines_played, at_start, rest_played}
 use Rattle.scenario_lines.specs.FileLines.{is_newline, but_last, last_part, whole_lines, unfinished, without_cr}

@@ -18,8 +18,10 @@ use Rattle.mav_nodes.specs.Payloads.{plan_in}
 use Rattle.mav_nodes.specs.Links.{Outcome}
 use Rattle.mav_nodes.specs.Nodes.{StationSide, station_begins, station_cancels}
 use Rattle.scenario_lines.specs.declared.roster.Named.{Named}
-use Rattle.fleet_world.specs.WorldState.{WorldState, Node, Drone, Station, named, node_name, is_named, is_station_named, stream_of}
-use Rattle.fleet_world.specs.Steps.{Step, StepError, At_limit, Stamps_spent, and_then, node_receives, node_ticks, as_station, calls_at, calls_found, calls, given_to, given_from, given_to_all, flow_next, flows, delivers, station_line, orders, upload_begins, orders_at, orders_found, orders_to, begins, cancels}
+use Rattle.node_reports.specs.Nodes.{Node, Drone, Station, node_name}
+use Rattle.node_reports.specs.Calls.{node_receives, node_ticks, as_station}
+use Rattle.fleet_world.specs.WorldState.{WorldState, named, is_named, is_station_named, stream_of}
+use Rattle.fleet_world.specs.Steps.{Step, StepError, At_limit, Stamps_spent, and_then, calls_at, calls_found, calls, given_to, given_from, given_to_all, flow_next, flows, delivers, station_line, orders, upload_begins, orders_at, orders_found, orders_to, begins, cancels}
 use Rattle.fleet_invariants.specs.Sound.{link_of}
 use Rattle.fleet_invariants.specs.Laws.{CallKeeps}
 use Rattle.fleet_invariants.proofs.Lists.{nowhere, some_is, within}

@@ -33,8 +33,9 @@ use Rattle.mav_nodes.specs.Signed.{signed_packet}
 use Rattle.mav_nodes.specs.Links.{Link, Done, Outcome, done, behind, and_then, tries}
 use Rattle.mav_nodes.specs.Steps.{Side, Rules, CoreStep, answers, with_core, steps, steps_noted, serves, takes, admits, hears, hears_all, receives}
 use Rattle.mav_nodes.specs.Nodes.{DroneSide, StationSide, drone_core, drone_rules, drone_waits, change_events, station_rules, station_does, told_events, drone_ticks, services_tick}
-use Rattle.fleet_world.specs.WorldState.{Node, Drone, Station}
-use Rattle.fleet_world.specs.Steps.{packets_in, as_drone, as_station, node_receives, node_ticks}
+use Rattle.node_reports.specs.Nodes.{Node, Drone, Station}
+use Rattle.node_reports.specs.Calls.{as_drone, as_station, node_receives, node_ticks}
+use Rattle.fleet_world.specs.Steps.{packets_in}
 use Rattle.fleet_invariants.specs.Kept.{Reads, AllRead}
 use Rattle.fleet_invariants.proofs.Files.{waits_idly}
 use Rattle.fleet_invariants.proofs.Tests.{by_test}

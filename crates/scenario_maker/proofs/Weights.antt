@@ -7,7 +7,7 @@ use Rattle.plan_upload.specs.Addresses.{same_name, everyone}
 use Rattle.plan_upload.specs.Station.{Phase, Pinging, Cancelling, Sending, Clearing, Listing_items, Getting, Operation, addressee}
 use Rattle.mav_messages.specs.Plans.{plan_of, message_of_plan}
 use Rattle.mav_nodes.specs.Payloads.{plan_in}
-use Rattle.fleet_world.specs.WorldState.{Node, Drone, Station}
+use Rattle.node_reports.specs.Nodes.{Node, Drone, Station}
 
 -- a PING that every drone answers
 abbrev pub is_call : PlanMsg → Bool

@@ -1,5 +1,6 @@
 use Rattle.std.proofs.Common.{◌≡◌, ◌+◌, ◌≤◌, drop}
-use Rattle.fleet_world.specs.Counts.{is_frame, counted}
+use Rattle.node_reports.specs.Frames.{is_frame}
+use Rattle.fleet_world.specs.Counts.{counted}
 use Rattle.fleet_world.proofs.events.count_frames.Given as goal
 
 abbrev pub invariant-loop-piece : goal.invariant-loop-piece

@@ -1,5 +1,5 @@
 use Rattle.std.proofs.Common.{[], ◌∷◌}
-use Rattle.fleet_world.specs.WorldState.{Drone}
+use Rattle.node_reports.specs.Nodes.{Drone}
 use Rattle.live_node.specs.Calls.{Beats}
 use Rattle.live_node.proofs.TurnEnds.{started}
 use Rattle.live_node.proofs.Openings.{stopped_at_once, stopped_later, turns_taken, port_ended, drone_end}

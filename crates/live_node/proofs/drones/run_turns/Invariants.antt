@@ -1,5 +1,5 @@
 use Rattle.std.proofs.Common.{◌≡◌, List, [], None}
-use Rattle.fleet_world.specs.WorldState.{Node}
+use Rattle.node_reports.specs.Nodes.{Node}
 use Rattle.live_node.specs.Calls.{LiveCall}
 use Rattle.live_node.specs.Ports.{FaultsBy}
 use Rattle.live_node.specs.Runs.{Outside, outside, stores_of}

@@ -1,7 +1,7 @@
 use Rattle.std.proofs.Common.{inl}
 use Rattle.mav_nodes.specs.Nodes.{new_station}
 use Rattle.mav_nodes.proofs.StoreCalls.{serves_same}
-use Rattle.fleet_world.specs.WorldState.{Station}
+use Rattle.node_reports.specs.Nodes.{Station}
 use Rattle.live_node.specs.Drones.{mem_stores}
 use Rattle.live_node.specs.Stations.{stream_asked}
 use Rattle.live_node.proofs.StationRuns.{opened_station, ran_station, station_ends}

@@ -2,8 +2,8 @@ use Rattle.std.proofs.Common.{w32, subst}
 use Rattle.std.proofs.lemmas.Int.{to_z-of_z}
 use Rattle.drone_sim.specs.declared.points.Point.{Point}
 use Rattle.mav_nodes.specs.Nodes.{new_drone}
+use Rattle.node_reports.specs.Nodes.{Drone}
 use Rattle.fleet_world.specs.StoredDrones.{IsStoredDrone}
-use Rattle.fleet_world.specs.WorldState.{Drone}
 use Rattle.fleet_world.specs.WorldView.{Fleet}
 use Rattle.fleet_world.proofs.FleetCalls.{fleet_added}
 use Rattle.fleet_world.proofs.fleet.Fleet.add_drone.Goals as goal

@@ -1,7 +1,8 @@
 use Rattle.std.proofs.Common.{subst}
 use Rattle.mav_names.specs.declared.names.Stream.{Stream}
 use Rattle.mav_nodes.specs.Nodes.{new_station, IsStation}
-use Rattle.fleet_world.specs.WorldState.{Station, stream_of}
+use Rattle.node_reports.specs.Nodes.{Station}
+use Rattle.fleet_world.specs.WorldState.{stream_of}
 use Rattle.fleet_world.specs.WorldView.{Fleet}
 use Rattle.fleet_world.proofs.FleetCalls.{fleet_joined}
 use Rattle.fleet_world.proofs.fleet.Fleet.add_station.Goals as goal

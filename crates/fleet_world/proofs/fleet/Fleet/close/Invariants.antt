@@ -1,5 +1,5 @@
 use Rattle.std.proofs.Common.{◌≡◌, List, length}
-use Rattle.fleet_world.specs.WorldState.{Node}
+use Rattle.node_reports.specs.Nodes.{Node}
 use Rattle.fleet_world.specs.WorldView.{IsFleet}
 use Rattle.fleet_world.proofs.Closings.{Closed}
 use Rattle.fleet_world.proofs.fleet.Fleet.close.Given as goal

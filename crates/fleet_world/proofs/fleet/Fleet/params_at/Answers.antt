@@ -1,5 +1,5 @@
 use Rattle.std.proofs.Common.{◌∙◌}
-use Rattle.fleet_world.specs.ParamLists.{params_of}
+use Rattle.node_reports.specs.ParamLists.{params_of}
 use Rattle.fleet_world.proofs.FleetCalls.{value_found, no_value}
 use Rattle.fleet_world.proofs.fleet.Fleet.params_at.Goals as goal
 

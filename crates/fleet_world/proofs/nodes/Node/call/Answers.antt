@@ -1,6 +1,6 @@
 use Rattle.std.proofs.Common.{ap}
+use Rattle.node_reports.specs.Nodes.{Drone, Station}
 use Rattle.fleet_world.specs.declared.calls.Call.{Call}
-use Rattle.fleet_world.specs.WorldState.{Drone, Station}
 use Rattle.mav_nodes.specs.Nodes.{drone_beats, drone_ticks, drone_sims, drone_receives, station_beats, station_ticks, station_receives}
 use Rattle.mav_nodes.specs.Restarts.{drone_restarts}
 use Rattle.fleet_world.specs.NodeSteps.{node_called}

@@ -3,7 +3,7 @@ use Rattle.std.specs.Prelude.{FitsSigned}
 use Rattle.std.proofs.lemmas.Int.{to_z-of_z}
 use Rattle.scenario_lines.specs.declared.lines.Line.TheVariants.{Drone}
 use Rattle.fleet_world.specs.Steps.{after_line}
-use Rattle.fleet_world.proofs.Reporting.{quiet_outcome}
+use Rattle.fleet_world.proofs.QuietSteps.{quiet_outcome}
 use Rattle.fleet_world.proofs.world.World.act.Goals as goal
 
 pub returns-in-Drone-clause-done : goal.returns-in-Drone-clause-done

@@ -1,9 +1,9 @@
 use Rattle.std.proofs.Common.{◌≡◌, List, Some, slice_get, option_map, subst}
-use Rattle.fleet_world.specs.WorldState.{Node, node_name}
+use Rattle.node_reports.specs.Nodes.{Node, node_name}
 use Rattle.fleet_world.specs.WorldView.{IsFleet, WorldView}
 use Rattle.fleet_world.specs.NodeSteps.{datagram_of}
 use Rattle.fleet_world.proofs.WorldCalls.{call_outcome, call_error}
-use Rattle.fleet_world.proofs.ListedValues.{calls_known}
+use Rattle.fleet_world.proofs.ListedCalls.{calls_known}
 use Rattle.fleet_world.proofs.world.World.call_at.Goals as goal
 
 pub returns-clause-done : goal.returns-clause-done

@@ -1,6 +1,6 @@
 use Rattle.std.proofs.Common.{◌≡◌, List, length, subst}
 use Rattle.std.proofs.lemmas.Result.{err_from_is_err_and}
-use Rattle.fleet_world.specs.WorldState.{Node}
+use Rattle.node_reports.specs.Nodes.{Node}
 use Rattle.fleet_world.specs.WorldView.{IsFleet, WorldView}
 use Rattle.fleet_world.proofs.Leading.{given_start, given_more, given_error, given_end}
 use Rattle.fleet_world.proofs.world.World.give_to_all.Goals as goal

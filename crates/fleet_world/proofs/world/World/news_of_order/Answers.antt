@@ -1,9 +1,9 @@
 use Rattle.std.specs.Prelude.{IfOk}
 use Rattle.std.proofs.Common.{◌≡◌, List, Some, slice_get, subst}
 use Rattle.mav_nodes.specs.Nodes.{StationSide, station_obeys}
-use Rattle.fleet_world.specs.WorldState.{Node, Station}
+use Rattle.node_reports.specs.Nodes.{Node, Station}
+use Rattle.node_reports.specs.Calls.{as_station}
 use Rattle.fleet_world.specs.WorldView.{IsFleet, WorldView}
-use Rattle.fleet_world.specs.Steps.{as_station}
 use Rattle.fleet_world.specs.Promises.{Moved, Follows}
 use Rattle.fleet_world.proofs.world.World.news_of_order.Goals as goal
 

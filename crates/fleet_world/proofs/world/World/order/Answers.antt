@@ -1,5 +1,6 @@
 use Rattle.std.proofs.Common.{◌≡◌, List, Some, position, subst}
-use Rattle.fleet_world.specs.WorldState.{Node, is_station_named}
+use Rattle.node_reports.specs.Nodes.{Node}
+use Rattle.fleet_world.specs.WorldState.{is_station_named}
 use Rattle.fleet_world.specs.WorldView.{IsFleet, WorldView}
 use Rattle.fleet_world.proofs.Ordering.{order_outcome, order_error}
 use Rattle.fleet_world.proofs.world.World.order.Goals as goal

@@ -1,5 +1,5 @@
 use Rattle.std.proofs.Common.{ap}
-use Rattle.fleet_world.specs.WorldState.{Drone, Station}
+use Rattle.node_reports.specs.Nodes.{Drone, Station}
 use Rattle.mav_nodes.specs.Nodes.{drone_beats, drone_ticks, drone_sims, station_beats, station_ticks}
 use Rattle.live_node.specs.declared.nodes.Due.{Due}
 use Rattle.live_node.specs.Calls.{call_does}

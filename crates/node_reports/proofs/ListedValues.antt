@@ -36,15 +36,11 @@ use Rattle.mav_nodes.specs.Services.{ServiceStep, DroneServices, drone_flies, si
 use Rattle.mav_nodes.specs.Links.{Link, Outcome, done, behind, and_then, tries, sends, sends_all}
 use Rattle.mav_nodes.specs.Steps.{Side, Rules, CoreStep, answers, with_core, steps, serves, serves_if, takes, admits, hears, hears_all, hears_keeping, receives}
 use Rattle.mav_nodes.specs.Nodes.{DroneSide, StationSide, change_events, told_events, drone_rules, drone_rules_keeping, drone_receives, drone_beats, drone_ticks, drone_sims, drone_heartbeat, drone_waits, station_rules, station_does, station_heartbeat, services_tick, station_ticks, station_beats, station_obeys}
-use Rattle.mav_nodes.specs.Restarts.{restarted_drone}
 use Rattle.mav_nodes.specs.declared.orders.Order.{Order}
 use Rattle.mav_nodes.specs.declared.orders.Order.TheVariants.{Begin, Cancel, Clear, Get, Command, ParamRead, ParamSet, ParamList, File}
-use Rattle.fleet_world.specs.WorldState.{Node, Drone, Station}
-use Rattle.fleet_world.specs.declared.calls.Call.{Call}
-use Rattle.fleet_world.specs.declared.calls.Call.TheVariants.{Take, Noise, Heartbeat, Tick, Sim, Restart}
-use Rattle.fleet_world.specs.Steps.{as_drone, as_station}
-use Rattle.fleet_world.specs.NodeSteps.{node_called}
-use Rattle.fleet_world.specs.ParamLists.{params_of, HasValues, HaveValues}
+use Rattle.node_reports.specs.Nodes.{Node, Drone, Station}
+use Rattle.node_reports.specs.Calls.{as_drone, as_station, node_receives, node_beats, node_ticks, node_flies}
+use Rattle.node_reports.specs.ParamLists.{params_of, HasValues, HaveValues}
 
 -- ---- events among which no list ends
 
@@ -418,28 +414,22 @@ station_hears_known clock packets n =
     station_known n.services _ (hears_all-did StationListed station_quiet station_both station_rules clock (λ core s from m. station_quiet s [] tt)
     (λ core from m. told_quiet (station_step core from m).station.outcome) (λ core s from m. served s from m) packets n)
 
--- the calls of a world
-pub receives_known : (clock : ℕ) (datagram : List ℕ) (node : Node) → ListsKnown (node_called (Noise datagram) datagram clock node)
+-- the calls of either
+pub receives_known : (clock : ℕ) (datagram : List ℕ) (node : Node) → ListsKnown (node_receives clock datagram node)
 receives_known clock datagram (Drone n) = drone_known n.services _ (drone_receiving clock datagram n)
 receives_known clock datagram (Station n) = station_hears_known clock (frames_of (final_parse n.link.extras false datagram)) n
 
-beats_known : (clock : ℕ) (node : Node) → ListsKnown (node_called Heartbeat [] clock node)
+pub beats_known : (clock : ℕ) (node : Node) → ListsKnown (node_beats clock node)
 beats_known clock (Drone n) = drone_beats_known clock n
 beats_known clock (Station n) = station_beats_known clock n
 
-ticks_known : (clock : ℕ) (node : Node) → ListsKnown (node_called Tick [] clock node)
+pub ticks_known : (clock : ℕ) (node : Node) → ListsKnown (node_ticks clock node)
 ticks_known clock (Drone n) = drone_ticks_known clock n
 ticks_known clock (Station n) = station_ticks_known clock n
 
-pub calls_known : (call : Call) (datagram : List ℕ) (clock : ℕ) (node : Node) → ListsKnown (node_called call datagram clock node)
-calls_known (Take number) datagram clock node = receives_known clock datagram node
-calls_known (Noise bytes) datagram clock node = receives_known clock datagram node
-calls_known Heartbeat datagram clock node = beats_known clock node
-calls_known Tick datagram clock node = ticks_known clock node
-calls_known Sim datagram clock (Drone n) = drone_sims_known clock n
-calls_known Sim datagram clock (Station n) = tt
-calls_known (Restart key) datagram clock (Drone n) = drone_known (restarted_drone key n).services _ (drone_beating clock (restarted_drone key n))
-calls_known (Restart key) datagram clock (Station n) = tt
+pub flies_known : (clock : ℕ) (node : Node) → ListsKnown (node_flies clock node)
+flies_known clock (Drone n) = drone_sims_known clock n
+flies_known clock (Station n) = tt
 
 order_known : (clock : ℕ) (n : StationSide) (step : StationStep) → ListsKnown (as_station (steps clock n.link n.services (station_does step)))
 order_known clock n step = station_known n.services _ (steps_known clock n step)

@@ -1,14 +1,9 @@
 -- Reports of events, one after another.
-use Rattle.std.specs.Prelude.{OnOk}
-use Rattle.std.proofs.Common.{◌≡◌, List, [], ◌∷◌, ◌++◌, ℕ, Bool, Result, Ok, Err, refl, sym, ap, subst, ◌∙◌, append_assoc}
+use Rattle.std.proofs.Common.{◌≡◌, List, [], ◌∷◌, ◌++◌, ℕ, Bool, refl, sym, ap, ◌∙◌, append_assoc}
 use Rattle.std.proofs.lemmas.List.{append-nil}
 use Rattle.fleet_report.specs.Events.{Event, event_text, events_text}
 use Rattle.fleet_report.specs.Reports.{ReportState, with_text, reported}
-use Rattle.fleet_world.specs.WorldState.{WorldState}
-use Rattle.fleet_world.specs.WorldView.{WorldView, IsState}
-use Rattle.fleet_world.specs.Steps.{Step, StepError}
-use Rattle.fleet_world.specs.NodeSteps.{reports}
-use Rattle.fleet_world.specs.Promises.{WorldOutcome, Quietly}
+use Rattle.node_reports.specs.Reporting.{reports}
 
 pub events_text-append : (frames : Bool) (xs ys : List Event) → events_text frames (xs ++ ys) ≡ events_text frames xs ++ events_text frames ys
 events_text-append frames [] ys = refl
@@ -32,13 +27,3 @@ reports-both report xs ys =
 
 pub reports-one : (report : ReportState) (event : Event) → reported report event ≡ reports report (event ∷ [])
 reports-one report event = ap (with_text report) (sym (append-nil (event_text report.frames event)))
-
--- without an event
-quiet : (step : Result Step StepError) (frames : Bool) (w : WorldView) (report : ReportState) → Quietly step frames w → WorldOutcome step frames w report report
-quiet (Err error) frames w report h = h
-quiet (Ok t) frames w report h = (h.0, sym (ap (reports report) h.1 ∙ reports-none report))
-
-pub quiet_outcome : {T E : Type 0} (r : Result T E) (w last : WorldView) (report : ReportState) (does is : WorldState → Result Step StepError) → ((state : WorldState) → does state ≡ is state) → OnOk r ((state : WorldState) → IsState state w.frames w → Quietly (does state) w.frames last) → OnOk r ((state : WorldState) → IsState state w.frames w → WorldOutcome (is state) w.frames last report report)
-quiet_outcome (Err e) w last report does is same did = tt
-quiet_outcome (Ok t) w last report does is same did = λ state h.
-    subst (λ (step : Result Step StepError). WorldOutcome step w.frames last report report) (same state) (quiet (does state) w.frames last report (did state h))

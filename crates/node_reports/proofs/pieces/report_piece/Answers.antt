@@ -1,5 +1,5 @@
-use Rattle.fleet_world.proofs.NewsReports.{frame_said, file_untold, said_raw}
-use Rattle.fleet_world.proofs.events.report_piece.Goals as goal
+use Rattle.node_reports.proofs.NewsPieces.{frame_said, file_untold, said_raw}
+use Rattle.node_reports.proofs.pieces.report_piece.Goals as goal
 
 pub returns-in-Sent : goal.returns-in-Sent
 returns-in-Sent c = frame_said _ _ _ _ _ _ _ _ _ c.in-Sent.is (said_raw _ _ _ _ _ _ _ c.raw.ensures c.sent.ensures)

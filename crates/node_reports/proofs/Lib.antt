@@ -1,0 +1,3 @@
+pub mod Reporting
+pub mod NewsPieces
+pub mod ListedValues
