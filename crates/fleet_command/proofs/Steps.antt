@@ -1,6 +1,6 @@
 -- What one line, or one byte, does to a scenario that is being played.
-use Rattle.std.proofs.Common.{◌≡◌, ◌∙◌, inl, inr, ℕ, ◌+◌, ◌<◌, ◌≤◌, Bool, true, false, List, [], ◌∷◌, ◌++◌, refl, sym, subst, ap, arith, length, length-append, append_assoc, append-nil, Some, None, Option, option_map, Result, Ok, Err, ltb, IfErr, suc, take, drop, get_or, drop-cons, take-append-drop}
-use Rattle.std.proofs.lemmas.Bool.{cases_Bool, lt-ltb, le-ltb, ne_eqb}
+use Rattle.std.proofs.Common.{◌≡◌, ◌∙◌, inl, inr, ℕ, ◌+◌, ◌<◌, ◌≤◌, Bool, true, false, List, [], ◌∷◌, ◌++◌, refl, sym, subst, ap, length, append_assoc, append-nil, Some, None, Option, option_map, Result, Ok, Err, ltb, IfErr}
+use Rattle.std.proofs.lemmas.Bool.{cases_Bool}
 use Rattle.std.specs.Io.KnownBytes.{append_known}
 use Rattle.mav_ports.specs.Puts.{SentPrefix}
 use Rattle.mav_ports.proofs.Known.{append_known_twice, append_known_nil, sent_in}
@@ -8,7 +8,6 @@ use Rattle.scenario_lines.specs.declared.faults.Reason.{Reason}
 use Rattle.scenario_lines.specs.declared.lines.Line.{Line}
 use Rattle.scenario_lines.specs.Grammar.{line_of}
 use Rattle.scenario_lines.specs.Reasons.{reason_against}
-use Rattle.plan_items.specs.declared.items.Item.{Item}
 use Rattle.fleet_report.specs.Reports.{ReportState}
 use Rattle.fleet_world.specs.WorldState.{WorldState, empty_state, context_of}
 use Rattle.fleet_world.specs.WorldView.{WorldView, IsState, context_in}
@@ -17,11 +16,12 @@ use Rattle.fleet_world.specs.declared.faults.WorldFault.{WorldFault}
 use Rattle.fleet_world.specs.declared.faults.WorldFault.TheVariants.{Limit, Node, NoMemory as NoWorldMemory}
 use Rattle.fleet_world.specs.Promises.{IsStep, IsStepError}
 use Rattle.fleet_world.specs.Steps.{Step, StepError, At_limit, Stamps_spent, after_line, closing_text}
-use Rattle.fleet_world.specs.Scenario.{Played, ScenarioError, Bad, Too_many_lines, Not_done, stopped, goes_on, judged, line_played, last_played, at_start, played, report_of, whole_report}
-use Rattle.scenario_lines.specs.FileLines.{most_lines, without_cr}
+use Rattle.fleet_world.specs.Scenario.{Played, ScenarioError, Bad, Not_done, goes_on, judged, line_played, last_played, at_start, played, report_of, whole_report}
+use Rattle.scenario_lines.specs.FileLines.{most_lines}
 use Rattle.run_status.specs.declared.run_ends.RunEnd.{RunEnd}
 use Rattle.run_status.specs.declared.run_ends.RunEnd.TheVariants.{Usage, Stopped, ReadFault, WriteFault, NoMemory, TurnsSpent, Live}
 use Rattle.run_status.specs.declared.input_errors.InputError.{InputError}
+use Rattle.fleet_world.proofs.Contexts.{context_is}
 use Rattle.fleet_command.specs.Spec.{reported_error}
 use Rattle.fleet_command.specs.Plays.{scenario_rules, plays, long_line_end, Holds, Reading, StoppedBy, HaltedAt, Finished, Leads, FailsAs}
 use Rattle.line_input.specs.LineRules.{unless_stopped}
@@ -32,10 +32,7 @@ use Rattle.fleet_command.proofs.Grows.{Grows, events_text-append, grows_judged, 
 
 -- what a world's lines are read against is what its state's are
 context_same : (state : WorldState) (frames : Bool) (world : WorldView) → IsState state frames world → context_of state ≡ context_in world
-context_same state frames world here =
-    ap (λ names. record { nodes = names; drafted = length state.draft; clock = state.clock }) (sym here.fleet.names)
-    ∙ ap (λ (draft : List Item). record { nodes = world.fleet.roster; drafted = length draft; clock = state.clock }) (sym here.draft)
-    ∙ ap (λ clock. record { nodes = world.fleet.roster; drafted = length world.draft; clock = clock }) (sym here.clock)
+context_same state frames world here = sym (context_is state frames world here)
 
 -- a world knows whether its reports print frames whole
 own : (state : WorldState) (frames : Bool) (world : WorldView) → IsState state frames world → IsState state world.frames world
@@ -95,9 +92,14 @@ module _ (key : List ℕ) (frames : Bool) where
       subst (λ q. SentPrefix before now (report_of frames q)) (sym (this_good p old_world number text line holds.here good said))
       (goes_front p (after_line p.state line) world report before old now holds.sent (did p old_world world line report before old holds step) front)
 
-  pub line_bad : (p : Played) (world : WorldView) (number : ℕ) (text : List ℕ) (reason : Reason) (before now : Option (List ℕ)) → Holds frames p world before now → reason_against (context_in world) text ≡ Some reason → StoppedBy frames (reported_error (Bad number reason)) (this p number text) before now
+  line_bad : (p : Played) (world : WorldView) (number : ℕ) (text : List ℕ) (reason : Reason) (before now : Option (List ℕ)) → Holds frames p world before now → reason_against (context_in world) text ≡ Some reason → StoppedBy frames (reported_error (Bad number reason)) (this p number text) before now
   line_bad p world number text reason before now holds bad =
       subst (λ q. StoppedBy frames (reported_error (Bad number reason)) q before now) (sym (ap (judged p number text) (ap (λ s. reason_against s text) (context_same p.state frames world holds.here) ∙ bad))) (refl, holds.sent)
+
+  -- and this is its end of the run
+  pub line_rejected : (p : Played) (world : WorldView) (number : ℕ) (text : List ℕ) (reason : Reason) (run_end : RunEnd) (before now : Option (List ℕ)) → Holds frames p world before now → reason_against (context_in world) text ≡ Some reason → run_end ≡ Stopped (reported_error (Bad number reason)) → HaltedAt frames run_end (this p number text) (report_of frames (this p number text)) before now
+  line_rejected p world number text reason run_end before now holds bad is =
+      subst (λ h. HaltedAt frames h (this p number text) (report_of frames (this p number text)) before now) (sym is) (line_bad p world number text reason before now holds bad)
 
   pub line_halts : (p : Played) (world : WorldView) (number : ℕ) (text : List ℕ) (line : Line) (run_end : StepError) (before now : Option (List ℕ)) → Holds frames p world before now → reason_against (context_in world) text ≡ None → line ≡ line_of text → after_line p.state line ≡ Err run_end → StoppedBy frames (reported_error (Not_done run_end)) (this p number text) before now
   line_halts p world number text line run_end before now holds good said at =

@@ -9,8 +9,8 @@ use Rattle.node_reports.specs.Nodes.{Node, Drone, Station, node_name}
 use Rattle.node_reports.specs.Calls.{node_receives, node_flies}
 use Rattle.fleet_world.specs.WorldState.{WorldState, named}
 use Rattle.mav_nodes.specs.Nodes.{StationSide}
-use Rattle.scenario_lines.specs.declared.roster.Named.{Named}
-use Rattle.scenario_lines.specs.declared.roster.Role.TheVariants.{Drone as DroneRole, Station as StationRole}
+use Rattle.scenario_lines.specs.declared.naming.Named.{Named}
+use Rattle.scenario_lines.specs.declared.naming.Role.TheVariants.{Drone as DroneRole, Station as StationRole}
 use Rattle.fleet_world.specs.Steps.{Step, StepError, and_then, given_to, given_from, given_to_all, flow_next, flows, calls, flies}
 use Rattle.fleet_invariants.specs.Sound.{Sound}
 use Rattle.fleet_invariants.specs.Kept.{Kept, StepKeeps, Keeps}

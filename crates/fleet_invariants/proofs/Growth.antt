@@ -7,7 +7,7 @@ use Rattle.mav_profile.specs.Profile.{profile_definitions}
 use Rattle.mav_frame.specs.Packet.{Packet}
 use Rattle.mav_nodes.specs.Links.{Link}
 use Rattle.mav_nodes.specs.Signed.{signed_packet}
-use Rattle.scenario_lines.specs.declared.roster.Named.{Named}
+use Rattle.scenario_lines.specs.declared.naming.Named.{Named}
 use Rattle.node_reports.specs.Nodes.{Node, Drone, Station, node_name}
 use Rattle.fleet_world.specs.WorldState.{WorldState, named, stream_of}
 use Rattle.fleet_invariants.specs.Sound.{Holds, IsSent, WasStamped, SoundLink}

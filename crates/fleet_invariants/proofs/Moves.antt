@@ -18,9 +18,9 @@ use Rattle.mav_nodes.specs.Links.{Link}
 use Rattle.mav_nodes.specs.Payloads.{ItemFits, ServiceFits}
 use Rattle.mav_nodes.specs.Signed.{signed_packet}
 use Rattle.plan_ranges.specs.Ranges.{ItemInRange}
-use Rattle.scenario_lines.specs.declared.roster.Named.{Named}
-use Rattle.scenario_lines.specs.declared.roster.Role.{Role}
-use Rattle.scenario_lines.specs.declared.roster.Role.TheVariants.{Drone as DroneRole, Station as StationRole}
+use Rattle.scenario_lines.specs.declared.naming.Named.{Named}
+use Rattle.scenario_lines.specs.declared.naming.Role.{Role}
+use Rattle.scenario_lines.specs.declared.naming.Role.TheVariants.{Drone as DroneRole, Station as StationRole}
 use Rattle.node_reports.specs.Nodes.{Node, Drone, Station, node_name}
 use Rattle.fleet_world.specs.WorldState.{WorldState, named, names_of, stream_of, drones_in, stations_in}
 use Rattle.fleet_world.specs.Steps.{most_frames, most_drones, most_stations, most_restarts}

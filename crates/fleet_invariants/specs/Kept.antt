@@ -15,8 +15,8 @@ use Rattle.mav_nodes.specs.Links.{Outcome}
 use Rattle.mav_nodes.specs.Payloads.{plan_in, service_in, service_of}
 use Rattle.scenario_lines.specs.declared.lines.Line.{Line}
 use Rattle.scenario_lines.specs.declared.lines.Line.TheVariants.{Blank, Drone as DroneLine, Station as StationLine, Item as OneItem, Items, Empty, Begin, Cancel, Clear, Get, Command, Params, Heartbeat, Deliver, Flow, Noise, Tick, Clock, Restart, Sim, WhereIs}
-use Rattle.scenario_lines.specs.declared.roster.Named.{Named}
-use Rattle.scenario_lines.specs.declared.roster.Role.TheVariants.{Drone as DroneRole, Station as StationRole}
+use Rattle.scenario_lines.specs.declared.naming.Named.{Named}
+use Rattle.scenario_lines.specs.declared.naming.Role.TheVariants.{Drone as DroneRole, Station as StationRole}
 use Rattle.plan_ranges.specs.Ranges.{Is8, Is16, Is32, ItemInRange}
 use Rattle.drone_sim.specs.Laws.{PointInRange}
 use Rattle.node_reports.specs.Nodes.{Node}

@@ -25,7 +25,7 @@ use Rattle.mav_nodes.specs.Links.{Link, Outcome, done, behind, sent_at}
 use Rattle.mav_nodes.specs.Signed.{signed_packet}
 use Rattle.mav_nodes.specs.Steps.{CoreStep, with_core, steps}
 use Rattle.mav_nodes.specs.Nodes.{DroneSide, StationSide, station_does, station_begins, told_events}
-use Rattle.scenario_lines.specs.declared.roster.Named.{Named}
+use Rattle.scenario_lines.specs.declared.naming.Named.{Named}
 use Rattle.scenario_lines.specs.declared.lines.Line.TheVariants.{Begin}
 use Rattle.scenario_lines.specs.LineContext.{drone_name}
 use Rattle.node_reports.specs.Nodes.{Node, Drone, Station, node_name}

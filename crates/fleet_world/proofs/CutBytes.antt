@@ -1,10 +1,11 @@
 -- Parts of one list of bytes.
-use Rattle.std.proofs.Common.{◌≡◌, ℕ, zero, suc, ◌+◌, ◌-◌, ◌≤◌, List, [], ◌∷◌, ◌++◌, length, take, drop, slice_get, option_map, Option, Some, None, refl, sym, ap, ◌∙◌, subst, arith, length-append, length-drop}
+use Rattle.std.proofs.Common.{◌≡◌, Bool, IsTrue, ℕ, zero, suc, ◌+◌, ◌-◌, ◌≤◌, List, [], ◌∷◌, ◌++◌, length, take, drop, slice_get, option_map, Option, Some, None, refl, sym, ap, ◌∙◌, subst, arith, length-append, length-drop}
 use Rattle.std.proofs.lemmas.List.{take-append-le, drop-append-le}
 use Rattle.mav_names.specs.declared.names.Name.{Name}
 use Rattle.fleet_world.specs.declared.sent.Span.{Span}
+use Rattle.mav_sign.specs.Signing.{BytesVerify}
 use Rattle.fleet_world.specs.WorldView.{Kept, bytes_of}
-use Rattle.fleet_world.specs.Cuts.{cut, cuts, AreWithin, behind}
+use Rattle.fleet_world.specs.Cuts.{cut, cuts, AreWithin, AreSigned, behind}
 
 pub cuts_length : (bytes : List ℕ) (spans : List Span) → length (cuts bytes spans) ≡ length spans
 cuts_length bytes [] = refl
@@ -57,8 +58,8 @@ whole : (more : List ℕ) (n : ℕ) → n ≡ length more → take n more ≡ mo
 whole [] n e = rw e
 whole (b ∷ bs) n e = rw e (ap (λ (l : List ℕ). b ∷ l) (whole bs (length bs) refl))
 
-cut_last : (from : Name) (bytes more : List ℕ) → cut (bytes ++ more) (behind from bytes more) ≡ (from, more)
-cut_last from bytes more =
+cut_last : (from : Name) (signed : Bool) (bytes more : List ℕ) → cut (bytes ++ more) (behind from signed bytes more) ≡ (from, more)
+cut_last from signed bytes more =
     let behind : drop (length bytes) (bytes ++ more) ≡ drop (length bytes) bytes ++ more = drop-append-le (length bytes) bytes more (omega arith) in
     let none : drop (length bytes) bytes ≡ [] = drop_all bytes in
     let size : length bytes + length more - length bytes ≡ length more = omega arith in
@@ -71,16 +72,16 @@ cut_last from bytes more =
     drop_all (x ∷ xs) = drop_all xs
 
 -- a part more, after bytes that come after
-pub pushed : (from : Name) (bytes more b : List ℕ) (spans ps : List Span) (p : Span) (kept : List Kept) → AreWithin bytes spans → cuts bytes spans ≡ kept → p ≡ behind from bytes more → b ≡ bytes ++ more → ps ≡ spans ++ p ∷ [] → cuts b ps ≡ kept ++ (from, more) ∷ []
-pushed from bytes more b spans ps p kept all view is joined more_spans =
+pub pushed : (from : Name) (signed : Bool) (bytes more b : List ℕ) (spans ps : List Span) (p : Span) (kept : List Kept) → AreWithin bytes spans → cuts bytes spans ≡ kept → p ≡ behind from signed bytes more → b ≡ bytes ++ more → ps ≡ spans ++ p ∷ [] → cuts b ps ≡ kept ++ (from, more) ∷ []
+pushed from signed bytes more b spans ps p kept all view is joined more_spans =
     ap (λ (l : List Span). cuts b l) more_spans
     ∙ ap (λ (l : List ℕ). cuts l (spans ++ p ∷ [])) joined
     ∙ cuts-push (bytes ++ more) spans p
     ∙ ap (λ (front : List Kept). front ++ cut (bytes ++ more) p ∷ []) (cuts_stay bytes more spans all ∙ view)
-    ∙ ap (λ (one : Kept). kept ++ one ∷ []) (ap (cut (bytes ++ more)) is ∙ cut_last from bytes more)
+    ∙ ap (λ (one : Kept). kept ++ one ∷ []) (ap (cut (bytes ++ more)) is ∙ cut_last from signed bytes more)
 
-pub pushed_within : (from : Name) (bytes more b : List ℕ) (spans ps : List Span) (p : Span) → AreWithin bytes spans → p ≡ behind from bytes more → b ≡ bytes ++ more → ps ≡ spans ++ p ∷ [] → AreWithin b ps
-pushed_within from bytes more b spans ps p all is joined more_spans =
+pub pushed_within : (from : Name) (signed : Bool) (bytes more b : List ℕ) (spans ps : List Span) (p : Span) → AreWithin bytes spans → p ≡ behind from signed bytes more → b ≡ bytes ++ more → ps ≡ spans ++ p ∷ [] → AreWithin b ps
+pushed_within from signed bytes more b spans ps p all is joined more_spans =
     let order : p.start ≤ p.end = subst (λ (q : Span). q.start ≤ q.end) (sym is) (omega arith) in
     let below : p.end ≤ length (bytes ++ more) = subst (λ (q : Span). q.end ≤ length (bytes ++ more)) (sym is) (omega (arith, length-append bytes more)) in
     subst (λ (l : List Span). AreWithin b l) (sym more_spans)
@@ -92,6 +93,30 @@ pub kept_within : (bytes more b : List ℕ) (spans ps : List Span) → AreWithin
 kept_within bytes more b spans ps all joined same =
     subst (λ (l : List Span). AreWithin b l) (sym same)
     (subst (λ (l : List ℕ). AreWithin l spans) (sym joined) (within_more bytes more spans all))
+
+-- so are those that were signed
+signed_more : (key bytes more : List ℕ) (spans : List Span) → AreWithin bytes spans → AreSigned key bytes spans → AreSigned key (bytes ++ more) spans
+signed_more key bytes more [] all signed = tt
+signed_more key bytes more (p ∷ ps) all signed =
+    (λ is. subst (λ (one : Kept). BytesVerify key one.1) (sym (cut_stays bytes more p all.0 all.1)) (signed.0 is), signed_more key bytes more ps all.2 signed.1)
+
+signed-push : (key bytes : List ℕ) (spans : List Span) (p : Span) → AreSigned key bytes spans → (IsTrue p.signed → BytesVerify key (cut bytes p).1) → AreSigned key bytes (spans ++ p ∷ [])
+signed-push key bytes [] p signed last = (last, tt)
+signed-push key bytes (q ∷ qs) p signed last = (signed.0, signed-push key bytes qs p signed.1 last)
+
+pub kept_signed : (key bytes more b : List ℕ) (spans ps : List Span) → AreWithin bytes spans → AreSigned key bytes spans → b ≡ bytes ++ more → ps ≡ spans → AreSigned key b ps
+kept_signed key bytes more b spans ps all signed joined same =
+    subst (λ (l : List Span). AreSigned key b l) (sym same)
+    (subst (λ (l : List ℕ). AreSigned key l spans) (sym joined) (signed_more key bytes more spans all signed))
+
+pub pushed_signed : (key : List ℕ) (from : Name) (known : Bool) (bytes more b : List ℕ) (spans ps : List Span) (p : Span) → AreWithin bytes spans → AreSigned key bytes spans → (IsTrue known → BytesVerify key more) → p ≡ behind from known bytes more → b ≡ bytes ++ more → ps ≡ spans ++ p ∷ [] → AreSigned key b ps
+pushed_signed key from known bytes more b spans ps p all signed last is joined more_spans =
+    let same : (cut (bytes ++ more) p).1 ≡ more = ap (λ (q : Span). (cut (bytes ++ more) q).1) is ∙ ap (λ (one : Kept). one.1) (cut_last from known bytes more) in
+    let flag : p.signed ≡ known = ap (λ (q : Span). q.signed) is in
+    subst (λ (l : List Span). AreSigned key b l) (sym more_spans)
+    (subst (λ (l : List ℕ). AreSigned key l (spans ++ p ∷ [])) (sym joined)
+    (signed-push key (bytes ++ more) spans p (signed_more key bytes more spans all signed)
+    (λ told. subst (BytesVerify key) (sym same) (last (subst IsTrue flag told)))))
 
 -- a look-up of a part
 found_cut : (bytes : List ℕ) (spans look : List Span) (kept : List Kept) (k : ℕ) (o : Option Span) → cuts bytes spans ≡ kept → look ≡ spans → o ≡ slice_get look k → option_map (cut bytes) o ≡ slice_get kept k
@@ -113,3 +138,14 @@ part_found bytes spans look kept k o view is found = ap bytes_of (found_cut byte
 pub span_within : (bytes : List ℕ) (spans look : List Span) (k : ℕ) (at : Span) → AreWithin bytes spans → look ≡ spans → Some at ≡ slice_get look k → IsWithin bytes at
 span_within bytes spans look k at all is found =
     within_at bytes spans k at all (sym (found ∙ ap (λ (l : List Span). slice_get l k) is))
+
+signed_at : (key bytes : List ℕ) (spans : List Span) (k : ℕ) (span : Span) → AreSigned key bytes spans → slice_get spans k ≡ Some span → IsTrue span.signed → BytesVerify key (cut bytes span).1
+signed_at key bytes [] k span all found told = cc
+signed_at key bytes (p ∷ ps) zero span all found told =
+    let same : p ≡ span = cc in
+    subst (λ (q : Span). BytesVerify key (cut bytes q).1) same (all.0 (subst (λ (q : Span). IsTrue q.signed) (sym same) told))
+signed_at key bytes (p ∷ ps) (suc k) span all found told = signed_at key bytes ps k span all.1 found told
+
+pub span_signed : (key bytes : List ℕ) (spans look : List Span) (k : ℕ) (at : Span) → AreSigned key bytes spans → look ≡ spans → Some at ≡ slice_get look k → IsTrue at.signed → BytesVerify key (cut bytes at).1
+span_signed key bytes spans look k at all is found =
+    signed_at key bytes spans k at all (sym (found ∙ ap (λ (l : List Span). slice_get l k) is))

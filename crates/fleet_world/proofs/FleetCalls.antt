@@ -1,7 +1,8 @@
 -- A node of a fleet is called.
-use Rattle.std.proofs.Common.{◌≡◌, ℕ, ◌<◌, ◌≤◌, List, [], ◌∷◌, ◌++◌, length, get_or, slice_get, slice_set, Option, Some, None, Result, Ok, Err, Vec, Global, sym, ap, ◌∙◌, subst, arith}
-use Rattle.std.specs.Prelude.{IfOk, IfErr, OnOk}
-use Rattle.std.proofs.lemmas.Option.{slice_get_read, slice_get_past}
+use Rattle.std.proofs.Common.{◌≡◌, ℕ, ◌<◌, List, [], ◌∷◌, ◌++◌, length, get_or, slice_get, slice_set, Option, Some, None, Result, Ok, Err, Vec, Global, refl, sym, ap, ◌∙◌, subst}
+use Rattle.std.specs.Prelude.{IfOk, IfErr}
+use Rattle.std.proofs.lemmas.List.{length-set}
+use Rattle.std.proofs.lemmas.Option.{slice_get_read}
 use Rattle.mav_nodes.specs.declared.faults.NodeFault.{NodeFault}
 use Rattle.mav_nodes.specs.declared.faults.NodeFault.TheVariants.{StampsSpent, Store, NoMemory}
 use Rattle.mav_nodes.specs.Links.{Outcome}
@@ -14,28 +15,35 @@ use Rattle.mav_nodes.specs.Nodes.{StationSide, station_obeys}
 use Rattle.mav_nodes.specs.declared.orders.Order.{Order}
 use Rattle.mav_nodes.specs.declared.faults.OrderFault.{OrderFault}
 use Rattle.mav_nodes.specs.declared.faults.OrderFault.TheVariants.{Begin as BeginFails, Op as OpFails, Command as CommandFails, Param as ParamFails, File as FileFails, Node as StationFails}
-use Rattle.fleet_world.specs.WorldState.{named}
-use Rattle.fleet_world.specs.WorldView.{IsNode, Fleet, IsFleet}
+use Rattle.fleet_world.specs.WorldView.{IsNode, AreNodes, Fleet, IsFleet}
 use Rattle.fleet_world.specs.Promises.{NodeOutcome, Moved, FleetOutcome, CallFails, Follows, Refuses}
 use Rattle.fleet_world.specs.StoredDrones.{FailsBy}
-use Rattle.fleet_world.proofs.NodeLists.{AtPlace, none, one, at_index, fleet_set, fleet_push}
-use Rattle.fleet_world.proofs.KeptNames.{KeepsName, obeys_keeps}
+use Rattle.fleet_world.proofs.NodeLists.{AtPlace, none, one, at_index, are_nodes-set, are_nodes-push}
+
+-- the node at an index of the nodes
+module _ (inside seen : Fleet) (k : ℕ) (view : ViewNode) (same : inside ≡ seen) (within : k < length seen.nodes) (read : view ≡ get_or inside.nodes k view) where
+  pub view_there : slice_get seen.nodes k ≡ Some view
+  view_there = slice_get_read seen.nodes (length seen.nodes) k view refl within (read ∙ ap (λ (z : Fleet). get_or z.nodes k view) same)
+
+fleet_set : (nodes : List Node) (fleet after : Fleet) (k : ℕ) (new : Node) (view : ViewNode) → IsFleet nodes fleet → IsNode new view → after ≡ record fleet { nodes = slice_set fleet.nodes k view } → IsFleet (slice_set nodes k new) after
+fleet_set nodes fleet after k new view f is e =
+    subst (λ (z : Fleet). AreNodes (slice_set nodes k new) z.nodes) (sym e) (are_nodes-set nodes fleet.nodes k new view f is)
 
 module _ (nodes : List Node) (fleet after : Fleet) (k : ℕ) (call : Node → Outcome Node) (view new : ViewNode) (news : List News) where
-  pub moved : (node : Node) (o : Outcome Node) → KeepsName node o → IsFleet nodes fleet → slice_get nodes k ≡ Some node → after ≡ record fleet { nodes = slice_set fleet.nodes k new } → NodeOutcome o new news → Moved nodes k o after news
-  moved node None keeps f found e did = absurd did
-  moved node (Some d) keeps f found e did = (fleet_set nodes fleet after k node d.node new f found keeps did.0 e, did.1)
+  pub moved : (o : Outcome Node) → IsFleet nodes fleet → after ≡ record fleet { nodes = slice_set fleet.nodes k new } → NodeOutcome o new news → Moved nodes k o after news
+  moved None f e did = absurd did
+  moved (Some d) f e did = (fleet_set nodes fleet after k d.node new f did.0 e, did.1)
 
-  did_at : AtPlace nodes fleet.nodes k → ((node : Node) → IsNode node view → KeepsName node (call node)) → IsFleet nodes fleet → slice_get fleet.nodes k ≡ Some view → after ≡ record fleet { nodes = slice_set fleet.nodes k new } → ((node : Node) → IsNode node view → NodeOutcome (call node) new news) → FleetOutcome nodes k (slice_get nodes k) call after news
-  did_at (none a b) keeps f found e did = cc
-  did_at (one node v a b is) keeps f found e did =
+  did_at : AtPlace nodes fleet.nodes k → IsFleet nodes fleet → slice_get fleet.nodes k ≡ Some view → after ≡ record fleet { nodes = slice_set fleet.nodes k new } → ((node : Node) → IsNode node view → NodeOutcome (call node) new news) → FleetOutcome nodes k (slice_get nodes k) call after news
+  did_at (none a b) f found e did = cc
+  did_at (one node v a b is) f found e did =
       let same : v ≡ view = cc in
       let does : NodeOutcome (call node) new news = did node (subst (IsNode node) same is) in
-      subst (λ (o : Option Node). FleetOutcome nodes k o call after news) (sym a) (moved node (call node) (keeps node (subst (IsNode node) same is)) f a e does)
+      subst (λ (o : Option Node). FleetOutcome nodes k o call after news) (sym a) (moved (call node) f e does)
 
-  -- the node at an index did what it was asked
-  pub fleet_outcome : ((node : Node) → IsNode node view → KeepsName node (call node)) → IsFleet nodes fleet → slice_get fleet.nodes k ≡ Some view → after ≡ record fleet { nodes = slice_set fleet.nodes k new } → ((node : Node) → IsNode node view → NodeOutcome (call node) new news) → FleetOutcome nodes k (slice_get nodes k) call after news
-  fleet_outcome keeps f found e did = did_at (at_index nodes fleet.nodes k f.are) keeps f found e did
+  -- the node at the index did what it was asked
+  pub fleet_outcome : IsFleet nodes fleet → slice_get fleet.nodes k ≡ Some view → after ≡ record fleet { nodes = slice_set fleet.nodes k new } → ((node : Node) → IsNode node view → NodeOutcome (call node) new news) → FleetOutcome nodes k (slice_get nodes k) call after news
+  fleet_outcome f found e did = did_at (at_index nodes fleet.nodes k f) f found e did
 
 call_fails_by : (fault : NodeFault) (node : Node) (call : Node → Outcome Node) → FailsBy fault (call node) → CallFails fault (Some node) call
 call_fails_by StampsSpent node call h = h
@@ -50,48 +58,33 @@ fails_at fault nodes seen k call view (one node v a b is) found fails =
 
 -- it failed
 pub fleet_fails : (fault : NodeFault) (nodes : List Node) (fleet : Fleet) (k : ℕ) (call : Node → Outcome Node) (view : ViewNode) → IsFleet nodes fleet → slice_get fleet.nodes k ≡ Some view → ((node : Node) → IsNode node view → FailsBy fault (call node)) → CallFails fault (slice_get nodes k) call
-fleet_fails fault nodes fleet k call view f found fails = fails_at fault nodes fleet.nodes k call view (at_index nodes fleet.nodes k f.are) found fails
-
-rests_at : (nodes : List Node) (fleet : Fleet) (k : ℕ) (call : Node → Outcome Node) (news : List News) → AtPlace nodes fleet.nodes k → IsFleet nodes fleet → slice_get fleet.nodes k ≡ None → news ≡ [] → FleetOutcome nodes k (slice_get nodes k) call fleet news
-rests_at nodes fleet k call news (none a b) f found e = subst (λ (o : Option Node). FleetOutcome nodes k o call fleet news) (sym a) (f, e)
-rests_at nodes fleet k call news (one node v a b is) f found e = cc
-
--- there is no node at the index
-pub fleet_rests : (nodes : List Node) (fleet : Fleet) (k : ℕ) (call : Node → Outcome Node) (news : List News) → IsFleet nodes fleet → slice_get fleet.nodes k ≡ None → news ≡ [] → FleetOutcome nodes k (slice_get nodes k) call fleet news
-fleet_rests nodes fleet k call news f found e = rests_at nodes fleet k call news (at_index nodes fleet.nodes k f.are) f found e
+fleet_fails fault nodes fleet k call view f found fails = fails_at fault nodes fleet.nodes k call view (at_index nodes fleet.nodes k f) found fails
 
 -- ---- as the calls of a fleet say it
 
-module _ (inside seen after : Fleet) (call : ℕ → Node → Outcome Node) (k n : ℕ) (view new : ViewNode) (same : inside ≡ seen) (size : n ≡ length inside.nodes) (within : k < n) (read : view ≡ get_or inside.nodes k view) where
-  pub call_done : (result : Result (Vec News Global) NodeFault) → ((node : Node) → IsNode node view → KeepsName node (call seen.clock node)) → after ≡ record inside { nodes = slice_set inside.nodes k new } → IfOk result (λ news. (node : Node) → IsNode node view → NodeOutcome (call inside.clock node) new news.items) → IfOk result (λ news. (nodes : List Node) → IsFleet nodes seen → FleetOutcome nodes k (slice_get nodes k) (call seen.clock) after news.items)
-  call_done (Ok news) keeps e did = λ nodes f.
-      fleet_outcome nodes seen after k (call seen.clock) view new news.items keeps f
-      (ap (λ (z : Fleet). slice_get z.nodes k) (sym same) ∙ slice_get_read inside.nodes n k view size within read)
+module _ (inside seen after : Fleet) (call : ℕ → Node → Outcome Node) (k : ℕ) (view new : ViewNode) (same : inside ≡ seen) (within : k < length seen.nodes) (read : view ≡ get_or inside.nodes k view) where
+  pub call_done : (result : Result (Vec News Global) NodeFault) → after ≡ record inside { nodes = slice_set inside.nodes k new } → IfOk result (λ news. (node : Node) → IsNode node view → NodeOutcome (call inside.clock node) new news.items) → IfOk result (λ news. (nodes : List Node) → IsFleet nodes seen → FleetOutcome nodes k (slice_get nodes k) (call seen.clock) after news.items)
+  call_done (Ok news) e did = λ nodes f.
+      fleet_outcome nodes seen after k (call seen.clock) view new news.items f (view_there inside seen k view same within read)
       (e ∙ ap (λ (z : Fleet). record z { nodes = slice_set z.nodes k new }) same)
       (λ node is. subst (λ (z : Fleet). NodeOutcome (call z.clock node) new news.items) same (did node is))
-  call_done (Err fault) keeps e did = tt
+  call_done (Err fault) e did = tt
 
   pub call_fails : (result : Result (Vec News Global) NodeFault) → IfErr result (λ fault. (node : Node) → IsNode node view → FailsBy fault (call inside.clock node)) → IfErr result (λ fault. (nodes : List Node) → IsFleet nodes seen → CallFails fault (slice_get nodes k) (call seen.clock))
   call_fails (Ok news) fails = tt
   call_fails (Err fault) fails = λ nodes f.
-      fleet_fails fault nodes seen k (call seen.clock) view f
-      (ap (λ (z : Fleet). slice_get z.nodes k) (sym same) ∙ slice_get_read inside.nodes n k view size within read)
+      fleet_fails fault nodes seen k (call seen.clock) view f (view_there inside seen k view same within read)
       (λ node seen_is. subst (λ (z : Fleet). FailsBy fault (call z.clock node)) same (fails node seen_is))
 
-pub call_rests : (inside seen : Fleet) (call : Node → Outcome Node) (k n : ℕ) (news : List News) → inside ≡ seen → n ≡ length inside.nodes → n ≤ k → news ≡ [] → (nodes : List Node) → IsFleet nodes seen → FleetOutcome nodes k (slice_get nodes k) call seen news
-call_rests inside seen call k n news same size past e nodes f =
-    let beyond : length inside.nodes ≤ k = omega arith in
-    fleet_rests nodes seen k call news f (ap (λ (z : Fleet). slice_get z.nodes k) (sym same) ∙ slice_get_past inside.nodes k beyond) e
+-- there are as many nodes after it
+pub call_counts : (inside seen after : Fleet) (k : ℕ) (new : ViewNode) → inside ≡ seen → after ≡ record inside { nodes = slice_set inside.nodes k new } → length after.nodes ≡ length seen.nodes
+call_counts inside seen after k new same e = ap (λ (z : Fleet). length z.nodes) e ∙ length-set inside.nodes k new ∙ ap (λ (z : Fleet). length z.nodes) same
 
 -- a node is added
-pub fleet_added : (inside seen after : Fleet) (node : Fleet → Node) (view : ViewNode) → inside ≡ seen → IsNode (node inside) view → after.nodes ≡ inside.nodes ++ view ∷ [] → after.roster ≡ inside.roster ++ named (node inside) ∷ [] → (nodes : List Node) → IsFleet nodes seen → IsFleet (nodes ++ node seen ∷ []) after
-fleet_added inside seen after node view same is more names =
-    subst (λ (z : Fleet). (nodes : List Node) → IsFleet nodes z → IsFleet (nodes ++ node z ∷ []) after) same
-    (λ nodes f. fleet_push nodes inside after (node inside) view f is more names)
-
-pub fleet_joined : {T E : Type 0} (inside seen after : Fleet) (node : Fleet → Node) (view : ViewNode) (result : Result T E) → inside ≡ seen → IsNode (node inside) view → after.nodes ≡ inside.nodes ++ view ∷ [] → OnOk result (after.roster ≡ inside.roster ++ named (node inside) ∷ []) → OnOk result ((nodes : List Node) → IsFleet nodes seen → IsFleet (nodes ++ node seen ∷ []) after)
-fleet_joined inside seen after node view (Err e) same is more names = tt
-fleet_joined inside seen after node view (Ok t) same is more names = fleet_added inside seen after node view same is more names
+pub fleet_added : (inside seen : Fleet) (node : Fleet → Node) (view : ViewNode) (more : List ViewNode) → inside ≡ seen → IsNode (node inside) view → more ≡ inside.nodes ++ view ∷ [] → (nodes : List Node) → IsFleet nodes seen → AreNodes (nodes ++ node seen ∷ []) more
+fleet_added inside seen node view more same is joined =
+    subst (λ (z : Fleet). (nodes : List Node) → IsFleet nodes z → AreNodes (nodes ++ node z ∷ []) more) same
+    (λ nodes f. subst (AreNodes (nodes ++ node inside ∷ [])) (sym joined) (are_nodes-push nodes inside.nodes (node inside) view f is))
 
 -- ---- an order to a station
 
@@ -103,9 +96,9 @@ refuses_weaker clock node order P Q (ParamFails busy) f h = (h.0, f h.1)
 refuses_weaker clock node order P Q (FileFails fault) f h = (h.0, f h.1)
 refuses_weaker clock node order P Q (StationFails fault) f h = h
 
-module _ (inside seen after : Fleet) (k n : ℕ) (view new : ViewNode) (order : Order) (same : inside ≡ seen) (size : n ≡ length inside.nodes) (within : k < n) (read : view ≡ get_or inside.nodes k view) (e : after ≡ record inside { nodes = slice_set inside.nodes k new }) where
+module _ (inside seen after : Fleet) (k : ℕ) (view new : ViewNode) (order : Order) (same : inside ≡ seen) (within : k < length seen.nodes) (read : view ≡ get_or inside.nodes k view) (e : after ≡ record inside { nodes = slice_set inside.nodes k new }) where
   found_there : slice_get seen.nodes k ≡ Some view
-  found_there = ap (λ (z : Fleet). slice_get z.nodes k) (sym same) ∙ slice_get_read inside.nodes n k view size within read
+  found_there = view_there inside seen k view same within read
 
   after_seen : after ≡ record seen { nodes = slice_set seen.nodes k new }
   after_seen = e ∙ ap (λ (z : Fleet). record z { nodes = slice_set z.nodes k new }) same
@@ -120,12 +113,12 @@ module _ (inside seen after : Fleet) (k n : ℕ) (view new : ViewNode) (order : 
 
   obeyed : (nodes : List Node) (node : StationSide) (news : List News) → IsFleet nodes seen → slice_get nodes k ≡ Some (Station node) → NodeOutcome (as_station (station_obeys inside.clock order node)) new news → Moved nodes k (as_station (station_obeys seen.clock order node)) after news
   obeyed nodes node news f found did =
-      moved nodes seen after k (λ x. as_station (station_obeys seen.clock order node)) view new news (Station node) (as_station (station_obeys seen.clock order node)) (obeys_keeps seen.clock order node) f found after_seen
+      moved nodes seen after k (λ x. as_station (station_obeys seen.clock order node)) view new news (as_station (station_obeys seen.clock order node)) f after_seen
       (subst (λ (z : Fleet). NodeOutcome (as_station (station_obeys z.clock order node)) new news) same did)
 
   pub order_done : (result : Result (Vec News Global) OrderFault) → IfOk result (λ news. (node : StationSide) → IsNode (Station node) view → Follows node order × NodeOutcome (as_station (station_obeys inside.clock order node)) new news.items) → IfOk result (λ news. (nodes : List Node) → (node : StationSide) → IsFleet nodes seen → slice_get nodes k ≡ Some (Station node) → Follows node order × Moved nodes k (as_station (station_obeys seen.clock order node)) after news.items)
   order_done (Ok news) did = λ nodes node f found.
-      let does = did node (station_there nodes node (at_index nodes seen.nodes k f.are) found) in
+      let does = did node (station_there nodes node (at_index nodes seen.nodes k f) found) in
       (does.0, obeyed nodes node news.items f found does.1)
   order_done (Err fault) did = tt
 
@@ -138,19 +131,9 @@ module _ (inside seen after : Fleet) (k n : ℕ) (view new : ViewNode) (order : 
   order_refused (Ok news) refused = tt
   order_refused (Err fault) refused = λ nodes node f found.
       refuses_weaker seen.clock node order (new ≡ view) (IsFleet nodes after) fault (unchanged nodes f)
-      (subst (λ (z : Fleet). Refuses z.clock node order (new ≡ view) fault) same (refused node (station_there nodes node (at_index nodes seen.nodes k f.are) found)))
+      (subst (λ (z : Fleet). Refuses z.clock node order (new ≡ view) fault) same (refused node (station_there nodes node (at_index nodes seen.nodes k f) found)))
 
-nothing_there : {A : Type 0} (nodes : List Node) (seen : List ViewNode) (k : ℕ) (node : Node) → AtPlace nodes seen k → slice_get seen k ≡ None → slice_get nodes k ≡ Some node → A
-nothing_there nodes seen k node (none a b) past found = cc
-nothing_there nodes seen k node (one m v a b is) past found = cc
-
-pub no_station : {A : Type 0} (inside seen : Fleet) (k n : ℕ) (nodes : List Node) (node : StationSide) → inside ≡ seen → n ≡ length inside.nodes → n ≤ k → IsFleet nodes seen → slice_get nodes k ≡ Some (Station node) → A
-no_station inside seen k n nodes node same size past f found =
-    let beyond : length inside.nodes ≤ k = omega arith in
-    nothing_there nodes seen.nodes k (Station node) (at_index nodes seen.nodes k f.are)
-    (ap (λ (z : Fleet). slice_get z.nodes k) (sym same) ∙ slice_get_past inside.nodes k beyond) found
-
--- ---- what is read of a node: of the one at an index, or as if there were none
+-- ---- what is read of a node
 
 value_there : {A : Type 0} (of : Option Node → A) (nodes : List Node) (seen : List ViewNode) (k : ℕ) (view : ViewNode) (value : A) → AtPlace nodes seen k → slice_get seen k ≡ Some view → ((node : Node) → IsNode node view → value ≡ of (Some node)) → value ≡ of (slice_get nodes k)
 value_there of nodes seen k view value (none a b) found known = cc
@@ -158,17 +141,6 @@ value_there of nodes seen k view value (one node v a b is) found known =
     let same : v ≡ view = cc in
     known node (subst (IsNode node) same is) ∙ ap of (sym a)
 
-no_value_there : {A : Type 0} (of : Option Node → A) (nodes : List Node) (seen : List ViewNode) (k : ℕ) → AtPlace nodes seen k → slice_get seen k ≡ None → of None ≡ of (slice_get nodes k)
-no_value_there of nodes seen k (none a b) past = ap of (sym a)
-no_value_there of nodes seen k (one node v a b is) past = cc
-
-module _ {A : Type 0} (of : Option Node → A) (inside seen : Fleet) (k n : ℕ) (same : inside ≡ seen) (size : n ≡ length inside.nodes) where
-  pub value_found : (view : ViewNode) (value : A) → k < n → view ≡ get_or inside.nodes k view → ((node : Node) → IsNode node view → value ≡ of (Some node)) → (nodes : List Node) → IsFleet nodes seen → value ≡ of (slice_get nodes k)
-  value_found view value within read known nodes f =
-      value_there of nodes seen.nodes k view value (at_index nodes seen.nodes k f.are)
-      (ap (λ (z : Fleet). slice_get z.nodes k) (sym same) ∙ slice_get_read inside.nodes n k view size within read) known
-
-  pub no_value : n ≤ k → (nodes : List Node) → IsFleet nodes seen → of None ≡ of (slice_get nodes k)
-  no_value past nodes f =
-      let beyond : length inside.nodes ≤ k = omega arith in
-      no_value_there of nodes seen.nodes k (at_index nodes seen.nodes k f.are) (ap (λ (z : Fleet). slice_get z.nodes k) (sym same) ∙ slice_get_past inside.nodes k beyond)
+pub value_found : {A : Type 0} (of : Option Node → A) (inside seen : Fleet) (k : ℕ) (view : ViewNode) (value : A) → inside ≡ seen → k < length seen.nodes → view ≡ get_or inside.nodes k view → ((node : Node) → IsNode node view → value ≡ of (Some node)) → (nodes : List Node) → IsFleet nodes seen → value ≡ of (slice_get nodes k)
+value_found of inside seen k view value same within read known nodes f =
+    value_there of nodes seen.nodes k view value (at_index nodes seen.nodes k f) (view_there inside seen k view same within read) known

@@ -1,5 +1,5 @@
 -- What a node does leaves its name, and a drone's system.
-use Rattle.std.proofs.Common.{◌≡◌, ℕ, Bool, true, false, if◌then◌else◌, List, [], ◌∷◌, Option, Some, None, refl, sym, ap, subst, ◌∙◌}
+use Rattle.std.proofs.Common.{◌≡◌, ℕ, Bool, true, false, if◌then◌else◌, List, [], ◌∷◌, Option, Some, None, refl, ◌∙◌}
 use Rattle.mav_names.specs.declared.names.Stream.{Stream}
 use Rattle.plan_items.specs.declared.messages.PlanMsg.{PlanMsg}
 use Rattle.mav_frame.specs.Packet.{Packet, SignatureBlock}
@@ -19,9 +19,7 @@ use Rattle.param_proto.specs.Client.{reads, sets, lists}
 use Rattle.mav_nodes.specs.News.{NodeEvent}
 use Rattle.mav_nodes.specs.Links.{Link, Outcome, done, behind, and_then, tries, sends, sends_all}
 use Rattle.mav_nodes.specs.Steps.{Side, Rules, CoreStep, answers, with_core, steps, serves, serves_if, takes, admits, hears, hears_all, receives}
-use Rattle.mav_nodes.specs.Nodes.{DroneSide, StationSide, drone_rules, drone_receives, drone_beats, drone_ticks, drone_sims, drone_heartbeat, drone_waits, station_rules, station_heartbeat, services_tick, station_does, station_obeys}
-use Rattle.mav_nodes.specs.LowBounds.{stored_low}
-use Rattle.mav_nodes.specs.Restarts.{started_again, restarted_drone, drone_restarts}
+use Rattle.mav_nodes.specs.Nodes.{DroneSide, StationSide, drone_rules, drone_receives, drone_beats, drone_ticks, drone_sims, drone_heartbeat, drone_waits, station_rules, station_receives, station_beats, station_ticks, station_heartbeat, services_tick, station_does, station_obeys}
 use Rattle.mav_nodes.specs.declared.orders.Order.{Order}
 use Rattle.mav_nodes.specs.declared.orders.Order.TheVariants.{Begin, Cancel, Clear, Get, Command, ParamRead, ParamSet, ParamList, File}
 use Rattle.plan_items.specs.Kinds.{number_of}
@@ -29,15 +27,6 @@ use Rattle.plan_items.specs.Plans.{items_of}
 use Rattle.plan_upload.specs.Kinds.{clear_number}
 use Rattle.plan_upload.specs.Drone.{DroneState, drone_tick}
 use Rattle.plan_upload.specs.Station.{StationState, station_tick, station_cancel, begin_upload, begin_clear, begin_get}
-use Rattle.node_reports.specs.Nodes.{Node, Drone, Station}
-use Rattle.node_reports.specs.Calls.{as_drone, as_station, node_receives, node_beats, node_ticks, node_flies}
-use Rattle.fleet_world.specs.WorldState.{named}
-use Rattle.fleet_world.specs.declared.calls.Call.{Call}
-use Rattle.fleet_world.specs.declared.calls.Call.TheVariants.{Take, Noise, Heartbeat, Tick, Sim, Restart}
-use Rattle.fleet_world.specs.declared.nodes.Node.{Node as ViewNode}
-use Rattle.fleet_world.specs.declared.nodes.Node.TheVariants.{Drone as ViewDrone, Station as ViewStation}
-use Rattle.fleet_world.specs.WorldView.{IsNode}
-use Rattle.fleet_world.specs.NodeSteps.{node_restarts, node_called}
 use Rattle.fleet_world.proofs.Systems.{drone_stays, drone_tick_stays}
 
 -- if it is done, the link has that stream
@@ -149,78 +138,35 @@ drone_ticking clock n = steps-keep sys_of clock n.link n.services n.core.sys (dr
 pub drone_simming : (clock : ℕ) (n : DroneSide) → SideKeeps sys_of n.link.me n.core.sys (drone_sims clock n)
 drone_simming clock n = serves-keep sys_of clock n.link n.core (drone_flies n.core n.services)
 
--- ---- nodes
+-- what a station's call leaves
+abbrev pub StationKeeps : StationSide → Outcome StationSide → Type 0
+StationKeeps n outcome = SideKeeps none_of n.link.me 0 outcome
 
--- if a call is done, the node has the same name
-abbrev pub KeepsName : Node → Outcome Node → Type 0
-KeepsName node None = Unit {0}
-KeepsName node (Some d) = named d.node ≡ named node
+pub station_receiving : (clock : ℕ) (datagram : List ℕ) (n : StationSide) → StationKeeps n (station_receives clock datagram n)
+station_receiving clock datagram n = receives-keep none_of station_rules clock (λ core from message. refl) datagram n
 
-drone-keeps : (n : DroneSide) (o : Outcome DroneSide) → SideKeeps sys_of n.link.me n.core.sys o → KeepsName (Drone n) (as_drone o)
-drone-keeps n None h = tt
-drone-keeps n (Some d) h = ap (λ (me : Stream). named (Drone (record n { link = record n.link { me = me } }))) h.0
+pub station_beating : (clock : ℕ) (n : StationSide) → StationKeeps n (station_beats clock n)
+station_beating clock n = with_core-keep none_of n.link.me 0 n.core n.services [] _ (sends-keep clock station_heartbeat n.link) refl
 
-station-keeps : (n : StationSide) (o : Outcome StationSide) → SideKeeps none_of n.link.me 0 o → KeepsName (Station n) (as_station o)
-station-keeps n None h = tt
-station-keeps n (Some d) h = ap (λ (me : Stream). named (Station (record n { link = record n.link { me = me } }))) h.0
+pub station_ticking : (clock : ℕ) (n : StationSide) → StationKeeps n (station_ticks clock n)
+station_ticking clock n =
+    and_then-keep none_of n.link.me 0 (steps clock n.link n.services (station_does (station_tick n.core))) (services_tick clock)
+    (steps-keep none_of clock n.link n.services 0 (station_does (station_tick n.core)) refl) (λ node. serves-keep none_of clock node.link node.core (station_waits node.services))
 
-pub receives_keeps : (clock : ℕ) (datagram : List ℕ) (node : Node) → KeepsName node (node_receives clock datagram node)
-receives_keeps clock datagram (Drone n) = drone-keeps n _ (drone_receiving clock datagram n)
-receives_keeps clock datagram (Station n) = station-keeps n _ (receives-keep none_of station_rules clock (λ core from message. refl) datagram n)
+-- a step of its core, and one of its services
+step_keeps : (clock : ℕ) (n : StationSide) (step : CoreStep StationState) → StationKeeps n (steps clock n.link n.services step)
+step_keeps clock n step = steps-keep none_of clock n.link n.services 0 step refl
 
-pub beats_keep : (clock : ℕ) (node : Node) → KeepsName node (node_beats clock node)
-beats_keep clock (Drone n) = drone-keeps n _ (drone_beating clock n)
-beats_keep clock (Station n) = station-keeps n _ (with_core-keep none_of n.link.me 0 n.core n.services [] _ (sends-keep clock station_heartbeat n.link) refl)
+service_keeps : (clock : ℕ) (n : StationSide) (step : ServiceStep StationServices) → StationKeeps n (serves clock n.link n.core step)
+service_keeps clock n step = serves-keep none_of clock n.link n.core step
 
-pub ticks_keep : (clock : ℕ) (node : Node) → KeepsName node (node_ticks clock node)
-ticks_keep clock (Drone n) = drone-keeps n _ (drone_ticking clock n)
-ticks_keep clock (Station n) =
-    station-keeps n _ (and_then-keep none_of n.link.me 0 (steps clock n.link n.services (station_does (station_tick n.core))) (services_tick clock)
-    (steps-keep none_of clock n.link n.services 0 (station_does (station_tick n.core)) refl) (λ node. serves-keep none_of clock node.link node.core (station_waits node.services)))
-
-pub flies_keep : (clock : ℕ) (node : Node) → KeepsName node (node_flies clock node)
-flies_keep clock (Drone n) = drone-keeps n _ (drone_simming clock n)
-flies_keep clock (Station n) = refl
-
--- a drone that starts again, on the stream of its system
-restarted_keeps : (key : List ℕ) (n : DroneSide) → n.link.me ≡ record { sys = n.core.sys; comp = 1; link = 0 }
-    → ((restarted_drone key n).link.me ≡ n.link.me) × ((restarted_drone key n).core.sys ≡ n.core.sys)
-restarted_keeps key n me = by_low (stored_low n.link.history)
-  where
-    by_low : (low : Option ℕ) → ((started_again key n.core.sys n.services.sim.home low n.core.plans).link.me ≡ n.link.me) × ((started_again key n.core.sys n.services.sim.home low n.core.plans).core.sys ≡ n.core.sys)
-    by_low None = (sym me, refl)
-    by_low (Some low) = (sym me, refl)
-
-restarts_keep : (key : List ℕ) (clock : ℕ) (node : Node) (view : ViewNode) → IsNode node view → KeepsName node (node_restarts key clock node)
-restarts_keep key clock (Station n) view is = refl
-restarts_keep key clock (Drone n) (ViewStation v) is = absurd is
-restarts_keep key clock (Drone n) (ViewDrone v) is =
-    let same = restarted_keeps key n is.me in
-    drone-keeps n _ (subst (λ (me : Stream). SideKeeps sys_of me n.core.sys (drone_restarts key clock n)) same.0
-    (subst (λ (sys : ℕ). SideKeeps sys_of (restarted_drone key n).link.me sys (drone_restarts key clock n)) same.1 (drone_beating clock (restarted_drone key n))))
-
-pub calls_keep : (call : Call) (datagram : List ℕ) (clock : ℕ) (node : Node) (view : ViewNode) → IsNode node view → KeepsName node (node_called call datagram clock node)
-calls_keep (Take number) datagram clock node view is = receives_keeps clock datagram node
-calls_keep (Noise bytes) datagram clock node view is = receives_keeps clock datagram node
-calls_keep Heartbeat datagram clock node view is = beats_keep clock node
-calls_keep Tick datagram clock node view is = ticks_keep clock node
-calls_keep Sim datagram clock node view is = flies_keep clock node
-calls_keep (Restart key) datagram clock node view is = restarts_keep key clock node view is
-
--- a station's step, of its core and of its services
-step_keeps : (clock : ℕ) (n : StationSide) (step : CoreStep StationState) → KeepsName (Station n) (as_station (steps clock n.link n.services step))
-step_keeps clock n step = station-keeps n _ (steps-keep none_of clock n.link n.services 0 step refl)
-
-service_keeps : (clock : ℕ) (n : StationSide) (step : ServiceStep StationServices) → KeepsName (Station n) (as_station (serves clock n.link n.core step))
-service_keeps clock n step = station-keeps n _ (serves-keep none_of clock n.link n.core step)
-
-pub obeys_keeps : (clock : ℕ) (order : Order) (n : StationSide) → KeepsName (Station n) (as_station (station_obeys clock order n))
-obeys_keeps clock (Begin drone kind plan) n = step_keeps clock n (station_does (begin_upload n.core drone (number_of kind) (items_of plan)))
-obeys_keeps clock Cancel n = step_keeps clock n (station_does (station_cancel n.core))
-obeys_keeps clock (Clear drone kind) n = step_keeps clock n (station_does (begin_clear n.core drone (clear_number kind)))
-obeys_keeps clock (Get drone kind) n = step_keeps clock n (station_does (begin_get n.core drone (number_of kind)))
-obeys_keeps clock (Command drone number word) n = service_keeps clock n (asks_command n.services (commands n.services.commander drone (command_of number word)))
-obeys_keeps clock (ParamRead drone id) n = service_keeps clock n (asks_params n.services (reads n.services.client drone id))
-obeys_keeps clock (ParamSet drone param) n = service_keeps clock n (asks_params n.services (sets n.services.client drone param))
-obeys_keeps clock (ParamList drone) n = service_keeps clock n (asks_params n.services (lists n.services.client drone))
-obeys_keeps clock (File drone op) n = service_keeps clock n (asks_file n.services (begins n.services.files drone (file_order op)))
+pub station_obeying : (clock : ℕ) (order : Order) (n : StationSide) → StationKeeps n (station_obeys clock order n)
+station_obeying clock (Begin drone kind plan) n = step_keeps clock n (station_does (begin_upload n.core drone (number_of kind) (items_of plan)))
+station_obeying clock Cancel n = step_keeps clock n (station_does (station_cancel n.core))
+station_obeying clock (Clear drone kind) n = step_keeps clock n (station_does (begin_clear n.core drone (clear_number kind)))
+station_obeying clock (Get drone kind) n = step_keeps clock n (station_does (begin_get n.core drone (number_of kind)))
+station_obeying clock (Command drone number word) n = service_keeps clock n (asks_command n.services (commands n.services.commander drone (command_of number word)))
+station_obeying clock (ParamRead drone id) n = service_keeps clock n (asks_params n.services (reads n.services.client drone id))
+station_obeying clock (ParamSet drone param) n = service_keeps clock n (asks_params n.services (sets n.services.client drone param))
+station_obeying clock (ParamList drone) n = service_keeps clock n (asks_params n.services (lists n.services.client drone))
+station_obeying clock (File drone op) n = service_keeps clock n (asks_file n.services (begins n.services.files drone (file_order op)))

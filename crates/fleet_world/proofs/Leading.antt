@@ -22,6 +22,7 @@ use Rattle.fleet_world.specs.WorldView.{WorldView, IsState}
 use Rattle.fleet_world.specs.Steps.{Step, StepError, At_limit, rests, behind, and_then, most_frames, packets_in, node_does, given_to, given_from, given_to_all, flow_next, flows, calls, flies}
 use Rattle.fleet_world.specs.Flowing.{IsTaken}
 use Rattle.fleet_world.specs.Promises.{WorldOutcome, IsStepError}
+use Rattle.fleet_world.proofs.NodeLists.{as_many}
 use Rattle.fleet_world.proofs.WorldCalls.{sent_length, past_end}
 
 behind-nil : (r : Result Step StepError) → r ≡ behind [] r
@@ -141,9 +142,10 @@ Given frames w number k end now start mid =
     (state : WorldState) (packet : Packet) → IsState state frames w → HasFrame number packet state
     → Leads frames (given_to_all state packet) (λ t. given_from t k (end - k) packet) (HasFrame number packet) now start mid
 
-pub given_start : (frames : Bool) (w : WorldView) (number end : ℕ) (report : ReportState) → ((state : WorldState) → IsState state frames w → end ≡ length state.nodes) → Given frames w number 0 end w report report
+pub given_start : (frames : Bool) (w : WorldView) (number end : ℕ) (report : ReportState) → end ≡ length w.fleet.nodes → Given frames w number 0 end w report report
 given_start frames w number end report size state packet is has =
-    let all : length state.nodes ≡ end - 0 = let count = size state is in omega arith in
+    let many = as_many state.nodes w.fleet.nodes is.fleet in
+    let all : length state.nodes ≡ end - 0 = omega arith in
     leads_start frames (given_to_all state packet) (HasFrame number packet) (HasFrame number packet) (λ t. given_from t 0 (end - 0) packet) state w report is has
     (ap (λ (n : ℕ). given_from state 0 n packet) all)
 

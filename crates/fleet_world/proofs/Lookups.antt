@@ -1,17 +1,20 @@
 -- Look-ups by names, and counts.
-use Rattle.std.proofs.Common.{◌≡◌, ℕ, suc, ◌+◌, ◌-◌, Bool, true, false, not, cond, nat_lt, List, [], ◌∷◌, length, map, position, Option, Some, None, refl, sym, ap, ◌∙◌, arith}
+use Rattle.std.specs.Prelude.{IfSome}
+use Rattle.std.proofs.Common.{◌≡◌, ℕ, suc, ◌+◌, ◌-◌, Bool, true, false, not, cond, ◌||◌, nat_lt, List, [], ◌∷◌, length, map, position, Option, Some, None, refl, sym, ap, ◌∙◌, subst, arith}
 use Rattle.std.proofs.lemmas.List.{length-map}
-use Rattle.std.specs.List.{position_or_len}
+use Rattle.std.specs.List.{position_or_len, list_any}
 use Rattle.std.proofs.Common.{◌<◌, ◌≤◌, drop, get_or, drop-cons, add-one}
 use Rattle.mav_names.specs.declared.names.Name.{Name}
-use Rattle.scenario_lines.specs.declared.roster.Role.TheVariants.{Drone as DroneRole, Station as StationRole}
+use Rattle.scenario_lines.specs.declared.naming.Named.{Named}
+use Rattle.scenario_lines.specs.declared.naming.Role.TheVariants.{Drone as DroneRole, Station as StationRole}
 use Rattle.scenario_lines.specs.LineContext.{is_called, is_in_role}
 use Rattle.node_reports.specs.Nodes.{Node, Drone, Station}
 use Rattle.fleet_world.specs.declared.nodes.Node.{Node as ViewNode}
 use Rattle.fleet_world.specs.declared.nodes.Node.TheVariants.{Drone as ViewDrone, Station as ViewStation}
 use Rattle.fleet_world.specs.Counts.{is_drone_view, counted}
-use Rattle.fleet_world.specs.WorldState.{named, names_of, is_named, is_drone_named, is_station_named, drones_in, stations_in}
-use Rattle.fleet_world.specs.WorldView.{AreNodes, Fleet, IsFleet}
+use Rattle.fleet_world.specs.WorldState.{named, is_named, is_drone_named, is_station_named, drones_in, stations_in}
+use Rattle.fleet_world.specs.WorldView.{AreNodes, named_in, names_in, Fleet, IsFleet}
+use Rattle.fleet_world.proofs.NodeLists.{names_are, as_many}
 
 -- a search goes by the tests of the elements
 module _ {A B : Type 0} (p : A → Bool) (q : B → Bool) (f : A → B) (same : (x : A) → q (f x) ≡ p x) where
@@ -36,20 +39,33 @@ station_named : (name : Name) (node : Node) → is_in_role StationRole name (nam
 station_named name (Drone n) = refl
 station_named name (Station n) = refl
 
-pub place_named : (name : Name) (nodes : List Node) (fleet inside : Fleet) (found : Option ℕ) → inside ≡ fleet → IsFleet nodes fleet → found ≡ position (is_called name) inside.roster → found ≡ position (is_named name) nodes
-place_named name nodes fleet inside found same f is =
-    is ∙ ap (λ (z : Fleet). position (is_called name) z.roster) same ∙ ap (position (is_called name)) f.names
-    ∙ position_by (is_named name) (is_called name) named (called_named name) nodes
+module _ (nodes : List Node) (inside seen : List ViewNode) (found : Option ℕ) (are : AreNodes nodes seen) (same : inside ≡ seen) where
+  place_by_name : (test : Named → Bool) (p : Node → Bool) → ((node : Node) → test (named node) ≡ p node) → found ≡ position (λ (v : ViewNode). test (named_in v)) inside → found ≡ position p nodes
+  place_by_name test p agree is =
+      is ∙ sym (position_by (λ (v : ViewNode). test (named_in v)) test named_in (λ v. refl) inside)
+      ∙ ap (λ (l : List ViewNode). position test (names_in l)) same
+      ∙ ap (position test) (names_are nodes seen are)
+      ∙ position_by p test named agree nodes
 
-pub index_of_drone : (name : Name) (nodes : List Node) (fleet inside : Fleet) (found : Option ℕ) → inside ≡ fleet → IsFleet nodes fleet → found ≡ position (is_in_role DroneRole name) inside.roster → found ≡ position (is_drone_named name) nodes
-index_of_drone name nodes fleet inside found same f is =
-    is ∙ ap (λ (z : Fleet). position (is_in_role DroneRole name) z.roster) same ∙ ap (position (is_in_role DroneRole name)) f.names
-    ∙ position_by (is_drone_named name) (is_in_role DroneRole name) named (drone_named name) nodes
+  pub index_of_name : (name : Name) → found ≡ position (λ (v : ViewNode). is_called name (named_in v)) inside → found ≡ position (is_named name) nodes
+  index_of_name name is = place_by_name (is_called name) (is_named name) (called_named name) is
 
-pub index_of_station : (name : Name) (nodes : List Node) (fleet inside : Fleet) (found : Option ℕ) → inside ≡ fleet → IsFleet nodes fleet → found ≡ position (is_in_role StationRole name) inside.roster → found ≡ position (is_station_named name) nodes
-index_of_station name nodes fleet inside found same f is =
-    is ∙ ap (λ (z : Fleet). position (is_in_role StationRole name) z.roster) same ∙ ap (position (is_in_role StationRole name)) f.names
-    ∙ position_by (is_station_named name) (is_in_role StationRole name) named (station_named name) nodes
+  pub index_of_drone : (name : Name) → found ≡ position (λ (v : ViewNode). is_in_role DroneRole name (named_in v)) inside → found ≡ position (is_drone_named name) nodes
+  index_of_drone name is = place_by_name (is_in_role DroneRole name) (is_drone_named name) (drone_named name) is
+
+  pub index_of_station : (name : Name) → found ≡ position (λ (v : ViewNode). is_in_role StationRole name (named_in v)) inside → found ≡ position (is_station_named name) nodes
+  index_of_station name is = place_by_name (is_in_role StationRole name) (is_station_named name) (station_named name) is
+
+pub found_within : (found : Option ℕ) (inside seen : List ViewNode) → inside ≡ seen → IfSome found (λ k. k < length inside) → IfSome found (λ k. k < length seen)
+found_within found inside seen same within = subst (λ (l : List ViewNode). IfSome found (λ k. k < length l)) same within
+
+any_of_names : (test : Named → Bool) (seen : List ViewNode) → list_any (λ (v : ViewNode). test (named_in v)) seen ≡ list_any test (names_in seen)
+any_of_names test [] = refl
+any_of_names test (v ∷ vs) = ap (λ (b : Bool). test (named_in v) || b) (any_of_names test vs)
+
+-- a search of the nodes is one of their names
+pub any_named : (test : Named → Bool) (inside seen : List ViewNode) (found : Bool) → inside ≡ seen → found ≡ list_any (λ (v : ViewNode). test (named_in v)) inside → found ≡ list_any test (names_in seen)
+any_named test inside seen found same is = is ∙ any_of_names test inside ∙ ap (λ (l : List ViewNode). list_any test (names_in l)) same
 
 -- ---- counts
 
@@ -80,21 +96,24 @@ drones_counted [] [] are = refl
 drones_counted [] (v ∷ vs) are = absurd are
 drones_counted (n ∷ ns) [] are = absurd are
 drones_counted (Drone n ∷ ns) (ViewDrone v ∷ vs) are = ap (λ (n : ℕ). 1 + n) (drones_counted ns vs are.1)
-drones_counted (Drone n ∷ ns) (ViewStation v ∷ vs) are = absurd are.0
+drones_counted (Drone n ∷ ns) (ViewStation name v ∷ vs) are = absurd are.0
 drones_counted (Station n ∷ ns) (ViewDrone v ∷ vs) are = absurd are.0
-drones_counted (Station n ∷ ns) (ViewStation v ∷ vs) are = none_more _ ∙ drones_counted ns vs are.1
+drones_counted (Station n ∷ ns) (ViewStation name v ∷ vs) are = none_more _ ∙ drones_counted ns vs are.1
 
-all_counted : (nodes : List Node) → length (names_of nodes) ≡ drones_in nodes + stations_in nodes
+all_counted : (nodes : List Node) → length nodes ≡ drones_in nodes + stations_in nodes
 all_counted [] = refl
-all_counted (Drone n ∷ ns) = let more : length (names_of ns) ≡ drones_in ns + stations_in ns = all_counted ns in omega arith
-all_counted (Station n ∷ ns) = let more : length (names_of ns) ≡ drones_in ns + stations_in ns = all_counted ns in omega arith
+all_counted (Drone n ∷ ns) = let more : length ns ≡ drones_in ns + stations_in ns = all_counted ns in omega arith
+all_counted (Station n ∷ ns) = let more : length ns ≡ drones_in ns + stations_in ns = all_counted ns in omega arith
 
 pub drones_are : (nodes : List Node) (fleet inside : Fleet) (seen : List ViewNode) (drones : ℕ) → inside ≡ fleet → IsFleet nodes fleet → seen ≡ inside.nodes → drones ≡ counted is_drone_view seen → drones ≡ drones_in nodes
 drones_are nodes fleet inside seen drones same f is found =
     found ∙ ap (λ (l : List ViewNode). counted is_drone_view l) (is ∙ ap (λ (z : Fleet). z.nodes) same)
-    ∙ drones_counted nodes fleet.nodes f.are
+    ∙ drones_counted nodes fleet.nodes f
 
-pub stations_are : (nodes : List Node) (fleet inside : Fleet) (total drones : ℕ) → inside ≡ fleet → IsFleet nodes fleet → total ≡ length inside.roster → drones ≡ drones_in nodes → total - drones ≡ stations_in nodes
+pub all_are : (nodes : List Node) (fleet inside : Fleet) (total : ℕ) → inside ≡ fleet → IsFleet nodes fleet → total ≡ length inside.nodes → total ≡ length nodes
+all_are nodes fleet inside total same f whole = whole ∙ ap (λ (z : Fleet). length z.nodes) same ∙ as_many nodes fleet.nodes f
+
+pub stations_are : (nodes : List Node) (fleet inside : Fleet) (total drones : ℕ) → inside ≡ fleet → IsFleet nodes fleet → total ≡ length inside.nodes → drones ≡ drones_in nodes → total - drones ≡ stations_in nodes
 stations_are nodes fleet inside total drones same f whole found =
-    let all : total ≡ drones_in nodes + stations_in nodes = whole ∙ ap (λ (z : Fleet). length z.roster) same ∙ ap length f.names ∙ all_counted nodes in
+    let all : total ≡ drones_in nodes + stations_in nodes = all_are nodes fleet inside total same f whole ∙ all_counted nodes in
     omega arith

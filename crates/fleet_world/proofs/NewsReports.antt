@@ -123,10 +123,6 @@ pub frame_counted : {T E : Type 0} (r : Result T E) (piece : News) (packet : Pac
 frame_counted (Err e) piece packet kept more pushed = tt
 frame_counted (Ok t) piece packet kept more pushed = λ is. ap length pushed ∙ length-append kept (kept_as packet ∷ [])
 
--- what holds of the frame that some bytes are holds of the frame
-pub kept_raw : {T E : Type 0} (r : Result T E) (raw packet : Packet) (kept more : List Kept) → raw ≡ packet → OnOk r (more ≡ kept ++ kept_as raw ∷ []) → OnOk r (more ≡ kept ++ kept_as packet ∷ [])
-kept_raw r raw packet kept more same pushed = subst (λ (p : Packet). OnOk r (more ≡ kept ++ kept_as p ∷ [])) same pushed
-
 -- one piece that is kept, if it is a frame, and that the report says
 pub piece_reported : {T E : Type 0} (r : Result T E) (piece : News) (name : Name) (values : List Param) (kept more : List Kept) (number : ℕ) (before after : ReportState) → ((event : NodeEvent) → said_by piece ≡ shown event → more ≡ kept ++ map kept_as (packets_in (event ∷ []))) → (is_frame piece ≡ true → length more ≡ length kept + 1) → number ≡ length more
     → OnOk r ((event : NodeEvent) (count : ℕ) → said_by piece ≡ shown event → HaveValues values (event ∷ []) → (is_frame piece ≡ true → number ≡ count + 1) → after ≡ reports before (reported_by name count (event ∷ [])))

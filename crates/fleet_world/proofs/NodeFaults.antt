@@ -1,11 +1,17 @@
--- How the calls of a node of a scenario fail.
-use Rattle.std.proofs.Common.{◌≡◌, List, [], Some, None, Result, Ok, Err, Vec, Global, refl, sym, subst, ap}
-use Rattle.std.specs.Prelude.{IfErr, IfOk}
+-- How the calls of a node of a scenario fail, and how they are done.
+use Rattle.std.proofs.Common.{◌≡◌, ℕ, List, [], Some, None, Result, Ok, Err, Vec, Global, refl, sym, subst, ap, ◌∙◌}
+use Rattle.std.specs.Prelude.{IfErr, IfOk, OnOk}
+use Rattle.mav_names.specs.declared.names.Name.{Name}
+use Rattle.plan_upload.specs.Addresses.{node_of}
 use Rattle.mav_nodes.specs.declared.news.News.{News}
 use Rattle.mav_nodes.specs.declared.faults.NodeFault.{NodeFault}
 use Rattle.mav_nodes.specs.declared.faults.NodeFault.TheVariants.{StampsSpent, Store, NoMemory}
 use Rattle.mav_nodes.specs.Links.{Outcome, done}
-use Rattle.mav_nodes.specs.Nodes.{DroneSide, StationSide, StationView, IsStation}
+use Rattle.plan_upload.specs.Station.{StationState}
+use Rattle.mav_nodes.specs.Services.{StationServices}
+use Rattle.mav_nodes.specs.declared.orders.Order.{Order}
+use Rattle.mav_nodes.specs.declared.faults.OrderFault.{OrderFault}
+use Rattle.mav_nodes.specs.Nodes.{DroneSide, StationSide, StationView, IsStation, IsAccepted, station_obeys, order_refusal, command_refusal, params_refusal, file_refusal}
 use Rattle.mav_nodes.specs.Promises.{Fails, Did, StationDid}
 use Rattle.node_reports.specs.Nodes.{Node, Drone, Station}
 use Rattle.node_reports.specs.Calls.{as_drone, as_station}
@@ -13,7 +19,8 @@ use Rattle.fleet_world.specs.declared.nodes.Node.{Node as ViewNode}
 use Rattle.fleet_world.specs.declared.nodes.Node.TheVariants.{Drone as ViewDrone, Station as ViewStation}
 use Rattle.fleet_world.specs.StoredDrones.{StoredView, IsStoredDrone, FailsBy}
 use Rattle.fleet_world.specs.WorldView.{IsNode}
-use Rattle.fleet_world.specs.Promises.{NodeOutcome}
+use Rattle.fleet_world.specs.Promises.{NodeOutcome, Follows}
+use Rattle.fleet_world.proofs.KeptNames.{StationKeeps, station_obeying}
 
 pub if_err : {A E : Type 0} {P Q : E → Type 0} (r : Result A E) → ((e : E) → P e → Q e) → IfErr r P → IfErr r Q
 if_err (Ok a) f h = tt
@@ -44,13 +51,13 @@ station_fault does v Store h n is = h
 station_fault does v NoMemory h n is = tt
 
 -- and a station's at a station
-pub station_fails : (call : Node → Outcome Node) (does : StationSide → Outcome StationSide) (v : StationView) (view : ViewNode) (fault : NodeFault) → ((n : StationSide) → call (Station n) ≡ as_station (does n)) → view ≡ ViewStation v
+pub station_fails : (call : Node → Outcome Node) (does : StationSide → Outcome StationSide) (name : Name) (v : StationView) (view : ViewNode) (fault : NodeFault) → ((n : StationSide) → call (Station n) ≡ as_station (does n)) → view ≡ ViewStation name v
     → Fails fault (λ (n : StationSide). IsStation n v) does ⊥ → (node : Node) → IsNode node view → FailsBy fault (call node)
-station_fails call does v view fault same is fails = subst (λ (z : ViewNode). (node : Node) → IsNode node z → FailsBy fault (call node)) (sym is) by_node
+station_fails call does name v view fault same is fails = subst (λ (z : ViewNode). (node : Node) → IsNode node z → FailsBy fault (call node)) (sym is) by_node
   where
-    by_node : (node : Node) → IsNode node (ViewStation v) → FailsBy fault (call node)
+    by_node : (node : Node) → IsNode node (ViewStation name v) → FailsBy fault (call node)
     by_node (Drone n) h = absurd h
-    by_node (Station n) h = subst (λ (o : Outcome Node). FailsBy fault o) (sym (same n)) (as_station_fails fault (does n) (station_fault does v fault fails n h))
+    by_node (Station n) h = subst (λ (o : Outcome Node). FailsBy fault o) (sym (same n)) (as_station_fails fault (does n) (station_fault does v fault fails n h.0))
 
 -- ---- how they are done
 
@@ -58,22 +65,24 @@ as_drone_did : (o : Outcome DroneSide) (new : StoredView) (news : List News) →
 as_drone_did None new news h = h
 as_drone_did (Some d) new news h = h
 
-as_station_did : (o : Outcome StationSide) (new : StationView) (news : List News) → StationDid o new [] news → Did (as_station o) (λ n. IsNode n (ViewStation new)) [] news
-as_station_did None new news h = h
-as_station_did (Some d) new news h = h
+-- a station keeps its name
+pub as_station_did : (name : Name) (n : StationSide) (o : Outcome StationSide) (new : StationView) (news : List News) → name ≡ node_of n.link.me → StationKeeps n o → StationDid o new [] news → Did (as_station o) (λ m. IsNode m (ViewStation name new)) [] news
+as_station_did name n None new news called keeps h = h
+as_station_did name n (Some d) new news called keeps h = ((h.0, called ∙ sym (ap node_of keeps.0)), h.1)
 
 module _ (call : Node → Outcome Node) where
   drone_node : (does : DroneSide → Outcome DroneSide) (v new : StoredView) (news : List News) → ((n : DroneSide) → call (Drone n) ≡ as_drone (does n)) → ((n : DroneSide) → IsStoredDrone n v → Did (does n) (λ m. IsStoredDrone m new) [] news) → (node : Node) → IsNode node (ViewDrone v) → NodeOutcome (call node) (ViewDrone new) news
   drone_node does v new news same did (Drone n) h = subst (λ (o : Outcome Node). NodeOutcome o (ViewDrone new) news) (sym (same n)) (as_drone_did (does n) new news (did n h))
   drone_node does v new news same did (Station n) h = absurd h
 
-  station_node : (does : StationSide → Outcome StationSide) (v new : StationView) (news : List News) → ((n : StationSide) → call (Station n) ≡ as_station (does n)) → ((n : StationSide) → IsStation n v → StationDid (does n) new [] news) → (node : Node) → IsNode node (ViewStation v) → NodeOutcome (call node) (ViewStation new) news
-  station_node does v new news same did (Drone n) h = absurd h
-  station_node does v new news same did (Station n) h = subst (λ (o : Outcome Node). NodeOutcome o (ViewStation new) news) (sym (same n)) (as_station_did (does n) new news (did n h))
+  station_node : (does : StationSide → Outcome StationSide) (name : Name) (v new : StationView) (news : List News) → ((n : StationSide) → call (Station n) ≡ as_station (does n)) → ((n : StationSide) → StationKeeps n (does n)) → ((n : StationSide) → IsStation n v → StationDid (does n) new [] news) → (node : Node) → IsNode node (ViewStation name v) → NodeOutcome (call node) (ViewStation name new) news
+  station_node does name v new news same keeps did (Drone n) h = absurd h
+  station_node does name v new news same keeps did (Station n) h =
+      subst (λ (o : Outcome Node). NodeOutcome o (ViewStation name new) news) (sym (same n)) (as_station_did name n (does n) new news h.1 (keeps n) (did n h.0))
 
-  resting_node : (v : StationView) → ((n : StationSide) → call (Station n) ≡ done (Station n) []) → (node : Node) → IsNode node (ViewStation v) → NodeOutcome (call node) (ViewStation v) []
-  resting_node v same (Drone n) h = absurd h
-  resting_node v same (Station n) h = subst (λ (o : Outcome Node). NodeOutcome o (ViewStation v) []) (sym (same n)) (h, refl)
+  resting_node : (name : Name) (v : StationView) → ((n : StationSide) → call (Station n) ≡ done (Station n) []) → (node : Node) → IsNode node (ViewStation name v) → NodeOutcome (call node) (ViewStation name v) []
+  resting_node name v same (Drone n) h = absurd h
+  resting_node name v same (Station n) h = subst (λ (o : Outcome Node). NodeOutcome o (ViewStation name v) []) (sym (same n)) (h, refl)
 
   -- as a call says it
   pub drone_done : (does : DroneSide → Outcome DroneSide) (v new : StoredView) (view after : ViewNode) (r : Result (Vec News Global) NodeFault) → ((n : DroneSide) → call (Drone n) ≡ as_drone (does n)) → view ≡ ViewDrone v → after ≡ ViewDrone new
@@ -82,13 +91,33 @@ module _ (call : Node → Outcome Node) where
   drone_done does v new view after (Ok news) same is now did = λ node h.
       subst (λ (z : ViewNode). NodeOutcome (call node) z news.items) (sym now) (drone_node does v new news.items same did node (subst (IsNode node) is h))
 
-  pub station_done : (does : StationSide → Outcome StationSide) (v new : StationView) (view after : ViewNode) (r : Result (Vec News Global) NodeFault) → ((n : StationSide) → call (Station n) ≡ as_station (does n)) → view ≡ ViewStation v → after ≡ ViewStation new
+  pub station_done : (does : StationSide → Outcome StationSide) (name : Name) (v new : StationView) (view after : ViewNode) (r : Result (Vec News Global) NodeFault) → ((n : StationSide) → call (Station n) ≡ as_station (does n)) → ((n : StationSide) → StationKeeps n (does n)) → view ≡ ViewStation name v → after ≡ ViewStation name new
       → IfOk r (λ news. (n : StationSide) → IsStation n v → StationDid (does n) new [] news.items) → IfOk r (λ news. (node : Node) → IsNode node view → NodeOutcome (call node) after news.items)
-  station_done does v new view after (Err fault) same is now did = tt
-  station_done does v new view after (Ok news) same is now did = λ node h.
-      subst (λ (z : ViewNode). NodeOutcome (call node) z news.items) (sym now) (station_node does v new news.items same did node (subst (IsNode node) is h))
+  station_done does name v new view after (Err fault) same keeps is now did = tt
+  station_done does name v new view after (Ok news) same keeps is now did = λ node h.
+      subst (λ (z : ViewNode). NodeOutcome (call node) z news.items) (sym now) (station_node does name v new news.items same keeps did node (subst (IsNode node) is h))
 
-  pub station_rests : (v : StationView) (view after : ViewNode) (news : List News) → ((n : StationSide) → call (Station n) ≡ done (Station n) []) → view ≡ ViewStation v → after ≡ ViewStation v → news ≡ [] → (node : Node) → IsNode node view → NodeOutcome (call node) after news
-  station_rests v view after news same is now none node h =
+  pub station_rests : (name : Name) (v : StationView) (view after : ViewNode) (news : List News) → ((n : StationSide) → call (Station n) ≡ done (Station n) []) → view ≡ ViewStation name v → after ≡ ViewStation name v → news ≡ [] → (node : Node) → IsNode node view → NodeOutcome (call node) after news
+  station_rests name v view after news same is now none node h =
       subst (λ (z : ViewNode). NodeOutcome (call node) z news) (sym now)
-      (subst (NodeOutcome (call node) (ViewStation v)) (sym none) (resting_node v same node (subst (IsNode node) is h)))
+      (subst (NodeOutcome (call node) (ViewStation name v)) (sym none) (resting_node name v same node (subst (IsNode node) is h)))
+
+-- ---- orders to a station
+
+accepted_follows : (n : StationSide) (v : StationView) (order : Order) → IsStation n v → IsAccepted v order → Follows n order
+accepted_follows n v order is a = record {
+  plan = ap (λ (core : StationState). order_refusal core order) (sym is.station) ∙ a.plan;
+  command = ap (λ (services : StationServices). command_refusal services order) (sym is.services) ∙ a.command;
+  params = ap (λ (services : StationServices). params_refusal services order) (sym is.services) ∙ a.params;
+  file = ap (λ (services : StationServices). file_refusal services order) (sym is.services) ∙ a.file;
+}
+
+-- as a call says it
+pub order_followed : (r : Result (Vec News Global) OrderFault) (clock : ℕ) (order : Order) (name : Name) (v new : StationView) (view : ViewNode) → view ≡ ViewStation name v
+    → OnOk r (IsAccepted v order)
+    → IfOk r (λ news. (n : StationSide) → IsStation n v → StationDid (station_obeys clock order n) new [] news.items)
+    → IfOk r (λ news. (n : StationSide) → IsNode (Station n) view → Follows n order × NodeOutcome (as_station (station_obeys clock order n)) (ViewStation name new) news.items)
+order_followed (Err fault) clock order name v new view is accepted did = tt
+order_followed (Ok news) clock order name v new view is accepted did = λ n h.
+    let seen = subst (IsNode (Station n)) is h in
+    (accepted_follows n v order seen.0 accepted, as_station_did name n (station_obeys clock order n) new news.items seen.1 (station_obeying clock order n) (did n seen.0))

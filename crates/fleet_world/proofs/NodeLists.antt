@@ -1,11 +1,17 @@
 -- Nodes, pairwise with what contracts see of them, and their names.
-use Rattle.std.proofs.Common.{◌≡◌, ℕ, zero, suc, List, [], ◌∷◌, ◌++◌, slice_get, slice_set, option_map, Some, None, refl, sym, ap, ◌∙◌, subst}
-use Rattle.scenario_lines.specs.declared.roster.Named.{Named}
+use Rattle.std.proofs.Common.{◌≡◌, ℕ, zero, suc, List, [], ◌∷◌, ◌++◌, length, slice_get, slice_set, Some, None, refl, sym, ap, ◌∙◌}
 use Rattle.mav_names.specs.declared.names.Name.{Name}
+use Rattle.mav_names.specs.declared.names.Stream.{Stream}
+use Rattle.plan_upload.specs.Addresses.{node_of}
+use Rattle.plan_upload.specs.Drone.{DroneState}
+use Rattle.scenario_lines.specs.declared.naming.Named.{Named}
+use Rattle.scenario_lines.specs.declared.naming.Role.TheVariants.{Drone as DroneRole, Station as StationRole}
+use Rattle.scenario_lines.specs.LineContext.{drone_name}
 use Rattle.node_reports.specs.Nodes.{Node, Drone, Station, node_name}
 use Rattle.fleet_world.specs.declared.nodes.Node.{Node as ViewNode}
+use Rattle.fleet_world.specs.declared.nodes.Node.TheVariants.{Drone as ViewDrone, Station as ViewStation}
 use Rattle.fleet_world.specs.WorldState.{named, names_of}
-use Rattle.fleet_world.specs.WorldView.{IsNode, AreNodes, Fleet, IsFleet}
+use Rattle.fleet_world.specs.WorldView.{IsNode, AreNodes, named_in, names_in}
 
 -- ---- one of them
 
@@ -40,44 +46,32 @@ are_nodes-push [] (v ∷ vs) node view are is = absurd are
 are_nodes-push (n ∷ ns) [] node view are is = absurd are
 are_nodes-push (n ∷ ns) (v ∷ vs) node view are is = (are.0, are_nodes-push ns vs node view are.1 is)
 
-pub names-push : (nodes : List Node) (node : Node) → names_of (nodes ++ node ∷ []) ≡ names_of nodes ++ named node ∷ []
-names-push [] node = refl
-names-push (n ∷ ns) node = ap (λ (l : List Named). named n ∷ l) (names-push ns node)
+-- ---- their names and their number
 
-pub names-set : (nodes : List Node) (k : ℕ) (node new : Node) → slice_get nodes k ≡ Some node → named new ≡ named node → names_of (slice_set nodes k new) ≡ names_of nodes
-names-set [] k node new found same = refl
-names-set (n ∷ ns) zero node new found same =
-    let e : n ≡ node = cc in
-    ap (λ (m : Named). m ∷ names_of ns) (same ∙ sym (ap named e))
-names-set (n ∷ ns) (suc k) node new found same = ap (λ (l : List Named). named n ∷ l) (names-set ns k node new found same)
+pub named_is : (node : Node) (view : ViewNode) → IsNode node view → named_in view ≡ named node
+named_is (Drone n) (ViewDrone v) is =
+    ap (λ (d : DroneState). record { role = DroneRole; name = drone_name d.sys }) is.drone.drone
+    ∙ sym (ap (λ (me : Stream). record { role = DroneRole; name = node_of me }) is.me)
+named_is (Drone n) (ViewStation name v) is = absurd is
+named_is (Station n) (ViewDrone v) is = absurd is
+named_is (Station n) (ViewStation name v) is = ap (λ (called : Name). record { role = StationRole; name = called }) is.1
 
--- ---- a fleet
+pub names_are : (nodes : List Node) (seen : List ViewNode) → AreNodes nodes seen → names_in seen ≡ names_of nodes
+names_are [] [] are = refl
+names_are [] (v ∷ vs) are = absurd are
+names_are (n ∷ ns) [] are = absurd are
+names_are (n ∷ ns) (v ∷ vs) are = λ i. named_is n v are.0 i ∷ names_are ns vs are.1 i
 
-pub fleet_set : (nodes : List Node) (fleet after : Fleet) (k : ℕ) (node new : Node) (view : ViewNode) → IsFleet nodes fleet → slice_get nodes k ≡ Some node → named new ≡ named node → IsNode new view → after ≡ record fleet { nodes = slice_set fleet.nodes k view } → IsFleet (slice_set nodes k new) after
-fleet_set nodes fleet after k node new view f found same is e =
-    subst (IsFleet (slice_set nodes k new)) (sym e) (record {
-      are = are_nodes-set nodes fleet.nodes k new view f.are is;
-      names = f.names ∙ sym (names-set nodes k node new found same);
-    })
+pub as_many : (nodes : List Node) (seen : List ViewNode) → AreNodes nodes seen → length seen ≡ length nodes
+as_many [] [] are = refl
+as_many [] (v ∷ vs) are = absurd are
+as_many (n ∷ ns) [] are = absurd are
+as_many (n ∷ ns) (v ∷ vs) are = ap suc (as_many ns vs are.1)
 
-pub fleet_push : (nodes : List Node) (fleet after : Fleet) (node : Node) (view : ViewNode) → IsFleet nodes fleet → IsNode node view → after.nodes ≡ fleet.nodes ++ view ∷ [] → after.roster ≡ fleet.roster ++ named node ∷ [] → IsFleet (nodes ++ node ∷ []) after
-fleet_push nodes fleet after node view f is more names = record {
-  are = subst (AreNodes (nodes ++ node ∷ [])) (sym more) (are_nodes-push nodes fleet.nodes node view f.are is);
-  names = names ∙ ap (λ (l : List Named). l ++ named node ∷ []) f.names ∙ sym (names-push nodes node);
-}
-
--- the name of the node at an index
-abbrev name_in : Named → Name
-name_in n = n.name
-
-named_name : (node : Node) → name_in (named node) ≡ node_name node
+named_name : (node : Node) → (named node).name ≡ node_name node
 named_name (Drone n) = refl
 named_name (Station n) = refl
 
-names_get : (nodes : List Node) (k : ℕ) → option_map name_in (slice_get (names_of nodes) k) ≡ option_map node_name (slice_get nodes k)
-names_get [] k = refl
-names_get (n ∷ ns) zero = ap (λ (name : Name). Some name) (named_name n)
-names_get (n ∷ ns) (suc k) = names_get ns k
-
-pub name_at_place : (nodes : List Node) (fleet : Fleet) (k : ℕ) → IsFleet nodes fleet → option_map (λ (n : Named). n.name) (slice_get fleet.roster k) ≡ option_map node_name (slice_get nodes k)
-name_at_place nodes fleet k f = ap (λ (l : List Named). option_map name_in (slice_get l k)) f.names ∙ names_get nodes k
+-- the name of one of them
+pub name_is : (view : ViewNode) (found : Named) → found ≡ named_in view → (node : Node) → IsNode node view → found.name ≡ node_name node
+name_is view found e node is = ap (λ (n : Named). n.name) (e ∙ named_is node view is) ∙ named_name node

@@ -5,7 +5,7 @@ use Rattle.fleet_world.specs.declared.nodes.Node.TheVariants.{Drone, Station}
 
 abbrev pub is_drone_view : Node → Bool
 is_drone_view (Drone node) = true
-is_drone_view (Station node) = false
+is_drone_view (Station name node) = false
 
 -- how many pass a test
 abbrev pub counted : {A : Type 0} → (A → Bool) → List A → ℕ

@@ -5,18 +5,20 @@ use Rattle.mav_frame.specs.Packet.{Packet}
 use Rattle.mav_frame.specs.Encoding.{encoding}
 use Rattle.mav_nodes.specs.Nodes.{IsStation}
 use Rattle.plan_items.specs.declared.items.Item.{Item}
-use Rattle.scenario_lines.specs.declared.roster.Named.{Named}
-use Rattle.scenario_lines.specs.LineContext.{LineContext}
+use Rattle.plan_upload.specs.Addresses.{node_of}
+use Rattle.scenario_lines.specs.declared.naming.Named.{Named}
+use Rattle.scenario_lines.specs.declared.naming.Role.TheVariants.{Drone as DroneRole, Station as StationRole}
+use Rattle.scenario_lines.specs.LineContext.{LineContext, drone_name}
 use Rattle.node_reports.specs.Nodes.{Node, Drone, Station}
 use Rattle.fleet_world.specs.declared.nodes.Node.{Node as ViewNode}
 use Rattle.fleet_world.specs.declared.nodes.Node.TheVariants.{Drone as ViewDrone, Station as ViewStation}
 use Rattle.fleet_world.specs.StoredDrones.{IsStoredDrone}
-use Rattle.fleet_world.specs.WorldState.{WorldState, names_of}
+use Rattle.fleet_world.specs.WorldState.{WorldState}
 
 -- a node: its end of the links represents the history
 abbrev pub IsNode : Node → ViewNode → Type 0
 IsNode (Drone n) (ViewDrone v) = IsStoredDrone n v
-IsNode (Station n) (ViewStation v) = IsStation n v
+IsNode (Station n) (ViewStation name v) = IsStation n v × (name ≡ node_of n.link.me)
 IsNode node seen = ⊥
 
 -- nodes, pairwise
@@ -25,19 +27,25 @@ AreNodes [] [] = Unit {0}
 AreNodes (n ∷ ns) (v ∷ vs) = IsNode n v × AreNodes ns vs
 AreNodes nodes seen = ⊥
 
+-- its role and its name
+abbrev pub named_in : ViewNode → Named
+named_in (ViewDrone v) = record { role = DroneRole; name = drone_name v.node.drone.sys }
+named_in (ViewStation name v) = record { role = StationRole; name = name }
+
+abbrev pub names_in : List ViewNode → List Named
+names_in seen = map named_in seen
+
 -- the nodes of a world, their key and their clock
 pub record Fleet : Type 0 where
   pub key : List ℕ
   pub nodes : List ViewNode
-  pub roster : List Named
   pub clock : ℕ
 
 abbrev pub no_fleet : List ℕ → Fleet
-no_fleet key = record { key = key; nodes = []; roster = []; clock = 0 }
+no_fleet key = record { key = key; nodes = []; clock = 0 }
 
-pub record IsFleet (nodes : List Node) (fleet : Fleet) : Type 0 where
-  pub are : AreNodes nodes fleet.nodes
-  pub names : fleet.roster ≡ names_of nodes
+abbrev pub IsFleet : List Node → Fleet → Type 0
+IsFleet nodes fleet = AreNodes nodes fleet.nodes
 
 -- a sent frame by its sender and its bytes
 abbrev pub Kept : Type 0
@@ -72,4 +80,4 @@ pub record IsState (state : WorldState) (frames : Bool) (world : WorldView) : Ty
 
 -- what the lines that follow are read against
 abbrev pub context_in : WorldView → LineContext
-context_in world = record { nodes = world.fleet.roster; drafted = length world.draft; clock = world.fleet.clock }
+context_in world = record { nodes = names_in world.fleet.nodes; drafted = length world.draft; clock = world.fleet.clock }

@@ -1,8 +1,8 @@
 // What the end of a scenario reports.
-ghost use Rattle.std.specs.Prelude.{◌≡◌, ◌++◌, List, OnOk, slice_get};
+ghost use Rattle.std.specs.Prelude.{◌≡◌, ◌<◌, ◌++◌, List, OnOk, length, slice_get};
 ghost use Rattle.fleet_report.specs.Events.{plan_text};
 ghost use Rattle.fleet_report.specs.Reports.{with_text};
-ghost use Rattle.node_reports.specs.Nodes.{Node as StateNode, node_name};
+ghost use Rattle.node_reports.specs.Nodes.{Node as StateNode};
 ghost use Rattle.fleet_world.specs.WorldView.{IsNode, IsFleet};
 ghost use Rattle.fleet_world.specs.Closing.{closing_at};
 ghost use Rattle.fleet_world.specs.Steps.{closing_of, closing_text};
@@ -25,31 +25,24 @@ fn put_plans(report: &mut Report, name: Name, drone: &Drone) -> Result<(), NoMem
     report.plan(name, PlanKind::Rally, drone.plan(PlanKind::Rally))
 }
 
-// What the end reports of a node of this name.
-fn close_node(node: &Node, name: Name, report: &mut Report) -> Result<(), NoMemory>
-    ensures { OnOk result ((one : StateNode) → IsNode one node.now → name ≡ node_name one
-        → report.new ≡ with_text report.old (closing_of one)) }
+// What the end reports of a node.
+fn close_node(node: &Node, report: &mut Report) -> Result<(), NoMemory>
+    ensures { OnOk result ((one : StateNode) → IsNode one node.now → report.new ≡ with_text report.old (closing_of one)) }
 {
     match node {
-        Node::Drone(drone) => put_plans(report, name, drone.plans()),
-        Node::Station(_) => Ok(()),
+        Node::Drone(drone) => put_plans(report, node.named().name, drone.plans()),
+        Node::Station { .. } => Ok(()),
     }
 }
 
 impl Fleet {
     // The plans of the node at an index, if it is a drone.
     fn close_at(&self, index: usize, report: &mut Report) -> Result<(), NoMemory>
+        requires { index < length self.now.nodes }
         ensures { OnOk result ((nodes : List StateNode) → IsFleet nodes self.now
             → report.new ≡ with_text report.old (closing_at (slice_get nodes index))) }
     {
-        let Some(name) = self.name_at(index) else {
-            return Ok(());
-        };
-        if index < self.nodes.len() {
-            close_node(&self.nodes[index], name, report)
-        } else {
-            Ok(())
-        }
+        close_node(&self.nodes[index], report)
     }
 
     /// The plans of each drone in the order in which they were named.

@@ -49,7 +49,7 @@ fn keep_frame(sent: &mut SentFrames, piece: &News) -> Result<(), NoMemory>
     ensures count { OnOk result (is_frame piece.now ≡ true → length sent.new ≡ length sent.old + 1) }
 {
     match piece {
-        News::Sent(frame, _) => sent.push(&frame.raw()),
+        News::Sent(frame, _) => sent.push(frame),
         _ => Ok(()),
     }
 }

@@ -1,11 +1,13 @@
-// The nodes of a world: their names, their key and their clock.
-ghost use Rattle.std.specs.Prelude.{◌≡◌, if◌then◌else◌, ◌+◌, ◌<◌, ◌^◌, ◌++◌, ◌∷◌, None, Some, [], List, length, position, option_map, slice_get, IfOk, IfErr, OnOk};
+// The nodes of a world, their key and their clock.
+ghost use Rattle.std.specs.Prelude.{◌≡◌, if◌then◌else◌, ◌+◌, ◌<◌, ◌^◌, ◌++◌, ◌∷◌, Some, [], List, length, position, option_map, slice_get, IfOk, IfErr, IfSome, OnOk};
+ghost use Rattle.std.specs.List.{list_any};
+ghost use Rattle.scenario_lines.specs.LineContext.{is_called, is_in_role};
 ghost use Rattle.mav_nodes.specs.Nodes.{StationSide, new_drone, new_station, station_obeys};
 ghost use Rattle.node_reports.specs.Nodes.{Node as StateNode, Drone as StateDrone, Station as StateStation, node_name};
 ghost use Rattle.node_reports.specs.Calls.{as_station};
 ghost use Rattle.node_reports.specs.ParamLists.{params_of};
 ghost use Rattle.fleet_world.specs.WorldState.{is_named, is_drone_named, is_station_named, drones_in, stations_in, stream_of};
-ghost use Rattle.fleet_world.specs.WorldView.{no_fleet, IsFleet};
+ghost use Rattle.fleet_world.specs.WorldView.{no_fleet, named_in, names_in, IsFleet};
 ghost use Rattle.fleet_world.specs.Steps.{location_at, location_in};
 ghost use Rattle.fleet_world.specs.NodeSteps.{node_called};
 ghost use Rattle.fleet_world.specs.Promises.{FleetOutcome, Moved, CallFails, Follows, Refuses};
@@ -18,14 +20,11 @@ use crate::nodes::Node;
 use crate::stored_drone::StoredDrone;
 use mav_names::{Name, Stream};
 use mav_nodes::{News, NodeFault, Order, OrderFault, StartFault, StationNode};
-use mav_sign::Key;
+use mav_sign::{Datagram, Key};
 use param_proto::Param;
-use scenario_lines::{Named, Role, Roster};
+use scenario_lines::{Names, Role};
 use std::alloc::Global;
 use std::marker::Model;
-
-// A drone is component 1 of its system.
-const AUTOPILOT: u8 = 1;
 
 // Every node signs on link 0.
 const LINK: u8 = 0;
@@ -39,7 +38,6 @@ pub(crate) struct Fleet {
     alloc: Global,
     key: Key,
     pub(crate) nodes: Vec<Node>,
-    roster: Roster,
     clock: u64,
 }
 
@@ -48,7 +46,7 @@ impl Model for Fleet {
 
     ghost Value = { Fleet };
 
-    ghost view = { λ f. record { key = f.key; nodes = f.nodes.items; roster = f.roster; clock = f.clock } };
+    ghost view = { λ f. record { key = f.key; nodes = f.nodes.items; clock = f.clock } };
 }
 
 /// The stream of a node.
@@ -68,7 +66,7 @@ fn drone_count(node: &Node) -> usize
 {
     match node {
         Node::Drone(_) => 1,
-        Node::Station(_) => 0,
+        Node::Station { .. } => 0,
     }
 }
 
@@ -82,6 +80,46 @@ fn count_drones(nodes: &[Node]) -> usize
     count
 }
 
+// The index of the first node of this name.
+fn first_called(nodes: &[Node], name: Name) -> Option<usize>
+    ensures found { result ≡ position (λ node. is_called name (named_in node)) nodes.now }
+    ensures within { IfSome result (λ index. index < length nodes.now) }
+{
+    nodes.iter().position(|node| node.is_called(name))
+}
+
+// The index of the first node of this name in this role.
+fn first_in_role(nodes: &[Node], role: Role, name: Name) -> Option<usize>
+    ensures found { result ≡ position (λ node. is_in_role role name (named_in node)) nodes.now }
+    ensures within { IfSome result (λ index. index < length nodes.now) }
+{
+    nodes.iter().position(|node| node.is_in_role(role, name))
+}
+
+fn any_called(nodes: &[Node], name: Name) -> bool
+    ensures { result ≡ list_any (λ node. is_called name (named_in node)) nodes.now }
+{
+    nodes.iter().any(|node| node.is_called(name))
+}
+
+fn any_in_role(nodes: &[Node], role: Role, name: Name) -> bool
+    ensures { result ≡ list_any (λ node. is_in_role role name (named_in node)) nodes.now }
+{
+    nodes.iter().any(|node| node.is_in_role(role, name))
+}
+
+impl Names for Fleet {
+    ghost known = { λ fleet. names_in fleet.nodes };
+
+    fn has_name(&self, name: Name) -> bool {
+        any_called(&self.nodes, name)
+    }
+
+    fn has_in_role(&self, role: Role, name: Name) -> bool {
+        any_in_role(&self.nodes, role, name)
+    }
+}
+
 impl Fleet {
     pub(crate) fn new(alloc: Global, key: Key) -> Fleet
         ensures { result ≡ no_fleet key }
@@ -90,7 +128,6 @@ impl Fleet {
             alloc,
             key,
             nodes: Vec::new(alloc),
-            roster: Roster::new(alloc),
             clock: 0,
         }
     }
@@ -99,12 +136,6 @@ impl Fleet {
         ensures { result ≡ self.now.key }
     {
         self.key
-    }
-
-    pub(crate) fn roster(&self) -> &Roster
-        ensures { result.now ≡ self.now.roster }
-    {
-        &self.roster
     }
 
     pub(crate) fn clock(&self) -> u64
@@ -125,19 +156,11 @@ impl Fleet {
     pub(crate) fn add_drone(&mut self, sys: u8, x: i32, y: i32) -> Result<(), StartFault>
         ensures joins { OnOk result ((nodes : List StateNode) → IsFleet nodes self.old
             → IsFleet (nodes ++ StateDrone (new_drone self.old.key sys (record { x = x; y = y })) ∷ []) self.new) }
-        ensures kept { OnOk result (self.new ≡ record self.old { nodes = self.new.nodes; roster = self.new.roster }) }
+        ensures kept { OnOk result (self.new ≡ record self.old { nodes = self.new.nodes }) }
         ensures fault { IfErr result (λ fault. fault ≡ StartFault.NoMemory) }
     {
         let drone = StoredDrone::start(self.alloc, self.key, sys, x, y)?;
         self.nodes.push(Node::Drone(drone))?;
-        let name = Name {
-            sys,
-            comp: AUTOPILOT,
-        };
-        self.roster.push(Named {
-            role: Role::Drone,
-            name,
-        })?;
         Ok(())
     }
 
@@ -145,24 +168,19 @@ impl Fleet {
     pub(crate) fn add_station(&mut self, name: Name) -> Result<(), NoMemory>
         ensures joins { OnOk result ((nodes : List StateNode) → IsFleet nodes self.old
             → IsFleet (nodes ++ StateStation (new_station self.old.key (stream_of name) 0) ∷ []) self.new) }
-        ensures kept { OnOk result (self.new ≡ record self.old { nodes = self.new.nodes; roster = self.new.roster }) }
+        ensures kept { OnOk result (self.new ≡ record self.old { nodes = self.new.nodes }) }
     {
-        let station = StationNode::new(self.alloc, self.key, stream(name), BOOT)?;
-        self.nodes.push(Node::Station(station))?;
-        self.roster.push(Named {
-            role: Role::Station,
-            name,
-        })
+        let node = StationNode::new(self.alloc, self.key, stream(name), BOOT)?;
+        self.nodes.push(Node::Station { name, node })?;
+        Ok(())
     }
 
     /// The name of the node at an index.
-    pub(crate) fn name_at(&self, index: usize) -> Option<Name>
-        ensures { (nodes : List StateNode) → IsFleet nodes self.now → result ≡ option_map node_name (slice_get nodes index) }
+    pub(crate) fn name_at(&self, index: usize) -> Name
+        requires { index < length self.now.nodes }
+        ensures { (nodes : List StateNode) → IsFleet nodes self.now → Some result ≡ option_map node_name (slice_get nodes index) }
     {
-        match self.roster.get(index) {
-            Some(named) => Some(named.name),
-            None => None,
-        }
+        self.nodes[index].named().name
     }
 
     // The node at an index does what it is asked.
@@ -170,23 +188,22 @@ impl Fleet {
         &mut self,
         index: usize,
         call: &Call,
-        datagram: &[u8],
+        datagram: &Datagram<'_>,
     ) -> Result<Vec<News>, NodeFault>
+        requires { index < length self.old.nodes }
         ensures done { IfOk result (λ news. (nodes : List StateNode) → IsFleet nodes self.old
             → FleetOutcome nodes index (slice_get nodes index) (node_called call.now datagram.now self.old.clock) self.new news.items) }
         ensures fault { IfErr result (λ fault. (nodes : List StateNode) → IsFleet nodes self.old
             → CallFails fault (slice_get nodes index) (node_called call.now datagram.now self.old.clock)) }
         ensures kept { self.new ≡ record self.old { nodes = self.new.nodes } }
+        ensures count { length self.new.nodes ≡ length self.old.nodes }
     {
-        if index < self.nodes.len() {
-            self.nodes[index].call(self.alloc, call, datagram, self.clock)
-        } else {
-            Ok(Vec::new(self.alloc))
-        }
+        self.nodes[index].call(self.alloc, call, datagram, self.clock)
     }
 
     // The station at an index follows an order, or refuses it.
     pub(crate) fn order_at(&mut self, index: usize, order: Order) -> Result<Vec<News>, OrderFault>
+        requires { index < length self.old.nodes }
         ensures done { IfOk result (λ news. (nodes : List StateNode) → (node : StationSide) → IsFleet nodes self.old
             → slice_get nodes index ≡ Some (StateStation node)
             → Follows node order
@@ -195,55 +212,49 @@ impl Fleet {
             → slice_get nodes index ≡ Some (StateStation node)
             → Refuses self.old.clock node order (IsFleet nodes self.new) fault) }
         ensures kept { self.new ≡ record self.old { nodes = self.new.nodes } }
+        ensures count { length self.new.nodes ≡ length self.old.nodes }
     {
-        if index < self.nodes.len() {
-            self.nodes[index].order(self.alloc, order, self.clock)
-        } else {
-            Ok(Vec::new(self.alloc))
-        }
+        self.nodes[index].order(self.alloc, order, self.clock)
     }
 
     /// The values of the latest list of parameters of the station at an index.
     pub(crate) fn params_at(&self, index: usize) -> &[Param]
+        requires { index < length self.now.nodes }
         ensures { (nodes : List StateNode) → IsFleet nodes self.now → result.now ≡ params_of (slice_get nodes index) }
     {
-        if index < self.nodes.len() {
-            self.nodes[index].params()
-        } else {
-            &[]
-        }
+        self.nodes[index].params()
     }
 
     /// The index of the node of a name.
     pub(crate) fn index_of(&self, name: Name) -> Option<usize>
-        ensures { (nodes : List StateNode) → IsFleet nodes self.now → result ≡ position (is_named name) nodes }
+        ensures found { (nodes : List StateNode) → IsFleet nodes self.now → result ≡ position (is_named name) nodes }
+        ensures within { IfSome result (λ index. index < length self.now.nodes) }
     {
-        self.roster.index_of_name(name)
+        first_called(&self.nodes, name)
     }
 
     /// The index of the drone of a name.
     pub(crate) fn index_of_drone(&self, name: Name) -> Option<usize>
-        ensures { (nodes : List StateNode) → IsFleet nodes self.now → result ≡ position (is_drone_named name) nodes }
+        ensures found { (nodes : List StateNode) → IsFleet nodes self.now → result ≡ position (is_drone_named name) nodes }
+        ensures within { IfSome result (λ index. index < length self.now.nodes) }
     {
-        self.roster.index_of(Role::Drone, name)
+        first_in_role(&self.nodes, Role::Drone, name)
     }
 
     /// The index of the station of a name.
     pub(crate) fn index_of_station(&self, name: Name) -> Option<usize>
-        ensures { (nodes : List StateNode) → IsFleet nodes self.now → result ≡ position (is_station_named name) nodes }
+        ensures found { (nodes : List StateNode) → IsFleet nodes self.now → result ≡ position (is_station_named name) nodes }
+        ensures within { IfSome result (λ index. index < length self.now.nodes) }
     {
-        self.roster.index_of(Role::Station, name)
+        first_in_role(&self.nodes, Role::Station, name)
     }
 
     // Where the drone at an index is.
     fn location_at(&self, index: usize) -> Option<Location>
+        requires { index < length self.now.nodes }
         ensures { (nodes : List StateNode) → IsFleet nodes self.now → result ≡ location_at (slice_get nodes index) }
     {
-        if index < self.nodes.len() {
-            self.nodes[index].location()
-        } else {
-            None
-        }
+        self.nodes[index].location()
     }
 
     /// Where the drone of a name is, if there is one.
@@ -257,9 +268,9 @@ impl Fleet {
     }
 
     pub(crate) fn len(&self) -> usize
-        ensures { (nodes : List StateNode) → IsFleet nodes self.now → result ≡ length nodes }
+        ensures { result ≡ length self.now.nodes }
     {
-        self.roster.len()
+        self.nodes.len()
     }
 
     /// How many drones there are.
@@ -273,6 +284,6 @@ impl Fleet {
     pub(crate) fn stations(&self) -> usize
         ensures { (nodes : List StateNode) → IsFleet nodes self.now → result ≡ stations_in nodes }
     {
-        self.roster.len().saturating_sub(self.drones())
+        self.nodes.len().saturating_sub(self.drones())
     }
 }

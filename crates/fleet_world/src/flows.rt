@@ -1,5 +1,5 @@
 // Frames on their way: what a flow gives to the nodes.
-ghost use Rattle.std.specs.Prelude.{◌≡◌, ◌<◌, Some, OnOk, IfErr, slice_get};
+ghost use Rattle.std.specs.Prelude.{◌≡◌, ◌<◌, Some, OnOk, IfErr, length, slice_get};
 ghost use Rattle.mav_frame.specs.Packet.{Packet};
 ghost use Rattle.fleet_world.specs.WorldState.{WorldState};
 ghost use Rattle.fleet_world.specs.WorldView.{IsState};
@@ -14,22 +14,26 @@ use fleet_report::Report;
 impl World {
     // The node at an index sent the frame of that number.
     fn is_sender(&self, index: usize, number: usize) -> bool
+        requires { index < length self.now.fleet.nodes }
         ensures { (state : WorldState) → (packet : Packet) → IsState state self.now.frames self.now
             → slice_get state.sent number ≡ Some packet → IsSender (slice_get state.nodes index) packet result }
     {
-        match (self.fleet.name_at(index), self.sent.sender(number)) {
-            (Some(name), Some(sender)) => name.sys == sender.sys && name.comp == sender.comp,
-            _ => false,
+        let name = self.fleet.name_at(index);
+        match self.sent.sender(number) {
+            Some(sender) => name.sys == sender.sys && name.comp == sender.comp,
+            None => false,
         }
     }
 
     // The node at an index is given a sent frame, unless it is the frame's own sender.
     fn give(&mut self, index: usize, number: usize, report: &mut Report) -> Result<(), WorldFault>
+        requires { index < length self.old.fleet.nodes }
         ensures done { OnOk result ((state : WorldState) → (packet : Packet) → IsState state self.old.frames self.old
             → slice_get state.sent number ≡ Some packet
             → WorldOutcome (given_to state index packet (slice_get state.nodes index)) self.old.frames self.new report.old report.new) }
         ensures error { IfErr result (λ fault. (state : WorldState) → (packet : Packet) → IsState state self.old.frames self.old
             → slice_get state.sent number ≡ Some packet → IsStepError (given_to state index packet (slice_get state.nodes index)) fault) }
+        ensures count { length self.new.fleet.nodes ≡ length self.old.fleet.nodes }
     {
         if self.is_sender(index, number) {
             return Ok(());

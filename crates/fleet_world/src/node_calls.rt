@@ -1,5 +1,5 @@
 // Calls of nodes, and what is reported of them.
-ghost use Rattle.std.specs.Prelude.{◌≡◌, ◌-◌, ◌+◌, nat_le, List, [], Some, map, slice_get, OnOk, IfOk, IfErr};
+ghost use Rattle.std.specs.Prelude.{◌≡◌, ◌-◌, ◌+◌, ◌<◌, nat_le, List, [], Some, length, map, slice_get, OnOk, IfOk, IfErr};
 ghost use Rattle.mav_nodes.specs.Nodes.{DroneSide};
 ghost use Rattle.mav_nodes.specs.News.{NodeEvent, shown, events_of};
 ghost use Rattle.node_reports.specs.Nodes.{Node as StateNode, Drone as StateDrone};
@@ -17,6 +17,7 @@ use crate::{Bound, World, WorldFault};
 use fleet_report::Report;
 use mav_names::Name;
 use mav_nodes::{News, NodeFault};
+use mav_sign::Datagram;
 
 const MOST_FRAMES: usize = 100_000;
 
@@ -28,13 +29,13 @@ fn has_room(sent: usize, frames: usize) -> bool
 }
 
 // The datagram of a call.
-fn datagram_of<'a>(sent: &'a SentFrames, call: &'a Call) -> &'a [u8]
-    ensures { result.now ≡ datagram_of sent.now call.now }
+fn datagram_of<'a>(sent: &'a SentFrames, call: &'a Call) -> Datagram<'a>
+    ensures { result ≡ datagram_of sent.now call.now }
 {
     match call {
-        Call::Take(number) => sent.bytes(*number),
-        Call::Noise(bytes) => bytes.bytes(),
-        Call::Heartbeat | Call::Tick | Call::Sim | Call::Restart(_) => &[],
+        Call::Take(number) => sent.datagram(*number),
+        Call::Noise(bytes) => Datagram::new(bytes.bytes()),
+        Call::Heartbeat | Call::Tick | Call::Sim | Call::Restart(_) => Datagram::new(&[]),
     }
 }
 
@@ -48,11 +49,13 @@ impl World {
         news: &[News],
         report: &mut Report,
     ) -> Result<(), WorldFault>
+        requires { index < length self.old.fleet.nodes }
         ensures done { OnOk result ((state : WorldState) → (events : List NodeEvent) → IsState state self.old.frames self.old
             → events_of news.now ≡ map shown events → HaveValues (params_of (slice_get state.nodes index)) events
             → WorldOutcome (reports_news state name events) self.old.frames self.new report.old report.new) }
         ensures error { IfErr result (λ fault. (state : WorldState) → (events : List NodeEvent) → IsState state self.old.frames self.old
             → events_of news.now ≡ map shown events → IsStepError (reports_news state name events) fault) }
+        ensures fleet { self.new.fleet ≡ self.old.fleet }
     {
         if !has_room(self.sent.len(), frames_in(news)) {
             return Err(WorldFault::Limit(Bound::Frames));
@@ -64,14 +67,16 @@ impl World {
 
     // The news of the node at an index at a call.
     fn news_of(&mut self, index: usize, call: &Call) -> Result<Vec<News>, NodeFault>
+        requires { index < length self.old.fleet.nodes }
         ensures done { IfOk result (λ news. (nodes : List StateNode) → IsFleet nodes self.old.fleet
             → FleetOutcome nodes index (slice_get nodes index) (called self.old call.now) self.new.fleet news.items) }
         ensures fault { IfErr result (λ fault. (nodes : List StateNode) → IsFleet nodes self.old.fleet
             → CallFails fault (slice_get nodes index) (called self.old call.now)) }
         ensures kept { self.new ≡ record self.old { fleet = record self.old.fleet { nodes = self.new.fleet.nodes } } }
+        ensures count { length self.new.fleet.nodes ≡ length self.old.fleet.nodes }
     {
         let datagram = datagram_of(&self.sent, call);
-        self.fleet.call_at(index, call, datagram)
+        self.fleet.call_at(index, call, &datagram)
     }
 
     // The node at an index is called.
@@ -81,14 +86,14 @@ impl World {
         call: &Call,
         report: &mut Report,
     ) -> Result<(), WorldFault>
+        requires { index < length self.old.fleet.nodes }
         ensures done { OnOk result ((state : WorldState) → IsState state self.old.frames self.old
             → WorldOutcome (calls_at state index (slice_get state.nodes index) (called self.old call.now)) self.old.frames self.new report.old report.new) }
         ensures error { IfErr result (λ fault. (state : WorldState) → IsState state self.old.frames self.old
             → IsStepError (calls_at state index (slice_get state.nodes index) (called self.old call.now)) fault) }
+        ensures count { length self.new.fleet.nodes ≡ length self.old.fleet.nodes }
     {
-        let Some(name) = self.fleet.name_at(index) else {
-            return Ok(());
-        };
+        let name = self.fleet.name_at(index);
         let news = self.news_of(index, call)?;
         self.report_news(index, name, news.as_slice(), report)
     }
@@ -100,6 +105,7 @@ impl World {
         drone: Name,
         report: &mut Report,
     ) -> Result<(), WorldFault>
+        requires { index < length self.old.fleet.nodes }
         ensures done { OnOk result ((state : WorldState) → (node : DroneSide) → IsState state self.old.frames self.old
             → slice_get state.nodes index ≡ Some (StateDrone node)
             → WorldOutcome (restarts_as state index drone node) self.old.frames self.new report.old report.new) }

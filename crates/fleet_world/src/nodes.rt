@@ -4,8 +4,9 @@ ghost use Rattle.mav_nodes.specs.Nodes.{StationSide, station_obeys};
 ghost use Rattle.node_reports.specs.Nodes.{Node as StateNode, Station as StateStation};
 ghost use Rattle.node_reports.specs.Calls.{as_station};
 ghost use Rattle.node_reports.specs.ParamLists.{params_of};
+ghost use Rattle.scenario_lines.specs.LineContext.{is_called, is_in_role};
 ghost use Rattle.fleet_world.specs.StoredDrones.{FailsBy};
-ghost use Rattle.fleet_world.specs.WorldView.{IsNode};
+ghost use Rattle.fleet_world.specs.WorldView.{IsNode, named_in};
 ghost use Rattle.fleet_world.specs.Steps.{location_of};
 ghost use Rattle.fleet_world.specs.NodeSteps.{node_called};
 ghost use Rattle.fleet_world.specs.Promises.{NodeOutcome, Follows, Refuses};
@@ -13,23 +14,62 @@ ghost use Rattle.fleet_world.specs.Promises.{NodeOutcome, Follows, Refuses};
 use crate::calls::Call;
 use crate::locations::Location;
 use crate::stored_drone::StoredDrone;
+use mav_names::Name;
 use mav_nodes::{News, NodeFault, Order, OrderFault, StationNode};
+use mav_sign::Datagram;
 use param_proto::Param;
+use scenario_lines::{Named, Role};
 use std::alloc::Global;
+
+// A drone is component 1 of its system.
+const AUTOPILOT: u8 = 1;
 
 #[derive(Drop)]
 pub enum Node {
     Drone(StoredDrone),
-    Station(StationNode),
+    Station { name: Name, node: StationNode },
 }
 
 impl Node {
+    /// Its role and its name.
+    pub(crate) fn named(&self) -> Named
+        ensures { result ≡ named_in self.now }
+    {
+        match self {
+            Node::Drone(drone) => Named {
+                role: Role::Drone,
+                name: Name {
+                    sys: drone.plans().sys(),
+                    comp: AUTOPILOT,
+                },
+            },
+            Node::Station { name, .. } => Named {
+                role: Role::Station,
+                name: *name,
+            },
+        }
+    }
+
+    /// Whether it has this name, in any role.
+    pub(crate) fn is_called(&self, name: Name) -> bool
+        ensures { result ≡ is_called name (named_in self.now) }
+    {
+        self.named().is_called(name)
+    }
+
+    /// Whether it has this name in this role.
+    pub(crate) fn is_in_role(&self, role: Role, name: Name) -> bool
+        ensures { result ≡ is_in_role role name (named_in self.now) }
+    {
+        self.named().is_in_role(role, name)
+    }
+
     /// Does what it is asked: takes a datagram, sends HEARTBEAT, lets time pass, flies, or starts again.
     pub(crate) fn call(
         &mut self,
         alloc: Global,
         call: &Call,
-        datagram: &[u8],
+        datagram: &Datagram<'_>,
         clock: u64,
     ) -> Result<Vec<News>, NodeFault>
         ensures done { IfOk result (λ news. (node : StateNode) → IsNode node self.old
@@ -44,12 +84,12 @@ impl Node {
             (Node::Drone(drone), Call::Tick) => drone.tick(clock),
             (Node::Drone(drone), Call::Sim) => drone.sim(clock),
             (Node::Drone(drone), Call::Restart(key)) => drone.restart(alloc, *key, clock),
-            (Node::Station(station), Call::Take(_)) => station.receive(datagram, clock),
-            (Node::Station(station), Call::Noise(_)) => station.receive(datagram, clock),
-            (Node::Station(station), Call::Heartbeat) => station.heartbeat(clock),
-            (Node::Station(station), Call::Tick) => station.tick(clock),
-            (Node::Station(_), Call::Sim) => Ok(Vec::new(alloc)),
-            (Node::Station(station), Call::Restart(_)) => Ok(Vec::new(alloc)),
+            (Node::Station { node, .. }, Call::Take(_)) => node.receive(datagram, clock),
+            (Node::Station { node, .. }, Call::Noise(_)) => node.receive(datagram, clock),
+            (Node::Station { node, .. }, Call::Heartbeat) => node.heartbeat(clock),
+            (Node::Station { node, .. }, Call::Tick) => node.tick(clock),
+            (Node::Station { .. }, Call::Sim) => Ok(Vec::new(alloc)),
+            (Node::Station { .. }, Call::Restart(_)) => Ok(Vec::new(alloc)),
         }
     }
 
@@ -67,7 +107,7 @@ impl Node {
     {
         match self {
             Node::Drone(_) => Ok(Vec::new(alloc)),
-            Node::Station(station) => station.order(order, clock),
+            Node::Station { node, .. } => node.order(order, clock),
         }
     }
 
@@ -77,7 +117,7 @@ impl Node {
     {
         match self {
             Node::Drone(drone) => Some(drone.location()),
-            Node::Station(_) => None,
+            Node::Station { .. } => None,
         }
     }
 
@@ -87,7 +127,7 @@ impl Node {
     {
         match self {
             Node::Drone(_) => &[],
-            Node::Station(station) => station.params(),
+            Node::Station { node, .. } => node.params(),
         }
     }
 }

@@ -1,5 +1,5 @@
 // Orders to stations.
-ghost use Rattle.std.specs.Prelude.{◌≡◌, List, [], None, Some, OnOk, IfOk, IfErr, slice_get};
+ghost use Rattle.std.specs.Prelude.{◌≡◌, ◌<◌, List, [], None, Some, OnOk, IfOk, IfErr, length, slice_get};
 ghost use Rattle.mav_nodes.specs.Nodes.{StationSide, station_obeys};
 ghost use Rattle.plan_items.specs.Kinds.{number_of};
 ghost use Rattle.plan_items.specs.Plans.{items_of};
@@ -73,6 +73,7 @@ impl World {
 
     // The news of the station at an index at an order.
     fn news_of_order(&mut self, index: usize, order: Order) -> Result<Vec<News>, OrderFault>
+        requires { index < length self.old.fleet.nodes }
         ensures done { IfOk result (λ news. (nodes : List StateNode) → (node : StationSide) → IsFleet nodes self.old.fleet
             → slice_get nodes index ≡ Some (StateStation node)
             → Follows node order
@@ -81,6 +82,7 @@ impl World {
             → slice_get nodes index ≡ Some (StateStation node)
             → Refuses self.old.fleet.clock node order (IsFleet nodes self.new.fleet) fault) }
         ensures kept { self.new ≡ record self.old { fleet = record self.old.fleet { nodes = self.new.fleet.nodes } } }
+        ensures count { length self.new.fleet.nodes ≡ length self.old.fleet.nodes }
     {
         self.fleet.order_at(index, order)
     }
@@ -93,6 +95,7 @@ impl World {
         order: Order,
         report: &mut Report,
     ) -> Result<(), WorldFault>
+        requires { index < length self.old.fleet.nodes }
         ensures done { OnOk result ((state : WorldState) → (node : StationSide) → IsState state self.old.frames self.old
             → slice_get state.nodes index ≡ Some (StateStation node)
             → WorldOutcome (obeys state index station node order) self.old.frames self.new report.old report.new) }

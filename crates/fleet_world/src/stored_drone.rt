@@ -8,7 +8,7 @@ ghost use Rattle.fleet_world.specs.StoredDrones.{IsStoredDrone, FailsBy};
 
 use crate::locations::Location;
 use mav_nodes::{DroneNode, News, NodeFault, StartFault};
-use mav_sign::Key;
+use mav_sign::{Datagram, Key};
 use plan_store::MemKeeper;
 use plan_upload::Drone;
 use std::alloc::Global;
@@ -55,7 +55,11 @@ impl StoredDrone {
     }
 
     /// Takes a datagram.
-    pub(crate) fn receive(&mut self, datagram: &[u8], clock: u64) -> Result<Vec<News>, NodeFault>
+    pub(crate) fn receive(
+        &mut self,
+        datagram: &Datagram<'_>,
+        clock: u64,
+    ) -> Result<Vec<News>, NodeFault>
         ensures done { IfOk result (λ news. (node : DroneSide) → IsStoredDrone node self.old
             → Did (drone_receives clock datagram.now node) (λ n. IsStoredDrone n self.new) [] news.items) }
         ensures fault { IfErr result (λ fault. (node : DroneSide) → IsStoredDrone node self.old

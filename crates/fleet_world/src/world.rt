@@ -63,7 +63,7 @@ impl World {
         Ok(World {
             alloc,
             fleet: Fleet::new(alloc, key),
-            sent: SentFrames::new(alloc),
+            sent: SentFrames::new(alloc, key),
             given: 0,
             draft: Plan::new(alloc),
             restarts: 0,
@@ -78,13 +78,7 @@ impl World {
         ensures bad { IfErr result (λ e. IfBad e (λ r. reason_against (context_in self.now) text.now ≡ Some r)) }
     {
         let drafted = self.draft.len();
-        read(
-            self.alloc,
-            self.fleet.roster(),
-            drafted,
-            self.fleet.clock(),
-            text,
-        )
+        read(self.alloc, &self.fleet, drafted, self.fleet.clock(), text)
     }
 
     /// One line, and what it prints. After a fault the world isn't used any more.

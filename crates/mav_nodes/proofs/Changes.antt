@@ -1,5 +1,5 @@
--- A drone's step with a store that keeps what it changes, and with one that doesn't: the system stays, a step that isn't
--- kept changes no plan, and one without a reply changes none.
+-- A drone's step with a store that keeps what it changes, and with one that doesn't: the system stays, and a step without
+-- a reply changes no plan.
 use Rattle.std.proofs.Common.{◌≡◌, ◌≢◌, ℕ, Bool, true, false, if◌then◌else◌, not, ◌&&◌, nat_lt, length, List, ◌∷◌, [], ◌++◌, Option, Some, None, refl, sym, subst}
 use Rattle.std.specs.Prelude.{◌==◌, ◌+◌, is_some, slice_get}
 use Rattle.mav_names.specs.declared.names.Stream.{Stream}
@@ -21,13 +21,12 @@ use Rattle.mav_nodes.specs.Images.{IsStored}
 pub record Shapes (d : DroneState) (kept unkept : DroneStep) : Type 0 where
   pub sys : kept.drone.sys ≡ d.sys
   pub unkept_sys : unkept.drone.sys ≡ d.sys
-  pub unchanged : change_by unkept.event ≡ Same
   pub silent : kept.answer ≡ None → change_by kept.event ≡ Same
   pub unkept_silent : unkept.answer ≡ None → change_by kept.event ≡ Same
 
 -- a step that has nothing to keep
 plain : (d : DroneState) (x : DroneStep) → x.drone.sys ≡ d.sys → change_by x.event ≡ Same → Shapes d x x
-plain d x sys quiet = record { sys = sys; unkept_sys = sys; unchanged = quiet; silent = λ _. quiet; unkept_silent = λ _. quiet }
+plain d x sys quiet = record { sys = sys; unkept_sys = sys; silent = λ _. quiet; unkept_silent = λ _. quiet }
 
 by_test : (d : DroneState) (b : Bool) (x y u v : DroneStep) → Shapes d x u → Shapes d y v → Shapes d (if b then x else y) (if b then u else v)
 by_test d true x y u v f g = f
@@ -53,7 +52,7 @@ fits_shapes d s u item (Some fault) = plain d _ (closed-sys d s) refl
 fits_shapes d s u item None =
     by_test d (nat_lt (length u.items + 1) u.total) _ _ _ _ (plain d _ refl refl)
     (by_test d (is_some (plan_fault u.kind (u.items ++ item ∷ []))) _ _ _ _ (plain d _ (closed-sys d s) refl)
-    (record { sys = refl; unkept_sys = closed-sys d s; unchanged = refl; silent = λ none. absurd (cc); unkept_silent = λ none. absurd (cc) }))
+    (record { sys = refl; unkept_sys = closed-sys d s; silent = λ none. absurd (cc); unkept_silent = λ none. absurd (cc) }))
 
 item_shapes : (d : DroneState) (s : Stream) (upload : Option Upload) (seq kind : ℕ) (item : PlanItem) → Shapes d (item_comes true d s upload seq kind item) (item_comes false d s upload seq kind item)
 item_shapes d s None seq kind item = plain d _ refl refl
@@ -65,7 +64,7 @@ clear_shapes : (d : DroneState) (s : Stream) (kind : ℕ) → Shapes d (clear_co
 clear_shapes d s kind =
     by_test d (nat_lt 2 kind && not (kind == every_kind)) _ _ _ _ (plain d _ refl refl)
     (by_test d (is_other d.upload s) _ _ _ _ (plain d _ refl refl)
-    (record { sys = closed-sys d s; unkept_sys = refl; unchanged = refl; silent = λ none. absurd (cc); unkept_silent = λ none. absurd (cc) }))
+    (record { sys = closed-sys d s; unkept_sys = refl; silent = λ none. absurd (cc); unkept_silent = λ none. absurd (cc) }))
 
 list_shapes : (d : DroneState) (s : Stream) (kind : ℕ) → Shapes d (list_comes d s kind) (list_comes d s kind)
 list_shapes d s kind =

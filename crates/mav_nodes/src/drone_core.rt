@@ -1,10 +1,8 @@
 // A drone's plan core.
-ghost use Rattle.std.specs.Prelude.{◌≡◌, ◌≢◌, map, true, false};
-ghost use Rattle.plan_upload.specs.declared.changes.Change.TheVariants.{Same as Unchanged};
-ghost use Rattle.plan_upload.specs.Changes.{change_of};
+ghost use Rattle.std.specs.Prelude.{◌≡◌, map};
 ghost use Rattle.mav_nodes.specs.News.{shown};
-ghost use Rattle.mav_nodes.specs.Cores.{IsStep, said_of_plans};
-ghost use Rattle.mav_nodes.specs.Nodes.{change_events, drone_core_keeping};
+ghost use Rattle.mav_nodes.specs.Cores.{said_of_plans};
+ghost use Rattle.mav_nodes.specs.Nodes.{change_events};
 
 use crate::NoMemory;
 use crate::steps::{Core, PlanNews, Step};
@@ -42,10 +40,11 @@ impl Core for Drone {
     }
 
     fn take(&mut self, kept: bool, from: Stream, message: &PlanMsg) -> Step {
-        match self.change(from, message) {
-            Change::Same => do_step(self, Change::Same, from, message),
-            change if kept => do_step(self, change, from, message),
-            _ => refuse_step(self, from, message),
+        let done = self.step(kept, from, message);
+        Step {
+            plans: plan_news(self, from, done.change),
+            answer: done.answer,
+            outcome: None,
         }
     }
 
@@ -70,31 +69,5 @@ fn plan_news(drone: &Drone, by: Stream, change: Change) -> PlanNews
         Change::Same => PlanNews::Same,
         Change::Install(kind) => { PlanNews::Installed(kind, drone.plan(kind).len() as u16, by) }
         Change::Empty(kind) => PlanNews::Emptied(kind),
-    }
-}
-
-// The drone does its step, and the store has what it changes.
-fn do_step(drone: &mut Drone, change: Change, from: Stream, message: &PlanMsg) -> Step
-    requires { change ≡ change_of drone.old from message.now }
-    ensures { IsStep (drone_core_keeping true drone.old from message.now) drone.new result }
-{
-    let answer = drone.step(from, message);
-    Step {
-        plans: plan_news(drone, from, change),
-        answer,
-        outcome: None,
-    }
-}
-
-// The drone refuses its step, since the store doesn't have what it would change.
-fn refuse_step(drone: &mut Drone, from: Stream, message: &PlanMsg) -> Step
-    requires { change_of drone.old from message.now ≢ Unchanged }
-    ensures { IsStep (drone_core_keeping false drone.old from message.now) drone.new result }
-{
-    let answer = drone.unkept(from, message);
-    Step {
-        plans: PlanNews::Same,
-        answer,
-        outcome: None,
     }
 }

@@ -17,7 +17,7 @@ use crate::link::Link;
 use crate::{News, NodeFault, StartFault, node};
 use drone_sim::Point;
 use mav_names::Stream;
-use mav_sign::Key;
+use mav_sign::{Datagram, Key};
 use plan_store::Keeper;
 use plan_upload::{Drone, Kept, read_kept};
 use std::alloc::Global;
@@ -219,7 +219,7 @@ impl DroneNode {
     /// frame is tried.
     pub fn receive<K: Keeper>(
         &mut self,
-        datagram: &[u8],
+        datagram: &Datagram<'_>,
         clock: u64,
         keeper: &mut K,
     ) -> Result<Vec<News>, NodeFault>
@@ -243,6 +243,7 @@ impl DroneNode {
             &mut self.services,
             keeper,
             datagram,
+            datagram.bytes(),
             clock,
         )
     }

@@ -10,6 +10,7 @@ ghost use Rattle.mav_frame.specs.Packet.{SignatureBlock};
 ghost use Rattle.mav_sign.specs.Endpoints.{HasProfile};
 ghost use Rattle.mav_sign.specs.History.{answer_to, stream_of};
 ghost use Rattle.mav_sign.specs.declared.admission.Admit.TheVariants.{Admitted};
+ghost use Rattle.mav_sign.specs.Signing.{verified};
 ghost use Rattle.mav_sign.specs.Streams.{reader_of, ReadTo};
 ghost use Rattle.mav_frame.specs.declared.events.Event.{Event};
 ghost use Rattle.mav_nodes.specs.LowBounds.{bound_for, raised, raised_for, raised_if};
@@ -25,10 +26,10 @@ use crate::news::tell_sent;
 use crate::steps::{Core, Step, tell_outcome, tell_plans};
 use crate::stores::save_bound;
 use crate::{News, NoMemory, NodeFault};
-use mav_frame::{Frame, FrameBytes, RawFrame};
+use mav_frame::{Frame, RawFrame};
 use mav_messages::Message;
 use mav_names::{Name, Stream};
-use mav_sign::{Admit, Endpoint, Key};
+use mav_sign::{Admit, Datagram, Endpoint, Key, SignedFrame};
 use plan_items::PlanMsg;
 use plan_store::Keeper;
 use std::alloc::Global;
@@ -223,6 +224,20 @@ impl Link {
         self.endpoint.read(piece)
     }
 
+    /// Whether a frame verifies.
+    pub(crate) fn verifies(&self, frame: &RawFrame<'_>) -> bool
+        ensures { result ≡ verified self.now.endpoint.key frame.now frame.now.block }
+    {
+        self.endpoint.verifies(frame)
+    }
+
+    /// Whether a frame of a datagram verifies. What is known to verify takes no digest.
+    pub(crate) fn verifies_in(&self, datagram: &Datagram<'_>, frame: &RawFrame<'_>) -> bool
+        ensures { result ≡ verified self.now.endpoint.key frame.now frame.now.block }
+    {
+        self.endpoint.verifies_in(datagram, frame)
+    }
+
     // Before a timestamp is admitted or sent, the store has a bound that isn't below it.
     fn raise<K: Keeper, C: Core>(
         &mut self,
@@ -267,13 +282,15 @@ impl Link {
         }
     }
 
-    // Tries one frame.
+    // Tries one frame, of which it is known whether it verifies.
     fn admit<K: Keeper, C: Core>(
         &mut self,
         frame: &RawFrame<'_>,
+        verifies: bool,
         core: &C,
         keeper: &mut K,
     ) -> Result<Admit, NodeFault>
+        requires { verifies ≡ verified self.old.endpoint.key frame.now frame.now.block }
         ensures answer { IfOk result (λ answer. (link : LinkState) → IsLink link self.old → answer ≡ answer_to link.key link.history frame.now) }
         ensures link { OnOk result ((link : LinkState) → IsLink link self.old → IsLink (tries frame.now link) self.new) }
         ensures stored { OnOk result (Holds (K.contents keeper.old) (C.stored core.now) self.old.low → Holds (K.contents keeper.new) (C.stored core.now) self.new.low) }
@@ -281,22 +298,23 @@ impl Link {
         ensures serves { Serves K.faults K.is_infallible keeper.old keeper.new }
         ensures fault { IfErr result (λ fault. HasFailedAt fault K.faults K.is_infallible keeper.old keeper.new) }
     {
-        let verifies = self.endpoint.verifies(frame);
         let answer = self.endpoint.test_judged(frame, verifies);
         self.raise_for(answer, frame, core, keeper)?;
         self.endpoint.keep_verdict(frame, answer);
         Ok(answer)
     }
 
-    /// Tries one frame, and returns the message that it carries for the node. The store has a bound for its timestamp before it is
-    /// admitted.
+    /// Tries one frame, of which it is known whether it verifies, and returns the message that it carries for the node. The store
+    /// has a bound for its timestamp before it is admitted.
     #[inline]
     pub(crate) fn hear<K: Keeper, C: Core>(
         &mut self,
         frame: &RawFrame<'_>,
+        verifies: bool,
         core: &C,
         keeper: &mut K,
     ) -> Result<Tried, NodeFault>
+        requires { verifies ≡ verified self.old.endpoint.key frame.now frame.now.block }
         ensures tried { IfOk result (λ tried. (link : LinkState) → IsLink link self.old → IsTried link frame.now tried) }
         ensures link { OnOk result ((link : LinkState) → IsLink link self.old → IsLink (tries frame.now link) self.new) }
         ensures stored { OnOk result (Holds (K.contents keeper.old) (C.stored core.now) self.old.low → Holds (K.contents keeper.new) (C.stored core.now) self.new.low) }
@@ -304,7 +322,7 @@ impl Link {
         ensures serves { Serves K.faults K.is_infallible keeper.old keeper.new }
         ensures fault { IfErr result (λ fault. HasFailedAt fault K.faults K.is_infallible keeper.old keeper.new) }
     {
-        let answer = self.admit(frame, core, keeper)?;
+        let answer = self.admit(frame, verifies, core, keeper)?;
         Ok(result_of(frame, answer))
     }
 
@@ -344,7 +362,7 @@ impl Link {
         ensures reader { reader_of self.new.endpoint ≡ reader_of self.old.endpoint }
         ensures fault { IfErr result (λ fault. Fails fault (λ (link : LinkState). IsEnd link self.old.endpoint) (λ (link : LinkState). sends clock message.now link) ⊥) }
     {
-        let mut frame = FrameBytes::new();
+        let mut frame = SignedFrame::new();
         self.endpoint.send_bytes(message, clock, &mut frame)?;
         tell_sent(news, frame, message)
     }

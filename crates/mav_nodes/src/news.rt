@@ -5,10 +5,9 @@ ghost use Rattle.mav_nodes.specs.News.{said_by, events_of};
 
 use crate::{NoMemory, NodeFault};
 use field_layout::Label;
-use mav_frame::FrameBytes;
 use mav_messages::Message;
 use mav_names::Stream;
-use mav_sign::Admit;
+use mav_sign::{Admit, SignedFrame};
 use param_proto::Param;
 use plan_items::PlanKind;
 use plan_upload::Outcome;
@@ -28,7 +27,7 @@ pub enum FileEnd {
 #[derive(Drop)]
 pub enum News {
     /// The node sent this frame, which carries the message.
-    Sent(FrameBytes, Message),
+    Sent(SignedFrame, Message),
     /// A plan was installed.
     Installed {
         kind: PlanKind,
@@ -91,7 +90,7 @@ pub(crate) fn report(news: &mut Vec<News>, piece: News) -> Result<(), NoMemory>
 #[inline]
 pub(crate) fn tell_sent(
     news: &mut Vec<News>,
-    frame: FrameBytes,
+    frame: SignedFrame,
     message: &Message,
 ) -> Result<(), NodeFault>
     ensures told { OnOk result (news.new.items ≡ news.old.items ++ Sent frame message.now ∷ []) }

@@ -2,6 +2,7 @@
 ghost use Rattle.std.specs.Prelude.{◌≡◌, ◌++◌, ℕ, Bool, List, [], length, IfOk, IfErr, OnOk};
 ghost use Rattle.mav_frame.specs.declared.events.Event.{Event as StreamEvent};
 ghost use Rattle.mav_frame.specs.Packet.{Packet};
+ghost use Rattle.mav_sign.specs.Signing.{verified};
 ghost use Rattle.mav_sign.specs.Streams.{reader_of};
 ghost use Rattle.mav_nodes.specs.Steps.{Side, steps, steps_noted, serves, hears, hears_keeping, receives_keeping};
 ghost use Rattle.mav_nodes.specs.Services.{ServiceStep};
@@ -20,6 +21,7 @@ use crate::{News, NodeFault};
 use mav_frame::{FrameBytes, RawFrame, front_at};
 use mav_messages::Message;
 use mav_names::Stream;
+use mav_sign::Datagram;
 use plan_items::PlanMsg;
 use plan_store::Keeper;
 use std::alloc::Global;
@@ -100,16 +102,18 @@ fn serve<K: Keeper, C: Core, V: Services<C>>(
     say_served(link, core, services, keeper, served, clock, news)
 }
 
-// One frame. Returns whether the store has what changed.
+// One frame, of which it is known whether it verifies. Returns whether the store has what changed.
 fn hear<K: Keeper, C: Core, V: Services<C>>(
     link: &mut Link,
     core: &mut C,
     services: &mut V,
     keeper: &mut K,
     frame: &RawFrame<'_>,
+    verifies: bool,
     clock: u64,
     news: &mut Vec<News>,
 ) -> Result<bool, NodeFault>
+    requires { verifies ≡ verified link.old.endpoint.key frame.now frame.now.block }
     ensures done { IfOk result (λ kept. (node : Side C V) → IsNode node link.old core.old services.old
         → NodeDid (hears (rules_of C.taken V.noted V.served kept) clock frame.now node) link.new core.new services.new news.old.items news.new.items) }
     ensures unkept { IfOk result (λ kept. IsKept kept (HasFailed K.faults K.is_infallible keeper.old keeper.new)) }
@@ -120,7 +124,7 @@ fn hear<K: Keeper, C: Core, V: Services<C>>(
         (λ (kept : Bool) (node : Side C V). hears (rules_of C.taken V.noted V.served kept) clock frame.now node)
         (λ kept. IsKept kept (HasFailed K.faults K.is_infallible keeper.old keeper.new)) (HasFailed K.faults K.is_infallible keeper.old keeper.new)) }
 {
-    match link.hear(frame, core, keeper)? {
+    match link.hear(frame, verifies, core, keeper)? {
         Tried::Plan(from, message) => {
             take(link, core, services, keeper, from, &message, clock, news)
         }
@@ -136,14 +140,15 @@ fn hear<K: Keeper, C: Core, V: Services<C>>(
     }
 }
 
-/// Takes a datagram as a whole input by itself: each of its frames in order, and each reply is sent before the next
-/// frame is tried.
+/// Takes the bytes of a datagram as a whole input by itself: each of its frames in order, and each reply is sent before the
+/// next frame is tried. What `known` says to verify takes no digest.
 pub(crate) fn receive<K: Keeper, C: Core, V: Services<C>>(
     alloc: Global,
     link: &mut Link,
     core: &mut C,
     services: &mut V,
     keeper: &mut K,
+    known: &Datagram<'_>,
     datagram: &[u8],
     clock: u64,
 ) -> Result<Vec<News>, NodeFault>
@@ -162,7 +167,10 @@ pub(crate) fn receive<K: Keeper, C: Core, V: Services<C>>(
         let (front, size) = front_at(link.extras(), false, &datagram[place..]);
         match front {
             Some(frame) => {
-                hear(link, core, services, keeper, &frame, clock, &mut news)?;
+                let verifies = link.verifies_in(known, &frame);
+                hear(
+                    link, core, services, keeper, &frame, verifies, clock, &mut news,
+                )?;
             }
             None => {}
         }
@@ -200,7 +208,11 @@ pub(crate) fn part<K: Keeper, C: Core, V: Services<C>>(
             return Ok((place, news));
         };
         let bytes = FrameBytes::of(&frame);
-        hear(link, core, services, keeper, &bytes.raw(), clock, &mut news)?;
+        let raw = bytes.raw();
+        let verifies = link.verifies(&raw);
+        hear(
+            link, core, services, keeper, &raw, verifies, clock, &mut news,
+        )?;
     }
 }
 

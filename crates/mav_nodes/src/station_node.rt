@@ -21,7 +21,7 @@ use crate::station_services::StationServices;
 use crate::steps::{Core, PlanNews, Step};
 use crate::{News, NoMemory, NodeFault, Order, OrderFault, node};
 use mav_names::{Name, Stream};
-use mav_sign::Key;
+use mav_sign::{Datagram, Key};
 use param_proto::Param;
 use plan_items::PlanMsg;
 use plan_upload::Station;
@@ -190,7 +190,7 @@ impl StationNode {
 
     /// Takes a datagram as a whole input by itself: each of its frames in order, and each reply is sent before the next
     /// frame is tried.
-    pub fn receive(&mut self, datagram: &[u8], clock: u64) -> Result<Vec<News>, NodeFault>
+    pub fn receive(&mut self, datagram: &Datagram<'_>, clock: u64) -> Result<Vec<News>, NodeFault>
         ensures done { IfOk result (λ news. (node : StationSide) → IsStation node self.old
             → StationDid (station_receives clock datagram.now node) self.new [] news.items) }
         ensures reader { reader_of self.new.link.endpoint ≡ reader_of self.old.link.endpoint }
@@ -203,6 +203,7 @@ impl StationNode {
             &mut self.services,
             &mut NoStore::new(self.alloc),
             datagram,
+            datagram.bytes(),
             clock,
         )
     }

@@ -12,9 +12,11 @@ ghost use Rattle.mav_sign.specs.Endpoints.{HasProfile, AdmittedIs, Admits, new_e
 
 use crate::reading::{LEAST_FRAME_BYTES, append_frames, read_frame};
 use crate::stamps::stream_on;
-use crate::{Admit, Heard, Key, NoMemory, Stamps, StampsSpent, sign_bytes, verifies_raw};
+use crate::{
+    Admit, Datagram, Heard, Key, NoMemory, SignedFrame, Stamps, StampsSpent, verifies_raw,
+};
 use field_layout::Buffer;
-use mav_frame::{Block, Frame, FrameBytes, Look, RawFrame, encode, look};
+use mav_frame::{Block, Frame, Look, RawFrame, encode, look};
 use mav_messages::Message;
 use mav_names::{Name, Stream};
 use mav_stream::Reader;
@@ -126,6 +128,13 @@ impl Endpoint {
         ensures { result ≡ verified self.now.key frame.now frame.now.block }
     {
         verifies_raw(&self.key, frame)
+    }
+
+    /// The same of a frame of a datagram. What is known to verify takes no digest (see [`SignedFrame`]).
+    pub fn verifies_in(&self, datagram: &Datagram<'_>, frame: &RawFrame<'_>) -> bool
+        ensures { result ≡ verified self.now.key frame.now frame.now.block }
+    {
+        datagram.is_signed(frame, &self.key) || self.verifies(frame)
     }
 
     /// What `test` does, for a frame of which it is already known whether it verifies.
@@ -286,7 +295,7 @@ impl Endpoint {
     }
 
     // Writes the frame of a message, with a block that is still to be signed.
-    fn write_frame(&self, message: &Message, stamp: u64, frame: &mut FrameBytes)
+    fn write_frame(&self, message: &Message, stamp: u64, frame: &mut SignedFrame)
         requires { stamp < 2 ^ 48 }
         ensures frame { FrameOf self.now.me self.now.extras self.now.seq stamp message.now frame.new }
         ensures block { IfSome frame.new.block (λ block. (block.link ≡ self.now.me.link) × (block.stamp ≡ stamp)) }
@@ -325,26 +334,26 @@ impl Endpoint {
     pub fn send(&mut self, message: &Message, clock: u64) -> Result<Frame, StampsSpent>
         ensures { Sends self.old self.new clock message.now result }
     {
-        let mut frame = FrameBytes::new();
+        let mut frame = SignedFrame::new();
         match self.send_bytes(message, clock, &mut frame) {
             Ok(()) => Ok(frame.raw().to_frame()),
             Err(spent) => Err(spent),
         }
     }
 
-    /// Writes the same frame, as the bytes that encode it, in the place of another.
+    /// Writes the same frame over another, as the bytes that encode it, with the key under which it is signed.
     pub fn send_bytes(
         &mut self,
         message: &Message,
         clock: u64,
-        frame: &mut FrameBytes,
+        frame: &mut SignedFrame,
     ) -> Result<(), StampsSpent>
         ensures sends { Sends self.old self.new clock message.now (with_frame frame.new result) }
         ensures kept { OnErr result (frame.new ≡ frame.old) }
     {
         let stamp = self.stamps.next_stamp(clock)?;
         self.write_frame(message, stamp, frame);
-        sign_bytes(&self.key, frame);
+        frame.sign(&self.key);
         self.seq = self.seq.wrapping_add(1);
         Ok(())
     }

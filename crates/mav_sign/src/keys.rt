@@ -1,5 +1,5 @@
 // The secret key of a system's links.
-ghost use Rattle.std.specs.Prelude.{◌≡◌};
+ghost use Rattle.std.specs.Prelude.{◌≡◌, IsTrue, ◌↔◌};
 
 use std::marker::Model;
 
@@ -30,5 +30,11 @@ impl Key {
         ensures { result.now ≡ self.now }
     {
         &self.bytes
+    }
+
+    pub(crate) fn is_same(&self, other: &Key) -> bool
+        ensures { IsTrue result ↔ self.now ≡ other.now }
+    {
+        self.bytes() == other.bytes()
     }
 }

@@ -8,18 +8,22 @@
 #![tactic(auto)]
 
 mod admission;
+mod datagrams;
 mod endpoint;
 mod heard;
 mod keys;
 mod reading;
+mod signed_frames;
 mod signing;
 mod stamps;
 mod table;
 
 pub use admission::{Admit, StampsSpent};
+pub use datagrams::Datagram;
 pub use endpoint::Endpoint;
 pub use heard::Heard;
 pub use keys::Key;
+pub use signed_frames::SignedFrame;
 pub use signing::{sign, sign_bytes, verifies, verifies_raw};
 pub use stamps::Stamps;
 use std::alloc::AllocError;

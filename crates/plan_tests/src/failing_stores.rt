@@ -3,7 +3,7 @@ use mav_frame::encode;
 use mav_messages::Message;
 use mav_names::Stream;
 use mav_nodes::{DroneNode, News, NodeFault, Order, StartFault, StationNode};
-use mav_sign::Key;
+use mav_sign::{Datagram, Key};
 use plan_items::{Item, Plan, PlanKind};
 use plan_store::MemKeeper;
 use std::alloc::Global;
@@ -95,14 +95,14 @@ fn tell_drone(
     bytes: &[u8],
     keeper: &mut MemKeeper,
 ) -> Result<Said, NodeFault> {
-    match drone.receive(bytes, CLOCK, keeper) {
+    match drone.receive(&Datagram::new(bytes), CLOCK, keeper) {
         Ok(news) => Ok(read_out(&news)),
         Err(fault) => Err(fault),
     }
 }
 
 fn tell_station(station: &mut StationNode, bytes: &[u8]) -> Option<Said> {
-    match station.receive(bytes, CLOCK) {
+    match station.receive(&Datagram::new(bytes), CLOCK) {
         Ok(news) => Some(read_out(&news)),
         Err(_) => None,
     }

@@ -39,6 +39,7 @@ fn upload(drone: &mut Drone) {
         z: 0x4220_0000,
     };
     let _asked = drone.step(
+        true,
         ground,
         &PlanMsg::Count {
             to,
@@ -47,6 +48,7 @@ fn upload(drone: &mut Drone) {
         },
     );
     let _accepted = drone.step(
+        true,
         ground,
         &PlanMsg::Item {
             to,

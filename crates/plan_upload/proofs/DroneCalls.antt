@@ -15,7 +15,8 @@ use Rattle.plan_items.specs.declared.messages.PlanMsg.TheVariants.{Count, Reques
 use Rattle.plan_items.proofs.KindNumbers.{kind_of-none, number_of-kind_of}
 use Rattle.plan_upload.specs.Addresses.{same_stream, node_of}
 use Rattle.plan_upload.specs.Drone.{Download, DroneState, DroneStep, PlanEvent, Quiet, Installs, Upload, closed, opened, answers, rests, heard, gathered, ack, ask, is_other, has_no_room, result_of, most_results, count_comes, item_comes, item_fits, is_downloading, copy_of, Shows, ack_comes, clear_comes, list_comes, request_comes, drone_step}
-use Rattle.plan_upload.specs.Gathering.{verdict_of, item_verdict, last_verdict, asked_of, acked_of, with_item, installed_by}
+use Rattle.plan_upload.specs.Changes.{install_of, change_by}
+use Rattle.plan_upload.specs.Gathering.{verdict_of, item_verdict, last_verdict, asked_of, acked_of, with_item, installed_by, kind_in}
 use Rattle.plan_upload.specs.Heard.{is_heard}
 use Rattle.plan_upload.specs.Plans.{plan_at}
 use Rattle.plan_upload.specs.Room.{has_place}
@@ -28,34 +29,42 @@ abbrev installs_by : Option Upload → Stream → Item → PlanEvent
 installs_by None s item = Quiet
 installs_by (Some u) s item = Installs s u.kind (u.items ++ item ∷ [])
 
-abbrev pub step_by : DroneState → Stream → Option Upload → Item → Verdict → DroneStep
-step_by d s u item NotOwn = rests d
-step_by d s u item AskAgain = record { drone = d; answer = asked_of u s; event = Quiet }
-step_by d s u item (Refuse code) = record { drone = closed d s; answer = acked_of u s code; event = Quiet }
-step_by d s u item Gather = record { drone = record d { upload = with_item u item }; answer = asked_of (with_item u item) s; event = Quiet }
-step_by d s u item Install = record { drone = installed_by d s u item; answer = acked_of u s 0; event = installs_by u s item }
+-- the change of an install
+pub installs_kind : (u : Option Upload) (s : Stream) (item : Item) → install_of (kind_in u) ≡ change_by (installs_by u s item)
+installs_kind None s item = refl
+installs_kind (Some u) s item = refl
 
-whole_fits : (d : DroneState) (s : Stream) (u : Upload) (item : Item) (more : Bool) (f : Option PlanFault) → (if more then answers (gathered d u item) (ask s u.kind (length u.items + 1)) else if is_some f then answers (closed d s) (ack s 5 u.kind) else step_by d s (Some u) item Install) ≡ step_by d s (Some u) item (if more then Gather else last_verdict f)
-whole_fits d s u item true f = ap (λ (n : ℕ). answers (gathered d u item) (ask s u.kind n)) (sym (length_push u.items item))
-whole_fits d s u item false (Some fault) = refl
-whole_fits d s u item false None = refl
+abbrev pub step_by : Bool → DroneState → Stream → Option Upload → Item → Verdict → DroneStep
+step_by keeps d s u item NotOwn = rests d
+step_by keeps d s u item AskAgain = record { drone = d; answer = asked_of u s; event = Quiet }
+step_by keeps d s u item (Refuse code) = record { drone = closed d s; answer = acked_of u s code; event = Quiet }
+step_by keeps d s u item Gather = record { drone = record d { upload = with_item u item }; answer = asked_of (with_item u item) s; event = Quiet }
+step_by keeps d s u item Install =
+    if keeps then record { drone = installed_by d s u item; answer = acked_of u s 0; event = installs_by u s item }
+    else record { drone = closed d s; answer = acked_of u s 1; event = Quiet }
 
-item_fits_by : (d : DroneState) (s : Stream) (u : Upload) (item : Item) (f : Option PlanFault) → item_fits true d s u item f ≡ step_by d s (Some u) item (item_verdict u item f)
-item_fits_by d s u item (Some fault) = refl
-item_fits_by d s u item None = whole_fits d s u item (nat_lt (length u.items + 1) u.total) (plan_fault u.kind (u.items ++ item ∷ []))
+whole_fits : (keeps : Bool) (d : DroneState) (s : Stream) (u : Upload) (item : Item) (more : Bool) (f : Option PlanFault) → (if more then answers (gathered d u item) (ask s u.kind (length u.items + 1)) else if is_some f then answers (closed d s) (ack s 5 u.kind) else step_by keeps d s (Some u) item Install) ≡ step_by keeps d s (Some u) item (if more then Gather else last_verdict f)
+whole_fits keeps d s u item true f = ap (λ (n : ℕ). answers (gathered d u item) (ask s u.kind n)) (sym (length_push u.items item))
+whole_fits keeps d s u item false (Some fault) = refl
+whole_fits keeps d s u item false None = refl
 
-item_tests : (d : DroneState) (s : Stream) (u : Upload) (item : Item) (own asked : Bool) (f : Option PlanFault) → (if not own then rests d else if not asked then answers d (ask s u.kind (length u.items)) else item_fits true d s u item f) ≡ step_by d s (Some u) item (if not own then NotOwn else if not asked then AskAgain else item_verdict u item f)
-item_tests d s u item false asked f = refl
-item_tests d s u item true false f = refl
-item_tests d s u item true true f = item_fits_by d s u item f
+item_fits_by : (keeps : Bool) (d : DroneState) (s : Stream) (u : Upload) (item : Item) (f : Option PlanFault) → item_fits keeps d s u item f ≡ step_by keeps d s (Some u) item (item_verdict u item f)
+item_fits_by keeps d s u item (Some fault) = refl
+item_fits_by keeps d s u item None = whole_fits keeps d s u item (nat_lt (length u.items + 1) u.total) (plan_fault u.kind (u.items ++ item ∷ []))
 
-item_comes_by : (d : DroneState) (s : Stream) (u : Option Upload) (seq kind : ℕ) (item : Item) → item_comes true d s u seq kind item ≡ step_by d s u item (verdict_of u s seq kind item)
-item_comes_by d s None seq kind item = refl
-item_comes_by d s (Some u) seq kind item = item_tests d s u item (same_stream u.stream s) ((kind == u.kind) && (seq == length u.items)) (item_fault u.kind item)
+item_tests : (keeps : Bool) (d : DroneState) (s : Stream) (u : Upload) (item : Item) (own asked : Bool) (f : Option PlanFault) → (if not own then rests d else if not asked then answers d (ask s u.kind (length u.items)) else item_fits keeps d s u item f) ≡ step_by keeps d s (Some u) item (if not own then NotOwn else if not asked then AskAgain else item_verdict u item f)
+item_tests keeps d s u item false asked f = refl
+item_tests keeps d s u item true false f = refl
+item_tests keeps d s u item true true f = item_fits_by keeps d s u item f
 
-pub judged : (v d : DroneState) (s : Stream) (seq kind : ℕ) (item : Item) (a b : Verdict) → v ≡ d → a ≡ verdict_of v.upload s seq kind item → a ≡ b → step_by v s v.upload item b ≡ item_comes true d s d.upload seq kind item
-judged v d s seq kind item a b view is at =
-    sym (ap (λ (d : DroneState). item_comes true d s d.upload seq kind item) (sym view) ∙ (item_comes_by v s v.upload seq kind item ∙ ap (step_by v s v.upload item) (sym is ∙ at)))
+item_comes_by : (keeps : Bool) (d : DroneState) (s : Stream) (u : Option Upload) (seq kind : ℕ) (item : Item) → item_comes keeps d s u seq kind item ≡ step_by keeps d s u item (verdict_of u s seq kind item)
+item_comes_by keeps d s None seq kind item = refl
+item_comes_by keeps d s (Some u) seq kind item = item_tests keeps d s u item (same_stream u.stream s) ((kind == u.kind) && (seq == length u.items)) (item_fault u.kind item)
+
+-- `k` is what is known of `keeps`
+pub judged : (keeps k : Bool) (v d : DroneState) (s : Stream) (seq kind : ℕ) (item : Item) (a b : Verdict) → keeps ≡ k → v ≡ d → a ≡ verdict_of v.upload s seq kind item → a ≡ b → step_by k v s v.upload item b ≡ item_comes keeps d s d.upload seq kind item
+judged keeps k v d s seq kind item a b known view is at =
+    sym ((λ i. item_comes (known i) (sym view i) s (sym view i).upload seq kind item) ∙ (item_comes_by k v s v.upload seq kind item ∙ ap (step_by k v s v.upload item) (sym is ∙ at)))
 
 -- ---- a count, by its tests
 
@@ -145,26 +154,26 @@ shown_list v d s kind a known o items copy view is at test own there copied =
 
 -- ---- a message that is heard, and one that isn't
 
-abbrev pub call_of : DroneState → Stream → PlanMsg → DroneStep
-call_of d s (Ping to usec seq) = answers d (Ping (node_of s) usec seq)
-call_of d s (Count to count kind) = count_comes d s count kind
-call_of d s (Give to seq kind item) = item_comes true d s d.upload seq kind item
-call_of d s (Ack to code kind) = ack_comes d s code kind
-call_of d s (Clear to kind) = clear_comes true d s kind
-call_of d s (Listing to kind) = list_comes d s kind
-call_of d s (Request to seq kind) = request_comes d s d.download seq kind
+abbrev pub call_of : Bool → DroneState → Stream → PlanMsg → DroneStep
+call_of keeps d s (Ping to usec seq) = answers d (Ping (node_of s) usec seq)
+call_of keeps d s (Count to count kind) = count_comes d s count kind
+call_of keeps d s (Give to seq kind item) = item_comes keeps d s d.upload seq kind item
+call_of keeps d s (Ack to code kind) = ack_comes d s code kind
+call_of keeps d s (Clear to kind) = clear_comes keeps d s kind
+call_of keeps d s (Listing to kind) = list_comes d s kind
+call_of keeps d s (Request to seq kind) = request_comes d s d.download seq kind
 
-by_heard : (d : DroneState) (s : Stream) (m : PlanMsg) → drone_step true d s m ≡ heard d (is_heard d.sys m) (call_of d s m)
-by_heard d s (Ping to usec seq) = refl
-by_heard d s (Count to count kind) = refl
-by_heard d s (Give to seq kind item) = refl
-by_heard d s (Ack to code kind) = refl
-by_heard d s (Clear to kind) = refl
-by_heard d s (Listing to kind) = refl
-by_heard d s (Request to seq kind) = refl
+by_heard : (keeps : Bool) (d : DroneState) (s : Stream) (m : PlanMsg) → drone_step keeps d s m ≡ heard d (is_heard d.sys m) (call_of keeps d s m)
+by_heard keeps d s (Ping to usec seq) = refl
+by_heard keeps d s (Count to count kind) = refl
+by_heard keeps d s (Give to seq kind item) = refl
+by_heard keeps d s (Ack to code kind) = refl
+by_heard keeps d s (Clear to kind) = refl
+by_heard keeps d s (Listing to kind) = refl
+by_heard keeps d s (Request to seq kind) = refl
 
-pub called : (d : DroneState) (s : Stream) (m at : PlanMsg) (hears : Bool) → hears ≡ is_heard d.sys m → hears ≡ true → m ≡ at → call_of d s at ≡ drone_step true d s m
-called d s m at hears is holds message = sym (by_heard d s m ∙ (ap (λ (b : Bool). heard d b (call_of d s m)) (sym is ∙ holds) ∙ ap (call_of d s) message))
+pub called : (keeps : Bool) (d : DroneState) (s : Stream) (m at : PlanMsg) (hears : Bool) → hears ≡ is_heard d.sys m → hears ≡ true → m ≡ at → call_of keeps d s at ≡ drone_step keeps d s m
+called keeps d s m at hears is holds message = sym (by_heard keeps d s m ∙ (ap (λ (b : Bool). heard d b (call_of keeps d s m)) (sym is ∙ holds) ∙ ap (call_of keeps d s) message))
 
-pub unheard : (d : DroneState) (s : Stream) (m : PlanMsg) (hears : Bool) → hears ≡ is_heard d.sys m → hears ≡ false → rests d ≡ drone_step true d s m
-unheard d s m hears is other = sym (by_heard d s m ∙ ap (λ (b : Bool). heard d b (call_of d s m)) (sym is ∙ other))
+pub unheard : (keeps : Bool) (d : DroneState) (s : Stream) (m : PlanMsg) (hears : Bool) → hears ≡ is_heard d.sys m → hears ≡ false → rests d ≡ drone_step keeps d s m
+unheard keeps d s m hears is other = sym (by_heard keeps d s m ∙ ap (λ (b : Bool). heard d b (call_of keeps d s m)) (sym is ∙ other))

@@ -1,5 +1,5 @@
 -- Steps whose new plans are kept, and steps whose aren't: what is the same, and what the plans are.
-use Rattle.std.proofs.Common.{◌≡◌, ◌≢◌, ℕ, zero, suc, ◌+◌, ◌<◌, ◌≤◌, ◌==◌, ◌&&◌, not, nat_lt, Bool, true, false, if◌then◌else◌, is_some, IsTrue, List, [], ◌∷◌, ◌++◌, length, slice_get, Result, inr, refl, sym, subst, ap, ◌∙◌, arith}
+use Rattle.std.proofs.Common.{◌≡◌, ℕ, zero, suc, ◌+◌, ◌<◌, ◌≤◌, ◌==◌, ◌&&◌, not, nat_lt, Bool, true, false, if◌then◌else◌, is_some, IsTrue, List, [], ◌∷◌, ◌++◌, length, slice_get, Result, inr, refl, sym, subst, ap, ◌∙◌, arith}
 use Rattle.std.specs.Prelude.{Option, Some, None, IfOk}
 use Rattle.std.proofs.lemmas.Bool.Decides.{nat_tests}
 use Rattle.mav_names.specs.declared.names.Name.{Name}
@@ -15,8 +15,8 @@ use Rattle.plan_items.proofs.KindNumbers.{number_of-kind_of, kind_of-none}
 use Rattle.plan_upload.specs.Addresses.{same_stream, same_name, node_of, everyone, is_for_drone}
 use Rattle.plan_upload.specs.Plans.{Plans, IsHoldable, with_plan, without_plan, every_kind}
 use Rattle.plan_upload.specs.Kinds.{clear_number}
-use Rattle.plan_upload.specs.Drone.{DroneState, DroneStep, Upload, Download, drone_step, heard, rests, answers, ack, closed, undownloaded, is_own, is_other, has_no_room, is_downloading, count_comes, item_comes, item_fits, ack_comes, clear_comes, list_comes, request_comes, give_item}
-use Rattle.plan_upload.specs.Gathering.{acked_of, is_sound_with, kind_in}
+use Rattle.plan_upload.specs.Drone.{DroneState, DroneStep, Upload, Download, drone_step, heard, rests, answers, closed, undownloaded, is_own, is_other, has_no_room, is_downloading, count_comes, item_comes, item_fits, ack_comes, clear_comes, list_comes, request_comes, give_item}
+use Rattle.plan_upload.specs.Gathering.{is_sound_with, kind_in}
 use Rattle.plan_upload.specs.Changes.{install_of, change_by, change_of}
 use Rattle.plan_upload.specs.Keeping.{HasKind, gathered_in, carried, IsValidIn}
 use Rattle.plan_image.specs.Image.{IsImageOf}
@@ -136,7 +136,7 @@ IsQuiet step = change_by step.event ≡ Same
 heard_quiet : (d : DroneState) (is_for : Bool) (step : DroneStep) → IsQuiet step → IsQuiet (heard d is_for step)
 heard_quiet d is_for step quiet = by_test IsQuiet is_for step (rests d) (λ t. quiet) (λ t. refl)
 
-count_quiet : (d : DroneState) (s : Stream) (count kind : ℕ) → IsQuiet (count_comes d s count kind)
+pub count_quiet : (d : DroneState) (s : Stream) (count kind : ℕ) → IsQuiet (count_comes d s count kind)
 count_quiet d s count kind =
     by_test IsQuiet (nat_lt 2 kind) _ _ (λ t. refl) (λ t. by_test IsQuiet (is_other d.upload s) _ _ (λ t. refl)
     (λ t. by_test IsQuiet (count == 0) _ _ (λ t. refl) (λ t. by_test IsQuiet (nat_lt (limit_of kind) count) _ _ (λ t. refl)
@@ -146,15 +146,15 @@ give_quiet : (d : DroneState) (s : Stream) (t : Download) (seq kind : ℕ) (item
 give_quiet d s t seq kind None = refl
 give_quiet d s t seq kind (Some item) = refl
 
-request_quiet : (d : DroneState) (s : Stream) (o : Option Download) (seq kind : ℕ) → IsQuiet (request_comes d s o seq kind)
+pub request_quiet : (d : DroneState) (s : Stream) (o : Option Download) (seq kind : ℕ) → IsQuiet (request_comes d s o seq kind)
 request_quiet d s None seq kind = refl
 request_quiet d s (Some t) seq kind =
     by_test IsQuiet (same_stream t.stream s && (t.kind == kind)) _ _ (λ e. give_quiet d s t seq kind (slice_get t.items seq)) (λ e. refl)
 
-ack_quiet : (d : DroneState) (s : Stream) (code kind : ℕ) → IsQuiet (ack_comes d s code kind)
+pub ack_quiet : (d : DroneState) (s : Stream) (code kind : ℕ) → IsQuiet (ack_comes d s code kind)
 ack_quiet d s code kind = by_test IsQuiet (code == 15) _ _ (λ t. refl) (λ t. refl)
 
-list_quiet : (d : DroneState) (s : Stream) (kind : ℕ) → IsQuiet (list_comes d s kind)
+pub list_quiet : (d : DroneState) (s : Stream) (kind : ℕ) → IsQuiet (list_comes d s kind)
 list_quiet d s kind =
     by_test IsQuiet (nat_lt 2 kind) _ _ (λ t. refl) (λ t. by_test IsQuiet (is_downloading d.download s) _ _ (λ t. refl) (λ t. refl))
 
@@ -274,50 +274,6 @@ empty_step d s (Clear to kind) k e = heard_empties d k (is_for_drone d.sys to) _
 empty_step d s (Listing to kind) k e = let no : Same ≡ Empty k = sym (list_changes_none d s to kind) ∙ e in absurd (cc)
 empty_step d s (Request to seq kind) k e = let no : Same ≡ Empty k = sym (request_changes_none d s to seq kind) ∙ e in absurd (cc)
 
--- what a step does whose change isn't Same, if the store doesn't keep: at an item the upload is closed, with ERROR
-abbrev IfChanging : (DroneStep → Type 0) → DroneStep → DroneStep → Type 0
-IfChanging Q a b = change_by a.event ≢ Same → Q b
-
-abbrev Closes : DroneState → Stream → DroneStep → Type 0
-Closes d s step = (step.drone ≡ closed d s) × (step.answer ≡ acked_of d.upload s 1)
-
-fits_close : (d : DroneState) (s : Stream) (u : Upload) (item : Item) (fault : Option PlanFault) → d.upload ≡ Some u
-    → IfChanging (Closes d s) (item_fits true d s u item fault) (item_fits false d s u item fault)
-fits_close d s u item (Some fault) is = λ n. absurd (n refl)
-fits_close d s u item None is =
-    both (IfChanging (Closes d s)) (nat_lt (length u.items + 1) u.total) _ _ _ _ (λ t n. absurd (n refl))
-    (λ t. both (IfChanging (Closes d s)) (is_some (plan_fault u.kind (u.items ++ item ∷ []))) _ _ _ _ (λ t n. absurd (n refl)) (λ t n. (refl, rw is refl)))
-
-item_closes : (d : DroneState) (s : Stream) (o : Option Upload) (seq kind : ℕ) (item : Item) → d.upload ≡ o
-    → IfChanging (Closes d s) (item_comes true d s o seq kind item) (item_comes false d s o seq kind item)
-item_closes d s None seq kind item is = λ n. absurd (n refl)
-item_closes d s (Some u) seq kind item is =
-    both (IfChanging (Closes d s)) (not (same_stream u.stream s)) _ _ _ _ (λ t n. absurd (n refl))
-    (λ t. both (IfChanging (Closes d s)) (not ((kind == u.kind) && (seq == length u.items))) _ _ _ _ (λ t n. absurd (n refl)) (λ t. fits_close d s u item (item_fault u.kind item) is))
-
-pub unkept_item : (d : DroneState) (s : Stream) (m : PlanMsg) (item : Item) → carried m ≡ Some item → change_of d s m ≢ Same → Closes d s (drone_step false d s m)
-unkept_item d s (Give to seq kind given) item has n =
-    both (IfChanging (Closes d s)) (is_for_drone d.sys to) _ _ _ _ (λ t. item_closes d s d.upload seq kind given refl) (λ t n. absurd (n refl)) n
-unkept_item d s (Ping to usec seq) item has n = absurd (cc)
-unkept_item d s (Count to count kind) item has n = absurd (cc)
-unkept_item d s (Ack to code kind) item has n = absurd (cc)
-unkept_item d s (Clear to kind) item has n = absurd (cc)
-unkept_item d s (Listing to kind) item has n = absurd (cc)
-unkept_item d s (Request to seq kind) item has n = absurd (cc)
-
--- at a clear nothing changes, with DENIED
-abbrev Denies : DroneState → Stream → ℕ → DroneStep → Type 0
-Denies d s kind step = step ≡ answers d (ack s 14 kind)
-
-clear_denies : (d : DroneState) (s : Stream) (kind : ℕ) → IfChanging (Denies d s kind) (clear_comes true d s kind) (clear_comes false d s kind)
-clear_denies d s kind =
-    both (IfChanging (Denies d s kind)) (nat_lt 2 kind && not (kind == every_kind)) _ _ _ _ (λ t n. absurd (n refl))
-    (λ t. both (IfChanging (Denies d s kind)) (is_other d.upload s) _ _ _ _ (λ o n. absurd (n refl)) (λ o n. refl))
-
-pub unkept_clear : (d : DroneState) (s : Stream) (to : Name) (kind : ℕ) → change_of d s (Clear to kind) ≢ Same → drone_step false d s (Clear to kind) ≡ answers d (ack s 14 kind)
-unkept_clear d s to kind n =
-    both (IfChanging (Denies d s kind)) (is_for_drone d.sys to) _ _ _ _ (λ t. clear_denies d s kind) (λ t n. absurd (n refl)) n
-
 -- what is installed may be held
 pub installing_holdable : (d : DroneState) (m : PlanMsg) (k : PlanKind) (plans : Plans) (i : Installing d m k plans) (up : Option Upload) (items : List Item) → up ≡ d.upload
     → ((item : Item) → carried m ≡ Some item → IsTrue (is_sound_with up item) → IsValidIn up items) → IsHoldable (number_of k) items
@@ -335,14 +291,3 @@ pub image_moved : {B E : Type 0} (r : Result B E) (bytes : B → List ℕ) (s t 
     → IfOk r (λ b. IsImageOf s low p (bytes b)) → IfOk r (λ b. IsImageOf t low q (bytes b))
 image_moved r bytes s t low p q same_sys same image =
     subst (λ (v : ℕ). IfOk r (λ b. IsImageOf v low q (bytes b))) same_sys (subst (λ (v : Plans). IfOk r (λ b. IsImageOf s low v (bytes b))) same image)
-
--- a message that is no item and no clear changes no plan
-pub other_message : (d : DroneState) (s : Stream) (m : PlanMsg) → ((to : Name) (seq kind : ℕ) (item : Item) → m ≡ Give to seq kind item → ⊥) → ((to : Name) (kind : ℕ) → m ≡ Clear to kind → ⊥)
-    → change_of d s m ≢ Same → ⊥
-other_message d s (Ping to usec seq) no_item no_clear n = n (ping_changes_none d s to usec seq)
-other_message d s (Count to count kind) no_item no_clear n = n (count_changes_none d s to count kind)
-other_message d s (Give to seq kind item) no_item no_clear n = no_item to seq kind item refl
-other_message d s (Ack to code kind) no_item no_clear n = n (ack_changes_none d s to code kind)
-other_message d s (Clear to kind) no_item no_clear n = no_clear to kind refl
-other_message d s (Listing to kind) no_item no_clear n = n (list_changes_none d s to kind)
-other_message d s (Request to seq kind) no_item no_clear n = n (request_changes_none d s to seq kind)

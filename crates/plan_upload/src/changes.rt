@@ -1,12 +1,44 @@
-// What a plan message would do to a drone's plans.
-use plan_items::PlanKind;
+// What a plan message does to a drone, and what it would do to its plans.
+ghost use Rattle.std.specs.Prelude.{◌≡◌};
+ghost use Rattle.plan_upload.specs.Changes.{install_of};
+ghost use Rattle.plan_upload.specs.declared.changes.Change.TheVariants.{Same};
 
-/// What a step would do to the plans.
+use plan_items::{PlanKind, PlanMsg};
+
+/// What a step does to the plans.
 #[derive(Clone, Copy)]
 pub enum Change {
     Same,
-    /// The gathered items would become the plan of this kind.
+    /// The gathered items become the plan of this kind.
     Install(PlanKind),
-    /// The plan of this kind, or with None all three, would become empty, even if it already is.
+    /// The plan of this kind, or with None all three, becomes empty, even if it already is.
     Empty(Option<PlanKind>),
+}
+
+/// A step of a drone: its reply, if any, and what it did to the plans.
+#[derive(Clone, Copy)]
+pub struct Stepped {
+    pub answer: Option<PlanMsg>,
+    pub change: Change,
+}
+
+/// The change by an install of this kind, if there is one.
+pub fn installing(kind: Option<PlanKind>) -> Change
+    ensures { result ≡ install_of kind }
+{
+    match kind {
+        Some(kind) => Change::Install(kind),
+        None => Change::Same,
+    }
+}
+
+/// A step that leaves the plans as they are.
+pub fn unchanging(answer: Option<PlanMsg>) -> Stepped
+    ensures answer { result.answer ≡ answer }
+    ensures change { result.change ≡ Same }
+{
+    Stepped {
+        answer,
+        change: Change::Same,
+    }
 }

@@ -1,7 +1,8 @@
 // The drone's side of the mission protocol.
-ghost use Rattle.std.specs.Prelude.{◌≡◌, Some, IfOk, true};
+ghost use Rattle.std.specs.Prelude.{◌≡◌, IfOk};
 ghost use Rattle.plan_items.specs.Kinds.{number_of};
 ghost use Rattle.plan_items.specs.Plans.{items_of};
+ghost use Rattle.plan_upload.specs.Changes.{change_by};
 ghost use Rattle.plan_upload.specs.Drone.{fresh_drone, drone_step, drone_tick};
 ghost use Rattle.plan_upload.specs.Gathering.{stream_of};
 ghost use Rattle.plan_upload.specs.Heard.{is_heard};
@@ -12,6 +13,7 @@ mod transfers;
 
 use crate::NoMemory;
 use crate::addresses::{broadcast, is_for_autopilot, node, receiver};
+use crate::changes::{Stepped, unchanging};
 use crate::downloads::DownloadSlot;
 use crate::held::HeldPlans;
 use crate::results::Results;
@@ -104,31 +106,36 @@ impl Drone {
         }
     }
 
-    /// One plan message of a stream, and the reply to it, if any.
-    pub fn step(&mut self, from: Stream, msg: &PlanMsg) -> Option<PlanMsg>
-        ensures drone { self.new ≡ (drone_step true self.old from msg.now).drone }
-        ensures answer { result ≡ (drone_step true self.old from msg.now).answer }
+    /// One plan message of a stream; `keeps` says whether the store keeps the new plans, if there are any.
+    pub fn step(&mut self, keeps: bool, from: Stream, msg: &PlanMsg) -> Stepped
+        ensures drone { self.new ≡ (drone_step keeps self.old from msg.now).drone }
+        ensures answer { result.answer ≡ (drone_step keeps self.old from msg.now).answer }
+        ensures change { result.change ≡ change_by (drone_step keeps self.old from msg.now).event }
     {
         if !self.hears(msg) {
-            return None;
+            return unchanging(None);
         }
         match *msg {
-            PlanMsg::Ping { usec, seq, .. } => Some(PlanMsg::Ping {
+            PlanMsg::Ping { usec, seq, .. } => unchanging(Some(PlanMsg::Ping {
                 to: node(from),
                 usec,
                 seq,
-            }),
-            PlanMsg::Count { count, kind, .. } => Some(self.count(from, count, kind)),
+            })),
+            PlanMsg::Count { count, kind, .. } => {
+                unchanging(Some(self.count(from, count, kind)))
+            }
             PlanMsg::Item {
                 seq,
                 kind,
                 item,
                 ..
-            } => self.item(from, seq, kind, &item),
-            PlanMsg::Ack { code, kind, .. } => self.ack(from, code, kind),
-            PlanMsg::Clear { kind, .. } => Some(self.clear(from, kind)),
-            PlanMsg::List { kind, .. } => Some(self.list(from, kind)),
-            PlanMsg::Request { seq, kind, .. } => Some(self.request(from, seq, kind)),
+            } => self.item(keeps, from, seq, kind, &item),
+            PlanMsg::Ack { code, kind, .. } => unchanging(self.ack(from, code, kind)),
+            PlanMsg::Clear { kind, .. } => self.clear(keeps, from, kind),
+            PlanMsg::List { kind, .. } => unchanging(Some(self.list(from, kind))),
+            PlanMsg::Request { seq, kind, .. } => {
+                unchanging(Some(self.request(from, seq, kind)))
+            }
         }
     }
 

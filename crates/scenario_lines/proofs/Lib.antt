@@ -1,6 +1,6 @@
 pub mod Indices
 pub mod Digits
-pub mod Names
+pub mod NameWords
 pub mod WireWords
 pub mod ReadWords
 pub mod ReadItems

@@ -3,7 +3,7 @@ use Rattle.std.proofs.Common.{◌≡◌, ℕ, ℤ, ◌+◌, List, [], ◌∷◌,
 use Rattle.plan_items.specs.declared.items.Item.{Item}
 use Rattle.scenario_lines.specs.declared.faults.Reason.{Reason}
 use Rattle.scenario_lines.specs.declared.faults.Reason.TheVariants.{Number}
-use Rattle.scenario_lines.specs.declared.roster.Named.{Named}
+use Rattle.scenario_lines.specs.declared.naming.Named.{Named}
 use Rattle.scenario_lines.specs.Words.{word_at, number_in, integer_of}
 use Rattle.scenario_lines.specs.Grammar.{Argument, Whole, Signed, Wire, misfit, first_reason, further_arguments, whole_at, signed_at, wire_at, item_words}
 use Rattle.scenario_lines.specs.Readings.{answered, and_then, whole, signed, wire_or_zero}

@@ -7,7 +7,7 @@ use Rattle.hex.specs.Hex.{decode_pairs}
 use Rattle.mav_names.specs.declared.names.Name.{Name}
 use Rattle.scenario_lines.specs.declared.faults.Reason.{Reason}
 use Rattle.scenario_lines.specs.declared.faults.Reason.TheVariants.{Node as NodeReason, Hex}
-use Rattle.scenario_lines.specs.declared.roster.Named.{Named}
+use Rattle.scenario_lines.specs.declared.naming.Named.{Named}
 use Rattle.scenario_lines.specs.Words.{word_at, is_numeral, digits_value, number_in, wire_word}
 use Rattle.scenario_lines.specs.Grammar.{Argument, Wire, misfit, known, first_reason, may_count, further_arguments, most_whole, wire_at, item_words}
 use Rattle.scenario_lines.specs.Readings.{answered, and_then, wire_or_zero, named_in}

@@ -10,7 +10,7 @@ use Rattle.scenario_lines.specs.declared.faults.Reason.{Reason}
 use Rattle.scenario_lines.specs.declared.faults.Reason.TheVariants.{Number, Node as NodeReason, Kind as KindReason, Hex}
 use Rattle.scenario_lines.specs.declared.lines.Line.{Line}
 use Rattle.scenario_lines.specs.declared.lines.Line.TheVariants.{Blank, Drone, Station, Item as OneItem, Items, Empty, Begin, Cancel, Clear, Get, Command, Params, Heartbeat, Deliver, Flow, Noise, Tick, Clock, Restart, Sim, WhereIs}
-use Rattle.scenario_lines.specs.declared.roster.Named.{Named}
+use Rattle.scenario_lines.specs.declared.naming.Named.{Named}
 use Rattle.scenario_lines.specs.Words.{words_of, word_at, number_in, integer_of, wire_word, bytes_word, name_of_word}
 use Rattle.scenario_lines.specs.LineContext.{has_name, has_drone, has_station}
 

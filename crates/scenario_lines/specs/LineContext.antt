@@ -2,9 +2,9 @@
 use Rattle.std.specs.Prelude.{ℕ, ◌==◌, ◌&&◌, Bool, true, false, List}
 use Rattle.std.specs.List.{list_any}
 use Rattle.mav_names.specs.declared.names.Name.{Name}
-use Rattle.scenario_lines.specs.declared.roster.Role.{Role}
-use Rattle.scenario_lines.specs.declared.roster.Role.TheVariants.{Drone, Station}
-use Rattle.scenario_lines.specs.declared.roster.Named.{Named}
+use Rattle.scenario_lines.specs.declared.naming.Role.{Role}
+use Rattle.scenario_lines.specs.declared.naming.Role.TheVariants.{Drone, Station}
+use Rattle.scenario_lines.specs.declared.naming.Named.{Named}
 
 pub record LineContext : Type 0 where
   pub nodes : List Named  -- in the order in which they were named

@@ -4,7 +4,7 @@ ghost use Rattle.std.specs.Prelude.{◌≤◌, IfOk};
 use crate::name_words::{kind, kind_or_all, name};
 use crate::numbers::{integer, number, wire_word};
 use crate::words::Words;
-use crate::{Reason, Role, Roster};
+use crate::{Names, Reason, Role};
 use mav_names::Name;
 use plan_items::{Item, PlanKind};
 
@@ -69,29 +69,29 @@ impl Words<'_> {
     }
 
     /// The node that the word at `index` names, in any role.
-    pub(crate) fn node(&self, index: usize, roster: &Roster) -> Result<Name, Reason>
-        ensures { result ≡ named (has_name roster.now) self.now index }
+    pub(crate) fn node<N: Names>(&self, index: usize, nodes: &N) -> Result<Name, Reason>
+        ensures { result ≡ named (has_name (N.known nodes.now)) self.now index }
     {
         match name(self.at(index)) {
-            Some(name) if roster.has_name(name) => Ok(name),
+            Some(name) if nodes.has_name(name) => Ok(name),
             _ => Err(Reason::Node),
         }
     }
 
-    pub(crate) fn drone(&self, index: usize, roster: &Roster) -> Result<Name, Reason>
-        ensures { result ≡ named (has_drone roster.now) self.now index }
+    pub(crate) fn drone<N: Names>(&self, index: usize, nodes: &N) -> Result<Name, Reason>
+        ensures { result ≡ named (has_drone (N.known nodes.now)) self.now index }
     {
         match name(self.at(index)) {
-            Some(name) if roster.has_in_role(Role::Drone, name) => Ok(name),
+            Some(name) if nodes.has_in_role(Role::Drone, name) => Ok(name),
             _ => Err(Reason::Node),
         }
     }
 
-    pub(crate) fn station(&self, index: usize, roster: &Roster) -> Result<Name, Reason>
-        ensures { result ≡ named (has_station roster.now) self.now index }
+    pub(crate) fn station<N: Names>(&self, index: usize, nodes: &N) -> Result<Name, Reason>
+        ensures { result ≡ named (has_station (N.known nodes.now)) self.now index }
     {
         match name(self.at(index)) {
-            Some(name) if roster.has_in_role(Role::Station, name) => Ok(name),
+            Some(name) if nodes.has_in_role(Role::Station, name) => Ok(name),
             _ => Err(Reason::Node),
         }
     }

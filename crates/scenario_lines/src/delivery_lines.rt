@@ -4,32 +4,32 @@ ghost use Rattle.scenario_lines.specs.Readings.{Says, read_heartbeat, read_deliv
 
 use crate::numbers::some_bytes;
 use crate::words::Words;
-use crate::{Line, LineFault, Reason, Roster};
+use crate::{Line, LineFault, Names, Reason};
 use std::alloc::Global;
 
 /// In units of 10 microseconds.
 pub(crate) const MOST_CLOCK: u64 = 1 << 47;
 
 /// `heartbeat NODE`
-pub(crate) fn read_heartbeat(roster: &Roster, words: &Words) -> Result<Line, Reason>
-    ensures { result ≡ read_heartbeat roster.now words.now }
+pub(crate) fn read_heartbeat<N: Names>(nodes: &N, words: &Words) -> Result<Line, Reason>
+    ensures { result ≡ read_heartbeat (N.known nodes.now) words.now }
 {
     if words.len() != 2 {
         return Err(Reason::Count);
     }
-    let node = words.node(1, roster)?;
+    let node = words.node(1, nodes)?;
     Ok(Line::Heartbeat { node })
 }
 
 /// `deliver I NODE`
-pub(crate) fn read_deliver(roster: &Roster, words: &Words) -> Result<Line, Reason>
-    ensures { result ≡ read_deliver roster.now words.now }
+pub(crate) fn read_deliver<N: Names>(nodes: &N, words: &Words) -> Result<Line, Reason>
+    ensures { result ≡ read_deliver (N.known nodes.now) words.now }
 {
     if words.len() != 3 {
         return Err(Reason::Count);
     }
     let i = words.whole(1, 1, u64::MAX)?;
-    let node = words.node(2, roster)?;
+    let node = words.node(2, nodes)?;
     Ok(Line::Deliver { i, node })
 }
 
@@ -45,25 +45,29 @@ pub(crate) fn read_flow(words: &Words) -> Result<Line, Reason>
 }
 
 /// `noise NODE HEX`
-pub(crate) fn read_noise(alloc: Global, roster: &Roster, words: &Words) -> Result<Line, LineFault>
-    ensures { Says (read_noise roster.now words.now) result }
+pub(crate) fn read_noise<N: Names>(
+    alloc: Global,
+    nodes: &N,
+    words: &Words,
+) -> Result<Line, LineFault>
+    ensures { Says (read_noise (N.known nodes.now) words.now) result }
 {
     if words.len() != 3 {
         return Err(LineFault::Bad(Reason::Count));
     }
-    let node = words.node(1, roster)?;
+    let node = words.node(1, nodes)?;
     let bytes = some_bytes(alloc, words.at(2))?;
     Ok(Line::Noise { node, bytes })
 }
 
 /// `tick NODE`
-pub(crate) fn read_tick(roster: &Roster, words: &Words) -> Result<Line, Reason>
-    ensures { result ≡ read_tick roster.now words.now }
+pub(crate) fn read_tick<N: Names>(nodes: &N, words: &Words) -> Result<Line, Reason>
+    ensures { result ≡ read_tick (N.known nodes.now) words.now }
 {
     if words.len() != 2 {
         return Err(Reason::Count);
     }
-    let node = words.node(1, roster)?;
+    let node = words.node(1, nodes)?;
     Ok(Line::Tick { node })
 }
 
@@ -82,12 +86,12 @@ pub(crate) fn read_clock(clock: u64, words: &Words) -> Result<Line, Reason>
 }
 
 /// `restart DRONE`
-pub(crate) fn read_restart(roster: &Roster, words: &Words) -> Result<Line, Reason>
-    ensures { result ≡ read_restart roster.now words.now }
+pub(crate) fn read_restart<N: Names>(nodes: &N, words: &Words) -> Result<Line, Reason>
+    ensures { result ≡ read_restart (N.known nodes.now) words.now }
 {
     if words.len() != 2 {
         return Err(Reason::Count);
     }
-    let drone = words.drone(1, roster)?;
+    let drone = words.drone(1, nodes)?;
     Ok(Line::Restart { drone })
 }

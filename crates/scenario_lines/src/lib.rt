@@ -1,7 +1,7 @@
 //! What a line of a scenario says, or the first reason against it.
 //!
-//! `read` reads one line against what is known of the world: the nodes that were named (`Roster`), the
-//! items in the draft and the clock. `read_item_line` reads lines of items alone. Both are stated by
+//! `read` reads one line against what is known of the world: the nodes that were named ([`Names`]),
+//! the items in the draft and the clock. `read_item_line` reads lines of items alone. Both are stated by
 //! definitions over plain lists (`reason_against`, `line_of`). `Words` reads the words of a line of another form. Nothing here does
 //! what a line says, but that `put_items` adds the items of a line to a plan.
 #![tactic(auto)]
@@ -15,11 +15,11 @@ mod items;
 mod laws;
 mod lines;
 mod name_words;
+mod naming;
 mod nodes;
 mod numbers;
 mod orders;
 mod reading;
-mod roster;
 mod words;
 
 pub use faults::{LineFault, Reason};
@@ -27,8 +27,8 @@ pub use item_rows::put_items;
 pub use laws::lines_read_are_permitted;
 pub use lines::Line;
 pub use name_words::is_word;
+pub use naming::{Named, Names, Role};
 pub use reading::{read, read_item_line};
-pub use roster::{Named, Role, Roster};
 use std::alloc::AllocError;
 pub use words::Words;
 

@@ -20,7 +20,7 @@ use crate::orders::{
     read_begin, read_cancel, read_clear, read_command, read_empty, read_get, read_params,
 };
 use crate::words::Words;
-use crate::{Line, LineFault, Reason, Roster};
+use crate::{Line, LineFault, Names, Reason};
 use std::alloc::Global;
 
 /// The most bytes of a line, without its end.
@@ -37,30 +37,35 @@ fn is_blank(text: &[u8]) -> bool
 }
 
 /// The line of some words but `noise`.
-fn read_words(roster: &Roster, drafted: usize, clock: u64, words: &Words) -> Result<Line, Reason>
+fn read_words<N: Names>(
+    nodes: &N,
+    drafted: usize,
+    clock: u64,
+    words: &Words,
+) -> Result<Line, Reason>
     requires { bytes_eq (word_at words.now 0) (codes "noise") ≡ false }
-    ensures { result ≡ reading (context_of roster.now drafted clock) words.now }
+    ensures { result ≡ reading (context_of (N.known nodes.now) drafted clock) words.now }
 {
     match words.at(0) {
-        first if is_word(first, "drone") => read_drone(roster, words),
-        first if is_word(first, "station") => read_station(roster, words),
+        first if is_word(first, "drone") => read_drone(nodes, words),
+        first if is_word(first, "station") => read_station(nodes, words),
         first if is_word(first, "item") => read_item(drafted, words),
         first if is_word(first, "items") => read_items(drafted, words),
         first if is_word(first, "empty") => read_empty(words),
-        first if is_word(first, "begin") => read_begin(roster, words),
-        first if is_word(first, "cancel") => read_cancel(roster, words),
-        first if is_word(first, "clear") => read_clear(roster, words),
-        first if is_word(first, "get") => read_get(roster, words),
-        first if is_word(first, "command") => read_command(roster, words),
-        first if is_word(first, "params") => read_params(roster, words),
-        first if is_word(first, "heartbeat") => read_heartbeat(roster, words),
-        first if is_word(first, "deliver") => read_deliver(roster, words),
+        first if is_word(first, "begin") => read_begin(nodes, words),
+        first if is_word(first, "cancel") => read_cancel(nodes, words),
+        first if is_word(first, "clear") => read_clear(nodes, words),
+        first if is_word(first, "get") => read_get(nodes, words),
+        first if is_word(first, "command") => read_command(nodes, words),
+        first if is_word(first, "params") => read_params(nodes, words),
+        first if is_word(first, "heartbeat") => read_heartbeat(nodes, words),
+        first if is_word(first, "deliver") => read_deliver(nodes, words),
         first if is_word(first, "flow") => read_flow(words),
-        first if is_word(first, "tick") => read_tick(roster, words),
+        first if is_word(first, "tick") => read_tick(nodes, words),
         first if is_word(first, "clock") => read_clock(clock, words),
-        first if is_word(first, "restart") => read_restart(roster, words),
-        first if is_word(first, "sim") => read_sim(roster, words),
-        first if is_word(first, "where") => read_where(roster, words),
+        first if is_word(first, "restart") => read_restart(nodes, words),
+        first if is_word(first, "sim") => read_sim(nodes, words),
+        first if is_word(first, "where") => read_where(nodes, words),
         _ => Err(Reason::Word),
     }
 }
@@ -84,16 +89,16 @@ fn faulted(read: Result<Line, Reason>) -> Result<Line, LineFault>
 /// What a scenario line says in a world with these nodes, so many items in its draft and this
 /// clock, or the first reason against it. `text` is the line without its LF and without a CR before
 /// it. Words are parted by one space; an empty line and one that begins with `#` are blank.
-pub fn read(
+pub fn read<N: Names>(
     alloc: Global,
-    roster: &Roster,
+    nodes: &N,
     drafted: usize,
     clock: u64,
     text: &[u8],
 ) -> Result<Line, LineFault>
-    ensures ok { IfOk result (λ line. (reason_against (context_of roster.now drafted clock) text.now ≡ None) × (line ≡ line_of text.now)) }
-    ensures permitted { IfOk result (IsPermitted (context_of roster.now drafted clock)) }
-    ensures bad { IfErr result (λ e. IfBad e (λ r. reason_against (context_of roster.now drafted clock) text.now ≡ Some r)) }
+    ensures ok { IfOk result (λ line. (reason_against (context_of (N.known nodes.now) drafted clock) text.now ≡ None) × (line ≡ line_of text.now)) }
+    ensures permitted { IfOk result (IsPermitted (context_of (N.known nodes.now) drafted clock)) }
+    ensures bad { IfErr result (λ e. IfBad e (λ r. reason_against (context_of (N.known nodes.now) drafted clock) text.now ≡ Some r)) }
 {
     if text.len() > MOST_LINE_BYTES {
         return Err(LineFault::Bad(Reason::Long));
@@ -103,9 +108,9 @@ pub fn read(
     }
     let words = Words::of(alloc, text)?;
     if is_word(words.at(0), "noise") {
-        return read_noise(alloc, roster, &words);
+        return read_noise(alloc, nodes, &words);
     }
-    faulted(read_words(roster, drafted, clock, &words))
+    faulted(read_words(nodes, drafted, clock, &words))
 }
 
 /// The same if lines of items alone are read, as in a file of items, after `drafted` items: any

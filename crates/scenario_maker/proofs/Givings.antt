@@ -17,7 +17,7 @@ use Rattle.plan_upload.specs.Station.{addressee, begin_upload, station_cancel}
 use Rattle.mav_nodes.specs.Payloads.{plan_in}
 use Rattle.mav_nodes.specs.Links.{Outcome}
 use Rattle.mav_nodes.specs.Nodes.{StationSide, station_begins, station_cancels}
-use Rattle.scenario_lines.specs.declared.roster.Named.{Named}
+use Rattle.scenario_lines.specs.declared.naming.Named.{Named}
 use Rattle.node_reports.specs.Nodes.{Node, Drone, Station, node_name}
 use Rattle.node_reports.specs.Calls.{node_receives, node_ticks, as_station}
 use Rattle.fleet_world.specs.WorldState.{WorldState, named, is_named, is_station_named, stream_of}

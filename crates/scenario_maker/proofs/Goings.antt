@@ -11,9 +11,9 @@ use Rattle.plan_upload.specs.Heard.{is_heard}
 use Rattle.plan_upload.specs.Station.{addressee}
 use Rattle.mav_nodes.specs.Payloads.{plan_in}
 use Rattle.mav_nodes.specs.Links.{Done, Outcome}
-use Rattle.scenario_lines.specs.declared.roster.Named.{Named}
-use Rattle.scenario_lines.specs.declared.roster.Role.{Role}
-use Rattle.scenario_lines.specs.declared.roster.Role.TheVariants.{Drone as DroneRole, Station as StationRole}
+use Rattle.scenario_lines.specs.declared.naming.Named.{Named}
+use Rattle.scenario_lines.specs.declared.naming.Role.{Role}
+use Rattle.scenario_lines.specs.declared.naming.Role.TheVariants.{Drone as DroneRole, Station as StationRole}
 use Rattle.fleet_report.specs.Events.{Event}
 use Rattle.node_reports.specs.Nodes.{Node}
 use Rattle.fleet_world.specs.WorldState.{WorldState, names_of}

@@ -8,7 +8,7 @@ use Rattle.plan_items.specs.declared.items.Item.{Item}
 use Rattle.plan_items.specs.declared.kinds.PlanKind.TheVariants.{Mission}
 use Rattle.scenario_lines.specs.declared.lines.Line.{Line}
 use Rattle.scenario_lines.specs.declared.lines.Line.TheVariants.{Items, Empty, Begin, Cancel, Deliver, Flow, Tick}
-use Rattle.scenario_lines.specs.declared.roster.Named.{Named}
+use Rattle.scenario_lines.specs.declared.naming.Named.{Named}
 use Rattle.scenario_lines.specs.Grammar.{most_line_bytes}
 use Rattle.scenario_lines.specs.Permits.{IsPermitted}
 use Rattle.scenario_lines.specs.Reasons.{reason_against}

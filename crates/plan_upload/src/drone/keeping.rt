@@ -1,18 +1,17 @@
-// What a drone's store keeps, and what the drone does if it didn't keep it.
-ghost use Rattle.std.specs.Prelude.{◌≡◌, ◌≢◌, ◌<◌, ◌≤◌, ◌^◌, IfOk, true, false, vec_len};
+// What a drone's store keeps.
+ghost use Rattle.std.specs.Prelude.{◌≡◌, ◌<◌, ◌≤◌, ◌^◌, IfOk, true, false, vec_len};
 ghost use Rattle.plan_image.specs.Image.{IsImageOf, most_bytes};
 ghost use Rattle.plan_upload.specs.Changes.{change_of};
-ghost use Rattle.plan_upload.specs.Drone.{fresh_drone, closed, drone_step};
-ghost use Rattle.plan_upload.specs.Gathering.{acked_of};
+ghost use Rattle.plan_upload.specs.Drone.{fresh_drone, drone_step};
 ghost use Rattle.plan_upload.specs.declared.changes.Change.TheVariants.{Same};
 
 use super::Drone;
 use crate::NoMemory;
-use crate::addresses::{acknowledge, item_in};
+use crate::addresses::item_in;
 use crate::changes::Change;
 use mav_names::Stream;
 use plan_image::Kept;
-use plan_items::{MissionResult, PlanMsg};
+use plan_items::PlanMsg;
 use std::alloc::Global;
 
 impl Drone {
@@ -44,7 +43,7 @@ impl Drone {
         }
     }
 
-    /// What `step` would do to the plans. It changes nothing, and doesn't allocate.
+    /// What `step` would do to the plans if the store keeps new ones. It changes nothing, and doesn't allocate.
     pub fn change(&self, from: Stream, msg: &PlanMsg) -> Change
         ensures change { result ≡ change_of self.now from msg.now }
         ensures same { result ≡ Same → drone_step true self.now from msg.now ≡ drone_step false self.now from msg.now }
@@ -62,7 +61,7 @@ impl Drone {
         self.plans.write(alloc, self.sys, floor)
     }
 
-    /// The stored image of the plans that `step` would leave at this message.
+    /// The stored image of the plans that `step` would leave at this message if the store keeps it.
     pub fn kept_after(
         &self,
         alloc: Global,
@@ -82,30 +81,6 @@ impl Drone {
                 self.plans.write_with(alloc, self.sys, floor, kind, &items)
             }
             Change::Empty(kind) => self.plans.write_without(alloc, self.sys, floor, kind),
-        }
-    }
-
-    // The plan of the own upload couldn't be kept.
-    fn unkept_plan(&mut self, from: Stream) -> Option<PlanMsg>
-        ensures drone { self.new ≡ closed self.old from }
-        ensures answer { result ≡ acked_of self.old.upload from 1 }
-    {
-        let answer = self.upload.acked(from, MissionResult::ERROR);
-        self.close(from);
-        answer
-    }
-
-    /// The step at a message after which the store doesn't hold the new plans: they stay as they were,
-    /// and the reply says so.
-    pub fn unkept(&mut self, from: Stream, msg: &PlanMsg) -> Option<PlanMsg>
-        requires { change_of self.old from msg.now ≢ Same }
-        ensures drone { self.new ≡ (drone_step false self.old from msg.now).drone }
-        ensures answer { result ≡ (drone_step false self.old from msg.now).answer }
-    {
-        match *msg {
-            PlanMsg::Item { .. } => self.unkept_plan(from),
-            PlanMsg::Clear { kind, .. } => Some(acknowledge(from, MissionResult::DENIED, kind)),
-            _ => None,
         }
     }
 }

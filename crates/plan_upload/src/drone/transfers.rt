@@ -1,14 +1,15 @@
 // What a drone does at each message that is for it.
 ghost use Rattle.std.specs.Prelude.{◌≡◌, ◌<◌, ◌≤◌, Some, IsTrue, true};
 ghost use Rattle.plan_items.specs.Kinds.{number_of, limit_of};
-ghost use Rattle.plan_upload.specs.Changes.{change_by};
+ghost use Rattle.plan_upload.specs.Changes.{change_by, install_of};
 ghost use Rattle.plan_upload.specs.Drone.{closed, opened, count_comes, item_comes, ack_comes, cancel_comes, clear_comes, list_comes, request_comes, is_own};
-ghost use Rattle.plan_upload.specs.Gathering.{is_sound_with, installed_by};
+ghost use Rattle.plan_upload.specs.Gathering.{acked_of, is_sound_with, installed_by, kind_in};
 ghost use Rattle.plan_upload.specs.Room.{has_place};
+ghost use Rattle.plan_upload.specs.declared.changes.Change.TheVariants.{Same};
 
 use super::Drone;
 use crate::addresses::{acknowledge, node, request};
-use crate::changes::Change;
+use crate::changes::{Change, Stepped, installing, unchanging};
 use crate::verdicts::Verdict;
 use mav_names::Stream;
 use plan_items::{Item, MissionResult, PlanKind, PlanMsg};
@@ -61,37 +62,54 @@ impl Drone {
     }
 
     // The gathered items and this last one become the plan of their kind.
-    fn install(&mut self, from: Stream, item: Item)
+    fn install(&mut self, from: Stream, item: Item) -> Stepped
         requires own { IsTrue (is_own self.old.upload from) }
         requires sound { IsTrue (is_sound_with self.old.upload item) }
-        ensures { self.new ≡ installed_by self.old from self.old.upload item }
+        ensures drone { self.new ≡ installed_by self.old from self.old.upload item }
+        ensures answer { result.answer ≡ acked_of self.old.upload from 0 }
+        ensures change { result.change ≡ install_of (kind_in self.old.upload) }
     {
+        let answer = self.upload.acked(from, MissionResult::ACCEPTED);
+        let change = installing(self.upload.kind());
         self.upload.finish(item, &mut self.plans);
         self.results.set(from, true);
         self.installs = self.installs.saturating_add(1);
+        Stepped { answer, change }
     }
 
-    pub(crate) fn item(&mut self, from: Stream, seq: u16, kind: u8, item: &Item) -> Option<PlanMsg>
-        ensures drone { self.new ≡ (item_comes true self.old from self.old.upload seq kind item.now).drone }
-        ensures answer { result ≡ (item_comes true self.old from self.old.upload seq kind item.now).answer }
+    // The upload ends with this result code, and nothing is installed.
+    fn refuse(&mut self, from: Stream, code: u8) -> Stepped
+        ensures drone { self.new ≡ closed self.old from }
+        ensures answer { result.answer ≡ acked_of self.old.upload from code }
+        ensures change { result.change ≡ Same }
+    {
+        let answer = self.upload.acked(from, code);
+        self.close(from);
+        unchanging(answer)
+    }
+
+    pub(crate) fn item(
+        &mut self,
+        keeps: bool,
+        from: Stream,
+        seq: u16,
+        kind: u8,
+        item: &Item,
+    ) -> Stepped
+        ensures drone { self.new ≡ (item_comes keeps self.old from self.old.upload seq kind item.now).drone }
+        ensures answer { result.answer ≡ (item_comes keeps self.old from self.old.upload seq kind item.now).answer }
+        ensures change { result.change ≡ change_by (item_comes keeps self.old from self.old.upload seq kind item.now).event }
     {
         match self.upload.judge(from, seq, kind, item) {
-            Verdict::NotOwn => None,
-            Verdict::AskAgain => self.upload.asked(from),
-            Verdict::Refuse(code) => {
-                let answer = self.upload.acked(from, code);
-                self.close(from);
-                answer
-            }
+            Verdict::NotOwn => unchanging(None),
+            Verdict::AskAgain => unchanging(self.upload.asked(from)),
+            Verdict::Refuse(code) => self.refuse(from, code),
             Verdict::Gather => {
                 self.upload.gather(*item);
-                self.upload.asked(from)
+                unchanging(self.upload.asked(from))
             }
-            Verdict::Install => {
-                let answer = self.upload.acked(from, MissionResult::ACCEPTED);
-                self.install(from, *item);
-                answer
-            }
+            Verdict::Install if keeps => self.install(from, *item),
+            Verdict::Install => self.refuse(from, MissionResult::ERROR),
         }
     }
 
@@ -120,20 +138,24 @@ impl Drone {
         None
     }
 
-    pub(crate) fn clear(&mut self, from: Stream, kind: u8) -> PlanMsg
-        ensures drone { self.new ≡ (clear_comes true self.old from kind).drone }
-        ensures answer { Some result ≡ (clear_comes true self.old from kind).answer }
+    pub(crate) fn clear(&mut self, keeps: bool, from: Stream, kind: u8) -> Stepped
+        ensures drone { self.new ≡ (clear_comes keeps self.old from kind).drone }
+        ensures answer { result.answer ≡ (clear_comes keeps self.old from kind).answer }
+        ensures change { result.change ≡ change_by (clear_comes keeps self.old from kind).event }
     {
         let known = PlanKind::of(kind);
         if known.is_none() && kind != PlanKind::ALL {
-            return acknowledge(from, MissionResult::UNSUPPORTED, kind);
+            return unchanging(Some(acknowledge(from, MissionResult::UNSUPPORTED, kind)));
         }
-        if self.upload.is_of_other(from) {
-            return acknowledge(from, MissionResult::DENIED, kind);
+        if self.upload.is_of_other(from) || !keeps {
+            return unchanging(Some(acknowledge(from, MissionResult::DENIED, kind)));
         }
         self.close(from);
         self.plans.empty(known);
-        acknowledge(from, MissionResult::ACCEPTED, kind)
+        Stepped {
+            answer: Some(acknowledge(from, MissionResult::ACCEPTED, kind)),
+            change: Change::Empty(known),
+        }
     }
 
     pub(crate) fn list(&mut self, from: Stream, kind: u8) -> PlanMsg

@@ -1,9 +1,18 @@
-use Rattle.std.proofs.Common.{[], subst, ◌∙◌, ap}
+use Rattle.std.proofs.Common.{◌≡◌, [], Some, subst, ◌∙◌, ap}
 use Rattle.std.proofs.lemmas.Result.{err_from_is_err_and}
 use Rattle.std.specs.Io.KnownBytes.{append_known}
 use Rattle.mav_ports.specs.Puts.{SentPrefix}
-use Rattle.fleet_command.proofs.Steps.{line_done, line_unwritten, line_fails, line_no_memory}
+use Rattle.scenario_lines.specs.declared.faults.LineFault.{LineFault}
+use Rattle.scenario_lines.specs.Faults.{IfBad}
+use Rattle.scenario_lines.specs.Reasons.{reason_against}
+use Rattle.fleet_world.specs.WorldView.{context_in}
+use Rattle.fleet_command.proofs.Steps.{line_done, line_unwritten, line_rejected, line_fails, line_no_memory}
 use Rattle.fleet_command.proofs.player.play_line.Goals as goal
+
+pub returns-in-Err-Bad-clause-played : goal.returns-in-Err-Bad-clause-played
+returns-in-Err-Bad-clause-played g c =
+    let bad = subst (λ (e : LineFault). IfBad e (λ r. reason_against (context_in c.args.world.now) c.args.text.now ≡ Some r)) c.in-Err-Bad.field-0-is c.in-Err-Bad.ensures.bad in
+    λ frames p before holds. line_rejected [] frames p c.args.world.now c.args.number c.args.text.now c.in-Err-Bad.reason c.bad_line.result before (g.K.Sink.sent c.args.out.now) holds bad c.bad_line.ensures
 
 pub returns-in-Err-NoMemory-clause-played : goal.returns-in-Err-NoMemory-clause-played
 returns-in-Err-NoMemory-clause-played g c = λ frames p before holds. line_no_memory [] frames p _ c.args.number c.args.text.now before _ holds

@@ -47,7 +47,7 @@ reading-preserved g c =
           part_on (rules_of g.C.Core.taken g.V.Services.noted g.V.Services.served) c.args.clock c.args.link.now.endpoint.extras node (taken ++ take place piece) (taken ++ take (place + size) piece) given (HasFailed faults sure old then) r.link mid r.core r.services r.news.items so c.hear.new.link c.hear.new.core c.hear.new.services (HasFailed faults sure old now) c.hear.new.news.items frame kept to c.hear.ensures.reader
           (λ failed. failed_then faults sure old then now failed c.hear.ensures.serves)
           (kept_so kept (then_failed faults sure old then now r.invariant.serves) c.in_ok-hear.ensures.unkept)
-          (subst (λ (p : Packet). NodeDid (hears (rules_of g.C.Core.taken g.V.Services.noted g.V.Services.served kept) c.args.clock p so.heard.node) c.hear.new.link c.hear.new.core c.hear.new.services r.news.items c.hear.new.news.items) (c.raw.ensures ∙ c.of-bytes.ensures) (c.in_ok-hear.ensures.done so.heard.node (node_read so.heard.node r.link mid r.core r.services c.read-size.ensures.link so.heard.is)));
+          (subst (λ (p : Packet). NodeDid (hears (rules_of g.C.Core.taken g.V.Services.noted g.V.Services.served kept) c.args.clock p so.heard.node) c.hear.new.link c.hear.new.core c.hear.new.services r.news.items c.hear.new.news.items) (c.raw-raw.ensures ∙ c.of-bytes.ensures) (c.in_ok-hear.ensures.done so.heard.node (node_read so.heard.node r.link mid r.core r.services c.read-size.ensures.link so.heard.is)));
     }
 
 pub returns-in_default-clause-count : goal.returns-in_default-clause-count
@@ -99,8 +99,8 @@ returns-in_err-hear-clause-fault g c =
     let rest = drop (place + size) piece in
     let more = subst (λ (bytes : List ℕ). GrowsBy c.args.link.now.endpoint.extras bytes given events) (cut_at taken piece (place + size)) grows in
     (so.heard.node, node_read so.heard.node r.link mid r.core r.services c.read-size.ensures.link so.heard.is, part_to_none rules c.args.clock c.args.link.now.endpoint.extras node (taken ++ take place piece) (taken ++ take (place + size) piece) given (HasFailed faults sure old then) r.link mid r.core r.services r.news.items so F G rest frame events to more (λ failed. failed_then faults sure old then now failed c.hear.ensures.serves) f))
-    (subst (λ (packet : Packet). FailsKeeping p.0 (λ (node : Side g.row.C.Denot g.row.V.Denot). IsNode node mid r.core r.services) (λ (kept : Bool) (node : Side g.row.C.Denot g.row.V.Denot). hears (rules_of g.C.Core.taken g.V.Services.noted g.V.Services.served kept) c.args.clock packet node) (λ kept. IsKept kept F) F) (c.raw.ensures ∙ c.of-bytes.ensures)
-    (subst (λ (fault : NodeFault). FailsKeeping fault (λ (node : Side g.row.C.Denot g.row.V.Denot). IsNode node mid r.core r.services) (λ (kept : Bool) (node : Side g.row.C.Denot g.row.V.Denot). hears (rules_of g.C.Core.taken g.V.Services.noted g.V.Services.served kept) c.args.clock c.raw.result node) (λ kept. IsKept kept F) F) (sym p.2) c.in_err-hear.ensures.fault)))
+    (subst (λ (packet : Packet). FailsKeeping p.0 (λ (node : Side g.row.C.Denot g.row.V.Denot). IsNode node mid r.core r.services) (λ (kept : Bool) (node : Side g.row.C.Denot g.row.V.Denot). hears (rules_of g.C.Core.taken g.V.Services.noted g.V.Services.served kept) c.args.clock packet node) (λ kept. IsKept kept F) F) (c.raw-raw.ensures ∙ c.of-bytes.ensures)
+    (subst (λ (fault : NodeFault). FailsKeeping fault (λ (node : Side g.row.C.Denot g.row.V.Denot). IsNode node mid r.core r.services) (λ (kept : Bool) (node : Side g.row.C.Denot g.row.V.Denot). hears (rules_of g.C.Core.taken g.V.Services.noted g.V.Services.served kept) c.args.clock c.raw-raw.result node) (λ kept. IsKept kept F) F) (sym p.2) c.in_err-hear.ensures.fault)))
 
 pub reading-smaller : goal.reading-smaller
 reading-smaller g c =

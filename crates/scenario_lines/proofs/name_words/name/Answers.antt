@@ -1,6 +1,6 @@
 -- The index of the first point splits the name.
 use Rattle.std.proofs.Common.{sym, ◌∙◌}
-use Rattle.scenario_lines.proofs.Names.{no_point, no_system, no_component, a_name}
+use Rattle.scenario_lines.proofs.NameWords.{no_point, no_system, no_component, a_name}
 use Rattle.scenario_lines.proofs.name_words.name.Goals as goal
 
 pub returns-in_err-point : goal.returns-in_err-point

@@ -12,4 +12,4 @@ pub returns-clause-joins : goal.returns-clause-joins
 returns-clause-joins c =
     let x = to_z-of_z w32 c.args.x c.ranges.x in
     let y = to_z-of_z w32 c.args.y c.ranges.y in
-    fleet_added _ _ _ (λ (f : Fleet). Drone (new_drone f.key c.args.sys (record { x = c.args.x; y = c.args.y }))) _ c.self.view_is (subst (λ (home : Point). IsStoredDrone (new_drone c.self.inside.key c.args.sys home) c.in_ok-drone.drone) (λ i. record { x = x i; y = y i }) c.in_ok-drone.ensures.started) c.in_ok-push.ensures.items c.in_ok-push-2.ensures.ok
+    fleet_added _ _ (λ (f : Fleet). Drone (new_drone f.key c.args.sys (record { x = c.args.x; y = c.args.y }))) _ _ c.self.view_is (subst (λ (home : Point). IsStoredDrone (new_drone c.self.inside.key c.args.sys home) c.in_ok-drone.drone) (λ i. record { x = x i; y = y i }) c.in_ok-drone.ensures.started) c.in_ok-push.ensures.items

@@ -1,5 +1,10 @@
-use Rattle.fleet_world.proofs.Lookups.{index_of_station}
+use Rattle.std.proofs.Common.{◌∙◌, ap}
+use Rattle.fleet_world.specs.WorldView.{Fleet}
+use Rattle.fleet_world.proofs.Lookups.{index_of_station, found_within}
 use Rattle.fleet_world.proofs.fleet.Fleet.index_of_station.Goals as goal
 
-pub returns : goal.returns
-returns c = λ nodes f. index_of_station _ nodes _ _ _ c.self.view_is f c.index_of.ensures
+pub returns-clause-found : goal.returns-clause-found
+returns-clause-found c = λ nodes f. index_of_station nodes _ _ _ f (c.deref.ensures.value ∙ ap (λ (z : Fleet). z.nodes) c.self.view_is) c.args.name c.first_in_role.ensures.found
+
+pub returns-clause-within : goal.returns-clause-within
+returns-clause-within c = found_within _ _ _ (c.deref.ensures.value ∙ ap (λ (z : Fleet). z.nodes) c.self.view_is) c.first_in_role.ensures.within

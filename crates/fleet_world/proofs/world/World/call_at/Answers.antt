@@ -8,10 +8,10 @@ use Rattle.fleet_world.proofs.world.World.call_at.Goals as goal
 
 pub returns-clause-done : goal.returns-clause-done
 returns-clause-done c =
-    let named = subst (λ (z : WorldView). (nodes : List Node) → IsFleet nodes z.fleet → Some c.in-Some.name ≡ option_map node_name (slice_get nodes c.args.index)) c.self.view_is c.in-Some.ensures in
+    let named = subst (λ (z : WorldView). (nodes : List Node) → IsFleet nodes z.fleet → Some c.name_at-name.result ≡ option_map node_name (slice_get nodes c.args.index)) c.self.view_is c.name_at-name.ensures in
     call_outcome _ _ _ _ _ _ _ _ _ _ _ (calls_known c.args.call.now (datagram_of c.args.self.now.sent c.args.call.now) c.args.self.now.fleet.clock) c.as_slice.ensures.value named c.in_ok-news.ensures.done c.in_ok-news.ensures.kept c.report_news.ensures.done
 
 pub returns-clause-error : goal.returns-clause-error
 returns-clause-error c =
-    let named = subst (λ (z : WorldView). (nodes : List Node) → IsFleet nodes z.fleet → Some c.in-Some.name ≡ option_map node_name (slice_get nodes c.args.index)) c.self.view_is c.in-Some.ensures in
+    let named = subst (λ (z : WorldView). (nodes : List Node) → IsFleet nodes z.fleet → Some c.name_at-name.result ≡ option_map node_name (slice_get nodes c.args.index)) c.self.view_is c.name_at-name.ensures in
     call_error _ _ _ _ _ _ _ _ c.as_slice.ensures.value named c.in_ok-news.ensures.done c.in_ok-news.ensures.kept c.report_news.ensures.error

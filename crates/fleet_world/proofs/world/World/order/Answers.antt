@@ -7,10 +7,10 @@ use Rattle.fleet_world.proofs.world.World.order.Goals as goal
 
 pub returns-in-Some-clause-done : goal.returns-in-Some-clause-done
 returns-in-Some-clause-done c =
-    let index = subst (λ (z : WorldView). (nodes : List Node) → IsFleet nodes z.fleet → Some c.in-Some.index ≡ position (is_station_named c.args.station) nodes) c.self.view_is c.in-Some.ensures in
+    let index = subst (λ (z : WorldView). (nodes : List Node) → IsFleet nodes z.fleet → Some c.in-Some.index ≡ position (is_station_named c.args.station) nodes) c.self.view_is c.in-Some.ensures.found in
     order_outcome _ c.args.self.now _ _ _ _ _ _ _ c.skip_sent.ensures index c.order_at.ensures.done
 
 pub returns-in-Some-clause-error : goal.returns-in-Some-clause-error
 returns-in-Some-clause-error c =
-    let index = subst (λ (z : WorldView). (nodes : List Node) → IsFleet nodes z.fleet → Some c.in-Some.index ≡ position (is_station_named c.args.station) nodes) c.self.view_is c.in-Some.ensures in
+    let index = subst (λ (z : WorldView). (nodes : List Node) → IsFleet nodes z.fleet → Some c.in-Some.index ≡ position (is_station_named c.args.station) nodes) c.self.view_is c.in-Some.ensures.found in
     order_error _ c.args.self.now _ _ _ _ c.skip_sent.ensures index c.order_at.ensures.error

@@ -10,16 +10,16 @@ use Rattle.mav_nodes.proofs.drone_node.DroneNode.receive.Goals as goal
 
 pub returns-clause-infallible : goal.returns-clause-infallible
 returns-clause-infallible g c =
-    if_ok c.receive.result (λ news did node is sure.
-    let bytes = c.args.datagram.now in
+    rw (sym c.bytes.ensures) (if_ok c.receive.result (λ news did node is sure.
+    let bytes = c.bytes.result.now in
     let total = drone_receives c.args.clock bytes node in
     drone_did total _ [] news.items (sure_did (λ (keeps : List Bool). drone_receives_keeping c.args.clock keeps bytes node) total _ c.receive.new.link c.receive.new.core c.receive.new.services news.items (λ failed. failed.fallible sure)
     (λ keeps all. keeps_all drone_rules_keeping c.args.clock keeps (frames_of (final_parse node.link.extras false bytes)) node all)
-    (did node (drone_node node (subst (IsDrone node) (sym c.self.view_is) is))))) c.receive.ensures.done
+    (did node (drone_node node (subst (IsDrone node) (sym c.self.view_is) is))))) c.receive.ensures.done)
 
 pub returns-clause-infallible_fault : goal.returns-clause-infallible_fault
 returns-clause-infallible_fault g c =
-    if_err c.receive.result (λ fault h sure.
-    let bytes = c.args.datagram.now in
+    rw (sym c.bytes.ensures) (if_err c.receive.result (λ fault h sure.
+    let bytes = c.bytes.result.now in
     sure_fails fault (λ (node : DroneSide). IsNode node c.self.inside.link c.self.inside.drone c.self.inside.services) (λ (keeps : List Bool) (node : DroneSide). drone_receives_keeping c.args.clock keeps bytes node) _ (λ (node : DroneSide). IsDrone node c.args.self.now) (λ (node : DroneSide). drone_receives c.args.clock bytes node) (λ failed. failed.fallible sure)
-    (λ node is. (node, drone_node node (subst (IsDrone node) (sym c.self.view_is) is), λ keeps all none. sym (keeps_all drone_rules_keeping c.args.clock keeps (frames_of (final_parse node.link.extras false bytes)) node all) ∙ none)) h) c.receive.ensures.fault
+    (λ node is. (node, drone_node node (subst (IsDrone node) (sym c.self.view_is) is), λ keeps all none. sym (keeps_all drone_rules_keeping c.args.clock keeps (frames_of (final_parse node.link.extras false bytes)) node all) ∙ none)) h) c.receive.ensures.fault)
