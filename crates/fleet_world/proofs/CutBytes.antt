@@ -118,6 +118,10 @@ pushed_signed key from known bytes more b spans ps p all signed last is joined m
     (signed-push key (bytes ++ more) spans p (signed_more key bytes more spans all signed)
     (λ told. subst (BytesVerify key) (sym same) (last (subst IsTrue flag told)))))
 
+-- the same bytes
+pub same_kept : (key bytes b : List ℕ) (spans : List Span) → b ≡ bytes → AreWithin bytes spans × AreSigned key bytes spans → AreWithin b spans × AreSigned key b spans
+same_kept key bytes b spans same kept = subst (λ (l : List ℕ). AreWithin l spans × AreSigned key l spans) (sym same) kept
+
 -- a look-up of a part
 found_cut : (bytes : List ℕ) (spans look : List Span) (kept : List Kept) (k : ℕ) (o : Option Span) → cuts bytes spans ≡ kept → look ≡ spans → o ≡ slice_get look k → option_map (cut bytes) o ≡ slice_get kept k
 found_cut bytes spans look kept k o view is found =

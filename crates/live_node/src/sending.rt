@@ -26,6 +26,16 @@ fn write<L: Link>(link: &mut L, bytes: &[u8]) -> Result<(), WriteFault>
     }
 }
 
+// The bytes of a piece of news' frame, if it has one.
+fn frame_of(one: &News) -> &[u8]
+    ensures { result.now ≡ frame_bytes (said_by one.now) }
+{
+    match one {
+        News::Sent(frame, _) => frame.raw().bytes(),
+        _ => &[],
+    }
+}
+
 // Writes the frame of a piece of news, if it has one.
 fn send_one<L: Link>(link: &mut L, one: &News) -> Result<(), WriteFault>
     ensures sent { OnOk result ((L.state link.new).sent ≡ append_known (L.state link.old).sent (frame_bytes (said_by one.now))) }
@@ -34,10 +44,7 @@ fn send_one<L: Link>(link: &mut L, one: &News) -> Result<(), WriteFault>
     ensures rose { OnErr result (Rose (L.state link.old).faults (L.state link.new).faults) }
     ensures unread { SameRead (L.state link.old) (L.state link.new) }
 {
-    match one {
-        News::Sent(frame, _) => write(link, frame.raw().bytes()),
-        _ => write(link, &[]),
-    }
+    write(link, frame_of(one))
 }
 
 /// Writes the frames of news, in order.

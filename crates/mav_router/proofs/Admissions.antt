@@ -1,7 +1,7 @@
 -- What a frame's entry is, and what holds of a switch after it.
-use Rattle.std.proofs.Common.{◌≡◌, ◌∙◌, ◌==◌, ◌<◌, ◌+◌, arith, length, true, ◌++◌, ◌∷◌, [], ℕ, zero, suc, List, All, Bool, Some, map, take, slice_get, refl, sym, ap, subst, append_assoc}
+use Rattle.std.proofs.Common.{◌≡◌, ◌∙◌, ◌==◌, ◌<◌, ◌+◌, arith, length, true, ◌++◌, ◌∷◌, [], ℕ, zero, suc, List, All, Bool, Some, Err, map, take, slice_get, refl, sym, ap, subst, append_assoc}
 use Rattle.std.proofs.lemmas.Grind.{common_steps}
-use Rattle.std.proofs.lemmas.List.{append-nil}
+use Rattle.std.proofs.lemmas.List.{append-nil, length-map}
 use Rattle.std.proofs.lemmas.Option.{get_or_from_slice_get, slice_get_within}
 use Rattle.turnstile.specs.Labels.{EachPasses}
 use Rattle.mav_names.specs.declared.names.Name.{Name}
@@ -16,7 +16,7 @@ use Rattle.mav_router.specs.declared.entries.Outcome.{Outcome}
 use Rattle.mav_router.specs.Journal.{Rules, IsJournal, entry_after, verdict_on, is_unsigned, ways_by, target_by, learned_at, learned_by, learned_in, tried_by, tried_in}
 use Rattle.mav_router.specs.declared.found.FoundFrame.{FoundFrame}
 use Rattle.mav_router.specs.Admitting.{AdmitsThese, IsAfter, Judges, entry_by}
-use Rattle.mav_router.specs.Found.{IsJudged, Judged, Keeps, packets_of}
+use Rattle.mav_router.specs.Found.{Admits, IsJudged, Judged, Keeps, packets_of}
 use Rattle.mav_router.specs.Spans.{judged_of, packet_of}
 use Rattle.mav_router.proofs.Findings.{keeps_more, next_packet}
 use Rattle.mav_router.proofs.Journals.{entry_is, filter_map_push, journal_more}
@@ -124,3 +124,29 @@ none_admitted port before after found judged count is less k =
     none : (more : List Entry) → map (λ (entry : Entry). entry.frame) more ≡ [] → more ≡ []
     none [] e = refl
     none (entry ∷ more) e = absurd cc
+
+-- a journal took none of some frames
+pub admits_nothing : {A E : Type 0} (fault : E) (port : ℕ) (journal : List Entry) (found : List Judged) → 0 < length found → Admits {A = A} (Err fault) port journal journal (packets_of found)
+admits_nothing fault port journal found some = record {
+  count = 0;
+  kept = record { more = []; goes = sym (append-nil journal); ports = tt; took = refl };
+  all = tt;
+  some = let same = length-map found (λ (j : Judged). j.frame) in omega (arith, same, some);
+}
+
+-- the entries of a page after a journal that has none after its pages
+only_pages : (pages last now : List Entry) → pages ++ last ≡ now → length last ≡ 0 → now ≡ pages
+only_pages pages [] now view none = sym view ∙ append-nil pages
+only_pages pages (x ∷ last) now view none = absurd (omega (arith, none))
+
+pub page_keeps : (rules : Rules) (port : ℕ) (frames : List Packet) (stamps later : Kept) (table taught : Masks) (page pages last now : List Entry) → pages ++ last ≡ now → length last ≡ 0 → AdmitsThese rules port frames stamps later table taught page → Keeps port now (pages ++ page) frames
+page_keeps rules port frames stamps later table taught page pages last now view none a = record {
+  more = a.keeps.more;
+  goes = ap (λ (l : List Entry). l ++ page) (sym (only_pages pages last now view none)) ∙ ap (λ (l : List Entry). now ++ l) a.keeps.goes;
+  ports = a.keeps.ports;
+  took = a.keeps.took;
+}
+
+pub page_after : (rules : Rules) (port : ℕ) (frames : List Packet) (stamps later : Kept) (table taught : Masks) (page pages last now : List Entry) → pages ++ last ≡ now → length last ≡ 0 → AdmitsThese rules port frames stamps later table taught page → table.ports ≡ rules.ports → IsAfter rules stamps table now → IsAfter rules later taught (pages ++ page)
+page_after rules port frames stamps later table taught page pages last now view none a same h =
+    subst (λ (l : List Entry). IsAfter rules later taught (l ++ page)) (only_pages pages last now view none) (a.after now same h)

@@ -57,6 +57,10 @@ pub all_moved : {A : Type 0} (done left all : List A) → length left ≡ 0 → 
 all_moved done [] all none is = sym (append-nil done) ∙ is
 all_moved done (x ∷ left) all none is = absurd (omega (arith, none))
 
+pub all_images_moved : {A B : Type 0} (f : A → B) (done : List B) (left : List A) (all : List B) → length left ≡ 0 → done ++ map f left ≡ all → done ≡ all
+all_images_moved f done [] all none is = sym (append-nil done) ∙ is
+all_images_moved f done (x ∷ left) all none is = absurd (omega (arith, none))
+
 same_or : (k at : ℕ) → (k ≡ at) ⊎ (k ≡ at → ⊥)
 same_or zero zero = inl refl
 same_or zero (suc at) = inr (λ e. omega (arith, e))

@@ -113,6 +113,13 @@ count_of_sides {A} state lock rules turns before sides seats s = sym (ap length 
 pub count_of_seats : {A : Type 0} (state : A → LinkState) (lock : Lock SwitchEvent) (rules : Rules) (turns : ℕ) (before : List A) (sides : List (Side A)) (seats : List (Participant SwitchEvent)) → HasServed state lock rules turns before sides seats → length seats ≡ length before
 count_of_seats {A} state lock rules turns before sides seats s = sym (ap length s.of_seats) ∙ (length-map s.parts (λ (p : Part A). p.seat) ∙ s.count)
 
+-- as many as there were ports
+pub sides_long : {A : Type 0} (state : A → LinkState) (lock : Lock SwitchEvent) (rules : Rules) (turns : ℕ) (before : List A) (sides : List (Side A)) (seats : List (Participant SwitchEvent)) → HasServed state lock rules turns before sides seats → length sides ≡ length before
+sides_long {A} state lock rules turns before sides seats s = sym (ap length s.of_sides) ∙ (length-map s.parts (λ (p : Part A). p.side) ∙ s.count)
+
+pub seats_long : {A : Type 0} (state : A → LinkState) (lock : Lock SwitchEvent) (rules : Rules) (turns : ℕ) (before : List A) (sides : List (Side A)) (seats : List (Participant SwitchEvent)) → HasServed state lock rules turns before sides seats → length seats ≡ length before
+seats_long {A} state lock rules turns before sides seats s = sym (ap length s.of_seats) ∙ (length-map s.parts (λ (p : Part A). p.seat) ∙ s.count)
+
 pub seats_outside : {A : Type 0} (state : A → LinkState) (lock : Lock SwitchEvent) (rules : Rules) (turns : ℕ) (before : List A) (sides : List (Side A)) (seats : List (Participant SwitchEvent)) → HasServed state lock rules turns before sides seats → All (CanEnter lock) seats
 seats_outside {A} state lock rules turns before sides seats s =
     all_from (CanEnter lock) seats

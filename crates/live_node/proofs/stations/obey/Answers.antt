@@ -1,5 +1,5 @@
-use Rattle.std.proofs.Common.{◌≡◌, inl, refl, arith}
-use Rattle.std.specs.Prelude.{true}
+use Rattle.std.proofs.Common.{◌≡◌, inl, refl, arith, Result, Ok, Err}
+use Rattle.std.specs.Prelude.{true, OnOk}
 use Rattle.std.proofs.lemmas.List.Elements.{All-nil}
 use Rattle.mav_nodes.proofs.StoreCalls.{serves_same}
 use Rattle.live_node.specs.Calls.{Obeys}
@@ -7,6 +7,10 @@ use Rattle.live_node.proofs.Calls.{call_told, call_stopped, port_same, output_la
 use Rattle.live_node.proofs.Results.{told_ok, told_err}
 use Rattle.live_node.proofs.Ordering.{not_followed, not_refused}
 use Rattle.live_node.proofs.stations.obey.Goals as goal
+
+always : {A E P : Type 0} (r : Result A E) → P → OnOk r P
+always (Ok a) h = h
+always (Err e) h = tt
 
 pub returns-in-Ok-clause-done : goal.returns-in-Ok-clause-done
 returns-in-Ok-clause-done g c =
@@ -43,3 +47,21 @@ returns-in-Err-clause-stopped g c =
       refused = λ e. (f.refused e, refl);
       accepted = λ long. absurd (omega (arith, long));
     })
+
+pub returns-in-Ok-clause-reader : goal.returns-in-Ok-clause-reader
+returns-in-Ok-clause-reader g c = always c.tell.result c.in-Ok.ensures.reader
+
+pub returns-in-Ok-clause-stays : goal.returns-in-Ok-clause-stays
+returns-in-Ok-clause-stays g c = c.now-now.ensures.stays
+
+pub returns-in-Ok-clause-faults : goal.returns-in-Ok-clause-faults
+returns-in-Ok-clause-faults g c = c.tell.ensures.faults
+
+pub returns-in-Err-clause-done : goal.returns-in-Err-clause-done
+returns-in-Err-clause-done g c = tt
+
+pub returns-in-Err-clause-reader : goal.returns-in-Err-clause-reader
+returns-in-Err-clause-reader g c = tt
+
+pub returns-in-Err-clause-stays : goal.returns-in-Err-clause-stays
+returns-in-Err-clause-stays g c = c.now-now.ensures.stays

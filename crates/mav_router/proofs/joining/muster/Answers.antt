@@ -1,7 +1,7 @@
 use Rattle.std.proofs.Common.{◌≡◌, ◌∙◌, ◌+◌, ◌++◌, List, ℕ, Some, map, length, slice_get, refl, ap, subst, arith, length-append}
 use Rattle.mav_router.specs.declared.crew.PortJob.{PortJob}
 use Rattle.mav_router.specs.Threads.{IsPlaced}
-use Rattle.mav_router.proofs.Moving.{source_moved}
+use Rattle.mav_router.proofs.Moving.{all_moved, source_moved}
 use Rattle.mav_router.proofs.PortEnds.{each_pushed}
 use Rattle.mav_router.proofs.joining.muster.Goals as goal
 
@@ -43,3 +43,30 @@ loop-at-preserved g c =
       ports_room = ports.ensures.room ∙ i.ports_room;
       seats_room = seats.ensures.room ∙ i.seats_room;
     }
+
+pub returns-clause-links : goal.returns-clause-links
+returns-clause-links g c =
+    let l = c.loop-at in
+    let i = l.invariant in
+    all_moved (map (λ (job : PortJob g.row.L.Denot). job.part.side.link) l.jobs.items) l.ports.items _ (omega (arith, l.ports.ok.0, i.long, c.loop-at-test.false)) i.links
+
+pub returns-clause-lanes : goal.returns-clause-lanes
+returns-clause-lanes g c =
+    let l = c.loop-at in
+    let i = l.invariant in
+    all_moved (map (λ (job : PortJob g.row.L.Denot). job.part.side.lane) l.jobs.items) l.stock.lanes.items _ (omega (arith, l.stock.lanes.ok.0, i.lanes_long, i.long, c.loop-at-test.false)) i.lanes
+
+pub returns-clause-seats : goal.returns-clause-seats
+returns-clause-seats g c =
+    let l = c.loop-at in
+    let i = l.invariant in
+    all_moved (map (λ (job : PortJob g.row.L.Denot). job.part.seat) l.jobs.items) l.seats.items _ (omega (arith, l.seats.ok.0, i.seats_long, i.long, c.loop-at-test.false)) i.seats
+
+pub returns-clause-placed : goal.returns-clause-placed
+returns-clause-placed g c = c.loop-at.invariant.placed
+
+pub returns-clause-shared : goal.returns-clause-shared
+returns-clause-shared g c = c.loop-at.invariant.shared
+
+pub returns-clause-sides : goal.returns-clause-sides
+returns-clause-sides g c = c.loop-at.invariant.sides

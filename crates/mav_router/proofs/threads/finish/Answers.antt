@@ -1,4 +1,5 @@
-use Rattle.std.proofs.Common.{◌≡◌, ◌∙◌, ◌⊎◌, ◌+◌, List, Some, slice_get, map, length, refl, sym, subst, ap}
+use Rattle.std.proofs.Common.{◌≡◌, ◌∙◌, ◌⊎◌, ◌+◌, List, Some, slice_get, map, length, refl, sym, subst, ap, arith}
+use Rattle.std.proofs.lemmas.List.{length-map}
 use Rattle.mav_router.specs.declared.entries.Entry.{Entry}
 use Rattle.mav_router.specs.declared.entries.SwitchFault.TheVariants.{NoMemory}
 use Rattle.mav_router.specs.declared.parts.Side.{Side}
@@ -35,3 +36,43 @@ returns-in-None-clause-routed g c = λ before closed.
     (c.put_ends.ensures ∙ ap (λ (l : List (Side g.row.L.Denot)). map (λ (s : Side g.row.L.Denot). end_by s.lane c.args.turns) l) (c.as_slice-in-None.ensures.value ∙ over))
     (c.give_links-in-None.ensures ∙ ap (λ (l : List (Side g.row.L.Denot)). map (λ (s : Side g.row.L.Denot). s.link) l) over)
     (subst (λ (l : List Entry). HasClosed g.L.Link.state c.args.switch.rules c.args.turns l before old) (sym j.journal) closed)
+
+pub returns-in-Some-clause-links : goal.returns-in-Some-clause-links
+returns-in-Some-clause-links g c = ap length c.give_links.ensures ∙ length-map c.args.sides.now.items (λ (side : Side g.row.L.Denot). side.link)
+
+pub returns-in-Some-clause-routed : goal.returns-in-Some-clause-routed
+returns-in-Some-clause-routed g c = tt
+
+pub returns-in-None-clause-links : goal.returns-in-None-clause-links
+returns-in-None-clause-links g c =
+    let written : List (Side g.row.L.Denot) = c.write_each_left.new.sides in
+    let long = c.write_each_left.ensures.length ∙ ap length c.as_mut_slice.ensures.value in
+    let over = written_over written c.args.sides.now.items c.args.sides.now.len c.args.sides.now.ok.0 long in
+    let link = λ (side : Side g.row.L.Denot). side.link in
+    ap length (c.give_links-in-None.ensures ∙ ap (λ (l : List (Side g.row.L.Denot)). map link l) over) ∙ (length-map written link ∙ long)
+
+pub returns-in-None-clause-stopped : goal.returns-in-None-clause-stopped
+returns-in-None-clause-stopped g c = tt
+
+pub give_links-requires-clause-new : goal.give_links-requires-clause-new
+give_links-requires-clause-new g c = c.requires.new.1
+
+pub give_links-requires-clause-room : goal.give_links-requires-clause-room
+give_links-requires-clause-room g c = c.requires.room
+
+pub put_ends-requires-clause-new : goal.put_ends-requires-clause-new
+put_ends-requires-clause-new g c = c.requires.new.0
+
+pub put_ends-requires-clause-room : goal.put_ends-requires-clause-room
+put_ends-requires-clause-room g c =
+    let written : List (Side g.row.L.Denot) = c.write_each_left.new.sides in
+    let long = c.write_each_left.ensures.length ∙ ap length c.as_mut_slice.ensures.value in
+    let over = written_over written c.args.sides.now.items c.args.sides.now.len c.args.sides.now.ok.0 long in
+    let same = ap length (c.as_slice-in-None.ensures.value ∙ over) in
+    omega (arith, same, long, c.args.sides.now.ok.0, c.requires.end_room)
+
+pub give_links-requires-in-None-clause-new : goal.give_links-requires-in-None-clause-new
+give_links-requires-in-None-clause-new g c = c.requires.new.1
+
+pub give_links-requires-in-None-clause-room : goal.give_links-requires-in-None-clause-room
+give_links-requires-in-None-clause-room g c = c.requires.room

@@ -1,6 +1,6 @@
-use Rattle.std.proofs.Common.{◌<◌, length, arith}
+use Rattle.std.proofs.Common.{◌∙◌, ◌<◌, length, ap, arith}
 use Rattle.mav_router.proofs.PortEnds.{if_ok, if_err}
-use Rattle.mav_router.proofs.Served.{closed, ends_routed, ends_stopped, seats_outside, taken_within, unrouted}
+use Rattle.mav_router.proofs.Served.{closed, ends_routed, ends_stopped, seats_long, seats_outside, sides_long, taken_within, unrouted}
 use Rattle.mav_router.proofs.threads.route_seated.Goals as goal
 
 pub returns-in-Err-clause-stopped : goal.returns-in-Err-clause-stopped
@@ -31,3 +31,33 @@ returns-clause-stopped g c =
     (λ fault goes.
     ends_stopped _ c.args.turn c.args.rules.now c.args.turns c.args.ports.now.items c.finish.new.ports.items c.serve_ports.new.stock.sides.items c.serve_ports.new.seats.items c.close.result c.args.turn.opening fault.why fault.journal some c.in_default.ensures.served c.close.ensures.begins c.requires.opening c.close.ensures.whole goes)
     c.finish.ensures.stopped
+
+pub serve_ports-requires-clause-ports : goal.serve_ports-requires-clause-ports
+serve_ports-requires-clause-ports g c κs lives = c.requires.ports
+
+pub returns-in-Err-clause-links : goal.returns-in-Err-clause-links
+returns-in-Err-clause-links g c = ap length c.in-Err.ensures.kept
+
+pub returns-in-Err-clause-routed : goal.returns-in-Err-clause-routed
+returns-in-Err-clause-routed g c = tt
+
+pub close-requires-clause-all : goal.close-requires-clause-all
+close-requires-clause-all g c =
+    let long = seats_long _ c.args.turn c.args.rules.now c.args.turns c.args.ports.now.items c.serve_ports.new.stock.sides.items c.serve_ports.new.seats.items c.in_default.ensures.served in
+    omega (arith, long, c.serve_ports.new.seats.ok.0, c.requires.handles, c.requires.ports)
+
+pub finish-requires-clause-few : goal.finish-requires-clause-few
+finish-requires-clause-few g c κs =
+    let long = sides_long _ c.args.turn c.args.rules.now c.args.turns c.args.ports.now.items c.serve_ports.new.stock.sides.items c.serve_ports.new.seats.items c.in_default.ensures.served in
+    omega (arith, long, c.serve_ports.new.stock.sides.ok.0, c.requires.to, c.requires.ports)
+
+pub finish-requires-clause-new : goal.finish-requires-clause-new
+finish-requires-clause-new g c κs = (c.requires.new, c.in_default.ensures.moved)
+
+pub finish-requires-clause-end_room : goal.finish-requires-clause-end_room
+finish-requires-clause-end_room g c κs =
+    let long = sides_long _ c.args.turn c.args.rules.now c.args.turns c.args.ports.now.items c.serve_ports.new.stock.sides.items c.serve_ports.new.seats.items c.in_default.ensures.served in
+    omega (arith, long, c.serve_ports.new.stock.sides.ok.0, c.requires.room, c.requires.ports)
+
+pub returns-clause-links : goal.returns-clause-links
+returns-clause-links g c = c.finish.ensures.links ∙ sides_long _ c.args.turn c.args.rules.now c.args.turns c.args.ports.now.items c.serve_ports.new.stock.sides.items c.serve_ports.new.seats.items c.in_default.ensures.served
