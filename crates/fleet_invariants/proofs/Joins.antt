@@ -3,6 +3,7 @@ use Rattle.std.proofs.Common.{◌≡◌, ◌≢◌, ℕ, zero, suc, ◌+◌, ◌
 use Rattle.std.proofs.lemmas.List.{length-append, map-append}
 use Rattle.mav_names.specs.declared.names.Name.{Name}
 use Rattle.mav_names.specs.declared.names.Stream.{Stream}
+use Rattle.mav_names.specs.Addresses.{same_name}
 use Rattle.mav_profile.specs.Messages.{extras_of}
 use Rattle.mav_profile.specs.Profile.{profile_definitions}
 use Rattle.mav_nodes.specs.Links.{new_link}
@@ -10,7 +11,6 @@ use Rattle.drone_sim.specs.declared.points.Point.{Point}
 use Rattle.drone_sim.specs.Laws.{PointInRange}
 use Rattle.mav_nodes.specs.Nodes.{new_drone, new_station}
 use Rattle.scenario_lines.specs.LineContext.{is_called, has_name}
-use Rattle.scenario_lines.specs.LineContext as context
 use Rattle.node_reports.specs.Nodes.{Node, Drone, Station, node_name}
 use Rattle.fleet_world.specs.WorldState.{WorldState, named, names_of, stream_of, drones_in, stations_in}
 use Rattle.fleet_world.specs.Steps.{most_drones, most_stations}
@@ -29,14 +29,11 @@ use Rattle.plan_ranges.proofs.StationRanges as stations
 abbrev pub Unnamed : List Node → Name → Type 0
 Unnamed nodes name = (i : ℕ) (a : Node) → slice_get nodes i ≡ Some a → node_name a ≢ name
 
-same_name_same : (name : Name) → context.same_name name name ≡ true
-same_name_same name = name_same name
-
 pub unnamed : (nodes : List Node) (name : Name) → has_name (names_of nodes) name ≡ false → Unnamed nodes name
 unnamed [] name h i a e is = nowhere i a e
 unnamed (n ∷ ns) name h zero a e is =
-    let called : context.same_name (named n).name name ≡ true = ap (λ (m : Name). context.same_name m name) (named_name n ∙ ap node_name (some_is e) ∙ is) ∙ same_name_same name in
-    differ (context.same_name (named n).name name) called (neither _ _ h).0
+    let called : same_name (named n).name name ≡ true = ap (λ (m : Name). same_name m name) (named_name n ∙ ap node_name (some_is e) ∙ is) ∙ name_same name in
+    differ (same_name (named n).name name) called (neither _ _ h).0
 unnamed (n ∷ ns) name h (suc i) a e is = unnamed ns name (neither _ _ h).1 i a e is
 
 -- ---- counts

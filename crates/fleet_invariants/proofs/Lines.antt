@@ -12,7 +12,7 @@ use Rattle.plan_items.specs.declared.kinds.PlanKind.TheVariants.{Mission, Fence,
 use Rattle.plan_upload.specs.declared.faults.OpFault.{OpFault}
 use Rattle.plan_upload.specs.Kinds.{clear_number}
 use Rattle.plan_upload.specs.Refusals.{upload_refusal, refusal}
-use Rattle.plan_upload.specs.Addresses.{node_of}
+use Rattle.mav_names.specs.Addresses.{same_name, node_of}
 use Rattle.command_proto.specs.Commander.{open_command}
 use Rattle.param_proto.specs.Client.{Operation}
 use Rattle.fleet_report.specs.Events.{Event}
@@ -23,7 +23,6 @@ use Rattle.scenario_lines.specs.declared.faults.Reason.{Reason}
 use Rattle.scenario_lines.specs.declared.lines.Line.{Line}
 use Rattle.scenario_lines.specs.declared.lines.Line.TheVariants.{Blank, Drone as DroneLine, Station as StationLine, Item as OneItem, Items, Empty, Begin, Cancel, Clear, Get, Command, Params, Heartbeat, Deliver, Flow, Noise, Tick, Clock, Restart, Sim, WhereIs}
 use Rattle.scenario_lines.specs.LineContext.{is_in_role, has_name, has_drone}
-use Rattle.scenario_lines.specs.LineContext as context
 use Rattle.scenario_lines.specs.Grammar.{against, first_reason}
 use Rattle.node_reports.specs.Nodes.{Node, Drone, Station, node_name}
 use Rattle.node_reports.specs.Calls.{node_receives, node_beats, node_ticks, as_station}
@@ -34,7 +33,7 @@ use Rattle.fleet_world.specs.Steps.{Step, StepError, rests, most_drones, most_st
 use Rattle.fleet_invariants.specs.Sound.{link_of, Sound}
 use Rattle.fleet_invariants.specs.Kept.{StepKeeps, Keeps, names_joined, KeepsLine}
 use Rattle.fleet_invariants.specs.Laws.{EveryLineKeeps}
-use Rattle.fleet_invariants.proofs.Tests.{by_test, less, not_less, both_true, either_true, eq_true, name_is}
+use Rattle.fleet_invariants.proofs.Tests.{by_test, less, not_less, either_true, name_eq}
 use Rattle.fleet_invariants.proofs.Restated.{restated, kept_restated, sound_restated, restated_keeps}
 use Rattle.fleet_invariants.proofs.Joins.{kept_joined, names_joined_are, drone_joins, station_joins}
 use Rattle.fleet_invariants.proofs.ItemRows.{rows_in_range}
@@ -71,15 +70,10 @@ pub record NamedDrone (nodes : List Node) (name : Name) : Type 0 where
   pub found : slice_get nodes index ≡ Some node
   pub name_is : node_name node ≡ name
 
-name_same : (a b : Name) → context.same_name a b ≡ true → a ≡ b
-name_same a b e =
-    let x = both_true _ _ e in
-    name_is a b (eq_true _ _ x.0) (eq_true _ _ x.1)
-
 a_drone : (nodes : List Node) (name : Name) → has_drone (names_of nodes) name ≡ true → NamedDrone nodes name
 a_drone [] name h = absurd (cc)
-a_drone (Drone d ∷ ns) name h = elim (either_true (context.same_name (node_name (Drone d)) name) (has_drone (names_of ns) name) h) [
-  | inl x ↦ record { index = 0; node = Drone d; found = refl; name_is = name_same (node_name (Drone d)) name x }
+a_drone (Drone d ∷ ns) name h = elim (either_true (same_name (node_name (Drone d)) name) (has_drone (names_of ns) name) h) [
+  | inl x ↦ record { index = 0; node = Drone d; found = refl; name_is = name_eq (node_name (Drone d)) name x }
   | inr y ↦ (let z = a_drone ns name y in record { index = suc z.index; node = z.node; found = z.found; name_is = z.name_is })
 ]
 a_drone (Station t ∷ ns) name h = let z = a_drone ns name h in record { index = suc z.index; node = z.node; found = z.found; name_is = z.name_is }

@@ -1,6 +1,7 @@
 -- What each step keeps of a sound state, and how sent frames are heard.
 use Rattle.std.specs.Prelude.{false, ℕ, ◌≡◌, ◌≤◌, List, [], ◌∷◌, ◌++◌, length, slice_get, All, Some, None, Ok, Err}
 use Rattle.std.specs.declared.result.Result.{Result}
+use Rattle.mav_names.specs.Addresses.{drone_name}
 use Rattle.mav_profile.specs.Messages.{extras_of}
 use Rattle.mav_profile.specs.Profile.{profile_definitions}
 use Rattle.mav_frame.specs.Packet.{Packet}
@@ -96,7 +97,7 @@ Keeps s (Err error) = Unit {0}
 
 -- a line: the nodes that it names are the last ones
 abbrev pub names_joined : Line → List Named
-names_joined (DroneLine sys x y) = record { role = DroneRole; name = record { sys = sys; comp = 1 } } ∷ []
+names_joined (DroneLine sys x y) = record { role = DroneRole; name = drone_name sys } ∷ []
 names_joined (StationLine sys comp) = record { role = StationRole; name = record { sys = sys; comp = comp } } ∷ []
 names_joined Blank = []
 names_joined (OneItem item) = []

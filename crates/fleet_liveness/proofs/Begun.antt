@@ -12,7 +12,7 @@ use Rattle.plan_items.specs.Validation.{IsValid}
 use Rattle.plan_items.proofs.KindNumbers.{number_of-bound}
 use Rattle.plan_upload.specs.declared.faults.OpFault.{OpFault}
 use Rattle.plan_upload.specs.declared.faults.OpFault.TheVariants.{PingsSpent}
-use Rattle.plan_upload.specs.Addresses.{node_of, same_name}
+use Rattle.mav_names.specs.Addresses.{node_of, same_name, drone_name}
 use Rattle.plan_upload.specs.Drone.{is_other, has_no_room, result_of, most_results}
 use Rattle.plan_upload.specs.Station.{StationState, StationStep, Uploads, operation_of, is_synced, last_ping, pinging, sends as says, begin_upload, untold}
 use Rattle.plan_upload.specs.Refusals.{busy_with, first_of, spent, empty_plan, unfit, upload_refusal}
@@ -27,7 +27,6 @@ use Rattle.mav_nodes.specs.Steps.{CoreStep, with_core, steps}
 use Rattle.mav_nodes.specs.Nodes.{DroneSide, StationSide, station_does, station_begins, told_events}
 use Rattle.scenario_lines.specs.declared.naming.Named.{Named}
 use Rattle.scenario_lines.specs.declared.lines.Line.TheVariants.{Begin}
-use Rattle.scenario_lines.specs.LineContext.{drone_name}
 use Rattle.node_reports.specs.Nodes.{Node, Drone, Station, node_name}
 use Rattle.node_reports.specs.Calls.{as_station}
 use Rattle.node_reports.specs.Reporting.{reported_by}

@@ -10,7 +10,7 @@ use Rattle.plan_upload.specs.Refusals.{upload_refusal}
 use Rattle.mav_sign.specs.History.{low_of, last_of}
 use Rattle.scenario_lines.specs.declared.lines.Line.TheVariants.{Begin, Flow}
 use Rattle.scenario_lines.specs.Grammar.{line_of}
-use Rattle.scenario_lines.specs.LineContext.{drone_name}
+use Rattle.mav_names.specs.Addresses.{drone_name}
 use Rattle.node_reports.specs.Nodes.{Drone, Station, node_name}
 use Rattle.fleet_world.specs.WorldState.{stream_of, drones_in}
 use Rattle.fleet_world.specs.Steps.{Step, flows, after_line}

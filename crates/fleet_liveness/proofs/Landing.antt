@@ -9,13 +9,12 @@ use Rattle.plan_items.specs.declared.messages.PlanMsg.{PlanMsg}
 use Rattle.plan_items.specs.declared.messages.PlanMsg.TheVariants.{Ping}
 use Rattle.plan_items.specs.Kinds.{number_of}
 use Rattle.plan_items.specs.Validation.{IsValid}
-use Rattle.plan_upload.specs.Addresses.{same_name, same_stream}
+use Rattle.mav_names.specs.Addresses.{same_name, same_stream, drone_name}
 use Rattle.plan_upload.specs.Drone.{rests, drone_step}
 use Rattle.plan_upload.specs.Station.{stays, station_step}
 use Rattle.plan_ranges.specs.Ranges.{ItemInRange}
 use Rattle.mav_frame.specs.Packet.{Packet}
 use Rattle.mav_frame.specs.Encoding.{encoding}
-use Rattle.scenario_lines.specs.LineContext.{drone_name}
 use Rattle.fleet_report.specs.Events.{Event}
 use Rattle.node_reports.specs.Nodes.{Node, Drone, Station, node_name}
 use Rattle.node_reports.specs.Calls.{node_receives}

@@ -9,10 +9,9 @@ use Rattle.plan_items.specs.declared.messages.PlanMsg.{PlanMsg}
 use Rattle.plan_items.specs.declared.messages.PlanMsg.TheVariants.{Count, Request, Item as Give, Ack, Ping}
 use Rattle.plan_items.specs.Kinds.{limit_of}
 use Rattle.plan_items.specs.Validation.{item_fault, plan_fault}
-use Rattle.plan_upload.specs.Addresses.{same_stream, same_name, everyone, is_for_drone}
+use Rattle.mav_names.specs.Addresses.{same_stream, same_name, everyone, is_for_drone, drone_name}
 use Rattle.plan_upload.specs.Drone.{DroneState, Installs, Upload, answers, ask, opened, installed, is_other, has_no_room, heard, count_comes, item_comes, item_fits, last_item, cancel_comes, drone_step}
 use Rattle.plan_upload.specs.Station.{StationState, Operation, Phase, Pinging, Cancelling, Sending, Uploads, Told_installed, addressee, item_asked, sends, ends, starts, synchronised, phase_step, station_step}
-use Rattle.scenario_lines.specs.LineContext.{drone_name}
 use Rattle.fleet_world.specs.WorldState.{stream_of}
 use Rattle.fleet_invariants.proofs.Tests.{number_same, name_same}
 use Rattle.fleet_liveness.proofs.Names.{same}

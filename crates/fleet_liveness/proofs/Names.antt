@@ -5,10 +5,9 @@ use Rattle.mav_names.specs.declared.names.Name.{Name}
 use Rattle.mav_names.specs.declared.names.Stream.{Stream}
 use Rattle.plan_items.specs.declared.messages.PlanMsg.{PlanMsg}
 use Rattle.plan_items.specs.declared.messages.PlanMsg.TheVariants.{Count, Request, Item as Give, Ack, List as Listing, Clear, Ping}
-use Rattle.plan_upload.specs.Addresses.{same_stream, same_name, everyone, is_for_drone}
+use Rattle.mav_names.specs.Addresses.{same_stream, same_name, everyone, is_for_drone, drone_name}
 use Rattle.plan_upload.specs.Drone.{DroneState, DroneStep, rests, heard, count_comes, item_comes, ack_comes, clear_comes, list_comes, request_comes, drone_step}
 use Rattle.plan_upload.specs.Station.{StationState, Operation, stays, addressee, phase_step, operation_step, station_step}
-use Rattle.scenario_lines.specs.LineContext.{drone_name}
 use Rattle.fleet_world.specs.WorldState.{stream_of}
 use Rattle.fleet_invariants.proofs.Tests.{number_same, eq_true, both_true, differ, name_eq, name_same, name_is}
 

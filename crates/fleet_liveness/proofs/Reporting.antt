@@ -10,7 +10,7 @@ use Rattle.mav_frame.specs.Packet.{Packet}
 use Rattle.mav_messages.specs.declared.messages.Message.{Message}
 use Rattle.mav_nodes.specs.News.{NodeEvent, Sends}
 use Rattle.mav_nodes.specs.Nodes.{told_events}
-use Rattle.scenario_lines.specs.LineContext.{drone_name}
+use Rattle.mav_names.specs.Addresses.{drone_name}
 use Rattle.fleet_report.specs.Events.{Event, Sent, Installed, Ended}
 use Rattle.node_reports.specs.Reporting.{reported_by}
 use Rattle.fleet_world.specs.Steps.{packets_in}

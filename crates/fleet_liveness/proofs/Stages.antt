@@ -13,7 +13,7 @@ use Rattle.plan_items.specs.Kinds.{number_of, kind_of}
 use Rattle.plan_items.specs.Validation.{item_fault, IsValid}
 use Rattle.plan_items.proofs.KindNumbers.{number_of-bound}
 use Rattle.plan_items.proofs.PlanFaults.{plan_fault-IsValid}
-use Rattle.plan_upload.specs.Addresses.{same_stream, everyone}
+use Rattle.mav_names.specs.Addresses.{same_stream, everyone, drone_name}
 use Rattle.plan_upload.specs.Changes.{install_of, change_by}
 use Rattle.plan_upload.specs.Plans.{Plans, with_plan}
 use Rattle.plan_upload.specs.Drone.{DroneState, DroneStep, Upload, Installs as Installing, answers, ask, ack, opened, installed, is_other, has_no_room, with_result, result_of, cancel_code, undownloaded, cancel_comes, most_results, drone_step}
@@ -23,7 +23,6 @@ use Rattle.mav_messages.specs.Plans.{message_of_plan, plan_of}
 use Rattle.plan_upload.proofs.ResultLists.{result_of-with_result}
 use Rattle.mav_nodes.specs.News.{NodeEvent, Installs}
 use Rattle.mav_nodes.specs.Nodes.{change_events}
-use Rattle.scenario_lines.specs.LineContext.{drone_name}
 use Rattle.fleet_world.specs.WorldState.{stream_of}
 use Rattle.fleet_liveness.proofs.Names.{same, not_is_false}
 use Rattle.fleet_liveness.proofs.Lists.{four_are}

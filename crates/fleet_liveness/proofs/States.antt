@@ -6,10 +6,9 @@ use Rattle.mav_names.specs.declared.names.Stream.{Stream}
 use Rattle.mav_frame.specs.Packet.{Packet}
 use Rattle.plan_items.specs.declared.messages.PlanMsg.{PlanMsg}
 use Rattle.plan_items.specs.declared.messages.PlanMsg.TheVariants.{Ping}
-use Rattle.plan_upload.specs.Addresses.{node_of, same_name, everyone, is_for_drone}
+use Rattle.mav_names.specs.Addresses.{node_of, same_name, everyone, is_for_drone, drone_name}
 use Rattle.plan_upload.specs.Drone.{rests, drone_step}
 use Rattle.plan_upload.specs.Station.{stays, addressee, station_step}
-use Rattle.scenario_lines.specs.LineContext.{drone_name}
 use Rattle.mav_sign.specs.declared.admission.Admit.TheVariants.{Admitted}
 use Rattle.mav_sign.specs.History.{Entry, tried, sent, Stamped, same_stream, answer_to, admitted_in, stamps_of, low_of, last_of, previous_in, accepted_in, streams_of, next_in}
 use Rattle.mav_sign.proofs.Histories.{low_same, greatest_some}

@@ -10,7 +10,7 @@ use Rattle.plan_items.specs.Validation.{IsValid}
 use Rattle.mav_frame.specs.Packet.{Packet}
 use Rattle.mav_sign.specs.History.{last_of, previous_in}
 use Rattle.mav_nodes.specs.Links.{Link}
-use Rattle.scenario_lines.specs.LineContext.{drone_name}
+use Rattle.mav_names.specs.Addresses.{drone_name}
 use Rattle.node_reports.specs.Nodes.{Drone, Station, node_name}
 use Rattle.fleet_world.specs.WorldState.{WorldState, stream_of}
 use Rattle.fleet_invariants.specs.Sound.{Sound}

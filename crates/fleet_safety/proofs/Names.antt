@@ -3,11 +3,11 @@ use Rattle.std.proofs.Common.{◌≡◌, ◌≢◌, ℕ, zero, suc, ◌<◌, ◌
 use Rattle.mav_nodes.specs.Nodes.{DroneSide, StationSide}
 use Rattle.mav_names.specs.declared.names.Name.{Name}
 use Rattle.mav_names.specs.declared.names.Stream.{Stream}
-use Rattle.plan_upload.specs.Addresses.{node_of, is_for_drone}
+use Rattle.mav_names.specs.Addresses.{same_name, node_of, is_for_drone}
 use Rattle.plan_ranges.specs.Ranges.{StreamInRange}
 use Rattle.plan_safety.specs.World.{Nodes, Distinct}
 use Rattle.plan_safety.proofs.Keys.{bool_split, differ, both_true, either_true, eq_true, name_eq, name_same, not_true}
-use Rattle.scenario_lines.specs.LineContext.{has_name, has_drone, has_station, same_name as alike_names}
+use Rattle.scenario_lines.specs.LineContext.{has_name, has_drone, has_station}
 use Rattle.node_reports.specs.Nodes.{Node, Drone as DroneNode, Station as StationNode, node_name}
 use Rattle.fleet_world.specs.WorldState.{stream_of, names_of}
 use Rattle.fleet_invariants.specs.Sound.{link_of}
@@ -188,21 +188,14 @@ neither : (a b : Bool) → (a || b) ≡ false → (a ≡ false) × (b ≡ false)
 neither true b e = absurd (cc)
 neither false b e = (refl, e)
 
--- the scenario lines' comparison of names is the same
-name_same_too : (a : Name) → alike_names a a ≡ true
-name_same_too a = name_same a
-
-name_eq_too : (a b : Name) → alike_names a b ≡ true → a ≡ b
-name_eq_too a b e = name_eq a b e
-
 pub unnamed : (nodes : List Node) (name : Name) → has_name (names_of nodes) name ≡ false → Unnamed nodes name
 unnamed nodes name h = all nodes h
   where
     all : (nodes : List Node) → has_name (names_of nodes) name ≡ false → (i : ℕ) (a : Node) → slice_get nodes i ≡ Some a → node_name a ≡ name → ⊥
     all [] h zero a e is = absurd (cc)
     all [] h (suc i) a e is = absurd (cc)
-    all (DroneNode d ∷ ns) h zero a e is = differ _ (subst (λ x. alike_names x name ≡ true) (sym (ap node_name (some_is e) ∙ is)) (name_same_too name)) (neither _ _ h).0
-    all (StationNode d ∷ ns) h zero a e is = differ _ (subst (λ x. alike_names x name ≡ true) (sym (ap node_name (some_is e) ∙ is)) (name_same_too name)) (neither _ _ h).0
+    all (DroneNode d ∷ ns) h zero a e is = differ _ (subst (λ x. same_name x name ≡ true) (sym (ap node_name (some_is e) ∙ is)) (name_same name)) (neither _ _ h).0
+    all (StationNode d ∷ ns) h zero a e is = differ _ (subst (λ x. same_name x name ≡ true) (sym (ap node_name (some_is e) ∙ is)) (name_same name)) (neither _ _ h).0
     all (DroneNode d ∷ ns) h (suc i) a e is = all ns (neither _ _ h).1 i a e is
     all (StationNode d ∷ ns) h (suc i) a e is = all ns (neither _ _ h).1 i a e is
 
@@ -215,7 +208,7 @@ pub record HoldsDrone (nodes : List Node) (name : Name) : Type 0 where
 pub a_drone : (nodes : List Node) (name : Name) → has_drone (names_of nodes) name ≡ true → HoldsDrone nodes name
 a_drone [] name h = absurd (cc)
 a_drone (DroneNode d ∷ ns) name h = elim (either_true _ _ h) [
-  | inl x ↦ record { index = 0; drone = d; there = refl; name_is = name_eq_too _ _ x }
+  | inl x ↦ record { index = 0; drone = d; there = refl; name_is = name_eq _ _ x }
   | inr y ↦ (let z = a_drone ns name y in record { index = suc z.index; drone = z.drone; there = z.there; name_is = z.name_is })
 ]
 a_drone (StationNode t ∷ ns) name h = let z = a_drone ns name h in record { index = suc z.index; drone = z.drone; there = z.there; name_is = z.name_is }
@@ -230,7 +223,7 @@ pub a_station : (nodes : List Node) (name : Name) → has_station (names_of node
 a_station [] name h = absurd (cc)
 a_station (DroneNode d ∷ ns) name h = let z = a_station ns name h in record { index = suc z.index; station = z.station; there = z.there; name_is = z.name_is }
 a_station (StationNode t ∷ ns) name h = elim (either_true _ _ h) [
-  | inl x ↦ record { index = 0; station = t; there = refl; name_is = name_eq_too _ _ x }
+  | inl x ↦ record { index = 0; station = t; there = refl; name_is = name_eq _ _ x }
   | inr y ↦ (let z = a_station ns name y in record { index = suc z.index; station = z.station; there = z.there; name_is = z.name_is })
 ]
 
@@ -241,17 +234,17 @@ or_true false = refl
 drone_held : (nodes : List Node) (i : ℕ) (d : DroneSide) → slice_get nodes i ≡ Some (DroneNode d) → has_drone (names_of nodes) (node_of d.link.me) ≡ true
 drone_held [] zero d e = absurd (cc)
 drone_held [] (suc i) d e = absurd (cc)
-drone_held (DroneNode x ∷ ns) zero d e = let z : x ≡ d = cc in subst (λ (y : DroneSide). (alike_names (node_of y.link.me) (node_of d.link.me) || has_drone (names_of ns) (node_of d.link.me)) ≡ true) (sym z) (rw (name_same_too (node_of d.link.me)) refl)
+drone_held (DroneNode x ∷ ns) zero d e = let z : x ≡ d = cc in subst (λ (y : DroneSide). (same_name (node_of y.link.me) (node_of d.link.me) || has_drone (names_of ns) (node_of d.link.me)) ≡ true) (sym z) (rw (name_same (node_of d.link.me)) refl)
 drone_held (StationNode t ∷ ns) zero d e = absurd (cc)
-drone_held (DroneNode x ∷ ns) (suc i) d e = rw (drone_held ns i d e) (or_true (alike_names (node_of x.link.me) (node_of d.link.me)))
+drone_held (DroneNode x ∷ ns) (suc i) d e = rw (drone_held ns i d e) (or_true (same_name (node_of x.link.me) (node_of d.link.me)))
 drone_held (StationNode t ∷ ns) (suc i) d e = drone_held ns i d e
 
 station_held : (nodes : List Node) (i : ℕ) (t : StationSide) → slice_get nodes i ≡ Some (StationNode t) → has_station (names_of nodes) (node_of t.link.me) ≡ true
 station_held [] zero t e = absurd (cc)
 station_held [] (suc i) t e = absurd (cc)
-station_held (StationNode x ∷ ns) zero t e = let z : x ≡ t = cc in subst (λ (y : StationSide). (alike_names (node_of y.link.me) (node_of t.link.me) || has_station (names_of ns) (node_of t.link.me)) ≡ true) (sym z) (rw (name_same_too (node_of t.link.me)) refl)
+station_held (StationNode x ∷ ns) zero t e = let z : x ≡ t = cc in subst (λ (y : StationSide). (same_name (node_of y.link.me) (node_of t.link.me) || has_station (names_of ns) (node_of t.link.me)) ≡ true) (sym z) (rw (name_same (node_of t.link.me)) refl)
 station_held (DroneNode d ∷ ns) zero t e = absurd (cc)
-station_held (StationNode x ∷ ns) (suc i) t e = rw (station_held ns i t e) (or_true (alike_names (node_of x.link.me) (node_of t.link.me)))
+station_held (StationNode x ∷ ns) (suc i) t e = rw (station_held ns i t e) (or_true (same_name (node_of x.link.me) (node_of t.link.me)))
 station_held (DroneNode d ∷ ns) (suc i) t e = station_held ns i t e
 
 -- the nodes that were named are in their own fleet, and its names are distinct

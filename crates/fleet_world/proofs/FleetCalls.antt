@@ -16,7 +16,7 @@ use Rattle.mav_nodes.specs.declared.orders.Order.{Order}
 use Rattle.mav_nodes.specs.declared.faults.OrderFault.{OrderFault}
 use Rattle.mav_nodes.specs.declared.faults.OrderFault.TheVariants.{Begin as BeginFails, Op as OpFails, Command as CommandFails, Param as ParamFails, File as FileFails, Node as StationFails}
 use Rattle.fleet_world.specs.WorldView.{IsNode, AreNodes, Fleet, IsFleet}
-use Rattle.fleet_world.specs.Promises.{NodeOutcome, Moved, FleetOutcome, CallFails, Follows, Refuses}
+use Rattle.fleet_world.specs.Promises.{NodeOutcome, Moved, FleetOutcome, CallFails, Follows, Refuses, HasOrdered}
 use Rattle.fleet_world.specs.StoredDrones.{FailsBy}
 use Rattle.fleet_world.proofs.NodeLists.{AtPlace, none, one, at_index, are_nodes-set, are_nodes-push}
 
@@ -132,6 +132,13 @@ module _ (inside seen after : Fleet) (k : ℕ) (view new : ViewNode) (order : Or
   order_refused (Err fault) refused = λ nodes node f found.
       refuses_weaker seen.clock node order (new ≡ view) (IsFleet nodes after) fault (unchanged nodes f)
       (subst (λ (z : Fleet). Refuses z.clock node order (new ≡ view) fault) same (refused node (station_there nodes node (at_index nodes seen.nodes k f) found)))
+
+  pub ordered : (result : Result (Vec News Global) OrderFault) → IfOk result (λ news. (node : StationSide) → IsNode (Station node) view → Follows node order × NodeOutcome (as_station (station_obeys inside.clock order node)) new news.items) → IfErr result (λ fault. (node : StationSide) → IsNode (Station node) view → Refuses inside.clock node order (new ≡ view) fault) → HasOrdered seen k order result after
+  ordered result did refused = record {
+    done = order_done result did;
+    fault = order_refused result refused;
+    kept = after_seen ∙ ap (λ (l : List ViewNode). record seen { nodes = l }) (sym (ap (λ (z : Fleet). z.nodes) after_seen));
+  }
 
 -- ---- what is read of a node
 

@@ -1,6 +1,6 @@
 -- Orders to stations.
-use Rattle.std.specs.Prelude.{OnOk, IfErr, ◌≢◌}
-use Rattle.std.proofs.Common.{◌≡◌, ℕ, Bool, true, false, List, [], ◌∷◌, map, position, slice_get, is_some, Option, Some, None, Result, Ok, Err, refl, sym, ap, ◌∙◌, subst}
+use Rattle.std.specs.Prelude.{OnOk, IfOk, IfErr, ◌≢◌}
+use Rattle.std.proofs.Common.{◌≡◌, ℕ, Bool, true, false, List, [], ◌∷◌, map, position, slice_get, is_some, Option, Some, None, Result, Ok, Err, Vec, Global, refl, sym, ap, ◌∙◌, subst}
 use Rattle.mav_names.specs.declared.names.Name.{Name}
 use Rattle.mav_names.specs.declared.names.Stream.{Stream}
 use Rattle.plan_items.specs.declared.items.Item.{Item}
@@ -37,10 +37,10 @@ use Rattle.fleet_report.specs.Reports.{ReportState}
 use Rattle.fleet_world.specs.declared.faults.WorldFault.{WorldFault}
 use Rattle.fleet_world.specs.declared.faults.WorldFault.TheVariants.{Node as NodeFails}
 use Rattle.fleet_world.specs.WorldState.{WorldState, stream_of, is_station_named}
-use Rattle.fleet_world.specs.WorldView.{IsFleet, WorldView, IsState}
+use Rattle.fleet_world.specs.WorldView.{Fleet, IsFleet, WorldView, IsState}
 use Rattle.fleet_world.specs.Steps.{Step, StepError, node_does, station_line, upload_begins, orders_at, orders_found, orders_to, begins, asks, command_busy, params_busy, commands, lists_params}
 use Rattle.fleet_world.specs.NodeSteps.{reports_news, handed_back, obeys_unless, obeys_or, obeys}
-use Rattle.fleet_world.specs.Promises.{Moved, Follows, Refuses, WorldOutcome, IsStepError, RefusalReported, IsGivenUp}
+use Rattle.fleet_world.specs.Promises.{Moved, Follows, Refuses, HasOrdered, WorldOutcome, IsStepError, RefusalReported, IsGivenUp}
 use Rattle.fleet_world.proofs.Found.{FoundStation, found_station}
 use Rattle.fleet_world.proofs.WorldCalls.{NodesOnly, moved_state, moved_outcome, moved_error}
 
@@ -197,6 +197,62 @@ pub refuse_error : {T : Type 0} (r : Result T WorldFault) (w after : WorldView) 
 refuse_error (Ok t) w after k name order fault only refused up = tt
 refuse_error (Err e) w after k name order fault only refused up = λ state node is found.
     give_up_by state w after after k name node order (record { frames = true; text = [] }) (record { frames = true; text = [] }) is only fault e (refused state.nodes node is.fleet found) up
+
+-- ---- an order that was followed or refused, as a report of it says it
+
+Outcomes : Type 0
+Outcomes = Result (Vec News Global) OrderFault
+
+only_nodes : (before after : WorldView) → after ≡ record before { fleet = after.fleet } → after.fleet ≡ record before.fleet { nodes = after.fleet.nodes } → NodesOnly before after
+only_nodes before after only kept = only ∙ ap (λ (f : Fleet). record before { fleet = f }) kept
+
+-- that an order to the station at an index was done by a call of that world, or failed
+abbrev DoesOrder : WorldView → ℕ → Name → Order → WorldView → ReportState → ReportState → Type 0
+DoesOrder w k name order last start end = (state : WorldState) (node : StationSide) → IsState state w.frames w → slice_get state.nodes k ≡ Some (Station node) → WorldOutcome (obeys state k name node order) w.frames last start end
+
+abbrev FailsOrder : WorldView → ℕ → Name → Order → WorldFault → Type 0
+FailsOrder w k name order fault = (state : WorldState) (node : StationSide) → IsState state w.frames w → slice_get state.nodes k ≡ Some (Station node) → IsStepError (obeys state k name node order) fault
+
+module _ (after : WorldView) (k : ℕ) (name : Name) (outcome : Outcomes) where
+  abbrev Orders : (WorldView → Order → Type 0) → Type 0
+  Orders Then = (before : WorldView) (order : Order) → HasOrdered before.fleet k order outcome after.fleet → after ≡ record before { fleet = after.fleet } → Then before order
+
+  pub followed_done : {T E : Type 0} (r : Result T E) (last : WorldView) (start end : ReportState) (news : Vec News Global) (items : List News) → outcome ≡ Ok news → items ≡ news.items → OnOk r ((s : WorldState) (events : List NodeEvent) → IsState s after.frames after → events_of items ≡ map shown events → HaveValues (params_of (slice_get s.nodes k)) events → WorldOutcome (reports_news s name events) after.frames last start end) → OnOk r (Orders (λ before order. DoesOrder before k name order last start end))
+  followed_done (Err x) last start end news items is same reporting = tt
+  followed_done (Ok t) last start end news items is same reporting = λ before order ordered only.
+      obey_outcome before after k name order items news.items same (only_nodes before after only ordered.kept) (Ok t) last start end
+      (subst (λ (o : Outcomes). IfOk o (λ n. (nodes : List Node) (node : StationSide) → IsFleet nodes before.fleet → slice_get nodes k ≡ Some (Station node) → Follows node order × Moved nodes k (as_station (station_obeys before.fleet.clock order node)) after.fleet n.items)) is ordered.done)
+      reporting
+
+  pub followed_error : {T : Type 0} (r : Result T WorldFault) (news : Vec News Global) (items : List News) → outcome ≡ Ok news → items ≡ news.items → IfErr r (λ fault. (s : WorldState) (events : List NodeEvent) → IsState s after.frames after → events_of items ≡ map shown events → IsStepError (reports_news s name events) fault) → IfErr r (λ fault. Orders (λ before order. FailsOrder before k name order fault))
+  followed_error (Ok t) news items is same reporting = tt
+  followed_error (Err fault) news items is same reporting = λ before order ordered only.
+      obey_error before after k name order items news.items same (only_nodes before after only ordered.kept) (Err fault)
+      (subst (λ (o : Outcomes). IfOk o (λ n. (nodes : List Node) (node : StationSide) → IsFleet nodes before.fleet → slice_get nodes k ≡ Some (Station node) → Follows node order × Moved nodes k (as_station (station_obeys before.fleet.clock order node)) after.fleet n.items)) is ordered.done)
+      reporting
+
+  pub refused_done : {T E : Type 0} (r : Result T E) (last : WorldView) (start end : ReportState) (fault : OrderFault) → outcome ≡ Err fault → OnOk r (RefusalReported name fault after last start end) → OnOk r (Orders (λ before order. DoesOrder before k name order last start end))
+  refused_done (Err x) last start end fault is reporting = tt
+  refused_done (Ok t) last start end fault is reporting = λ before order ordered only.
+      refuse_outcome (Ok t) before after last k name order fault start end (only_nodes before after only ordered.kept)
+      (subst (λ (o : Outcomes). IfErr o (λ f. (nodes : List Node) (node : StationSide) → IsFleet nodes before.fleet → slice_get nodes k ≡ Some (Station node) → Refuses before.fleet.clock node order (IsFleet nodes after.fleet) f)) is ordered.fault)
+      reporting
+
+  pub refused_error : {T : Type 0} (r : Result T WorldFault) (fault : OrderFault) → outcome ≡ Err fault → IfErr r (λ e. IsGivenUp fault e) → IfErr r (λ e. Orders (λ before order. FailsOrder before k name order e))
+  refused_error (Ok t) fault is up = tt
+  refused_error (Err e) fault is up = λ before order ordered only.
+      refuse_error (Err e) before after k name order fault (only_nodes before after only ordered.kept)
+      (subst (λ (o : Outcomes). IfErr o (λ f. (nodes : List Node) (node : StationSide) → IsFleet nodes before.fleet → slice_get nodes k ≡ Some (Station node) → Refuses before.fleet.clock node order (IsFleet nodes after.fleet) f)) is ordered.fault)
+      up
+
+  -- of the order that was given
+  pub order_done : {T E : Type 0} (r : Result T E) (w last : WorldView) (order : Order) (start end : ReportState) → HasOrdered w.fleet k order outcome after.fleet → after ≡ record w { fleet = after.fleet } → OnOk r (Orders (λ before order. DoesOrder before k name order last start end)) → OnOk r (DoesOrder w k name order last start end)
+  order_done (Err x) w last order start end ordered only did = tt
+  order_done (Ok t) w last order start end ordered only did = did w order ordered only
+
+  pub order_fails : {T : Type 0} (r : Result T WorldFault) (w : WorldView) (order : Order) → HasOrdered w.fleet k order outcome after.fleet → after ≡ record w { fleet = after.fleet } → IfErr r (λ fault. Orders (λ before order. FailsOrder before k name order fault)) → IfErr r (FailsOrder w k name order)
+  order_fails (Ok t) w order ordered only did = tt
+  order_fails (Err fault) w order ordered only did = did w order ordered only
 
 -- ---- an order to the station of a name
 

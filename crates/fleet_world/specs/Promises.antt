@@ -1,6 +1,8 @@
 -- What calls of a world promise: which state it is in after them, and what they report.
-use Rattle.std.specs.Prelude.{ℕ, ◌≡◌, ◌≢◌, Bool, true, false, List, [], ◌++◌, length, map, slice_set, Option, Some, None, Ok, Err}
+use Rattle.std.specs.Prelude.{ℕ, ◌≡◌, ◌≢◌, Bool, true, false, List, [], ◌++◌, length, map, slice_get, slice_set, Option, Some, None, Ok, Err, IfOk, IfErr}
 use Rattle.std.specs.declared.result.Result.{Result}
+use Rattle.std.specs.declared.alloc.Global.{Global}
+use Rattle.std.specs.declared.vec.Vec.{Vec}
 use Rattle.mav_names.specs.declared.names.Name.{Name}
 use Rattle.mav_nodes.specs.News.{NodeEvent, shown, events_of}
 use Rattle.mav_nodes.specs.Links.{Outcome}
@@ -18,7 +20,8 @@ use Rattle.plan_items.specs.Plans.{items_of}
 use Rattle.plan_upload.specs.declared.faults.OpFault.TheVariants.{NoMemory as NoOpMemory}
 use Rattle.fleet_report.specs.Events.{Refused, Command_refused, Params_refused, events_text}
 use Rattle.fleet_report.specs.Reports.{ReportState, reported}
-use Rattle.node_reports.specs.Nodes.{Node}
+use Rattle.node_reports.specs.Nodes.{Node, Station}
+use Rattle.node_reports.specs.Calls.{as_station}
 use Rattle.node_reports.specs.Reporting.{reported_by, reports}
 use Rattle.fleet_world.specs.declared.nodes.Node.{Node as ViewNode}
 use Rattle.fleet_world.specs.declared.faults.WorldFault.{WorldFault}
@@ -64,6 +67,16 @@ Refuses clock node order Left (CommandFails busy) = (command_refusal node.servic
 Refuses clock node order Left (ParamFails busy) = (params_refusal node.services order ≡ true) × Left
 Refuses clock node order Left (FileFails fault) = (file_refusal node.services order ≡ Some fault) × Left
 Refuses clock node order Left (StationFails fault) = Follows node order × FailsBy fault (station_obeys clock order node)
+
+-- the station at an index has followed an order, or refused it, and nothing else of its fleet changed
+pub record HasOrdered (before : Fleet) (index : ℕ) (order : Order) (outcome : Result (Vec News Global) OrderFault) (after : Fleet) : Type 0 where
+  pub done : IfOk outcome (λ news. (nodes : List Node) (node : StationSide) → IsFleet nodes before
+      → slice_get nodes index ≡ Some (Station node)
+      → Follows node order × Moved nodes index (as_station (station_obeys before.clock order node)) after news.items)
+  pub fault : IfErr outcome (λ fault. (nodes : List Node) (node : StationSide) → IsFleet nodes before
+      → slice_get nodes index ≡ Some (Station node)
+      → Refuses before.clock node order (IsFleet nodes after) fault)
+  pub kept : after ≡ record before { nodes = after.nodes }
 
 -- ---- of what a node did
 

@@ -1,5 +1,6 @@
 -- Drones of a scenario: each keeps its plans in a store in memory that never fails.
 use Rattle.std.specs.Prelude.{◌≡◌, [], Some, None}
+use Rattle.mav_names.specs.Addresses.{drone_stream}
 use Rattle.plan_store.specs.MemStores.{MemStore}
 use Rattle.mav_nodes.specs.declared.faults.NodeFault.{NodeFault}
 use Rattle.mav_nodes.specs.declared.faults.NodeFault.TheVariants.{StampsSpent, Store, NoMemory}
@@ -15,7 +16,7 @@ pub record StoredView : Type 0 where
 -- it is this drone, on the stream of its system, the store has what the drone has stored, and no call of it fails
 pub record IsStoredDrone (node : DroneSide) (view : StoredView) : Type 0 where
   pub drone : IsDrone node view.node
-  pub me : node.link.me ≡ record { sys = node.core.sys; comp = 1; link = 0 }
+  pub me : node.link.me ≡ drone_stream node.core.sys
   pub holds : StoreHolds (Some view.store.contents) view.node
   pub infallible : view.store.fails ≡ []
 

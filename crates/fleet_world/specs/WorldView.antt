@@ -5,10 +5,10 @@ use Rattle.mav_frame.specs.Packet.{Packet}
 use Rattle.mav_frame.specs.Encoding.{encoding}
 use Rattle.mav_nodes.specs.Nodes.{IsStation}
 use Rattle.plan_items.specs.declared.items.Item.{Item}
-use Rattle.plan_upload.specs.Addresses.{node_of}
+use Rattle.mav_names.specs.Addresses.{node_of, drone_name}
 use Rattle.scenario_lines.specs.declared.naming.Named.{Named}
 use Rattle.scenario_lines.specs.declared.naming.Role.TheVariants.{Drone as DroneRole, Station as StationRole}
-use Rattle.scenario_lines.specs.LineContext.{LineContext, drone_name}
+use Rattle.scenario_lines.specs.LineContext.{LineContext}
 use Rattle.node_reports.specs.Nodes.{Node, Drone, Station}
 use Rattle.fleet_world.specs.declared.nodes.Node.{Node as ViewNode}
 use Rattle.fleet_world.specs.declared.nodes.Node.TheVariants.{Drone as ViewDrone, Station as ViewStation}

@@ -10,7 +10,7 @@ ghost use Rattle.fleet_world.specs.WorldState.{is_named, is_drone_named, is_stat
 ghost use Rattle.fleet_world.specs.WorldView.{no_fleet, named_in, names_in, IsFleet};
 ghost use Rattle.fleet_world.specs.Steps.{location_at, location_in};
 ghost use Rattle.fleet_world.specs.NodeSteps.{node_called};
-ghost use Rattle.fleet_world.specs.Promises.{FleetOutcome, Moved, CallFails, Follows, Refuses};
+ghost use Rattle.fleet_world.specs.Promises.{FleetOutcome, CallFails, HasOrdered};
 ghost use Rattle.fleet_world.specs.Counts.{is_drone_view, counted};
 
 use crate::NoMemory;
@@ -201,20 +201,16 @@ impl Fleet {
         self.nodes[index].call(self.alloc, call, datagram, self.clock)
     }
 
-    // The station at an index follows an order, or refuses it.
+    // The station at an index follows an order, or refuses it; a drone does nothing.
     pub(crate) fn order_at(&mut self, index: usize, order: Order) -> Result<Vec<News>, OrderFault>
         requires { index < length self.old.nodes }
-        ensures done { IfOk result (λ news. (nodes : List StateNode) → (node : StationSide) → IsFleet nodes self.old
-            → slice_get nodes index ≡ Some (StateStation node)
-            → Follows node order
-            × Moved nodes index (as_station (station_obeys self.old.clock order node)) self.new news.items) }
-        ensures fault { IfErr result (λ fault. (nodes : List StateNode) → (node : StationSide) → IsFleet nodes self.old
-            → slice_get nodes index ≡ Some (StateStation node)
-            → Refuses self.old.clock node order (IsFleet nodes self.new) fault) }
-        ensures kept { self.new ≡ record self.old { nodes = self.new.nodes } }
+        ensures ordered { HasOrdered self.old index order result self.new }
         ensures count { length self.new.nodes ≡ length self.old.nodes }
     {
-        self.nodes[index].order(self.alloc, order, self.clock)
+        match &mut self.nodes[index] {
+            Node::Drone(_) => Ok(Vec::new(self.alloc)),
+            Node::Station { node, .. } => node.order(order, self.clock),
+        }
     }
 
     /// The values of the latest list of parameters of the station at an index.

@@ -9,20 +9,17 @@ ghost use Rattle.fleet_world.specs.StoredDrones.{FailsBy};
 ghost use Rattle.fleet_world.specs.WorldView.{IsNode, named_in};
 ghost use Rattle.fleet_world.specs.Steps.{location_of};
 ghost use Rattle.fleet_world.specs.NodeSteps.{node_called};
-ghost use Rattle.fleet_world.specs.Promises.{NodeOutcome, Follows, Refuses};
+ghost use Rattle.fleet_world.specs.Promises.{NodeOutcome};
 
 use crate::calls::Call;
 use crate::locations::Location;
 use crate::stored_drone::StoredDrone;
-use mav_names::Name;
+use mav_names::{Name, drone_name};
 use mav_nodes::{News, NodeFault, Order, OrderFault, StationNode};
 use mav_sign::Datagram;
 use param_proto::Param;
 use scenario_lines::{Named, Role};
 use std::alloc::Global;
-
-// A drone is component 1 of its system.
-const AUTOPILOT: u8 = 1;
 
 #[derive(Drop)]
 pub enum Node {
@@ -38,10 +35,7 @@ impl Node {
         match self {
             Node::Drone(drone) => Named {
                 role: Role::Drone,
-                name: Name {
-                    sys: drone.plans().sys(),
-                    comp: AUTOPILOT,
-                },
+                name: drone_name(drone.plans().sys()),
             },
             Node::Station { name, .. } => Named {
                 role: Role::Station,
@@ -90,24 +84,6 @@ impl Node {
             (Node::Station { node, .. }, Call::Tick) => node.tick(clock),
             (Node::Station { .. }, Call::Sim) => Ok(Vec::new(alloc)),
             (Node::Station { .. }, Call::Restart(_)) => Ok(Vec::new(alloc)),
-        }
-    }
-
-    /// A station follows an order, or refuses it; a drone does nothing.
-    pub(crate) fn order(
-        &mut self,
-        alloc: Global,
-        order: Order,
-        clock: u64,
-    ) -> Result<Vec<News>, OrderFault>
-        ensures done { IfOk result (λ news. (node : StationSide) → IsNode (StateStation node) self.old
-            → Follows node order × NodeOutcome (as_station (station_obeys clock order node)) self.new news.items) }
-        ensures fault { IfErr result (λ fault. (node : StationSide) → IsNode (StateStation node) self.old
-            → Refuses clock node order (self.new ≡ self.old) fault) }
-    {
-        match self {
-            Node::Drone(_) => Ok(Vec::new(alloc)),
-            Node::Station { node, .. } => node.order(order, clock),
         }
     }
 

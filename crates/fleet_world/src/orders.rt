@@ -1,17 +1,16 @@
 // Orders to stations.
-ghost use Rattle.std.specs.Prelude.{◌≡◌, ◌<◌, List, [], None, Some, OnOk, IfOk, IfErr, length, slice_get};
-ghost use Rattle.mav_nodes.specs.Nodes.{StationSide, station_obeys};
+ghost use Rattle.std.specs.Prelude.{◌≡◌, ◌<◌, [], None, Some, OnOk, IfErr, length, slice_get};
+ghost use Rattle.mav_nodes.specs.Nodes.{StationSide};
 ghost use Rattle.plan_items.specs.Kinds.{number_of};
 ghost use Rattle.plan_items.specs.Plans.{items_of};
 ghost use Rattle.plan_upload.specs.Kinds.{clear_number};
 ghost use Rattle.plan_upload.specs.Addresses.{node_of};
-ghost use Rattle.node_reports.specs.Nodes.{Node as StateNode, Station as StateStation};
-ghost use Rattle.node_reports.specs.Calls.{as_station};
+ghost use Rattle.node_reports.specs.Nodes.{Station as StateStation};
 ghost use Rattle.fleet_world.specs.WorldState.{WorldState};
-ghost use Rattle.fleet_world.specs.WorldView.{IsFleet, IsState};
+ghost use Rattle.fleet_world.specs.WorldView.{WorldView, IsState};
 ghost use Rattle.fleet_world.specs.Steps.{station_line, orders_to, begins, clears, gets, commands, lists_params};
 ghost use Rattle.fleet_world.specs.NodeSteps.{obeys};
-ghost use Rattle.fleet_world.specs.Promises.{Moved, Follows, Refuses, WorldOutcome, IsStepError, RefusalReported, IsGivenUp, Does, Fails};
+ghost use Rattle.fleet_world.specs.Promises.{HasOrdered, WorldOutcome, IsStepError, RefusalReported, IsGivenUp, Does, Fails};
 
 use crate::fleet::stream;
 use crate::{World, WorldFault};
@@ -71,38 +70,24 @@ impl World {
         }
     }
 
-    // The news of the station at an index at an order.
-    fn news_of_order(&mut self, index: usize, order: Order) -> Result<Vec<News>, OrderFault>
-        requires { index < length self.old.fleet.nodes }
-        ensures done { IfOk result (λ news. (nodes : List StateNode) → (node : StationSide) → IsFleet nodes self.old.fleet
-            → slice_get nodes index ≡ Some (StateStation node)
-            → Follows node order
-            × Moved nodes index (as_station (station_obeys self.old.fleet.clock order node)) self.new.fleet news.items) }
-        ensures fault { IfErr result (λ fault. (nodes : List StateNode) → (node : StationSide) → IsFleet nodes self.old.fleet
-            → slice_get nodes index ≡ Some (StateStation node)
-            → Refuses self.old.fleet.clock node order (IsFleet nodes self.new.fleet) fault) }
-        ensures kept { self.new ≡ record self.old { fleet = record self.old.fleet { nodes = self.new.fleet.nodes } } }
-        ensures count { length self.new.fleet.nodes ≡ length self.old.fleet.nodes }
-    {
-        self.fleet.order_at(index, order)
-    }
-
-    // The station at an index follows an order, or refuses it.
-    fn order_at(
+    // The station at an index has followed an order, or refused it.
+    fn report_order(
         &mut self,
         index: usize,
         station: Name,
-        order: Order,
+        outcome: Result<Vec<News>, OrderFault>,
         report: &mut Report,
     ) -> Result<(), WorldFault>
         requires { index < length self.old.fleet.nodes }
-        ensures done { OnOk result ((state : WorldState) → (node : StationSide) → IsState state self.old.frames self.old
+        ensures done { OnOk result ((before : WorldView) → (order : Order) → HasOrdered before.fleet index order outcome self.old.fleet → self.old ≡ record before { fleet = self.old.fleet }
+            → (state : WorldState) → (node : StationSide) → IsState state before.frames before
             → slice_get state.nodes index ≡ Some (StateStation node)
-            → WorldOutcome (obeys state index station node order) self.old.frames self.new report.old report.new) }
-        ensures error { IfErr result (λ fault. (state : WorldState) → (node : StationSide) → IsState state self.old.frames self.old
+            → WorldOutcome (obeys state index station node order) before.frames self.new report.old report.new) }
+        ensures error { IfErr result (λ fault. (before : WorldView) → (order : Order) → HasOrdered before.fleet index order outcome self.old.fleet → self.old ≡ record before { fleet = self.old.fleet }
+            → (state : WorldState) → (node : StationSide) → IsState state before.frames before
             → slice_get state.nodes index ≡ Some (StateStation node) → IsStepError (obeys state index station node order) fault) }
     {
-        match self.news_of_order(index, order) {
+        match outcome {
             Ok(news) => self.report_news(index, station, news.as_slice(), report),
             Err(fault) => self.refuse(station, fault, report),
         }
@@ -120,10 +105,11 @@ impl World {
         ensures error { IfErr result (Fails (λ state. orders_to (station_line state) station (λ k node. obeys (station_line state) k (node_of node.link.me) node order)) self.old) }
     {
         self.skip_sent();
-        match self.fleet.index_of_station(station) {
-            Some(index) => self.order_at(index, station, order, report),
-            None => Ok(()),
-        }
+        let Some(index) = self.fleet.index_of_station(station) else {
+            return Ok(());
+        };
+        let outcome = self.fleet.order_at(index, order);
+        self.report_order(index, station, outcome, report)
     }
 
     // A clear of a drone's plans begins.
@@ -212,6 +198,9 @@ impl World {
             return Ok(());
         };
         let (drone, plan) = (stream(drone), self.take_draft());
-        self.order_at(index, station, Order::Begin { drone, kind, plan }, report)
+        let outcome = self
+            .fleet
+            .order_at(index, Order::Begin { drone, kind, plan });
+        self.report_order(index, station, outcome, report)
     }
 }

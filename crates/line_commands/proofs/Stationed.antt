@@ -3,6 +3,7 @@ use Rattle.std.proofs.Common.{◌≡◌, ◌∙◌, ◌≤◌, ℕ, Bool, List, 
 use Rattle.std.specs.Fmt.{decimal}
 use Rattle.std.specs.Prelude.{IfSome, IfErr}
 use Rattle.std.specs.Result.{result_err}
+use Rattle.mav_names.specs.Addresses.{drone_stream}
 use Rattle.mav_ports.specs.Gets.{IsSpent}
 use Rattle.mav_links.specs.Links.{LinkState}
 use Rattle.std.specs.Str.{bytes_eq}
@@ -36,7 +37,7 @@ use Rattle.live_node.specs.Stations.{IsStationEnd, StationRuns}
 use Rattle.run_status.specs.Seen.{Input, Output}
 use Rattle.line_commands.specs.Flying.{Devices}
 use Rattle.line_commands.specs.Ordering.{Contents, OrdersFor}
-use Rattle.line_commands.specs.Stationing.{Stationed, Stationing, FileSort, No_file, Of_items, Of_bytes, sort_of, asks_files, file_asked, HaltsAt, ContentsAre, WithFile, drone_stream}
+use Rattle.line_commands.specs.Stationing.{Stationed, Stationing, FileSort, No_file, Of_items, Of_bytes, sort_of, asks_files, file_asked, HaltsAt, ContentsAre, WithFile}
 use Rattle.line_commands.proofs.Flown.{only_one, changed_one}
 
 -- a station ran at the only port

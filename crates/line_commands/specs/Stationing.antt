@@ -2,7 +2,7 @@
 use Rattle.std.specs.Prelude.{◌≡◌, ◌≤◌, ◌⊎◌, ℕ, Bool, true, false, List, [], ◌∷◌, get_or, codes, Option, IfSome}
 use Rattle.std.specs.Fmt.{decimal}
 use Rattle.std.specs.Str.{bytes_eq}
-use Rattle.mav_names.specs.declared.names.Stream.{Stream}
+use Rattle.mav_names.specs.Addresses.{drone_stream}
 use Rattle.plan_file.specs.Spec.{plan_spec, HoldsItems}
 use Rattle.key_file.specs.Spec.{TookAtMost}
 use Rattle.put_file.specs.Spec.{put_spec, HoldsFile}
@@ -35,10 +35,6 @@ pub record StationOf (asked : Asked) (plan : StationPlan) (task : Task) : Type 0
   pub operation : OperationSays task.operation words
   pub ticks : plan.ticks ≡ ticks_asked asked.settings
   pub turns : plan.turns ≡ 1000000
-
--- the stream of a drone, which is component 1 of its system
-abbrev pub drone_stream : ℕ → Stream
-drone_stream sys = record { sys = sys; comp = 1; link = 0 }
 
 -- it ran under a key with the contents of its file, at the only port, and ended so
 pub record Stationed {A B : Type 0} (d : Devices A B) (asked : Asked) (out : Output) (end : Option RunEnd) (key : List ℕ) (contents : Contents) : Type 0 where

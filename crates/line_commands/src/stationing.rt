@@ -18,7 +18,7 @@ use command_line::{Line, OptionName, Task};
 use key_file::read_given_key;
 use live_node::{StationPlan, run_station as run_live_station};
 use mav_links::Link;
-use mav_names::Stream;
+use mav_names::drone_stream;
 use mav_ports::{Clock, Sink, Source};
 use plan_file::read_plan;
 use plan_items::Plan;
@@ -129,11 +129,6 @@ pub fn run_station<S: Source, K: Sink, C: Clock>(
         ticks: line.ticks(),
         turns: TURNS,
     };
-    let drone = Stream {
-        sys: task.drone,
-        comp: 1,
-        link: 0,
-    };
-    let order = order_of(task.operation, drone, contents);
+    let order = order_of(task.operation, drone_stream(task.drone), contents);
     run_live_station(alloc, key, plan, order, &mut ports[0], out, clock)
 }

@@ -13,16 +13,13 @@ use crate::nodes::{Due, LiveNode};
 use crate::tellers::Teller;
 use crate::turns::{PIECE_BYTES, call, turn};
 use mav_links::Link;
-use mav_names::Name;
+use mav_names::drone_name;
 use mav_nodes::{DroneNode, StartFault};
 use mav_ports::{Clock, Sink};
 use mav_sign::Key;
 use plan_store::{Keeper, MemKeeper};
 use run_status::{InputError, LiveEnd, Place, Reason, RunEnd};
 use std::alloc::Global;
-
-// A drone is component 1 of its system (MAVLink common messages, MAV_COMP_ID_AUTOPILOT1).
-const AUTOPILOT: u8 = 1;
 
 /// A drone's system, and how many reads may be made of a port that hasn't ended.
 #[derive(Clone, Copy)]
@@ -114,11 +111,7 @@ pub fn run_drone<L: Link, K: Sink, C: Clock, S: Keeper>(
 {
     match DroneNode::start(alloc, key, plan.sys, 0, 0, keeper) {
         Ok(drone) => {
-            let name = Name {
-                sys: plan.sys,
-                comp: AUTOPILOT,
-            };
-            let mut teller = Teller::new(alloc, name);
+            let mut teller = Teller::new(alloc, drone_name(plan.sys));
             let mut live = LiveNode::Drone(drone);
             let ended = run_live(&mut live, &mut teller, plan.turns, link, out, clock, keeper);
             live.discard();

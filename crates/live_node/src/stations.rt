@@ -20,7 +20,7 @@ use crate::tellers::Teller;
 use crate::turns::{PIECE_BYTES, call, turn, wait};
 use field_layout::Label;
 use mav_links::Link;
-use mav_names::{Name, Stream};
+use mav_names::{Stream, node_of};
 use mav_nodes::{Order, StationNode};
 use mav_ports::{Clock, Sink, write_all};
 use mav_sign::Key;
@@ -231,12 +231,8 @@ pub fn run_station<L: Link, K: Sink, C: Clock>(
         comp: plan.comp,
         link: 0,
     };
-    let name = Name {
-        sys: plan.sys,
-        comp: plan.comp,
-    };
     let mut live = LiveNode::Station(StationNode::new(alloc, key, me, boot)?);
-    let mut teller = Teller::new(alloc, name);
+    let mut teller = Teller::new(alloc, node_of(me));
     let mut keeper = MemKeeper::new(alloc, Vec::new(alloc), Vec::new(alloc));
     let ended = run_live(
         &mut live,

@@ -43,8 +43,8 @@ impl FrameBytes {
         FrameBytes { bytes, size }
     }
 
-    /// The frame of MAVLink 2 without payload and signature block whose numbers and checksum are 0: a place for the bytes of
-    /// another.
+    /// The frame of MAVLink 2 without payload and signature block whose numbers and checksum are 0, which `seal` writes
+    /// another over.
     #[inline]
     pub fn new() -> FrameBytes
         ensures { result ≡ unsealed 0 (record { sys = 0; comp = 0 }) 0 [] None }

@@ -19,7 +19,14 @@ node_of s = record { sys = s.sys; comp = s.comp }
 abbrev pub everyone : Name
 everyone = record { sys = 0; comp = 0 }
 
--- a drone is component 1 of its system, and accepts what is for that component or for all of them
+-- a drone is component 1 of its system (MAV_COMP_ID_AUTOPILOT1), and signs on link 0
+abbrev pub drone_name : ℕ → Name
+drone_name sys = record { sys = sys; comp = 1 }
+
+abbrev pub drone_stream : ℕ → Stream
+drone_stream sys = record { sys = sys; comp = 1; link = 0 }
+
+-- a drone accepts what is for its component or for all of its system
 abbrev pub is_for_drone : ℕ → Name → Bool
 is_for_drone sys to = (to.sys == sys) && ((to.comp == 1) || (to.comp == 0))
 

@@ -4,5 +4,7 @@
 mod addresses;
 mod names;
 
-pub use addresses::{is_for, is_same_name, is_same_stream};
+pub use addresses::{
+    AUTOPILOT, drone_name, drone_stream, everyone, is_for, is_same_name, is_same_stream, node_of,
+};
 pub use names::{Name, Stream};

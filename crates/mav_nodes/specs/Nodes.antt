@@ -1,6 +1,7 @@
 -- Drones and stations as nodes.
 use Rattle.std.specs.Prelude.{ℕ, ◌≡◌, Bool, List, [], ◌∷◌, true, false, if◌then◌else◌, is_some, Option, Some, None}
 use Rattle.mav_names.specs.declared.names.Stream.{Stream}
+use Rattle.mav_names.specs.Addresses.{drone_stream}
 use Rattle.plan_items.specs.declared.items.Item.{Item}
 use Rattle.plan_items.specs.declared.kinds.PlanKind.TheVariants.{Mission, Fence, Rally}
 use Rattle.plan_items.specs.declared.messages.PlanMsg.{PlanMsg}
@@ -73,7 +74,7 @@ drone_rules = record { take = drone_core; note = drone_notes; serve = drone_serv
 -- a drone of that system, with empty plans, disarmed at its home, on link 0
 abbrev pub new_drone : List ℕ → ℕ → Point → DroneSide
 new_drone key sys home = record {
-  link = new_link key (record { sys = sys; comp = 1; link = 0 }) (extras_of profile_definitions);
+  link = new_link key (drone_stream sys) (extras_of profile_definitions);
   core = fresh_drone sys no_plans;
   services = new_drone_services sys home;
 }

@@ -1,5 +1,6 @@
 -- Drones that start again, with the plans and the low bound of timestamps that they have stored.
 use Rattle.std.specs.Prelude.{ℕ, List, Option, Some, None}
+use Rattle.mav_names.specs.Addresses.{drone_stream}
 use Rattle.mav_profile.specs.Messages.{extras_of}
 use Rattle.mav_profile.specs.Profile.{profile_definitions}
 use Rattle.plan_upload.specs.Plans.{Plans}
@@ -13,7 +14,7 @@ use Rattle.mav_nodes.specs.Nodes.{DroneSide, new_drone, drone_beats}
 -- a drone of that system that starts with what was stored of it, disarmed at its home
 abbrev pub stored_drone : List ℕ → ℕ → Point → ℕ → Plans → DroneSide
 stored_drone key sys home low plans = record {
-  link = started_link key (record { sys = sys; comp = 1; link = 0 }) (extras_of profile_definitions) (Some low);
+  link = started_link key (drone_stream sys) (extras_of profile_definitions) (Some low);
   core = fresh_drone sys plans;
   services = new_drone_services sys home;
 }

@@ -5,6 +5,7 @@ use Rattle.std.specs.List.{list_any}
 use Rattle.std.specs.Int.{w32, cast_unsigned, cast_signed}
 use Rattle.mav_names.specs.declared.names.Name.{Name}
 use Rattle.mav_names.specs.declared.names.Stream.{Stream}
+use Rattle.mav_names.specs.Addresses.{drone_name}
 use Rattle.plan_items.specs.declared.items.Item.{Item}
 use Rattle.plan_items.specs.declared.actions.Action.{Action}
 use Rattle.plan_items.specs.declared.kinds.PlanKind.TheVariants.{Mission}
@@ -79,7 +80,7 @@ abbrev pub new_drone_services : ℕ → Point → DroneServices
 new_drone_services sys home = record {
   sim = new_sim home;
   time = 0;
-  executor = new_executor (record { sys = sys; comp = 1 });
+  executor = new_executor (drone_name sys);
   server = new_server (drone_params home);
   files = no_files;
 }

@@ -16,17 +16,12 @@ use crate::heartbeats::drone_heartbeat;
 use crate::link::Link;
 use crate::{News, NodeFault, StartFault, node};
 use drone_sim::Point;
-use mav_names::Stream;
+use mav_names::drone_stream;
 use mav_sign::{Datagram, Key};
 use plan_store::Keeper;
 use plan_upload::{Drone, Kept, read_kept};
 use std::alloc::Global;
 use std::marker::Model;
-
-// A drone is component 1 of its system (MAVLink common messages, MAV_COMP_ID_AUTOPILOT1), on link 0.
-const AUTOPILOT: u8 = 1;
-
-const LINK: u8 = 0;
 
 /// A drone over datagrams, which keeps its plans in a store: the one that it was started with is handed to each call.
 /// Contracts see its end of the links, its plan core, and its services: it executes commands, serves parameters and files,
@@ -49,17 +44,6 @@ impl Model for DroneNode {
     ghost Value = { DroneView };
 
     ghost view = { λ n. record { link = n.link; drone = n.drone; services = n.services } };
-}
-
-// The stream of the drone of a system.
-fn stream_of(sys: u8) -> Stream
-    ensures { result ≡ record { sys = sys; comp = 1; link = 0 } }
-{
-    Stream {
-        sys,
-        comp: AUTOPILOT,
-        link: LINK,
-    }
 }
 
 // Drops it where nothing else is owned.
@@ -114,7 +98,7 @@ impl DroneNode {
         ensures stream { IfOk result (λ node. HasRead [] [] node.link) }
         ensures fault { IfErr result (λ fault. fault ≡ StartFault.NoMemory) }
     {
-        let link = Link::new(alloc, key, stream_of(sys))?;
+        let link = Link::new(alloc, key, drone_stream(sys))?;
         match Drone::new(alloc, sys) {
             Ok(drone) => DroneNode::of(alloc, link, drone, sys, x, y),
             Err(_) => {
@@ -137,7 +121,7 @@ impl DroneNode {
         ensures stream { IfOk result (λ node. HasRead [] [] node.link) }
         ensures fault { IfErr result (λ fault. fault ≡ StartFault.NoMemory) }
     {
-        let link = Link::start(alloc, key, stream_of(sys), kept.floor)?;
+        let link = Link::start(alloc, key, drone_stream(sys), kept.floor)?;
         match Drone::restore(alloc, sys, kept) {
             Ok(drone) => DroneNode::of(alloc, link, drone, sys, x, y),
             Err(_) => {

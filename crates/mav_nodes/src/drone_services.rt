@@ -17,7 +17,7 @@ use command_proto::{Executor, Ready};
 use drone_sim::Sim;
 use mav_ftp::FtpServer;
 use mav_messages::Message;
-use mav_names::{Name, Stream};
+use mav_names::{Stream, drone_name};
 use param_proto::ParamServer;
 use plan_items::PlanKind;
 use plan_upload::Drone;
@@ -83,7 +83,7 @@ impl DroneServices {
     pub(crate) fn new(alloc: Global, sys: u8, x: i32, y: i32) -> Result<DroneServices, NoMemory>
         ensures { IfOk result (λ v. v ≡ new_drone_services sys (record { x = x; y = y })) }
     {
-        let executor = Executor::new(alloc, Name { sys, comp: 1 })?;
+        let executor = Executor::new(alloc, drone_name(sys))?;
         let server = served_params(alloc, x, y)?;
         let files = FtpServer::new(alloc)?;
         Ok(DroneServices {

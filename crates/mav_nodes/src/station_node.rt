@@ -20,7 +20,7 @@ use crate::services::Served;
 use crate::station_services::StationServices;
 use crate::steps::{Core, PlanNews, Step};
 use crate::{News, NoMemory, NodeFault, Order, OrderFault, node};
-use mav_names::{Name, Stream};
+use mav_names::{Stream, node_of};
 use mav_sign::{Datagram, Key};
 use param_proto::Param;
 use plan_items::PlanMsg;
@@ -149,11 +149,7 @@ impl StationNode {
         ensures stream { IfOk result (λ node. HasRead [] [] node.link) }
     {
         let link = Link::new(alloc, key, me)?;
-        let name = Name {
-            sys: me.sys,
-            comp: me.comp,
-        };
-        let services = match StationServices::new(alloc, name) {
+        let services = match StationServices::new(alloc, node_of(me)) {
             Ok(services) => services,
             Err(refused) => {
                 link.discard();
@@ -240,19 +236,6 @@ impl StationNode {
         if is_for_services(&order) {
             return self.ask(order, clock);
         }
-        self.obey(order, clock)
-    }
-
-    // An order of the mission protocol.
-    fn obey(&mut self, order: Order, clock: u64) -> Result<Vec<News>, OrderFault>
-        requires { IsFalse (is_service order) }
-        ensures accepted { OnOk result (IsAccepted self.old order) }
-        ensures done { IfOk result (λ news. (node : StationSide) → IsStation node self.old
-            → StationDid (station_obeys clock order node) self.new [] news.items) }
-        ensures reader { reader_of self.new.link.endpoint ≡ reader_of self.old.link.endpoint }
-        ensures fault { IfErr result (λ fault. OrderFails clock order self.old fault) }
-        ensures unchanged { IfErr result (λ fault. OrderKeeps self.old self.new fault) }
-    {
         let answer = obey(&mut self.station, order)?;
         let step = step_of(&mut self.station, answer);
         let mut news = Vec::new(self.alloc);

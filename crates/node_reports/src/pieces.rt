@@ -8,19 +8,9 @@ ghost use Rattle.node_reports.specs.ParamLists.{HaveValues};
 
 use crate::NoMemory;
 use fleet_report::Report;
-use mav_names::{Name, Stream};
+use mav_names::{Name, node_of};
 use mav_nodes::News;
 use param_proto::Param;
-
-// The node that a stream comes from.
-fn sender(stream: Stream) -> Name
-    ensures { result ≡ node_of stream }
-{
-    Name {
-        sys: stream.sys,
-        comp: stream.comp,
-    }
-}
 
 /// One piece of news of a node as the report says it. `number` is that of the frame, if one was sent; a list of parameters
 /// that has ended has these values.
@@ -38,7 +28,7 @@ pub fn report_piece(
     match piece {
         News::Sent(frame, message) => report.sent(number, &frame.raw(), message),
         News::Installed { kind, count, by } => {
-            report.installed(name, *kind, usize::from(*count), sender(*by))
+            report.installed(name, *kind, usize::from(*count), node_of(*by))
         }
         News::Emptied { kind } => report.emptied(name, *kind),
         News::Dropped(answer) => report.dropped(name, *answer),

@@ -8,8 +8,6 @@
 
 mod item_lines;
 mod reading;
-#[cfg(test)]
-mod tests;
 
 pub use item_lines::add_line;
 pub use reading::read_plan;

@@ -1,30 +1,12 @@
 // Who a plan message comes from and whom it is for.
 ghost use Rattle.std.specs.Prelude.{◌≡◌};
-ghost use Rattle.plan_upload.specs.Addresses.{node_of, everyone, is_for_drone};
+ghost use Rattle.plan_upload.specs.Addresses.{is_for_drone};
 ghost use Rattle.plan_upload.specs.Drone.{ack, ask};
 ghost use Rattle.plan_upload.specs.Keeping.{carried};
 ghost use Rattle.plan_upload.specs.Station.{addressee};
 
-use mav_names::{Name, Stream};
+use mav_names::{AUTOPILOT, Name, Stream, node_of};
 use plan_items::{Item, PlanMsg};
-
-// A drone is this component of its system (MAVLink common messages, MAV_COMP_ID_AUTOPILOT1).
-pub const AUTOPILOT: u8 = 1;
-
-pub fn node(stream: Stream) -> Name
-    ensures { result ≡ node_of stream }
-{
-    Name {
-        sys: stream.sys,
-        comp: stream.comp,
-    }
-}
-
-pub fn broadcast() -> Name
-    ensures { result ≡ everyone }
-{
-    Name { sys: 0, comp: 0 }
-}
 
 pub fn is_for_autopilot(sys: u8, to: Name) -> bool
     ensures { result ≡ is_for_drone sys to }
@@ -51,7 +33,7 @@ pub fn acknowledge(stream: Stream, code: u8, kind: u8) -> PlanMsg
     ensures { result ≡ ack stream code kind }
 {
     PlanMsg::Ack {
-        to: node(stream),
+        to: node_of(stream),
         code,
         kind,
     }
@@ -61,7 +43,7 @@ pub fn request(stream: Stream, kind: u8, seq: u16) -> PlanMsg
     ensures { result ≡ ask stream kind seq }
 {
     PlanMsg::Request {
-        to: node(stream),
+        to: node_of(stream),
         seq,
         kind,
     }

@@ -17,7 +17,7 @@ pub enum Change {
 
 /// A step of a drone: its reply, if any, and what it did to the plans.
 #[derive(Clone, Copy)]
-pub struct Stepped {
+pub struct DroneStep {
     pub answer: Option<PlanMsg>,
     pub change: Change,
 }
@@ -33,11 +33,11 @@ pub fn installing(kind: Option<PlanKind>) -> Change
 }
 
 /// A step that leaves the plans as they are.
-pub fn unchanging(answer: Option<PlanMsg>) -> Stepped
+pub fn unchanging(answer: Option<PlanMsg>) -> DroneStep
     ensures answer { result.answer ≡ answer }
     ensures change { result.change ≡ Same }
 {
-    Stepped {
+    DroneStep {
         answer,
         change: Change::Same,
     }

@@ -6,10 +6,10 @@ ghost use Rattle.plan_upload.specs.Drone.{is_downloading, download_without, copy
 ghost use Rattle.plan_upload.specs.Copying.{item_in, download_after, given_of};
 
 use crate::NoMemory;
-use crate::addresses::{acknowledge, node};
+use crate::addresses::acknowledge;
 use crate::buffers::Buffer;
 use crate::uploads::LAST_IDLE_TICK;
-use mav_names::{Stream, is_same_stream};
+use mav_names::{Stream, is_same_stream, node_of};
 use plan_items::{Item, MissionResult, Plan, PlanKind, PlanMsg};
 use std::alloc::Global;
 use std::marker::Model;
@@ -107,7 +107,7 @@ impl DownloadSlot {
             self.open = Some(OpenDownload { idle: 0, ..open });
         }
         PlanMsg::Item {
-            to: node(to),
+            to: node_of(to),
             seq,
             kind,
             item,

@@ -12,14 +12,14 @@ mod keeping;
 mod transfers;
 
 use crate::NoMemory;
-use crate::addresses::{broadcast, is_for_autopilot, node, receiver};
-use crate::changes::{Stepped, unchanging};
+use crate::addresses::{is_for_autopilot, receiver};
+use crate::changes::{DroneStep, unchanging};
 use crate::downloads::DownloadSlot;
 use crate::held::HeldPlans;
 use crate::results::Results;
 use crate::uploads::UploadSlot;
 use crate::verdicts::Verdict;
-use mav_names::{Stream, is_same_name};
+use mav_names::{Stream, everyone, is_same_name, node_of};
 use plan_items::{Plan, PlanKind, PlanMsg};
 use std::alloc::Global;
 use std::marker::Model;
@@ -101,13 +101,13 @@ impl Drone {
         ensures { result ≡ is_heard self.now.sys msg.now }
     {
         match *msg {
-            PlanMsg::Ping { to, .. } => is_same_name(to, broadcast()),
+            PlanMsg::Ping { to, .. } => is_same_name(to, everyone()),
             _ => is_for_autopilot(self.sys, receiver(msg)),
         }
     }
 
     /// One plan message of a stream; `keeps` says whether the store keeps the new plans, if there are any.
-    pub fn step(&mut self, keeps: bool, from: Stream, msg: &PlanMsg) -> Stepped
+    pub fn step(&mut self, keeps: bool, from: Stream, msg: &PlanMsg) -> DroneStep
         ensures drone { self.new ≡ (drone_step keeps self.old from msg.now).drone }
         ensures answer { result.answer ≡ (drone_step keeps self.old from msg.now).answer }
         ensures change { result.change ≡ change_by (drone_step keeps self.old from msg.now).event }
@@ -117,7 +117,7 @@ impl Drone {
         }
         match *msg {
             PlanMsg::Ping { usec, seq, .. } => unchanging(Some(PlanMsg::Ping {
-                to: node(from),
+                to: node_of(from),
                 usec,
                 seq,
             })),

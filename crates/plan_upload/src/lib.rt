@@ -22,7 +22,7 @@ mod uploads;
 mod verdicts;
 
 pub use addresses::receiver;
-pub use changes::{Change, Stepped};
+pub use changes::{Change, DroneStep};
 pub use drone::Drone;
 pub use faults::{BeginFault, OpFault};
 pub use laws::{every_kept_plan, every_unchanging_step};

@@ -16,12 +16,12 @@ mod listing;
 mod pinging;
 mod sending;
 
-use crate::addresses::{broadcast, node, receiver};
+use crate::addresses::receiver;
 use crate::buffers::Buffer;
 use crate::operations::{GetTask, OpenOperation, Stage, Task, UploadTask, kind_number};
 use crate::synced::SyncedDrones;
 use crate::{BeginFault, NoMemory, OpFault, Outcome};
-use mav_names::{Name, Stream, is_same_name, is_same_stream};
+use mav_names::{Name, Stream, everyone, is_same_name, is_same_stream, node_of};
 use plan_items::{Plan, PlanKind, PlanMsg};
 use std::alloc::Global;
 use std::marker::Model;
@@ -90,7 +90,7 @@ impl Station {
             },
         );
         PlanMsg::Ping {
-            to: broadcast(),
+            to: everyone(),
             usec: self.boot,
             seq: number,
         }
@@ -120,7 +120,7 @@ impl Station {
         ensures station { self.new ≡ (starts self.old (task_view drone task)).station }
         ensures answer { Some result ≡ (starts self.old (task_view drone task)).answer }
     {
-        let to = node(drone);
+        let to = node_of(drone);
         match task {
             Task::Upload(upload) => {
                 let count = upload.plan.len() as u16;

@@ -1,5 +1,5 @@
 //! Worked examples of a router's journal, by computation from the definitions alone, signatures included, and tests of
-//! routers. Nothing depends on it.
+//! routers, and of two threads at one lock. Nothing depends on it.
 #![tactic(auto)]
 
 #[cfg(test)]
@@ -8,6 +8,8 @@ mod failing;
 mod gated;
 #[cfg(test)]
 mod threaded;
+#[cfg(test)]
+mod turns;
 
 ghost use Rattle.route_examples.specs.Worked.{Worked};
 

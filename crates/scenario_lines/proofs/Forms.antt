@@ -9,7 +9,8 @@ use Rattle.scenario_lines.specs.declared.faults.Reason.TheVariants.{Count, Numbe
 use Rattle.scenario_lines.specs.declared.lines.Line.{Line}
 use Rattle.scenario_lines.specs.declared.lines.Line.TheVariants.{Drone, Station, Item as OneItem, Items, Begin, Cancel, Clear, Get, Command, Params, Heartbeat, Deliver, Flow, Noise, Tick, Clock, Restart, Sim, WhereIs}
 use Rattle.scenario_lines.specs.Words.{word_at, number_in, integer_of, wire_word, bytes_word, name_of_word}
-use Rattle.scenario_lines.specs.LineContext.{LineContext, drone_name, has_name, has_drone, has_station}
+use Rattle.mav_names.specs.Addresses.{drone_name}
+use Rattle.scenario_lines.specs.LineContext.{LineContext, has_name, has_drone, has_station}
 use Rattle.scenario_lines.specs.Grammar.{first_reason, against, whole_at, signed_at, wire_at, name_at, kind_at, kind_or_all_at, bytes_at, kind_word, kind_or_all, most_whole, most_sim_ticks, most_draft, most_clock}
 use Rattle.scenario_lines.specs.Reasons.{state_reason, leaves_range}
 use Rattle.scenario_lines.specs.Readings.{answered, reading, of_words, read_drone, read_station, read_one_item, read_items, read_empty, read_begin, read_cancel, read_clear, read_get, read_command, read_params, read_heartbeat, read_deliver, read_flow, read_noise, read_tick, read_clock, read_restart, read_sim, read_where}

@@ -1,7 +1,8 @@
 -- What is known of the world that a line is read for.
-use Rattle.std.specs.Prelude.{ℕ, ◌==◌, ◌&&◌, Bool, true, false, List}
+use Rattle.std.specs.Prelude.{ℕ, ◌&&◌, Bool, true, false, List}
 use Rattle.std.specs.List.{list_any}
 use Rattle.mav_names.specs.declared.names.Name.{Name}
+use Rattle.mav_names.specs.Addresses.{same_name}
 use Rattle.scenario_lines.specs.declared.naming.Role.{Role}
 use Rattle.scenario_lines.specs.declared.naming.Role.TheVariants.{Drone, Station}
 use Rattle.scenario_lines.specs.declared.naming.Named.{Named}
@@ -13,14 +14,6 @@ pub record LineContext : Type 0 where
 
 abbrev pub context_of : List Named → ℕ → ℕ → LineContext
 context_of nodes drafted clock = record { nodes = nodes; drafted = drafted; clock = clock }
-
--- a drone is component 1 of its system
-abbrev pub drone_name : ℕ → Name
-drone_name sys = record { sys = sys; comp = 1 }
-
--- two names are one
-abbrev pub same_name : Name → Name → Bool
-same_name a b = (a.sys == b.sys) && (a.comp == b.comp)
 
 abbrev pub same_role : Role → Role → Bool
 same_role Drone Drone = true

@@ -7,7 +7,8 @@ use Rattle.scenario_lines.specs.declared.faults.Reason.TheVariants.{Long, Word, 
 use Rattle.scenario_lines.specs.declared.lines.Line.{Line}
 use Rattle.scenario_lines.specs.declared.lines.Line.TheVariants.{Blank, Drone, Station, Item as OneItem, Items, Empty, Begin, Cancel, Clear, Get, Command, Params, Heartbeat, Deliver, Flow, Noise, Tick, Clock, Restart, Sim, WhereIs}
 use Rattle.scenario_lines.specs.Words.{words_of, word_at}
-use Rattle.scenario_lines.specs.LineContext.{LineContext, context_of, drone_name, has_name}
+use Rattle.mav_names.specs.Addresses.{drone_name}
+use Rattle.scenario_lines.specs.LineContext.{LineContext, context_of, has_name}
 use Rattle.scenario_lines.specs.Grammar.{Form, form_of, counts, arguments_at, misfit, first_reason, against, line_from, is_blank, most_line_bytes, most_draft, most_clock}
 
 -- the last of n items, x apart by one, leaves 32 bits

@@ -2,9 +2,9 @@
 ghost use Rattle.std.specs.Prelude.{◌≡◌, List};
 ghost use Rattle.std.specs.List.{list_any};
 ghost use Rattle.scenario_lines.specs.declared.naming.Named.{Named};
-ghost use Rattle.scenario_lines.specs.LineContext.{same_name, same_role, is_called, is_in_role, has_name};
+ghost use Rattle.scenario_lines.specs.LineContext.{same_role, is_called, is_in_role, has_name};
 
-use mav_names::Name;
+use mav_names::{Name, is_same_name};
 
 #[derive(Clone, Copy)]
 pub enum Role {
@@ -17,12 +17,6 @@ pub enum Role {
 pub struct Named {
     pub role: Role,
     pub name: Name,
-}
-
-fn is_same_name(name: Name, other: Name) -> bool
-    ensures { result ≡ same_name name other }
-{
-    name.sys == other.sys && name.comp == other.comp
 }
 
 fn is_same_role(role: Role, other: Role) -> bool

@@ -1,23 +1,10 @@
 // The lines that name nodes.
 ghost use Rattle.std.specs.Prelude.{◌≡◌};
-ghost use Rattle.scenario_lines.specs.LineContext.{drone_name};
 ghost use Rattle.scenario_lines.specs.Readings.{read_drone, read_station};
 
 use crate::words::Words;
 use crate::{Line, Names, Reason};
-use mav_names::Name;
-
-/// The component of every drone.
-const AUTOPILOT: u8 = 1;
-
-fn drone_name(sys: u8) -> Name
-    ensures { result ≡ drone_name sys }
-{
-    Name {
-        sys,
-        comp: AUTOPILOT,
-    }
-}
+use mav_names::{Name, drone_name};
 
 /// `drone SYS [X Y]`
 pub(crate) fn read_drone<N: Names>(nodes: &N, words: &Words) -> Result<Line, Reason>

@@ -12,8 +12,6 @@ mod lock;
 mod participant;
 mod seat;
 mod steps;
-#[cfg(test)]
-mod tests;
 mod turn;
 
 ghost use Rattle.std.specs.Prelude.{◌≡◌, List, length};

@@ -8,10 +8,10 @@ ghost use Rattle.plan_upload.specs.Room.{has_place};
 ghost use Rattle.plan_upload.specs.declared.changes.Change.TheVariants.{Same};
 
 use super::Drone;
-use crate::addresses::{acknowledge, node, request};
-use crate::changes::{Change, Stepped, installing, unchanging};
+use crate::addresses::{acknowledge, request};
+use crate::changes::{Change, DroneStep, installing, unchanging};
 use crate::verdicts::Verdict;
-use mav_names::Stream;
+use mav_names::{Stream, node_of};
 use plan_items::{Item, MissionResult, PlanKind, PlanMsg};
 
 impl Drone {
@@ -62,7 +62,7 @@ impl Drone {
     }
 
     // The gathered items and this last one become the plan of their kind.
-    fn install(&mut self, from: Stream, item: Item) -> Stepped
+    fn install(&mut self, from: Stream, item: Item) -> DroneStep
         requires own { IsTrue (is_own self.old.upload from) }
         requires sound { IsTrue (is_sound_with self.old.upload item) }
         ensures drone { self.new ≡ installed_by self.old from self.old.upload item }
@@ -74,11 +74,11 @@ impl Drone {
         self.upload.finish(item, &mut self.plans);
         self.results.set(from, true);
         self.installs = self.installs.saturating_add(1);
-        Stepped { answer, change }
+        DroneStep { answer, change }
     }
 
     // The upload ends with this result code, and nothing is installed.
-    fn refuse(&mut self, from: Stream, code: u8) -> Stepped
+    fn refuse(&mut self, from: Stream, code: u8) -> DroneStep
         ensures drone { self.new ≡ closed self.old from }
         ensures answer { result.answer ≡ acked_of self.old.upload from code }
         ensures change { result.change ≡ Same }
@@ -95,7 +95,7 @@ impl Drone {
         seq: u16,
         kind: u8,
         item: &Item,
-    ) -> Stepped
+    ) -> DroneStep
         ensures drone { self.new ≡ (item_comes keeps self.old from self.old.upload seq kind item.now).drone }
         ensures answer { result.answer ≡ (item_comes keeps self.old from self.old.upload seq kind item.now).answer }
         ensures change { result.change ≡ change_by (item_comes keeps self.old from self.old.upload seq kind item.now).event }
@@ -138,7 +138,7 @@ impl Drone {
         None
     }
 
-    pub(crate) fn clear(&mut self, keeps: bool, from: Stream, kind: u8) -> Stepped
+    pub(crate) fn clear(&mut self, keeps: bool, from: Stream, kind: u8) -> DroneStep
         ensures drone { self.new ≡ (clear_comes keeps self.old from kind).drone }
         ensures answer { result.answer ≡ (clear_comes keeps self.old from kind).answer }
         ensures change { result.change ≡ change_by (clear_comes keeps self.old from kind).event }
@@ -152,7 +152,7 @@ impl Drone {
         }
         self.close(from);
         self.plans.empty(known);
-        Stepped {
+        DroneStep {
             answer: Some(acknowledge(from, MissionResult::ACCEPTED, kind)),
             change: Change::Empty(known),
         }
@@ -171,7 +171,7 @@ impl Drone {
         let plan = self.plans.of(known);
         self.download.copy(from, known, plan);
         PlanMsg::Count {
-            to: node(from),
+            to: node_of(from),
             count: plan.len() as u16,
             kind,
         }

@@ -5,9 +5,9 @@ ghost use Rattle.plan_upload.specs.Replies.{is_ping_reply};
 ghost use Rattle.plan_upload.specs.Station.{Pinging, with_operation, phase_step, phase_tick, is_number};
 
 use super::Station;
-use crate::addresses::{acknowledge, broadcast};
+use crate::addresses::acknowledge;
 use crate::operations::{Stage, Task};
-use mav_names::Stream;
+use mav_names::{Stream, everyone};
 use plan_items::{MissionResult, PlanMsg};
 
 fn is_expected(number: Option<u32>, seq: u32) -> bool
@@ -86,7 +86,7 @@ impl Station {
         );
         let seq = number?;
         Some(PlanMsg::Ping {
-            to: broadcast(),
+            to: everyone(),
             usec: self.boot,
             seq,
         })

@@ -6,10 +6,9 @@ ghost use Rattle.plan_upload.specs.Station.{Sending, with_operation, phase_step,
 
 use super::Station;
 use crate::Outcome;
-use crate::addresses::node;
 use crate::operations::{Stage, Task, UploadTask};
 use crate::uploads::LAST_IDLE_TICK;
-use mav_names::Stream;
+use mav_names::{Stream, node_of};
 use plan_items::{MissionResult, PlanMsg};
 
 // A drone that refuses a count replies with one of these codes before it asks for an item.
@@ -43,7 +42,7 @@ impl Station {
         upload.final_sent = upload.final_sent || is_final;
         self.stay(drone, Stage::Sending { upload, idle: 0 });
         Some(PlanMsg::Item {
-            to: node(drone),
+            to: node_of(drone),
             seq,
             kind,
             item,
@@ -128,7 +127,7 @@ impl Station {
             return self.resynchronise(drone, Task::Upload(upload), true);
         }
         let again = PlanMsg::Count {
-            to: node(drone),
+            to: node_of(drone),
             count: upload.plan.len() as u16,
             kind: upload.kind.number(),
         };

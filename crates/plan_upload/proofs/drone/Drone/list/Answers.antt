@@ -22,4 +22,4 @@ pub returns-clause-drone : goal.returns-clause-drone
 returns-clause-drone c = ap (λ (t : DroneStep). t.drone) (shown_list (drone_view c.self.inside) c.args.self.now c.args.from c.args.kind c.of.result c.in-Some.known c.is_of_other.result _ c.copy.new.self c.self.view_is c.of.ensures c.in-Some.is c.is_of_other.ensures c.if-is_of_other.false c.of-plan.ensures.items c.copy.ensures)
 
 pub returns-clause-answer : goal.returns-clause-answer
-returns-clause-answer c = (λ k. Some (Count (c.node.ensures k) (c.len.ensures k) c.args.kind)) ∙ ap (λ (t : DroneStep). t.answer) (shown_list (drone_view c.self.inside) c.args.self.now c.args.from c.args.kind c.of.result c.in-Some.known c.is_of_other.result _ c.copy.new.self c.self.view_is c.of.ensures c.in-Some.is c.is_of_other.ensures c.if-is_of_other.false c.of-plan.ensures.items c.copy.ensures)
+returns-clause-answer c = (λ k. Some (Count (c.node_of.ensures k) (c.len.ensures k) c.args.kind)) ∙ ap (λ (t : DroneStep). t.answer) (shown_list (drone_view c.self.inside) c.args.self.now c.args.from c.args.kind c.of.result c.in-Some.known c.is_of_other.result _ c.copy.new.self c.self.view_is c.of.ensures c.in-Some.is c.is_of_other.ensures c.if-is_of_other.false c.of-plan.ensures.items c.copy.ensures)

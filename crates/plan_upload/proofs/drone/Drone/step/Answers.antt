@@ -21,7 +21,7 @@ returns-in-Ping c =
     let t = called c.args.keeps c.args.self.now c.args.from c.args.msg.now _ c.hears.result c.hears.ensures c.if-not-hears.false c.in-Ping.is in
     record {
       drone = ap (λ (t : DroneStep). t.drone) t;
-      answer = c.unchanging-in-Ping.ensures.answer ∙ ap (λ (to : Name). Some (Ping to c.in-Ping.usec c.in-Ping.seq)) c.node.ensures ∙ ap (λ (t : DroneStep). t.answer) t;
+      answer = c.unchanging-in-Ping.ensures.answer ∙ ap (λ (to : Name). Some (Ping to c.in-Ping.usec c.in-Ping.seq)) c.node_of.ensures ∙ ap (λ (t : DroneStep). t.answer) t;
       change = c.unchanging-in-Ping.ensures.change ∙ ap (λ (t : DroneStep). change_by t.event) t;
     }
 

@@ -3,13 +3,13 @@ ghost use Rattle.std.specs.Prelude.{◌≡◌, length, All};
 ghost use Rattle.turnstile.specs.Participants.{CanEnter};
 ghost use mathlib.Core.List.{IsPrefix};
 
-use crate::{Journaled, NoMemory, Turn, TurnSeat};
 use std::alloc::Global;
 use std::sync::Wait;
 use std::sync::atomic::{AtomicBool, Ordering};
 use std::test::Fail;
 use std::thread;
 use std::thread::Threads;
+use turnstile::{Journaled, NoMemory, Turn, TurnSeat};
 
 #[derive(Drop)]
 struct Notes {
