@@ -11,15 +11,16 @@ use Rattle.plan_upload.specs.Station.{StationState}
 use Rattle.mav_nodes.specs.Services.{StationServices}
 use Rattle.mav_nodes.specs.declared.orders.Order.{Order}
 use Rattle.mav_nodes.specs.declared.faults.OrderFault.{OrderFault}
-use Rattle.mav_nodes.specs.Nodes.{DroneSide, StationSide, StationView, IsStation, IsAccepted, station_obeys, order_refusal, command_refusal, params_refusal, file_refusal}
-use Rattle.mav_nodes.specs.Promises.{Fails, Did, StationDid}
+use Rattle.mav_nodes.specs.declared.faults.OrderFault.TheVariants.{Begin as BeginFails, Op as OpFails, Command as CommandFails, Param as ParamFails, File as FileFails, Node as StationFails}
+use Rattle.mav_nodes.specs.Nodes.{DroneSide, StationSide, StationView, IsStation, IsAccepted, station_obeys, order_refusal, order_fault, command_refusal, params_refusal, file_refusal}
+use Rattle.mav_nodes.specs.Promises.{Fails, Did, StationDid, OrderFails, OrderKeeps}
 use Rattle.node_reports.specs.Nodes.{Node, Drone, Station}
 use Rattle.node_reports.specs.Calls.{as_drone, as_station}
 use Rattle.fleet_world.specs.declared.nodes.Node.{Node as ViewNode}
 use Rattle.fleet_world.specs.declared.nodes.Node.TheVariants.{Drone as ViewDrone, Station as ViewStation}
 use Rattle.fleet_world.specs.StoredDrones.{StoredView, IsStoredDrone, FailsBy}
 use Rattle.fleet_world.specs.WorldView.{IsNode}
-use Rattle.fleet_world.specs.Promises.{NodeOutcome, Follows}
+use Rattle.fleet_world.specs.Promises.{NodeOutcome, Follows, Refuses}
 use Rattle.fleet_world.proofs.KeptNames.{StationKeeps, station_obeying}
 
 pub if_err : {A E : Type 0} {P Q : E → Type 0} (r : Result A E) → ((e : E) → P e → Q e) → IfErr r P → IfErr r Q
@@ -121,3 +122,19 @@ order_followed (Err fault) clock order name v new view is accepted did = tt
 order_followed (Ok news) clock order name v new view is accepted did = λ n h.
     let seen = subst (IsNode (Station n)) is h in
     (accepted_follows n v order seen.0 accepted, as_station_did name n (station_obeys clock order n) new news.items seen.1 (station_obeying clock order n) (did n seen.0))
+
+refused_by : (clock : ℕ) (order : Order) (name : Name) (v new : StationView) (n : StationSide) (fault : OrderFault) → IsStation n v → OrderFails clock order v fault → OrderKeeps v new fault → Refuses clock n order (ViewStation name new ≡ ViewStation name v) fault
+refused_by clock order name v new n (BeginFails fault) is fails keeps = (ap (λ (core : StationState). order_refusal core order) (sym is.station) ∙ fails.0, fails.1, ap (ViewStation name) keeps)
+refused_by clock order name v new n (OpFails why) is fails keeps = (ap (λ (core : StationState). order_fault core order) (sym is.station) ∙ fails, ap (ViewStation name) keeps)
+refused_by clock order name v new n (CommandFails busy) is fails keeps = (ap (λ (services : StationServices). command_refusal services order) (sym is.services) ∙ fails, ap (ViewStation name) keeps)
+refused_by clock order name v new n (ParamFails busy) is fails keeps = (ap (λ (services : StationServices). params_refusal services order) (sym is.services) ∙ fails, ap (ViewStation name) keeps)
+refused_by clock order name v new n (FileFails fault) is fails keeps = (ap (λ (services : StationServices). file_refusal services order) (sym is.services) ∙ fails, ap (ViewStation name) keeps)
+refused_by clock order name v new n (StationFails fault) is fails keeps = (accepted_follows n v order is fails.0, station_fault (station_obeys clock order) v fault fails.1 n is)
+
+pub order_refused : (r : Result (Vec News Global) OrderFault) (clock : ℕ) (order : Order) (name : Name) (v new : StationView) (view : ViewNode) → view ≡ ViewStation name v
+    → IfErr r (OrderFails clock order v) → IfErr r (OrderKeeps v new)
+    → IfErr r (λ fault. (n : StationSide) → IsNode (Station n) view → Refuses clock n order (ViewStation name new ≡ view) fault)
+order_refused (Ok news) clock order name v new view is fails keeps = tt
+order_refused (Err fault) clock order name v new view is fails keeps = λ n h.
+    subst (λ (z : ViewNode). Refuses clock n order (ViewStation name new ≡ z) fault) (sym is)
+    (refused_by clock order name v new n fault (subst (IsNode (Station n)) is h).0 fails keeps)

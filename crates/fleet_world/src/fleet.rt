@@ -60,6 +60,11 @@ pub(crate) fn stream(name: Name) -> Stream
     }
 }
 
+// What a drone has to tell of an order, which is dropped where nothing else is owned.
+fn no_news(alloc: Global, _order: Order) -> Vec<News> {
+    Vec::new(alloc)
+}
+
 // 1 for a drone.
 fn drone_count(node: &Node) -> usize
     ensures { result ≡ (if is_drone_view node.now then 1 else 0) }
@@ -207,10 +212,10 @@ impl Fleet {
         ensures ordered { HasOrdered self.old index order result self.new }
         ensures count { length self.new.nodes ≡ length self.old.nodes }
     {
-        match &mut self.nodes[index] {
-            Node::Drone(_) => Ok(Vec::new(self.alloc)),
-            Node::Station { node, .. } => node.order(order, self.clock),
-        }
+        let Node::Station { node, .. } = &mut self.nodes[index] else {
+            return Ok(no_news(self.alloc, order));
+        };
+        node.order(order, self.clock)
     }
 
     /// The values of the latest list of parameters of the station at an index.
