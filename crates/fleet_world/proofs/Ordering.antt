@@ -200,59 +200,61 @@ refuse_error (Err e) w after k name order fault only refused up = λ state node 
 
 -- ---- an order that was followed or refused, as a report of it says it
 
-Outcomes : Type 0
+abbrev pub Outcomes : Type 0
 Outcomes = Result (Vec News Global) OrderFault
 
 only_nodes : (before after : WorldView) → after ≡ record before { fleet = after.fleet } → after.fleet ≡ record before.fleet { nodes = after.fleet.nodes } → NodesOnly before after
 only_nodes before after only kept = only ∙ ap (λ (f : Fleet). record before { fleet = f }) kept
 
 -- that an order to the station at an index was done by a call of that world, or failed
-abbrev DoesOrder : WorldView → ℕ → Name → Order → WorldView → ReportState → ReportState → Type 0
+abbrev pub DoesOrder : WorldView → ℕ → Name → Order → WorldView → ReportState → ReportState → Type 0
 DoesOrder w k name order last start end = (state : WorldState) (node : StationSide) → IsState state w.frames w → slice_get state.nodes k ≡ Some (Station node) → WorldOutcome (obeys state k name node order) w.frames last start end
 
-abbrev FailsOrder : WorldView → ℕ → Name → Order → WorldFault → Type 0
+abbrev pub FailsOrder : WorldView → ℕ → Name → Order → WorldFault → Type 0
 FailsOrder w k name order fault = (state : WorldState) (node : StationSide) → IsState state w.frames w → slice_get state.nodes k ≡ Some (Station node) → IsStepError (obeys state k name node order) fault
 
 module _ (after : WorldView) (k : ℕ) (name : Name) (outcome : Outcomes) where
-  abbrev Orders : (WorldView → Order → Type 0) → Type 0
+  abbrev pub Orders : (WorldView → Order → Type 0) → Type 0
   Orders Then = (before : WorldView) (order : Order) → HasOrdered before.fleet k order outcome after.fleet → after ≡ record before { fleet = after.fleet } → Then before order
 
   pub followed_done : {T E : Type 0} (r : Result T E) (last : WorldView) (start end : ReportState) (news : Vec News Global) (items : List News) → outcome ≡ Ok news → items ≡ news.items → OnOk r ((s : WorldState) (events : List NodeEvent) → IsState s after.frames after → events_of items ≡ map shown events → HaveValues (params_of (slice_get s.nodes k)) events → WorldOutcome (reports_news s name events) after.frames last start end) → OnOk r (Orders (λ before order. DoesOrder before k name order last start end))
   followed_done (Err x) last start end news items is same reporting = tt
-  followed_done (Ok t) last start end news items is same reporting = λ before order ordered only.
-      obey_outcome before after k name order items news.items same (only_nodes before after only ordered.kept) (Ok t) last start end
+  followed_done {E = E} (Ok t) last start end news items is same reporting = λ before order ordered only.
+      obey_outcome before after k name order items news.items same (only_nodes before after only ordered.kept) {E = E} (Ok t) last start end
       (subst (λ (o : Outcomes). IfOk o (λ n. (nodes : List Node) (node : StationSide) → IsFleet nodes before.fleet → slice_get nodes k ≡ Some (Station node) → Follows node order × Moved nodes k (as_station (station_obeys before.fleet.clock order node)) after.fleet n.items)) is ordered.done)
       reporting
 
   pub followed_error : {T : Type 0} (r : Result T WorldFault) (news : Vec News Global) (items : List News) → outcome ≡ Ok news → items ≡ news.items → IfErr r (λ fault. (s : WorldState) (events : List NodeEvent) → IsState s after.frames after → events_of items ≡ map shown events → IsStepError (reports_news s name events) fault) → IfErr r (λ fault. Orders (λ before order. FailsOrder before k name order fault))
   followed_error (Ok t) news items is same reporting = tt
-  followed_error (Err fault) news items is same reporting = λ before order ordered only.
-      obey_error before after k name order items news.items same (only_nodes before after only ordered.kept) (Err fault)
+  followed_error {T = T} (Err fault) news items is same reporting = λ before order ordered only.
+      obey_error before after k name order items news.items same (only_nodes before after only ordered.kept) {T = T} (Err fault)
       (subst (λ (o : Outcomes). IfOk o (λ n. (nodes : List Node) (node : StationSide) → IsFleet nodes before.fleet → slice_get nodes k ≡ Some (Station node) → Follows node order × Moved nodes k (as_station (station_obeys before.fleet.clock order node)) after.fleet n.items)) is ordered.done)
       reporting
 
   pub refused_done : {T E : Type 0} (r : Result T E) (last : WorldView) (start end : ReportState) (fault : OrderFault) → outcome ≡ Err fault → OnOk r (RefusalReported name fault after last start end) → OnOk r (Orders (λ before order. DoesOrder before k name order last start end))
   refused_done (Err x) last start end fault is reporting = tt
-  refused_done (Ok t) last start end fault is reporting = λ before order ordered only.
-      refuse_outcome (Ok t) before after last k name order fault start end (only_nodes before after only ordered.kept)
+  refused_done {E = E} (Ok t) last start end fault is reporting = λ before order ordered only.
+      refuse_outcome {E = E} (Ok t) before after last k name order fault start end (only_nodes before after only ordered.kept)
       (subst (λ (o : Outcomes). IfErr o (λ f. (nodes : List Node) (node : StationSide) → IsFleet nodes before.fleet → slice_get nodes k ≡ Some (Station node) → Refuses before.fleet.clock node order (IsFleet nodes after.fleet) f)) is ordered.fault)
       reporting
 
   pub refused_error : {T : Type 0} (r : Result T WorldFault) (fault : OrderFault) → outcome ≡ Err fault → IfErr r (λ e. IsGivenUp fault e) → IfErr r (λ e. Orders (λ before order. FailsOrder before k name order e))
   refused_error (Ok t) fault is up = tt
-  refused_error (Err e) fault is up = λ before order ordered only.
-      refuse_error (Err e) before after k name order fault (only_nodes before after only ordered.kept)
+  refused_error {T = T} (Err e) fault is up = λ before order ordered only.
+      refuse_error {T = T} (Err e) before after k name order fault (only_nodes before after only ordered.kept)
       (subst (λ (o : Outcomes). IfErr o (λ f. (nodes : List Node) (node : StationSide) → IsFleet nodes before.fleet → slice_get nodes k ≡ Some (Station node) → Refuses before.fleet.clock node order (IsFleet nodes after.fleet) f)) is ordered.fault)
       up
 
   -- of the order that was given
-  pub order_done : {T E : Type 0} (r : Result T E) (w last : WorldView) (order : Order) (start end : ReportState) → HasOrdered w.fleet k order outcome after.fleet → after ≡ record w { fleet = after.fleet } → OnOk r (Orders (λ before order. DoesOrder before k name order last start end)) → OnOk r (DoesOrder w k name order last start end)
-  order_done (Err x) w last order start end ordered only did = tt
-  order_done (Ok t) w last order start end ordered only did = did w order ordered only
+  pub order_done : {T E : Type 0} (r : Result T E) (w seen last : WorldView) (order : Order) (start end : ReportState) → w ≡ seen → HasOrdered w.fleet k order outcome after.fleet → after ≡ record w { fleet = after.fleet } → OnOk r (Orders (λ before order. DoesOrder before k name order last start end)) → OnOk r (DoesOrder seen k name order last start end)
+  order_done (Err x) w seen last order start end same ordered only did = tt
+  order_done (Ok t) w seen last order start end same ordered only did =
+      subst (λ (z : WorldView). DoesOrder z k name order last start end) same (did w order ordered only)
 
-  pub order_fails : {T : Type 0} (r : Result T WorldFault) (w : WorldView) (order : Order) → HasOrdered w.fleet k order outcome after.fleet → after ≡ record w { fleet = after.fleet } → IfErr r (λ fault. Orders (λ before order. FailsOrder before k name order fault)) → IfErr r (FailsOrder w k name order)
-  order_fails (Ok t) w order ordered only did = tt
-  order_fails (Err fault) w order ordered only did = did w order ordered only
+  pub order_fails : {T : Type 0} (r : Result T WorldFault) (w seen : WorldView) (order : Order) → w ≡ seen → HasOrdered w.fleet k order outcome after.fleet → after ≡ record w { fleet = after.fleet } → IfErr r (λ fault. Orders (λ before order. FailsOrder before k name order fault)) → IfErr r (FailsOrder seen k name order)
+  order_fails (Ok t) w seen order same ordered only did = tt
+  order_fails (Err fault) w seen order same ordered only did =
+      subst (λ (z : WorldView). FailsOrder z k name order fault) same (did w order ordered only)
 
 -- ---- an order to the station of a name
 
