@@ -35,13 +35,16 @@ pub data Event : Type 0 where
 abbrev pub frame_text : Bool → Packet → List ℕ
 frame_text frames packet = if frames then space ++ encode_lower (encoding packet) ++ newline else []
 
+-- an installed plan of so many items
+abbrev pub installed_text : Name → ℕ → ℕ → Name → List ℕ
+installed_text drone kind count by =
+    codes "install " ++ name_text drone ++ space ++ kind_text kind ++ space ++ decimal count ++ codes " from " ++ name_text by ++ newline
+
 -- whether frames are printed whole comes first
 abbrev pub event_text : Bool → Event → List ℕ
 event_text frames (Sent number packet message) =
     decimal number ++ space ++ name_text packet.from ++ space ++ message_text message ++ newline ++ frame_text frames packet
-event_text frames (Installed drone kind items by) =
-    codes "install " ++ name_text drone ++ space ++ kind_text kind ++ space ++ decimal (length items)
-    ++ codes " from " ++ name_text by ++ newline
+event_text frames (Installed drone kind items by) = installed_text drone kind (length items) by
 event_text frames (Emptied drone kind) = codes "clear " ++ name_text drone ++ space ++ kind_text kind ++ newline
 event_text frames (Dropped node answer) = codes "drop " ++ name_text node ++ space ++ decimal (code_of answer) ++ newline
 event_text frames (Missing number) = codes "no frame " ++ decimal number ++ newline

@@ -6,7 +6,7 @@ ghost use Rattle.fleet_world.specs.Promises.{Does, Fails};
 
 use crate::calls::Call;
 use crate::{World, WorldFault};
-use fleet_report::Report;
+use fleet_report::{Event, Report};
 use mav_names::Name;
 
 impl World {
@@ -43,7 +43,12 @@ impl World {
         ensures error { IfErr result (λ fault. fault ≡ WorldFault.NoMemory) }
     {
         if let Some(at) = self.fleet.location_of(drone) {
-            report.located(drone, at.x, at.y, at.captures)?;
+            report.add(Event::Located {
+                drone,
+                x: at.x,
+                y: at.y,
+                captures: at.captures,
+            })?;
         }
         Ok(())
     }

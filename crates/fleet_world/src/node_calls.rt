@@ -14,7 +14,7 @@ use crate::calls::Call;
 use crate::events::{frames_in, report_all};
 use crate::sent::SentFrames;
 use crate::{Bound, World, WorldFault};
-use fleet_report::Report;
+use fleet_report::{Event, Report};
 use mav_names::Name;
 use mav_nodes::{News, NodeFault};
 use mav_sign::Datagram;
@@ -112,7 +112,7 @@ impl World {
         ensures error { IfErr result (λ fault. (state : WorldState) → (node : DroneSide) → IsState state self.old.frames self.old
             → slice_get state.nodes index ≡ Some (StateDrone node) → IsStepError (restarts_as state index drone node) fault) }
     {
-        report.restarted(drone)?;
+        report.add(Event::Restarted(drone))?;
         let call = Call::Restart(self.fleet.key());
         self.call_at(index, &call, report)
     }
@@ -151,7 +151,7 @@ impl World {
         if index < self.sent.len() {
             return self.call(name, &Call::Take(index), report);
         }
-        report.missing(number)?;
+        report.add(Event::Missing(number))?;
         Ok(())
     }
 }

@@ -14,7 +14,7 @@ ghost use Rattle.fleet_world.specs.Promises.{HasOrdered, WorldOutcome, IsStepErr
 
 use crate::fleet::stream;
 use crate::{World, WorldFault};
-use fleet_report::Report;
+use fleet_report::{Event, Report};
 use mav_names::Name;
 use mav_nodes::{News, Order, OrderFault};
 use plan_items::{Plan, PlanKind};
@@ -49,20 +49,20 @@ impl World {
         match fault {
             OrderFault::Begin(fault) => {
                 self.draft = fault.plan;
-                report.refused(station, fault.why)?;
+                report.add(Event::Refused(station, fault.why))?;
                 Ok(())
             }
             OrderFault::Op(OpFault::NoMemory) => Err(WorldFault::NoMemory),
             OrderFault::Op(why) => {
-                report.refused(station, why)?;
+                report.add(Event::Refused(station, why))?;
                 Ok(())
             }
             OrderFault::Command(_) => {
-                report.command_refused(station)?;
+                report.add(Event::CommandRefused(station))?;
                 Ok(())
             }
             OrderFault::Param(_) => {
-                report.params_refused(station)?;
+                report.add(Event::ParamsRefused(station))?;
                 Ok(())
             }
             OrderFault::File(_) => Ok(()),

@@ -1,11 +1,13 @@
 -- What a report says of the news of a node.
-use Rattle.std.specs.Prelude.{ℕ, ◌+◌, List, [], ◌∷◌}
+use Rattle.std.specs.Prelude.{ℕ, ◌+◌, Bool, List, [], ◌∷◌, Option, Some, None}
 use Rattle.mav_names.specs.declared.names.Name.{Name}
 use Rattle.plan_items.specs.Kinds.{number_of}
 use Rattle.plan_upload.specs.Addresses.{node_of}
 use Rattle.mav_nodes.specs.News.{NodeEvent, Sends, Installs, Empties, Drops, Ends, Ends_command, Gives_param, Ends_params, Reaches, Captures, Ends_file}
 use Rattle.fleet_report.specs.Events.{Event, Sent, Installed, Emptied, Dropped, Ended, Command_ended, Params_ended, Param_given, Reached, Captured, events_text}
 use Rattle.fleet_report.specs.Reports.{ReportState, with_text}
+use Rattle.fleet_report.specs.Sayings.{said_text}
+use Rattle.fleet_report.specs.declared.event.Event.{Event as Saying}
 
 -- what is reported of what happened in a node, after so many frames were sent
 abbrev pub reported_by : Name → ℕ → List NodeEvent → List Event
@@ -21,6 +23,11 @@ reported_by node before (Ends_params values ∷ es) = Params_ended node values �
 reported_by node before (Reaches item ∷ es) = Reached node item ∷ reported_by node before es
 reported_by node before (Captures total ∷ es) = Captured node total ∷ reported_by node before es
 reported_by node before (Ends_file end ∷ es) = reported_by node before es
+
+-- what is printed of an event of the program, if there is one
+abbrev pub text_if : Bool → Option Saying → List ℕ
+text_if frames None = []
+text_if frames (Some saying) = said_text frames saying
 
 -- a report with the text of these events more
 abbrev pub reports : ReportState → List Event → ReportState

@@ -13,4 +13,4 @@ returns-then-index-len-clause-error c =
 
 pub returns-clause-done : goal.returns-clause-done
 returns-clause-done c = λ state is.
-    deliver_none state c.args.self.now _ _ _ _ _ _ c.saturating_sub-index.ensures (c.len.ensures ∙ ap (λ (z : WorldView). length z.sent) c.self.view_is) c.if-index-len.false is c.in_ok-missing.ensures
+    deliver_none state c.args.self.now _ _ _ _ _ _ c.saturating_sub-index.ensures (c.len.ensures ∙ ap (λ (z : WorldView). length z.sent) c.self.view_is) c.if-index-len.false is c.in_ok-add.ensures
