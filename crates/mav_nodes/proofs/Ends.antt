@@ -16,7 +16,7 @@ use Rattle.mav_nodes.specs.Stores.{AllKept}
 use Rattle.mav_nodes.specs.Steps.{Side, steps, serves}
 use Rattle.mav_nodes.specs.Cores.{IsNode, NodeDid, NodeDidKeeping, says}
 use Rattle.mav_nodes.specs.Nodes.{DroneSide, StationSide, DroneView, IsDrone, StationView, IsStation, IsAccepted, station_does, station_ticks, services_tick, station_obeys, order_step, order_refusal, is_service, service_step}
-use Rattle.mav_nodes.specs.Promises.{DroneDid, StationDid, AcceptsService, Fails, SpentKeeping, FailsKeeping}
+use Rattle.mav_nodes.specs.Promises.{DroneDid, DroneDidKeeping, StationDid, AcceptsService, Fails, SpentKeeping, FailsKeeping}
 use Rattle.mav_nodes.proofs.Cores.{did_so}
 
 pub drone_node : (node : DroneSide) {view : DroneView} → IsDrone node view → IsNode node view.link view.drone view.services
@@ -25,6 +25,11 @@ drone_node node is = record { link = is.link; core = is.drone; served = is.servi
 pub drone_did : (outcome : Outcome DroneSide) (view : DroneView) (before after : List News) → NodeDid outcome view.link view.drone view.services before after → DroneDid outcome view before after
 drone_did outcome view before after =
     did_so outcome before after (λ node is. record { link = is.link; drone = is.core; services = is.served })
+
+-- the same with a store that may not keep what is saved
+pub drone_did_keeping : (does : List Bool → Outcome DroneSide) (kept : List Bool → Type 0) (view : DroneView) (news : List News) → NodeDidKeeping does kept view.link view.drone view.services news → DroneDidKeeping does kept view news
+drone_did_keeping does kept view news d =
+    record { keeps = d.keeps; is_kept = d.is_kept; did = drone_did (does d.keeps) view [] news d.did }
 
 pub station_node : (node : StationSide) {view : StationView} → IsStation node view → IsNode node view.link view.station view.services
 station_node node is = record { link = is.link; core = is.station; served = is.services }

@@ -1,12 +1,41 @@
-use Rattle.std.proofs.Common.{Bool, false, List, [], ◌∙◌, sym, subst}
+use Rattle.std.proofs.Common.{Bool, false, List, [], ◌∙◌, sym, ap, subst}
 use Rattle.mav_frame.specs.FinalParse.{final_parse}
 use Rattle.mav_sign.specs.Endpoints.{frames_of}
-use Rattle.mav_nodes.specs.Nodes.{DroneSide, IsDrone, drone_rules_keeping, drone_receives, drone_receives_keeping}
+use Rattle.mav_sign.specs.Streams.{reader_of}
+use Rattle.mav_nodes.specs.Stores.{AllKept, HasFailed}
+use Rattle.mav_nodes.specs.Images.{StoreHolds}
+use Rattle.mav_nodes.specs.Nodes.{DroneSide, DroneView, IsDrone, drone_rules_keeping, drone_receives, drone_receives_keeping}
 use Rattle.mav_nodes.specs.Cores.{IsNode}
 use Rattle.mav_nodes.proofs.Cores.{if_ok, if_err}
 use Rattle.mav_nodes.proofs.Keeping.{keeps_all}
-use Rattle.mav_nodes.proofs.Ends.{drone_node, drone_did, sure_did, sure_fails}
+use Rattle.mav_nodes.proofs.Ends.{drone_node, drone_did, drone_did_keeping, sure_did, sure_fails, fails_keeping_so, on_ok}
 use Rattle.mav_nodes.proofs.drone_node.DroneNode.receive.Goals as goal
+
+pub returns-clause-done : goal.returns-clause-done
+returns-clause-done g c =
+    let failed = HasFailed g.K.Keeper.faults g.K.Keeper.is_infallible c.args.keeper.now c.receive.new.keeper in
+    rw (sym c.bytes.ensures) (if_ok c.receive.result (λ news did node is.
+    drone_did_keeping (λ (keeps : List Bool). drone_receives_keeping c.args.clock keeps c.bytes.result.now node) (AllKept failed) _ news.items
+    (did node (drone_node node (subst (IsDrone node) (sym c.self.view_is) is)))) c.receive.ensures.done)
+
+pub returns-clause-stored : goal.returns-clause-stored
+returns-clause-stored g c =
+    on_ok c.receive.result (λ keeps held. keeps (subst (StoreHolds (g.K.Keeper.contents c.args.keeper.now)) (sym c.self.view_is) held)) c.receive.ensures.stored
+
+pub returns-clause-reader : goal.returns-clause-reader
+returns-clause-reader g c =
+    c.receive.ensures.reader ∙ ap (λ (v : DroneView). reader_of v.link.endpoint) c.self.view_is
+
+pub returns-clause-serves : goal.returns-clause-serves
+returns-clause-serves g c = c.receive.ensures.serves
+
+pub returns-clause-fault : goal.returns-clause-fault
+returns-clause-fault g c =
+    let failed = HasFailed g.K.Keeper.faults g.K.Keeper.is_infallible c.args.keeper.now c.receive.new.keeper in
+    rw (sym c.bytes.ensures) (if_err c.receive.result (λ fault.
+    let does : List Bool → DroneSide → _ = λ keeps node. drone_receives_keeping c.args.clock keeps c.bytes.result.now node in
+    fails_keeping_so fault (λ (node : DroneSide). IsNode node c.self.inside.link c.self.inside.drone c.self.inside.services) does (AllKept failed) failed (λ (node : DroneSide). IsDrone node c.args.self.now) does
+    (λ node is. (node, drone_node node (subst (IsDrone node) (sym c.self.view_is) is), λ keeps none. none))) c.receive.ensures.fault)
 
 pub returns-clause-infallible : goal.returns-clause-infallible
 returns-clause-infallible g c =
