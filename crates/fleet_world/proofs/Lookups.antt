@@ -1,7 +1,8 @@
 -- Look-ups by names, and counts.
-use Rattle.std.specs.Prelude.{IfSome}
+use Rattle.std.specs.Prelude.{IfSome, is_some}
 use Rattle.std.proofs.Common.{◌≡◌, ℕ, suc, ◌+◌, ◌-◌, Bool, true, false, not, cond, ◌||◌, nat_lt, List, [], ◌∷◌, length, map, position, Option, Some, None, refl, sym, ap, ◌∙◌, subst, arith}
 use Rattle.std.proofs.lemmas.List.{length-map}
+use Rattle.std.proofs.lemmas.Bool.Decides.{nat_tests}
 use Rattle.std.specs.List.{position_or_len, list_any}
 use Rattle.std.proofs.Common.{◌<◌, ◌≤◌, drop, get_or, drop-cons, add-one}
 use Rattle.mav_names.specs.declared.names.Name.{Name}
@@ -63,9 +64,51 @@ any_of_names : (test : Named → Bool) (seen : List ViewNode) → list_any (λ (
 any_of_names test [] = refl
 any_of_names test (v ∷ vs) = ap (λ (b : Bool). test (named_in v) || b) (any_of_names test vs)
 
+module _ {A : Type 0} (p : A → Bool) where
+  both_more : (n m : ℕ) → nat_lt (1 + n) (suc m) ≡ nat_lt n m
+  both_more n m = grind (arith, nat_tests)
+
+  any_at : (n m : ℕ) (t rest : Bool) → nat_lt n m ≡ rest → nat_lt (cond (not t) (1 + n) 0) (suc m) ≡ (t || rest)
+  any_at n m true rest more = grind (arith, nat_tests)
+  any_at n m false rest more = both_more n m ∙ more
+
+  any_before : (xs : List A) → nat_lt (position_or_len p xs) (length xs) ≡ list_any p xs
+  any_before [] = refl
+  any_before (x ∷ xs) = any_at (position_or_len p xs) (length xs) (p x) (list_any p xs) (any_before xs)
+
+  some_if : (b : Bool) (n : ℕ) → is_some (cond b (Some n) None) ≡ b
+  some_if true n = refl
+  some_if false n = refl
+
+  -- what a loop that looks for the first element that passes has found
+  module _ (xs : List A) (i : ℕ) (before : i + position_or_len p (drop i xs) ≡ position_or_len p xs) where
+    pub first_more : (x : A) → i < length xs → x ≡ get_or xs i x → p x ≡ false → (i + 1) + position_or_len p (drop (i + 1) xs) ≡ position_or_len p xs
+    first_more x within is fails =
+        let next : drop i xs ≡ x ∷ drop (i + 1) xs = drop-cons xs i x within ∙ ap (λ (y : _). y ∷ drop (suc i) xs) (sym is) ∙ ap (λ (n : ℕ). x ∷ drop n xs) (sym (add-one i)) in
+        let split : position_or_len p (drop i xs) ≡ 1 + position_or_len p (drop (i + 1) xs) =
+        ap (position_or_len p) next ∙ ap (λ (b : Bool). cond (not b) (1 + position_or_len p (drop (i + 1) xs)) 0) fails
+        in
+        omega (arith, split, before)
+
+    pub first_here : (x : A) → i < length xs → x ≡ get_or xs i x → p x ≡ true → Some i ≡ position p xs
+    first_here x within is passes =
+        let next : drop i xs ≡ x ∷ drop (i + 1) xs = drop-cons xs i x within ∙ ap (λ (y : _). y ∷ drop (suc i) xs) (sym is) ∙ ap (λ (n : ℕ). x ∷ drop n xs) (sym (add-one i)) in
+        let none : position_or_len p (drop i xs) ≡ 0 = ap (position_or_len p) next ∙ ap (λ (b : Bool). cond (not b) (1 + position_or_len p (drop (i + 1) xs)) 0) passes in
+        let place : i ≡ position_or_len p xs = omega (arith, none, before) in
+        let test : nat_lt i (length xs) ≡ true = grind (arith, nat_tests) in
+        ap (λ (b : Bool). cond b (Some i) None) (sym test) ∙ ap (λ (n : ℕ). cond (nat_lt n (length xs)) (Some n) None) place
+
+    pub first_none : i ≡ length xs → None ≡ position p xs
+    first_none end =
+        let past : length xs ≤ position_or_len p xs = omega (arith, before, end) in
+        let test : nat_lt (position_or_len p xs) (length xs) ≡ false = grind (arith, nat_tests) in
+        ap (λ (b : Bool). cond b (Some (position_or_len p xs)) None) (sym test)
+
 -- a search of the nodes is one of their names
-pub any_named : (test : Named → Bool) (inside seen : List ViewNode) (found : Bool) → inside ≡ seen → found ≡ list_any (λ (v : ViewNode). test (named_in v)) inside → found ≡ list_any test (names_in seen)
-any_named test inside seen found same is = is ∙ any_of_names test inside ∙ ap (λ (l : List ViewNode). list_any test (names_in l)) same
+pub any_named : (test : Named → Bool) (inside seen : List ViewNode) (found : Option ℕ) (some : Bool) → inside ≡ seen → found ≡ position (λ (v : ViewNode). test (named_in v)) inside → some ≡ is_some found → some ≡ list_any test (names_in seen)
+any_named test inside seen found some same is has =
+    has ∙ ap is_some is ∙ some_if (λ (v : ViewNode). test (named_in v)) _ _ ∙ any_before (λ (v : ViewNode). test (named_in v)) inside
+    ∙ any_of_names test inside ∙ ap (λ (l : List ViewNode). list_any test (names_in l)) same
 
 -- ---- counts
 

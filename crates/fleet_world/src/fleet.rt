@@ -1,6 +1,5 @@
 // The nodes of a world, their key and their clock.
 ghost use Rattle.std.specs.Prelude.{◌≡◌, if◌then◌else◌, ◌+◌, ◌<◌, ◌^◌, ◌++◌, ◌∷◌, Some, [], List, length, position, option_map, slice_get, IfOk, IfErr, IfSome, OnOk};
-ghost use Rattle.std.specs.List.{list_any};
 ghost use Rattle.scenario_lines.specs.LineContext.{is_called, is_in_role};
 ghost use Rattle.mav_nodes.specs.Nodes.{StationSide, new_drone, new_station, station_obeys};
 ghost use Rattle.node_reports.specs.Nodes.{Node as StateNode, Drone as StateDrone, Station as StateStation, node_name};
@@ -85,12 +84,17 @@ fn count_drones(nodes: &[Node]) -> usize
     count
 }
 
-// The index of the first node of this name.
+// The index of the first node of this name. It is a loop, since a closure over a node would be three functions to prove.
 fn first_called(nodes: &[Node], name: Name) -> Option<usize>
     ensures found { result ≡ position (λ node. is_called name (named_in node)) nodes.now }
     ensures within { IfSome result (λ index. index < length nodes.now) }
 {
-    nodes.iter().position(|node| node.is_called(name))
+    for index in 0..nodes.len() {
+        if nodes[index].is_called(name) {
+            return Some(index);
+        }
+    }
+    None
 }
 
 // The index of the first node of this name in this role.
@@ -98,30 +102,23 @@ fn first_in_role(nodes: &[Node], role: Role, name: Name) -> Option<usize>
     ensures found { result ≡ position (λ node. is_in_role role name (named_in node)) nodes.now }
     ensures within { IfSome result (λ index. index < length nodes.now) }
 {
-    nodes.iter().position(|node| node.is_in_role(role, name))
-}
-
-fn any_called(nodes: &[Node], name: Name) -> bool
-    ensures { result ≡ list_any (λ node. is_called name (named_in node)) nodes.now }
-{
-    nodes.iter().any(|node| node.is_called(name))
-}
-
-fn any_in_role(nodes: &[Node], role: Role, name: Name) -> bool
-    ensures { result ≡ list_any (λ node. is_in_role role name (named_in node)) nodes.now }
-{
-    nodes.iter().any(|node| node.is_in_role(role, name))
+    for index in 0..nodes.len() {
+        if nodes[index].is_in_role(role, name) {
+            return Some(index);
+        }
+    }
+    None
 }
 
 impl Names for Fleet {
     ghost known = { λ fleet. names_in fleet.nodes };
 
     fn has_name(&self, name: Name) -> bool {
-        any_called(&self.nodes, name)
+        first_called(&self.nodes, name).is_some()
     }
 
     fn has_in_role(&self, role: Role, name: Name) -> bool {
-        any_in_role(&self.nodes, role, name)
+        first_in_role(&self.nodes, role, name).is_some()
     }
 }
 

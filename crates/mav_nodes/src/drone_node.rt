@@ -30,12 +30,26 @@ use std::marker::Model;
 /// It saves before a timestamp above the stored low bound is admitted or sent, and before its plans change. If a save
 /// fails it loads, and what the store then has decides: a change of plans that isn't stored is refused, and a bound that
 /// isn't stored is a fault, after which the node isn't used again.
-#[derive(Drop)]
 pub struct DroneNode {
     alloc: Global,
     link: Link,
     drone: Drone,
     services: DroneServices,
+}
+
+// By hand, so that whoever drops a node proves one call.
+impl Drop for DroneNode {
+    fn drop(self) {
+        let DroneNode {
+            alloc: _,
+            link,
+            drone,
+            services,
+        } = self;
+        link.discard();
+        discard(drone);
+        services.discard();
+    }
 }
 
 impl Model for DroneNode {
@@ -158,18 +172,8 @@ impl DroneNode {
         }
     }
 
-    /// Drops it part by part: a deep value is dropped where nothing else is owned.
-    pub fn discard(self) {
-        let DroneNode {
-            alloc: _,
-            link,
-            drone,
-            services,
-        } = self;
-        link.discard();
-        discard(drone);
-        services.discard();
-    }
+    /// Drops it where nothing else is owned.
+    pub fn discard(self) {}
 
     /// Where the drone starts, and returns to.
     pub fn home(&self) -> Point

@@ -30,12 +30,26 @@ use std::marker::Model;
 
 /// A ground station over datagrams. Contracts see its end of the links, its plan core, and its services: it gives
 /// commands, reads, sets and lists parameters, and lists, fetches, stores and removes files.
-#[derive(Drop)]
 pub struct StationNode {
     alloc: Global,
     link: Link,
     station: Station,
     services: StationServices,
+}
+
+// By hand, so that whoever drops a node proves one call.
+impl Drop for StationNode {
+    fn drop(self) {
+        let StationNode {
+            alloc: _,
+            link,
+            station,
+            services,
+        } = self;
+        link.discard();
+        discard(station);
+        services.discard();
+    }
 }
 
 impl Model for StationNode {
@@ -171,18 +185,8 @@ impl StationNode {
         }
     }
 
-    /// Drops it part by part: a deep value is dropped where nothing else is owned.
-    pub fn discard(self) {
-        let StationNode {
-            alloc: _,
-            link,
-            station,
-            services,
-        } = self;
-        link.discard();
-        discard(station);
-        services.discard();
-    }
+    /// Drops it where nothing else is owned.
+    pub fn discard(self) {}
 
     /// Takes a datagram as a whole input by itself: each of its frames in order, and each reply is sent before the next
     /// frame is tried.

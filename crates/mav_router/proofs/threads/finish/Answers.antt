@@ -1,4 +1,4 @@
-use Rattle.std.proofs.Common.{◌≡◌, ◌∙◌, ◌⊎◌, ◌+◌, List, Some, slice_get, map, length, refl, sym, subst, ap, arith}
+use Rattle.std.proofs.Common.{◌≡◌, ◌∙◌, ◌⊎◌, ◌+◌, ◌≤◌, List, Some, slice_get, map, length, refl, sym, subst, ap, arith}
 use Rattle.std.proofs.lemmas.List.{length-map}
 use Rattle.mav_router.specs.declared.entries.Entry.{Entry}
 use Rattle.mav_router.specs.declared.entries.SwitchFault.TheVariants.{NoMemory}
@@ -76,3 +76,13 @@ give_links-requires-in-None-clause-new g c = c.requires.new.1
 
 pub give_links-requires-in-None-clause-room : goal.give_links-requires-in-None-clause-room
 give_links-requires-in-None-clause-room g c = c.requires.room
+
+pub write_each_left-requires-clause-few : goal.write_each_left-requires-clause-few
+write_each_left-requires-clause-few g c =
+    let same = ap length c.as_mut_slice.ensures.value in
+    omega (arith, same, c.args.sides.now.ok.0, c.requires.few)
+
+pub write_each_left-requires-clause-within : goal.write_each_left-requires-clause-within
+write_each_left-requires-clause-within g c = λ k side is.
+    subst (λ (l : List Entry). side.taken ≤ length l) (sym c.journal.ensures.entries)
+    (c.requires.within k side (subst (λ (l : List (Side g.row.L.Denot)). slice_get l k ≡ Some side) c.as_mut_slice.ensures.value is))
