@@ -21,7 +21,6 @@ use Rattle.scenario_lines.specs.declared.faults.Reason.{Reason}
 use Rattle.scenario_lines.specs.declared.lines.Line.{Line}
 use Rattle.scenario_lines.specs.declared.lines.Line.TheVariants.{Blank, Drone as DroneLine, Station as StationLine, Item as OneItem, Items, Empty, Begin, Cancel, Clear, Get, Command, Params, Heartbeat, Deliver, Flow, Noise, Tick, Clock, Restart, Sim, WhereIs}
 use Rattle.scenario_lines.specs.LineContext.{has_name, has_drone}
-use Rattle.scenario_lines.specs.LineContext as context
 use Rattle.scenario_lines.specs.Grammar.{against}
 use Rattle.scenario_lines.specs.Permits.{IsPermitted}
 use Rattle.node_reports.specs.Nodes.{Node, Drone, Station, node_name}
@@ -60,7 +59,7 @@ not_against false reason e = refl
 
 in_range : (name : Name) (nodes : List Node) → ((i : ℕ) (a : Node) → slice_get nodes i ≡ Some a → NameInRange (node_name a)) → has_drone (names_of nodes) name ≡ true → NameInRange name
 in_range name [] each h = absurd (cc)
-in_range name (Drone d ∷ ns) each h = elim (either_true (context.same_name (node_name (Drone d)) name) (has_drone (names_of ns) name) h) [
+in_range name (Drone d ∷ ns) each h = elim (either_true (same_name (node_name (Drone d)) name) (has_drone (names_of ns) name) h) [
   | inl x ↦ subst NameInRange (name_eq (node_name (Drone d)) name x) (each 0 (Drone d) refl)
   | inr y ↦ in_range name ns (λ i a found. each (suc i) a found) y
 ]

@@ -1,4 +1,4 @@
-use Rattle.std.proofs.Common.{inl}
+use Rattle.std.proofs.Common.{inl, ◌∙◌}
 use Rattle.live_node.proofs.Starting.{begun, opened}
 use Rattle.live_node.proofs.Openings.{unstarted_end}
 use Rattle.live_node.proofs.drones.run_drone.Goals as goal
@@ -10,7 +10,7 @@ returns-in-Ok-clause-runs g c =
     inl (record {
       start = b.node;
       starts = b.starts;
-      lived = c.run_live-ended.ensures.ran c.args.keeper.now b.node (opened _ _ _ _ _ _ _ _ _ _ b e.serves e.stays e.stream c.new-teller.ensures.name c.new-teller.ensures.sent c.new-teller.ensures.ending c.new-teller.ensures.ticks);
+      lived = c.run_live-ended.ensures.ran c.args.keeper.now b.node (opened _ _ _ _ _ _ _ _ _ _ b e.serves e.stays e.stream (c.new-teller.ensures.name ∙ c.drone_name.ensures) c.new-teller.ensures.sent c.new-teller.ensures.ending c.new-teller.ensures.ticks);
     })
 
 pub returns-in-Err-clause-end : goal.returns-in-Err-clause-end

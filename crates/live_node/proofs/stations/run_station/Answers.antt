@@ -1,4 +1,4 @@
-use Rattle.std.proofs.Common.{inl}
+use Rattle.std.proofs.Common.{inl, ◌∙◌}
 use Rattle.mav_nodes.specs.Nodes.{new_station}
 use Rattle.mav_nodes.proofs.StoreCalls.{serves_same}
 use Rattle.node_reports.specs.Nodes.{Station}
@@ -12,7 +12,7 @@ returns-clause-runs g c =
     let boot = c.now-boot.result in
     inl (ran_station c.args.key c.args.plan c.args.order boot c.new-2.result.items c.new-3.result.items c.new-keeper.result c.run_live-ended.new.keeper c.run_live-ended.result _ _ _ _ _ _ _ c.new-2.ensures.items c.new-3.ensures.items c.new-keeper.ensures.start c.now-boot.ensures.stays c.now-boot.ensures.answer
     (c.run_live-ended.ensures.ran c.new-keeper.result (Station (new_station c.args.key (stream_asked c.args.plan) boot))
-    (opened_station mem_stores c.new-keeper.result c.new-keeper.result c.args.key (stream_asked c.args.plan) boot c.in_ok-new.field-0 c.new-teller.result _ _ _ (serves_same _ _ _) c.in_ok-new.ensures.new c.in_ok-new.ensures.stream c.new-teller.ensures.name c.new-teller.ensures.sent c.new-teller.ensures.ending c.new-teller.ensures.ticks))
+    (opened_station mem_stores c.new-keeper.result c.new-keeper.result c.args.key (stream_asked c.args.plan) boot c.in_ok-new.field-0 c.new-teller.result _ _ _ (serves_same _ _ _) c.in_ok-new.ensures.new c.in_ok-new.ensures.stream (c.new-teller.ensures.name ∙ c.node_of.ensures) c.new-teller.ensures.sent c.new-teller.ensures.ending c.new-teller.ensures.ticks))
     (c.give.ensures.gives _ _))
 
 pub returns-clause-end : goal.returns-clause-end
@@ -20,7 +20,7 @@ returns-clause-end g c =
     let boot = c.now-boot.result in
     c.give.ensures.end (station_ends c.new-2.result.items c.new-3.result.items c.new-keeper.result c.run_live-ended.new.keeper c.args.plan c.args.order _ c.run_live-ended.result _ _ c.new-2.ensures.items c.new-3.ensures.items c.new-keeper.ensures.start
     (c.run_live-ended.ensures.ran c.new-keeper.result (Station (new_station c.args.key (stream_asked c.args.plan) boot))
-    (opened_station mem_stores c.new-keeper.result c.new-keeper.result c.args.key (stream_asked c.args.plan) boot c.in_ok-new.field-0 c.new-teller.result _ _ _ (serves_same _ _ _) c.in_ok-new.ensures.new c.in_ok-new.ensures.stream c.new-teller.ensures.name c.new-teller.ensures.sent c.new-teller.ensures.ending c.new-teller.ensures.ticks))
+    (opened_station mem_stores c.new-keeper.result c.new-keeper.result c.args.key (stream_asked c.args.plan) boot c.in_ok-new.field-0 c.new-teller.result _ _ _ (serves_same _ _ _) c.in_ok-new.ensures.new c.in_ok-new.ensures.stream (c.new-teller.ensures.name ∙ c.node_of.ensures) c.new-teller.ensures.sent c.new-teller.ensures.ending c.new-teller.ensures.ticks))
     c.run_live-ended.ensures.end)
 
 pub returns-clause-faults : goal.returns-clause-faults
