@@ -7,7 +7,7 @@ use param_proto::Param;
 use plan_items::PlanKind;
 use plan_upload::{OpFault, Outcome};
 
-/// What happens in a scenario, with the node that it happens to first. What is large is lent.
+/// What happens in a scenario, with its node first if it has one. What is large is lent.
 #[derive(Clone, Copy)]
 pub enum Event<'a> {
     /// A frame was sent, the scenario's frame of that number, which carries the message.
