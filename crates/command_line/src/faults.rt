@@ -2,13 +2,11 @@
 ghost use Rattle.std.specs.Prelude.{◌≡◌};
 
 use std::alloc::{AllocError, AllocFailed};
-use thiserror::Error;
 
-#[derive(Clone, Copy, Debug, Error)]
+#[derive(Clone, Copy)]
 pub enum WantedFault {
-    #[error("the words are of no command")]
+    /// The words are of no command.
     Usage,
-    #[error("out of memory")]
     NoMemory,
 }
 

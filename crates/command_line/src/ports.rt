@@ -12,7 +12,7 @@ use crate::numbers::number;
 use std::alloc::{AllocError, Global};
 
 /// What a socket does.
-#[derive(Clone, Copy, Debug)]
+#[derive(Clone, Copy)]
 pub enum SocketKind {
     /// Connects by TCP.
     Tcp,
@@ -25,7 +25,7 @@ pub enum SocketKind {
 }
 
 /// A socket, at a host and the number of a port there, 1 to 65,535.
-#[derive(Debug, Drop)]
+#[derive(Drop)]
 pub struct Socket {
     pub kind: SocketKind,
     pub host: String,
@@ -33,7 +33,7 @@ pub struct Socket {
 }
 
 /// What a file that is read holds.
-#[derive(Clone, Copy, Debug)]
+#[derive(Clone, Copy)]
 pub enum FilesKind {
     /// The bytes of a link.
     File,
@@ -42,7 +42,7 @@ pub enum FilesKind {
 }
 
 /// The names of a file that is read and of one that is written.
-#[derive(Debug, Drop)]
+#[derive(Drop)]
 pub struct Files {
     pub kind: FilesKind,
     pub input: String,
@@ -50,14 +50,14 @@ pub struct Files {
 }
 
 /// Where the packets of a link come from and go.
-#[derive(Debug, Drop)]
+#[derive(Drop)]
 pub enum Target {
     Socket(Socket),
     Files(Files),
 }
 
 /// A word PORT. An open port takes packets without a signature and packets of MAVLink 1 too.
-#[derive(Debug, Drop)]
+#[derive(Drop)]
 pub struct Port {
     pub is_open: bool,
     pub target: Target,

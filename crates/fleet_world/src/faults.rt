@@ -3,7 +3,7 @@ use mav_nodes::{NodeFault, StartFault};
 use std::alloc::{AllocError, AllocFailed};
 
 /// The limits of a scenario.
-#[derive(Clone, Copy, Debug, PartialEq, Eq)]
+#[derive(Clone, Copy)]
 pub enum Bound {
     /// 100,000 frames sent.
     Frames,
@@ -16,7 +16,7 @@ pub enum Bound {
 }
 
 /// Why a line isn't done. After it the world isn't used any more.
-#[derive(Clone, Copy, Debug, PartialEq, Eq)]
+#[derive(Clone, Copy)]
 pub enum WorldFault {
     /// One more than the limit would be made.
     Limit(Bound),

@@ -6,7 +6,6 @@ use plan_store::Keeper;
 pub type Store = Box<dyn Keeper>;
 
 /// What the words ask `main` to make, in this order. What they don't name is None or empty.
-#[derive(Debug)]
 pub struct Wanted {
     /// The main input: the word FILE, or what `--file` names; `-` is standard input.
     pub main: Option<String>,

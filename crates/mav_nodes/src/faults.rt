@@ -8,7 +8,7 @@ use plan_upload::{BeginFault, KeptFault, OpFault};
 use std::alloc::{AllocError, AllocFailed};
 
 /// Why a node is given up: after it, the node isn't used again.
-#[derive(Clone, Copy, Debug, PartialEq, Eq)]
+#[derive(Clone, Copy)]
 pub enum NodeFault {
     /// No timestamp was left for a frame to send.
     StampsSpent,
@@ -69,7 +69,7 @@ impl From<KeepFault> for NodeFault {
 }
 
 /// Why a drone doesn't start.
-#[derive(Clone, Copy, Debug, PartialEq, Eq)]
+#[derive(Clone, Copy)]
 pub enum StartFault {
     /// The store failed.
     Store,

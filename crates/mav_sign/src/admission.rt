@@ -2,7 +2,7 @@
 
 /// The verdict on a frame: admitted, or the first reason against it (MAVLink guide, Message Signing: Accepting Signed
 /// Packets). Only an admitted frame may change anything.
-#[derive(Clone, Copy, Debug, PartialEq, Eq)]
+#[derive(Clone, Copy, PartialEq, Eq)]
 pub enum Admit {
     Admitted,
     /// It has no signature block.
@@ -21,5 +21,5 @@ pub enum Admit {
 }
 
 /// No timestamp of 6 bytes is left to send.
-#[derive(Clone, Copy, Debug, PartialEq, Eq)]
+#[derive(Clone, Copy)]
 pub struct StampsSpent;

@@ -6,7 +6,7 @@ use crate::NoMemory;
 use std::alloc::Global;
 
 /// Where an input has an error.
-#[derive(Clone, Copy, Debug, PartialEq, Eq)]
+#[derive(Clone, Copy)]
 pub enum Place {
     /// A line of the main input, counted from 1.
     Line(usize),
@@ -24,7 +24,7 @@ pub enum Place {
 }
 
 /// What is wrong there. Each is printed as one or two words.
-#[derive(Clone, Copy, Debug, PartialEq, Eq)]
+#[derive(Clone, Copy)]
 pub enum Reason {
     Long,
     Word,
@@ -53,7 +53,7 @@ pub enum Reason {
 }
 
 /// A limit of the program, which is printed with its number.
-#[derive(Clone, Copy, Debug, PartialEq, Eq)]
+#[derive(Clone, Copy)]
 pub enum Bound {
     Lines,
     Frames,
@@ -69,7 +69,7 @@ pub enum Bound {
 }
 
 /// An error of an input, at which a run stops.
-#[derive(Clone, Copy, Debug, PartialEq, Eq)]
+#[derive(Clone, Copy)]
 pub enum InputError {
     Bad(Place, Reason),
     AtLimit(Bound),

@@ -6,7 +6,7 @@ use crate::NoMemory;
 use std::alloc::Global;
 
 /// Why a run of `route`, `drone` or `station` ends, other than by its inputs and its output.
-#[derive(Clone, Copy, Debug, PartialEq, Eq)]
+#[derive(Clone, Copy)]
 pub enum LiveEnd {
     /// The operation ended with this code.
     RefusedWith(u8),

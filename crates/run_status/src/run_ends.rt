@@ -9,7 +9,7 @@ use mav_ports::WriteFault;
 use std::alloc::{AllocError, AllocFailed, Global};
 
 /// Why a run ends before its work is done.
-#[derive(Clone, Copy, Debug, PartialEq, Eq)]
+#[derive(Clone, Copy)]
 pub enum RunEnd {
     /// The words aren't of the grammar.
     Usage,

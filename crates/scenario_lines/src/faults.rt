@@ -3,7 +3,7 @@ use std::alloc::AllocError;
 
 /// The first reason against a scenario line, in this order but for the arguments, which are tested
 /// from left to right.
-#[derive(Clone, Copy, Debug, PartialEq, Eq)]
+#[derive(Clone, Copy)]
 pub enum Reason {
     /// More than 4,096 bytes.
     Long,
@@ -32,7 +32,7 @@ pub enum Reason {
 }
 
 /// Why a line isn't read.
-#[derive(Clone, Copy, Debug, PartialEq, Eq)]
+#[derive(Clone, Copy)]
 pub enum LineFault {
     Bad(Reason),
     NoMemory,
