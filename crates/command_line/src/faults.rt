@@ -2,11 +2,13 @@
 ghost use Rattle.std.specs.Prelude.{◌≡◌};
 
 use std::alloc::{AllocError, AllocFailed};
+use thiserror::Error;
 
-#[derive(Clone, Copy)]
+#[derive(Clone, Copy, Debug, Error)]
 pub enum WantedFault {
-    /// The words are of no command.
+    #[error("the words are of no command")]
     Usage,
+    #[error("out of memory")]
     NoMemory,
 }
 
