@@ -1,5 +1,5 @@
 -- From the jobs of all ports to the end of a run.
-use Rattle.std.proofs.Common.{All, ◌⊎◌, ◌≡◌, ◌∙◌, ◌<◌, ◌≤◌, ℕ, ◌+◌, arith, List, [], length, map, replicate, sum_by, slice_get, Some, ap, sym, subst}
+use Rattle.std.proofs.Common.{All, false, ◌⊎◌, ◌≡◌, ◌∙◌, ◌<◌, ◌≤◌, ℕ, ◌+◌, arith, List, [], length, map, replicate, sum_by, slice_get, Some, ap, sym, subst}
 use Rattle.std.proofs.lemmas.List.{length-map, length-replicate}
 use Rattle.std.proofs.lemmas.Option.{get_or_from_slice_get}
 use Rattle.std.proofs.lemmas.Simd.{map-map}
@@ -25,7 +25,8 @@ use Rattle.mav_router.specs.History.{history_of, entries_in}
 use Rattle.mav_router.specs.Journal.{Rules, SwitchState, IsJournal, frames_from}
 use Rattle.mav_router.specs.Parts.{IsReady, PartSoFar, PartEnds}
 use Rattle.mav_router.specs.Runs.{HadTurns, IsFresh, AllFresh, AllTurned}
-use Rattle.mav_router.specs.Threads.{IsStocked, IsPlaced, HasServed, HasClosed, HasWrittenLeft, HasRouted, HasStopped}
+use Rattle.mav_router.specs.Threads.{IsStocked, IsPlaced, HasServed, HasClosed, HasWrittenLeft}
+use Rattle.mav_router.specs.Routed.{HasRouted, HasStopped}
 use Rattle.mav_router.proofs.Halts.{halted}
 use Rattle.mav_router.proofs.Joined.{own_frames, part_ready, part_starts, part_done, parts_halted}
 use Rattle.mav_router.proofs.Journals.{element}
@@ -96,7 +97,7 @@ jobs_ready {A} lock rules turns jobs lanes seats few new seats_are lanes_are tur
       r.1,
     ))
 
-pub jobs_served : {A : Type 0} (state : A → LinkState) (lock : Lock SwitchEvent) (rules : Rules) (turns : ℕ) (before : List A) (lanes : List Lane) (seats : List (Participant SwitchEvent)) (old new : List (PortJob A)) (sides : List (Side A)) (last : List (Participant SwitchEvent)) → seats ≡ replicate rules.ports (opened lock.id (history_of rules [])) → map (λ (j : PortJob A). j.part.side.link) old ≡ before → map (λ (j : PortJob A). j.part.side.lane) old ≡ lanes → map (λ (j : PortJob A). j.part.seat) old ≡ seats → AllFresh rules lanes → AllPlaced old → AllShare lock rules turns old → length new ≡ length old → ((k : ℕ) (b c : PortJob A) → slice_get old k ≡ Some b → slice_get new k ≡ Some c → HasRun state b.turn.now b.rules.now b.turns b.part c.part) → sides ≡ map (λ (j : PortJob A). j.part.side) new → last ≡ map (λ (j : PortJob A). j.part.seat) new → HasServed state lock rules turns before sides last
+pub jobs_served : {A : Type 0} (state : A → LinkState) (lock : Lock SwitchEvent) (rules : Rules) (turns : ℕ) (before : List A) (lanes : List Lane) (seats : List (Participant SwitchEvent)) (old new : List (PortJob A)) (sides : List (Side A)) (last : List (Participant SwitchEvent)) → seats ≡ replicate rules.ports (opened lock.id (history_of rules [])) → map (λ (j : PortJob A). j.part.side.link) old ≡ before → map (λ (j : PortJob A). j.part.side.lane) old ≡ lanes → map (λ (j : PortJob A). j.part.seat) old ≡ seats → AllFresh rules lanes → AllPlaced old → AllShare lock rules turns old → length new ≡ length old → ((k : ℕ) (b c : PortJob A) → slice_get old k ≡ Some b → slice_get new k ≡ Some c → HasRun c.part.side.halt state b.turn.now b.rules.now b.turns b.part c.part) → sides ≡ map (λ (j : PortJob A). j.part.side) new → last ≡ map (λ (j : PortJob A). j.part.seat) new → HasServed state lock rules turns before sides last
 jobs_served {A} state lock rules turns before lanes seats old new sides last seats_new links_are lanes_are seats_are fresh placed shared long ran sides_are last_are =
     served state lock rules turns (λ (j : PortJob A). j.part) before lanes seats old new sides last seats_new links_are lanes_are seats_are fresh placed long
     (λ k b c is_b is_c.
@@ -192,18 +193,10 @@ stopped {A} state rules turns why journal before after sides small legal fault a
     let s = c.served in
     record {
       legal = legal;
-      halted = parts_halted state c.lock rules turns why journal before after s.parts small s.count s.ready (begins_of state rules turns journal before sides c) (whole_of state rules turns journal before sides c) s.ends
+      stopped = parts_halted state c.lock rules turns why journal before after s.parts small s.count s.ready (begins_of state rules turns journal before sides c) (whole_of state rules turns journal before sides c) s.ends
           (λ k x p is_x is_p. ap state (sym (image_is (λ (y : Side A). y.link) sides after k p.side x after_are (mapped_at (λ (q : Part A). q.side) s.parts sides k p s.of_sides is_p) is_x)))
           (subst (λ (l : List (Side A)). (why ≡ NoMemory) ⊎ HasFault l why) (sym s.of_sides) fault);
     }
-
--- nothing was routed
-pub unrouted : {A : Type 0} (state : A → LinkState) (rules : Rules) (links after : List A) (why : SwitchFault) (journal : List Entry) → why ≡ NoMemory → journal ≡ [] → after ≡ links → HasStopped false state rules links after why journal
-unrouted {A} state rules links after why journal is none same =
-    subst (λ (f : SwitchFault). HasStopped false state rules links after f journal) (sym is)
-    (subst (λ (j : List Entry). HasStopped false state rules links after NoMemory j) (sym none)
-    (subst (λ (l : List A). HasStopped false state rules links l NoMemory []) (sym same)
-    (record { legal = tt; halted = halted state rules NoMemory [] links links (nothing_routed state rules links) })))
 
 -- the end of a run by the rules that its threads went by
 pub ends_routed : {A : Type 0} (state : A → LinkState) (lock : Lock SwitchEvent) (rules : Rules) (turns : ℕ) (before after : List A) (sides : List (Side A)) (seats : List (Participant SwitchEvent)) (switch : SwitchState) (opening : List SwitchEvent) (journal : List Entry) (ends : List PortEnd) → 0 < length before → HasServed state lock rules turns before sides seats → All (Continues (history_of switch.rules switch.journal)) seats → opening ≡ history_of rules [] → length (history_of switch.rules switch.journal) ≡ length opening + sum_by (λ (s : Participant SwitchEvent). length s.own) seats → ((b : List A) → HasClosed state switch.rules turns switch.journal b sides → HasRouted state switch.rules turns b after journal ends) → HasRouted state rules turns before after journal ends
