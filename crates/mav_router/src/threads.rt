@@ -13,9 +13,7 @@ use crate::joining::{Stock, dismiss, give_links, muster, new_stock};
 use crate::parts::Side;
 use crate::routing::no_memory;
 use crate::signals::Signals;
-use crate::{
-    NoMemory, PortEnd, RouteEnd, RouteFault, RoutePlan, RouterRules, Switch, SwitchFault,
-};
+use crate::{NoMemory, PortEnd, RouteEnd, RouteFault, RoutePlan, RouterRules, Switch, SwitchFault};
 use dialect::Dialect;
 use mav_links::Link;
 use mav_sign::Key;
