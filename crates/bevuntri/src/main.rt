@@ -7,7 +7,7 @@ ghost use Rattle.line_commands.specs.Wants.{AreThere, Wants};
 use mav_links::Link;
 use mav_ports::{StdClock, StdSink, StdSource};
 use real_ports::{Reader, open_input, open_link, open_store, wait_of, words_of};
-use station_cli::{Inputs, Store, Threaded, Wanted, WantedFault, run, wanted};
+use station_cli::{Inputs, Store, Wanted, WantedFault, run, wanted};
 use std::alloc::AllocError;
 use std::io;
 use std::process::ExitCode;
@@ -100,7 +100,7 @@ fn run_over<R: Threads + Wait + Sync>(
     let mut out = StdSink::new(io::writer(rt));
     let mut clock = StdClock::new(rt);
     run(
-        &Threaded { rt: threads },
+        threads,
         rt.alloc(),
         words,
         inputs,

@@ -6,7 +6,7 @@ ghost use Rattle.line_commands.specs.Routing.{AreAsked};
 ghost use Rattle.line_commands.specs.Wants.{keepers_asked};
 
 use mav_ports::{Got, MemClock, Sink, Source, StdSink, StdSource, SureSink};
-use station_cli::{Alone, Inputs, Wanted, WantedFault, run, wanted};
+use station_cli::{Inputs, Wanted, WantedFault, run_alone, wanted};
 use std::alloc::{AllocError, Global};
 use std::io::{self, Error, ErrorKind, Read, Write};
 use std::test::Fail;
@@ -199,8 +199,7 @@ fn run_unlinked<S: Source, K: Sink>(
     requires { (asked : Asked) → Asks built (map string_bytes words.now) asked → AreAsked 0 asked × (0 ≡ keepers_asked asked) }
 {
     let mut clock = MemClock::new(0);
-    run(
-        &Alone,
+    run_alone(
         alloc,
         words,
         inputs,

@@ -8,7 +8,7 @@ ghost use Rattle.line_commands.specs.Wants.{keepers_asked};
 use crate::faults::words_of;
 use mav_links::{Link, MemLink};
 use mav_ports::{MemClock, SureSink, SureSource};
-use station_cli::{Alone, Inputs, Wanted, run, wanted};
+use station_cli::{Inputs, Wanted, run_alone, wanted};
 use std::alloc::{AllocError, Global};
 use std::test::Fail;
 
@@ -151,8 +151,7 @@ fn run_linked(
         key: SureSource::new(KEY.to_vec(alloc)?),
     };
     let mut clock = MemClock::new(1_000_000);
-    Ok(run(
-        &Alone,
+    Ok(run_alone(
         alloc,
         words,
         &mut inputs,

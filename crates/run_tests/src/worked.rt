@@ -1,4 +1,4 @@
-// What the contract of `run` alone says of whole runs, at the ports in memory.
+// What the contract of `run_alone` alone says of whole runs, at the ports in memory.
 ghost use Rattle.std.specs.Prelude.{◌≡◌, ◌∷◌, ◌⊎◌, [], true, false, Some, codes, map};
 ghost use Rattle.std.specs.Prelude.{string_bytes, IfOk};
 ghost use Rattle.decode_command.specs.Examples.{one_heartbeat, one_heartbeat_text};
@@ -7,7 +7,7 @@ ghost use Rattle.fleet_examples.specs.OneItem.{one_item, one_item_installed, IsI
 ghost use Rattle.run_tests.specs.Restarts.{restart_between, restart_between_report};
 
 use mav_ports::{MemClock, Sink, Source, SureSink, SureSource};
-use station_cli::{Alone, Inputs, run};
+use station_cli::{Inputs, run_alone};
 use std::alloc::{AllocError, Global};
 use std::test::Fail;
 
@@ -60,8 +60,7 @@ fn run_one(
     ensures reported { map string_bytes words.now ≡ codes "dialect" ∷ []
         → result ≡ 0 → ⟦<SureSink as Sink>⟧.sent out.new ≡ Some profile_layouts }
 {
-    run(
-        &Alone,
+    run_alone(
         alloc,
         words,
         inputs,

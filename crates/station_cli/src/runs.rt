@@ -17,14 +17,16 @@ use crate::making::run_make;
 use command_line::{Command, Line, OptionName, Task, WantedFault, read};
 use fence_command::fence;
 use line_commands::{
-    Inputs, Store, run_decode, run_dialect, run_drone, run_log, run_route, run_station,
+    Alone, Inputs, Router, Store, Threaded, run_decode, run_dialect, run_drone, run_log, run_route,
+    run_station,
 };
 use mav_links::Link;
 use mav_ports::{Clock, Sink, Source};
 use plan_store::Keeper;
-use route_command::Router;
 use run_status::{RunEnd, code_of, write_status};
 use std::alloc::Global;
+use std::sync::Wait;
+use std::thread::Threads;
 
 // Runs the command of a line, `route` by this router; a station takes the task. Why it halted, if it did, isn't written.
 fn run_line<T: Router, S: Source, K: Sink, C: Clock>(
@@ -121,16 +123,8 @@ fn run_words<T: Router, S: Source, K: Sink, C: Clock>(
     )
 }
 
-/// Runs the command that the words name, and returns its exit status. The words are those after
-/// the program's name. A `route` runs by the router: [`Threaded`](crate::Threaded) has a thread for each port unless the
-/// words have `--one`, and [`Alone`](crate::Alone) starts none.
-///
-/// 0 done, 2 `usage`, 3 `bad PLACE: REASON`, 4 `read fault`, 5 a write failed, 6 `limit WHAT N`,
-/// 7 out of memory, 8 `refused CODE`, 9 `no answer N`, 10 `store fault`, 11 `turns spent N`, 12 `port fault`,
-/// 13 `stamps spent`. The text of a status is the last line of the output.
-///
-/// `RunPromises` has all that is promised of the run, and `Does` what each command does.
-pub fn run<T: Router, S: Source, K: Sink, C: Clock>(
+// Runs the command that the words name, `route` by this router, and returns its exit status.
+fn run_by<T: Router, S: Source, K: Sink, C: Clock>(
     router: &T,
     alloc: Global,
     words: &[String],
@@ -141,7 +135,6 @@ pub fn run<T: Router, S: Source, K: Sink, C: Clock>(
     keepers: &mut Vec<Store>,
 ) -> u8
     requires ready { T.ready }
-    // There are as many links as the words name ports, and as many stores as they name.
     requires asked { AreThere (map string_bytes words.now) (length ports.old.items) (length keepers.old.items) }
     ensures promises { RunPromises (map string_bytes words.now)
         (surroundings S.has_ended S.faults S.idles S.left state
@@ -151,4 +144,62 @@ pub fn run<T: Router, S: Source, K: Sink, C: Clock>(
 {
     let ended = run_words(router, alloc, words, inputs, ports, keepers, out, clock);
     code_of(write_status(alloc, ended, out))
+}
+
+/// Runs the command that the words name, and returns its exit status. The words are those after
+/// the program's name. A `route` without `--one` runs with a thread for each port.
+///
+/// 0 done, 2 `usage`, 3 `bad PLACE: REASON`, 4 `read fault`, 5 a write failed, 6 `limit WHAT N`,
+/// 7 out of memory, 8 `refused CODE`, 9 `no answer N`, 10 `store fault`, 11 `turns spent N`, 12 `port fault`,
+/// 13 `stamps spent`. The text of a status is the last line of the output.
+///
+/// `RunPromises` has all that is promised of the run, and `Does` what each command does.
+pub fn run<R: Threads + Wait + Sync, S: Source, K: Sink, C: Clock>(
+    rt: &R,
+    alloc: Global,
+    words: &[String],
+    inputs: &mut Inputs<S>,
+    out: &mut K,
+    clock: &mut C,
+    ports: &mut Vec<Box<dyn Link>>,
+    keepers: &mut Vec<Store>,
+) -> u8
+    // There are as many links as the words name ports, and as many stores as they name.
+    requires { AreThere (map string_bytes words.now) (length ports.old.items) (length keepers.old.items) }
+    ensures promises { RunPromises (map string_bytes words.now)
+        (surroundings S.has_ended S.faults S.idles S.left state
+        (stores_of ⟦<Store as Keeper>⟧.faults ⟦<Store as Keeper>⟧.is_infallible ⟦<Store as Keeper>⟧.contents) C.always
+        inputs.old inputs.new ports.old ports.new keepers.old keepers.new clock.old clock.new)
+        (output_of K.faults K.sent out.old out.new) result }
+{
+    run_by(
+        &Threaded { rt },
+        alloc,
+        words,
+        inputs,
+        out,
+        clock,
+        ports,
+        keepers,
+    )
+}
+
+/// The same on the caller's thread alone: a `route` without `--one` runs as one with it.
+pub fn run_alone<S: Source, K: Sink, C: Clock>(
+    alloc: Global,
+    words: &[String],
+    inputs: &mut Inputs<S>,
+    out: &mut K,
+    clock: &mut C,
+    ports: &mut Vec<Box<dyn Link>>,
+    keepers: &mut Vec<Store>,
+) -> u8
+    requires { AreThere (map string_bytes words.now) (length ports.old.items) (length keepers.old.items) }
+    ensures promises { RunPromises (map string_bytes words.now)
+        (surroundings S.has_ended S.faults S.idles S.left state
+        (stores_of ⟦<Store as Keeper>⟧.faults ⟦<Store as Keeper>⟧.is_infallible ⟦<Store as Keeper>⟧.contents) C.always
+        inputs.old inputs.new ports.old ports.new keepers.old keepers.new clock.old clock.new)
+        (output_of K.faults K.sent out.old out.new) result }
+{
+    run_by(&Alone, alloc, words, inputs, out, clock, ports, keepers)
 }

@@ -1,5 +1,5 @@
 use Rattle.station_cli.proofs.Told.{promises}
-use Rattle.station_cli.proofs.runs.run.Goals as goal
+use Rattle.station_cli.proofs.runs.run_by.Goals as goal
 
 pub returns : goal.returns
 returns g c =
