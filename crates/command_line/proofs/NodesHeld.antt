@@ -1,16 +1,18 @@
 -- What the words of `drone` and `station` that the program holds say.
-use Rattle.std.proofs.Common.{◌≡◌, ◌∙◌, ◌≤◌, ◌<◌, ◌-◌, ℕ, Bool, true, false, List, [], ◌∷◌, refl, sym, ap, arith, lit≤, length, take, drop, get_or, map, Option, Some, None, is_some, String, string_bytes}
+use Rattle.std.proofs.Common.{◌≡◌, ◌∙◌, ◌≤◌, ◌<◌, ◌-◌, ◌&&◌, ℕ, Bool, true, false, List, [], ◌∷◌, refl, sym, ap, subst, arith, lit≤, length, take, drop, get_or, map, Option, Some, None, is_some, Result, Ok, Err, IfOk, String, string_bytes}
 use Rattle.std.proofs.lemmas.Bool.{and_from, and_left, and_right}
 use Rattle.std.proofs.lemmas.Grind.{common_steps}
 use Rattle.std.specs.Fmt.{decimal}
+use Rattle.std.specs.declared.alloc.AllocError.{AllocError}
 use Rattle.std.specs.declared.alloc.Global.{Global}
 use Rattle.command_line.specs.declared.commands.Command.TheVariants.{Drone, Station}
 use Rattle.command_line.specs.declared.operations.Operation.{Operation}
 use Rattle.command_line.specs.declared.operations.Task.{Task}
+use Rattle.command_line.specs.declared.plain.Values.{Values}
 use Rattle.command_line.specs.declared.ports.Port.{Port}
-use Rattle.command_line.specs.Lines.{Says, is_number_and_file, NumberRead}
+use Rattle.command_line.specs.Lines.{Says, is_number_and_file, NumberRead, NodeRead, PlainRead}
 use Rattle.command_line.specs.Names.{port_words}
-use Rattle.command_line.specs.Nodes.{is_node, task_in, is_drone, is_station, OnePort, DroneSays, StationSays}
+use Rattle.command_line.specs.Nodes.{is_node, task_in, is_drone, is_station, OnePort, DroneSays, StationSays, NodeSays}
 use Rattle.command_line.specs.Numbers.{number_in}
 use Rattle.command_line.specs.OperationTexts.{operation_in}
 use Rattle.command_line.specs.PortTexts.{is_some_text, is_port, port_text}
@@ -79,23 +81,22 @@ not_four file_given (x ∷ y ∷ []) few = refl
 not_four file_given (x ∷ y ∷ z ∷ []) few = refl
 not_four file_given (x ∷ y ∷ z ∷ w ∷ ws) few = absurd (omega (arith, few))
 
--- a station's words of which one isn't read
-module _ (file_given : Bool) (ws : List (List ℕ)) (sys comp drone port : List ℕ) (op : List (List ℕ)) (are : ws ≡ sys ∷ comp ∷ drone ∷ port ∷ op) where
-  pub no_system : None ≡ number_in 1 255 sys → is_station file_given ws ≡ false
-  no_system none = ap (is_station file_given) are ∙ and_left (is_node sys) _ (ap is_some (sym none))
+-- a station's words of which no task is read
+pub no_task : (file_given : Bool) (ws : List (List ℕ)) (sys comp drone port : List ℕ) (op : List (List ℕ)) → ws ≡ sys ∷ comp ∷ drone ∷ port ∷ op → None ≡ task_in file_given comp drone op → is_station file_given ws ≡ false
+no_task file_given ws sys comp drone port op are none = ap (is_station file_given) are ∙ and_right (is_node sys) _ (and_left (is_some (task_in file_given comp drone op)) (is_port port) (ap is_some (sym none)))
 
-  pub no_task : None ≡ task_in file_given comp drone op → is_station file_given ws ≡ false
-  no_task none = ap (is_station file_given) are ∙ and_right (is_node sys) _ (and_left (is_some (task_in file_given comp drone op)) (is_port port) (ap is_some (sym none)))
-
-  pub no_port : is_port port ≡ false → is_station file_given ws ≡ false
-  no_port none = ap (is_station file_given) are ∙ and_right (is_node sys) _ (and_right (is_some (task_in file_given comp drone op)) (is_port port) none)
+-- one of two isn't so, whatever stands between them
+none_between : (a b c : Bool) → (a && c) ≡ false → (a && (b && c)) ≡ false
+none_between false b c h = refl
+none_between true false c h = refl
+none_between true true c h = h
 
 -- one port
 port_is : (port : List ℕ) (ports : List Port) → OnePort port ports → map port_text ports ≡ port ∷ []
 port_is port ports one = ap (map port_text) one.ports_are ∙ ap (λ (w : List ℕ). w ∷ []) one.word_is
 
 -- what was read is what the words say
-pub drone_read : (ws : List (List ℕ)) (sys port : List ℕ) (system : ℕ) (ports : List Port) → ws ≡ sys ∷ port ∷ [] → Some system ≡ number_in 1 255 sys → is_port port ≡ true → OnePort port ports
+drone_read : (ws : List (List ℕ)) (sys port : List ℕ) (system : ℕ) (ports : List Port) → ws ≡ sys ∷ port ∷ [] → Some system ≡ number_in 1 255 sys → is_port port ≡ true → OnePort port ports
     → (is_drone ws ≡ true) × Says Drone ws ports 0 × DroneSays ws ports system
 drone_read ws sys port system ports are node is one =
     let (written, least, most) = number_is 1 255 system sys (sym node) in (
@@ -104,7 +105,7 @@ drone_read ws sys port system ports are node is one =
       record { port = port; plain_is = are ∙ ap (λ w. w ∷ port ∷ []) written; least = least; one_port = one },
     )
 
-pub station_read : (file_given : Bool) (ws : List (List ℕ)) (sys comp drone port : List ℕ) (op : List (List ℕ)) (system : ℕ) (task : Task) (ports : List Port) → ws ≡ sys ∷ comp ∷ drone ∷ port ∷ op
+station_read : (file_given : Bool) (ws : List (List ℕ)) (sys comp drone port : List ℕ) (op : List (List ℕ)) (system : ℕ) (task : Task) (ports : List Port) → ws ≡ sys ∷ comp ∷ drone ∷ port ∷ op
     → Some system ≡ number_in 1 255 sys → Some task ≡ task_in file_given comp drone op → is_port port ≡ true → OnePort port ports
     → (is_station file_given ws ≡ true) × Says Station ws ports 0 × StationSays ws ports system task
 station_read file_given ws sys comp drone port op system task ports are node found is one =
@@ -125,3 +126,19 @@ station_read file_given ws sys comp drone port op system task ports are node fou
         operation_is = operation_says op task.operation parts.operation_is;
       },
     )
+
+-- what was read of a system and a port is what was read of the line's words
+pub drone_held : (ws : List (List ℕ)) (sys port : List ℕ) (r : Result (Option Values) AllocError) → ws ≡ sys ∷ port ∷ [] → IfOk r (NodeRead sys port None) → IfOk r (PlainRead Drone false ws)
+drone_held ws sys port (Err e) are h = tt
+drone_held ws sys port (Ok None) are h = ap is_drone are ∙ h
+drone_held ws sys port (Ok (Some values)) are (node, is, one, number, task) =
+    let read = drone_read ws sys port values.system values.ports.items are node is one in
+    (read.0, subst (λ n. Says Drone ws values.ports.items n) (sym number) read.1, read.2)
+
+pub station_held : (file_given : Bool) (ws : List (List ℕ)) (sys comp drone port : List ℕ) (op : List (List ℕ)) (task : Task) (r : Result (Option Values) AllocError) → ws ≡ sys ∷ comp ∷ drone ∷ port ∷ op → Some task ≡ task_in file_given comp drone op
+    → IfOk r (NodeRead sys port (Some task)) → IfOk r (PlainRead Station file_given ws)
+station_held file_given ws sys comp drone port op task (Err e) are found h = tt
+station_held file_given ws sys comp drone port op task (Ok None) are found h = ap (is_station file_given) are ∙ none_between (is_node sys) (is_some (task_in file_given comp drone op)) (is_port port) h
+station_held file_given ws sys comp drone port op task (Ok (Some values)) are found (node, is, one, number, same) =
+    let read = station_read file_given ws sys comp drone port op values.system task values.ports.items are node found is one in
+    (read.0, subst (λ n. Says Station ws values.ports.items n) (sym number) read.1, subst (λ t. NodeSays Station ws values.ports.items values.system t) (sym same) read.2)

@@ -11,14 +11,15 @@ use Rattle.command_line.specs.declared.pieces.Place.{Place}
 use Rattle.command_line.specs.declared.lines.Setting.{Setting}
 use Rattle.command_line.specs.declared.lines.Line.{Line}
 use Rattle.command_line.specs.declared.plain.Values.{Values}
+use Rattle.command_line.specs.declared.operations.Task.{Task}
 use Rattle.command_line.specs.declared.ports.Port.{Port}
 use Rattle.command_line.specs.Commands.{has_option, needs_key}
 use Rattle.command_line.specs.Numbers.{number_in}
-use Rattle.command_line.specs.PortTexts.{is_some_text, is_router_port, port_text}
+use Rattle.command_line.specs.PortTexts.{is_some_text, is_port, is_router_port, port_text}
 use Rattle.command_line.specs.Built.{is_built, is_option_built}
 use Rattle.command_line.specs.Forms.{Given, latest_start, most_turns, all_differ, has_given, stdin_files}
 use Rattle.command_line.specs.Names.{port_words}
-use Rattle.command_line.specs.Nodes.{is_drone, is_station, NodeSays}
+use Rattle.command_line.specs.Nodes.{is_node, is_drone, is_station, OnePort, NodeSays}
 use Rattle.command_line.specs.Pieces.{Parts, joined, parts_at}
 use Rattle.command_line.specs.Grammar.{Asked}
 
@@ -124,6 +125,13 @@ PlainRead command file_given plain None = plain_now command file_given plain ≡
 PlainRead command file_given plain (Some values) =
     (plain_now command file_given plain ≡ true) × Says command plain values.ports.items values.number
     × NodeSays command plain values.ports.items values.system values.task
+
+-- what was read of a system and a port, beside a task; nothing exactly if one of the words isn't such
+abbrev pub NodeRead : (sys port : List ℕ) → Option Task → Option Values → Type 0
+NodeRead sys port task None = (is_node sys && is_port port) ≡ false
+NodeRead sys port task (Some values) =
+    (Some values.system ≡ number_in 1 255 sys) × (is_port port ≡ true) × OnePort port values.ports.items
+    × (values.number ≡ 0) × (values.task ≡ task)
 
 -- what a line's plain words say
 abbrev pub LineSays : Line → Type 0

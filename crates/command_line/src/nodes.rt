@@ -5,7 +5,7 @@ ghost use Rattle.command_line.specs.declared.commands.Command.{Command};
 ghost use Rattle.command_line.specs.Numbers.{number_in};
 ghost use Rattle.command_line.specs.Nodes.{task_in, OnePort};
 ghost use Rattle.command_line.specs.PortTexts.{is_port};
-ghost use Rattle.command_line.specs.Lines.{PlainRead};
+ghost use Rattle.command_line.specs.Lines.{NodeRead, PlainRead};
 
 use crate::numbers::number;
 use crate::operations::{Task, read_operation};
@@ -63,6 +63,29 @@ fn one_port(alloc: Global, word: &str) -> Result<Option<Vec<Port>>, AllocError>
     Ok(Some(ports))
 }
 
+// SYS and PORT, beside a task that was read.
+fn read_node(
+    alloc: Global,
+    system: &str,
+    port: &str,
+    task: Option<Task>,
+) -> Result<Option<Values>, AllocError>
+    ensures { IfOk result (NodeRead system.now port.now task) }
+{
+    let Some(system) = node(system) else {
+        return Ok(None);
+    };
+    let Some(ports) = one_port(alloc, port)? else {
+        return Ok(None);
+    };
+    Ok(Some(Values {
+        ports,
+        number: 0,
+        system,
+        task,
+    }))
+}
+
 /// SYS PORT.
 pub(crate) fn read_drone(alloc: Global, words: &[String]) -> Result<Option<Values>, AllocError>
     ensures { IfOk result (PlainRead Command.Drone false (map string_bytes words.now)) }
@@ -70,18 +93,7 @@ pub(crate) fn read_drone(alloc: Global, words: &[String]) -> Result<Option<Value
     let [system, port] = words else {
         return Ok(None);
     };
-    let Some(system) = node(system.as_str()) else {
-        return Ok(None);
-    };
-    let Some(ports) = one_port(alloc, port.as_str())? else {
-        return Ok(None);
-    };
-    Ok(Some(Values {
-        ports,
-        number: 0,
-        system,
-        task: None,
-    }))
+    read_node(alloc, system.as_str(), port.as_str(), None)
 }
 
 /// SYS COMP DRONE PORT OP..
@@ -95,9 +107,6 @@ pub(crate) fn read_station(
     let [system, component, drone, port, operation @ ..] = words else {
         return Ok(None);
     };
-    let Some(system) = node(system.as_str()) else {
-        return Ok(None);
-    };
     let Some(task) = read_task(
         alloc,
         file_given,
@@ -108,13 +117,5 @@ pub(crate) fn read_station(
     else {
         return Ok(None);
     };
-    let Some(ports) = one_port(alloc, port.as_str())? else {
-        return Ok(None);
-    };
-    Ok(Some(Values {
-        ports,
-        number: 0,
-        system,
-        task: Some(task),
-    }))
+    read_node(alloc, system.as_str(), port.as_str(), Some(task))
 }

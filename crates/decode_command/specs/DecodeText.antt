@@ -63,9 +63,12 @@ abbrev pub skips_in : List Event → ℕ
 skips_in [] = 0
 skips_in (event ∷ events) = skips_of event + skips_in events
 
--- `frames N skipped M`
+-- how many of something were found and how many bytes were skipped: `WHAT N skipped M`
+abbrev pub counts_text : List ℕ → ℕ → ℕ → List ℕ
+counts_text what found skipped = what ++ (decimal found ++ (codes " skipped " ++ (decimal skipped ++ codes "\n")))
+
 abbrev pub counts_line : ℕ → ℕ → List ℕ
-counts_line frames skipped = codes "frames " ++ (decimal frames ++ (codes " skipped " ++ (decimal skipped ++ codes "\n")))
+counts_line frames skipped = counts_text (codes "frames ") frames skipped
 
 abbrev pub last_line : List Event → List ℕ
 last_line events = counts_line (frames_in events) (skips_in events)

@@ -7,16 +7,16 @@ ghost use Rattle.mav_frame.specs.declared.events.Event.TheVariants.{Frame as Fra
 ghost use Rattle.mav_stream.specs.Spans.{first_packet, held_after, next_span, span_events, span_size, skipped_for, IfFrame};
 ghost use Rattle.mav_stream.specs.Held.{nothing_held};
 ghost use Rattle.mav_profile.specs.Messages.{extras_of};
-ghost use Rattle.decode_command.specs.DecodeText.{counts_line};
 ghost use Rattle.decode_command.specs.Decodes.{Decoding, Drained, Halted, Front, Finished, Unfinished, Gave, IsFrameOf, PutsLine, Puts, IsWithin, Stepped, IsNew};
 
+use crate::counts::put_counts;
 use crate::known::Known;
 use crate::prepared::Prepared;
 use dialect::Dialect;
 use mav_frame::Why;
 use mav_ports::{NoMemory, Sink};
 use mav_stream::{NextSpan, Scanner};
-use mav_text::{Chunk, SkipBlocks, put_decimal, put_skips};
+use mav_text::{Chunk, SkipBlocks, put_skips};
 use run_status::{ENOUGH_BYTES, RunEnd, write_enough, write_held};
 use std::alloc::Global;
 
@@ -129,7 +129,7 @@ impl Decoder {
     {
         self.reader.end();
         self.drain(out)?;
-        put_counts(self.frames, self.skipped, &mut self.text)?;
+        put_counts("frames ", self.frames, self.skipped, &mut self.text)?;
         write_held(&mut self.text, out)
     }
 
@@ -240,16 +240,4 @@ impl Decoder {
         self.skipped += count as u64;
         Ok(())
     }
-}
-
-// Appends the last line.
-fn put_counts(frames: u64, skipped: u64, text: &mut Vec<u8>) -> Result<(), NoMemory>
-    ensures { OnOk result (text.new.items ≡ text.old.items ++ counts_line frames skipped) }
-{
-    text.extend_from_slice(b"frames ")?;
-    put_decimal(frames, text)?;
-    text.extend_from_slice(b" skipped ")?;
-    put_decimal(skipped, text)?;
-    text.push(b'\n')?;
-    Ok(())
 }

@@ -7,10 +7,12 @@
 #![tactic(auto)]
 
 mod commands;
+mod counts;
 mod decoder;
 mod known;
 pub mod laws;
 mod prepared;
 
 pub use commands::decode_by;
+pub use counts::put_counts;
 pub use known::Known;

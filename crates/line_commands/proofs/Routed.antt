@@ -28,8 +28,9 @@ use Rattle.command_line.specs.Names.{port_words}
 use Rattle.command_line.specs.Grammar.{Asked}
 use Rattle.command_line.specs.PortTexts.{is_marked, port_text}
 use Rattle.command_line.proofs.PortWords.{mark_of}
-use Rattle.route_command.specs.Routes.{ports_of, rules_of, RoutesBeforeStatus}
-use Rattle.route_command.proofs.Runs.{stops_as}
+use Rattle.mav_router.specs.Journal.{rules_of}
+use Rattle.route_command.specs.Routes.{ports_of, RoutesBeforeStatus}
+use Rattle.mav_router.proofs.Halts.{stops_as}
 use Rattle.run_status.specs.Seen.{Input, input_of, before_status_over}
 use Rattle.line_commands.specs.Decoding.{WithDefinitions}
 use Rattle.line_commands.specs.Routing.{Routing, pad, router_of, AllEnded}
@@ -77,7 +78,7 @@ pub unrouted : {A : Type 0} (state : A → LinkState) (asked : Asked) (ports : L
 unrouted state asked ports key known end refusals before after is same = inr (record {
   journal = [];
   why = NoRoom;
-  halted = record { legal = tt; links = refl; stopped = stops_as _ state _ NoRoom [] ports ports (nothing_routed state _ ports) };
+  halted = record { links = refl; run = record { legal = tt; stopped = stops_as _ state _ NoRoom [] ports ports (nothing_routed state _ ports) } };
   wrote = inl (ap Some is, refl, same ∙ append_known_nil before);
 })
 

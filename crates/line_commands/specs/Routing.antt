@@ -9,7 +9,8 @@ use Rattle.command_line.specs.Forms.{has_given}
 use Rattle.command_line.specs.Grammar.{Asked}
 use Rattle.command_line.specs.Names.{port_words, turns_asked}
 use Rattle.command_line.specs.PortTexts.{is_marked}
-use Rattle.route_command.specs.Routes.{Ports, ports_of, rules_of}
+use Rattle.mav_router.specs.Journal.{rules_of}
+use Rattle.route_command.specs.Routes.{Ports, ports_of}
 use Rattle.run_status.specs.Seen.{Input}
 use Rattle.line_commands.specs.Decoding.{WithDefinitions}
 

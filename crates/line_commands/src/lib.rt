@@ -1,7 +1,8 @@
 //! The commands of a line but `fleet` and `make`, each over the inputs, ports and stores that the line names.
 //!
 //! [`wanted`] says what words ask to be opened. Each `run_` call reads what its line names, in the order of its definition in
-//! `specs`, and passes it to the crate of its command. Nothing here opens a file, and only a `route` by [`Threaded`] waits.
+//! `specs`, and passes it to the crate of its command. Nothing here opens a file, and only a `route` by [`route_command::Threaded`]
+//! waits.
 #![tactic(auto)]
 
 mod decoding;
@@ -11,7 +12,6 @@ mod flying;
 mod keys;
 mod logging;
 mod ordering;
-mod routers;
 mod routing;
 mod stationing;
 mod wants;
@@ -22,7 +22,6 @@ pub use dialects::run_dialect;
 pub use flying::run_drone;
 pub use keys::named_key;
 pub use logging::run_log;
-pub use routers::{Alone, Router, Threaded};
 pub use routing::run_route;
 pub use stationing::run_station;
 pub use wants::{Inputs, Store, Wanted};

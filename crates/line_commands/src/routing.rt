@@ -9,7 +9,6 @@ ghost use Rattle.line_commands.specs.Routing.{Routing, router_of, open_ports};
 ghost use Rattle.run_status.specs.Seen.{input_of, output_of, before_status_over};
 
 use crate::definitions::known_messages;
-use crate::routers::Router;
 use crate::wants::Inputs;
 use command_line::{Line, OptionName, Port};
 use key_file::read_given_key;
@@ -17,6 +16,7 @@ use link_table::Ways;
 use mav_links::Link;
 use mav_ports::{Sink, Source};
 use mav_router::RoutePlan;
+use route_command::{Router, route};
 use run_status::RunEnd;
 use std::alloc::Global;
 
@@ -74,5 +74,5 @@ pub fn run_route<T: Router, S: Source, K: Sink>(
         turns: line.turns(),
         plain: open_ports(&line.ports),
     };
-    router.route(alloc, &key, &known, ports, plan, out)
+    route(router, alloc, &key, &known, ports, plan, out)
 }

@@ -3,7 +3,7 @@ ghost use Rattle.std.specs.Prelude.{◌≡◌, ℕ, ◌+◌, ◌≤◌, true, �
 ghost use Rattle.mav_frame.specs.Looks.{frame_size_at, is_old_at};
 ghost use Rattle.log_rows.specs.Rows.{row_encoding, first_row, micros_at};
 
-use mav_frame::{Frame, encode, frame_at};
+use mav_frame::{Frame, encode, frame_at, put};
 
 /// As many bytes as a time has.
 pub(crate) const TIME_BYTES: usize = 8;
@@ -13,18 +13,6 @@ pub(crate) const TIME_BYTES: usize = 8;
 pub struct Row {
     pub micros: u64,
     pub frame: Frame,
-}
-
-// Writes bytes at an offset, and returns where they end.
-fn put(out: &mut [u8; 288], at: usize, bytes: &[u8]) -> usize
-    requires { at + length bytes.now ≤ 288 }
-    ensures end { result ≡ at + length bytes.now }
-    ensures prefix { take result out.new ≡ take at out.old ++ bytes.now }
-    ensures rest { (k : ℕ) → result ≤ k → drop k out.new ≡ drop k out.old }
-{
-    let end = at + bytes.len();
-    out[at..end].copy_from_slice(bytes);
-    end
 }
 
 /// Writes the row's bytes to the start of `out`, and returns how many these are. The rest of `out` stays.

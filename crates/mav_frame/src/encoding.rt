@@ -134,14 +134,15 @@ pub(crate) fn checksum(bytes: &[u8], extra: u8) -> u16
 }
 
 /// Writes the bytes at an offset, and returns where they end.
-pub(crate) fn put(out: &mut [u8; 280], at: usize, bytes: &[u8]) -> usize
-    requires { at + length bytes.now ≤ 280 }
+pub fn put<const SIZE: usize>(out: &mut [u8; SIZE], at: usize, bytes: &[u8]) -> usize
+    requires { at + length bytes.now ≤ SIZE }
     ensures end { result ≡ at + length bytes.now }
     ensures prefix { take result out.new ≡ take at out.old ++ bytes.now }
     ensures rest { (k : ℕ) → result ≤ k → drop k out.new ≡ drop k out.old }
 {
     let end = at + bytes.len();
-    out[at..end].copy_from_slice(bytes);
+    let whole = &mut out[..];
+    whole[at..end].copy_from_slice(bytes);
     end
 }
 

@@ -19,7 +19,7 @@ mod raw;
 mod tables;
 
 pub use checking::{check_frame, frame_at, look};
-pub use encoding::{OLD_STX, STX, encode};
+pub use encoding::{OLD_STX, STX, encode, put};
 pub use events::Event;
 pub use frame_bytes::FrameBytes;
 pub use frames::{Block, Frame};

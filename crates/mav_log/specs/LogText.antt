@@ -5,6 +5,7 @@ use Rattle.field_layout.specs.Definition.{Definition}
 use Rattle.mav_profile.specs.Messages.{definition_with}
 use Rattle.mav_text.specs.FrameText.{skip_line}
 use Rattle.mav_text.specs.TemplateText.{line_of}
+use Rattle.decode_command.specs.DecodeText.{counts_text}
 use Rattle.log_rows.specs.LogParse.{LogEvent, RowEvent, SkipEvent}
 use Rattle.log_rows.specs.Rows.{row_encoding}
 use Rattle.log_rows.specs.declared.rows.Row.{Row}
@@ -51,4 +52,4 @@ skips_in (event ∷ events) = skips_of event + skips_in events
 
 -- `rows N skipped M`
 abbrev pub counts_line : ℕ → ℕ → List ℕ
-counts_line rows skipped = codes "rows " ++ (decimal rows ++ (codes " skipped " ++ (decimal skipped ++ codes "\n")))
+counts_line rows skipped = counts_text (codes "rows ") rows skipped

@@ -5,10 +5,11 @@ ghost use Rattle.mav_frame.specs.Looks.{frame_size_at, is_old_at};
 ghost use Rattle.mav_text.specs.FrameText.{skip_line};
 ghost use Rattle.log_rows.specs.Rows.{first_row, micros_at};
 ghost use Rattle.log_rows.specs.Progress.{no_bytes_held};
-ghost use Rattle.mav_log.specs.LogText.{counts_line, row_line};
+ghost use Rattle.mav_log.specs.LogText.{row_line};
 
 use crate::scanner::LogScanner;
 use crate::tellers::{Teller, discard};
+use decode_command::put_counts;
 use dialect::Dialect;
 use log_rows::RowSpan;
 use mav_frame::Why;
@@ -73,18 +74,6 @@ fn put_row_line(
     put_decimal(offset, text)?;
     text.push(b' ')?;
     templates.put_line(true, micros, frame_of(bytes), b"\n", chunk, text)
-}
-
-// Appends the last line.
-fn put_counts(rows: u64, skipped: u64, text: &mut Vec<u8>) -> Result<(), NoMemory>
-    ensures { OnOk result (text.new.items ≡ text.old.items ++ counts_line rows skipped) }
-{
-    text.extend_from_slice(b"rows ")?;
-    put_decimal(rows, text)?;
-    text.extend_from_slice(b" skipped ")?;
-    put_decimal(skipped, text)?;
-    text.push(b'\n')?;
-    Ok(())
 }
 
 impl Show {
@@ -191,6 +180,6 @@ impl Teller for Show {
     }
 
     fn close(&self, text: &mut Vec<u8>) -> Result<(), NoMemory> {
-        put_counts(self.rows, self.skipped, text)
+        put_counts("rows ", self.rows, self.skipped, text)
     }
 }

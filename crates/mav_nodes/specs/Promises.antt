@@ -111,13 +111,14 @@ RefusesService v order (Param busy) = params_refusal v order ≡ true
 RefusesService v order (File fault) = file_refusal v order ≡ Some fault
 RefusesService v order (Node fault) = AcceptsService v order × (fault ≡ NoMemory)
 
-abbrev pub KeepsService : StationServices → StationServices → OrderFault → Type 0
-KeepsService before after (Begin fault) = after ≡ before
-KeepsService before after (Op fault) = after ≡ before
-KeepsService before after (Command busy) = after ≡ before
-KeepsService before after (Param busy) = after ≡ before
-KeepsService before after (File fault) = after ≡ before
-KeepsService before after (Node fault) = Unit {0}
+-- a refused order changes nothing
+abbrev pub OrderKeeps : {A : Type 0} → A → A → OrderFault → Type 0
+OrderKeeps before after (Begin fault) = after ≡ before
+OrderKeeps before after (Op fault) = after ≡ before
+OrderKeeps before after (Command busy) = after ≡ before
+OrderKeeps before after (Param busy) = after ≡ before
+OrderKeeps before after (File fault) = after ≡ before
+OrderKeeps before after (Node fault) = Unit {0}
 
 -- the same, or no timestamp was left for the message that is sent for it
 abbrev pub OrderFails : ℕ → Order → StationView → OrderFault → Type 0
@@ -125,12 +126,3 @@ OrderFails clock order station (Node fault) =
     IsAccepted station order
     × Fails fault (λ (node : StationSide). IsStation node station) (λ (node : StationSide). station_obeys clock order node) ⊥
 OrderFails clock order station refusal = IsRefusal station order refusal
-
--- a refused order changes nothing
-abbrev pub OrderKeeps : StationView → StationView → OrderFault → Type 0
-OrderKeeps before after (Begin fault) = after ≡ before
-OrderKeeps before after (Op fault) = after ≡ before
-OrderKeeps before after (Command busy) = after ≡ before
-OrderKeeps before after (Param busy) = after ≡ before
-OrderKeeps before after (File fault) = after ≡ before
-OrderKeeps before after (Node fault) = Unit {0}

@@ -9,7 +9,7 @@ ghost use Rattle.mav_nodes.specs.Nodes.{service_step};
 ghost use Rattle.param_proto.specs.Client.{known_values, client_step};
 ghost use Rattle.mav_nodes.specs.declared.faults.NodeFault.TheVariants.{NoMemory};
 ghost use Rattle.mav_nodes.specs.declared.faults.OrderFault.TheVariants.{Node};
-ghost use Rattle.mav_nodes.specs.Promises.{AcceptsService, RefusesService, KeepsService};
+ghost use Rattle.mav_nodes.specs.Promises.{AcceptsService, RefusesService, OrderKeeps};
 
 use crate::news::report;
 use crate::services::{Served, Services, reply};
@@ -161,7 +161,7 @@ impl StationServices {
         ensures done { IfOk result (IsServed (service_step self.old order) self.new) }
         ensures accepted { OnOk result (AcceptsService self.old order) }
         ensures refused { IfErr result (λ fault. RefusesService self.old order fault) }
-        ensures unchanged { IfErr result (λ fault. KeepsService self.old self.new fault) }
+        ensures unchanged { IfErr result (λ fault. OrderKeeps self.old self.new fault) }
     {
         match order {
             Order::Command {

@@ -9,7 +9,7 @@ use Rattle.mav_router.specs.declared.entries.Entry.{Entry}
 use Rattle.mav_router.specs.declared.entries.SwitchFault.{SwitchFault}
 use Rattle.mav_router.specs.declared.entries.SwitchFault.TheVariants.{Full, NoMemory}
 use Rattle.mav_router.specs.Journal.{Rules}
-use Rattle.mav_router.specs.Faults.{Untaken, PartRun, RouteStopped, RouteHalted, CausedBy, HaltedBy, beyond_at}
+use Rattle.mav_router.specs.Faults.{Untaken, PartRun, RouteStopped, RouteHalted, StopsBy, CausedBy, HaltedBy, beyond_at}
 
 -- the frame that the switch didn't take at a port, if it was there
 abbrev untaken_at : Option Untaken → ℕ → Option Packet
@@ -43,3 +43,8 @@ halted state rules why journal before after s = record {
   cause = halted_by why s.untaken _ journal s.cause;
   ports = λ k b c is_b is_c. subst (λ (f : List Packet). PartRun rules journal (k + 1) f (state b) (state c)) (listed_at s.untaken (k + 1)) (s.ports k b c is_b is_c);
 }
+
+-- a run on one thread stops as one with threads may
+pub stops_as : {A : Type 0} (one : Bool) (state : A → LinkState) (rules : Rules) (why : SwitchFault) (journal : List Entry) (before after : List A) → RouteStopped state rules why journal before after → StopsBy one state rules why journal before after
+stops_as true state rules why journal before after s = s
+stops_as false state rules why journal before after s = halted state rules why journal before after s

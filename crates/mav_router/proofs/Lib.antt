@@ -17,3 +17,4 @@ pub mod Pages
 pub mod Admissions
 pub mod Outgoing
 pub mod Buffers
+pub mod Keeping

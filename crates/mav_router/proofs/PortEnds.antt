@@ -27,6 +27,8 @@ use Rattle.mav_router.specs.declared.lane.Lane.{Lane}
 use Rattle.mav_router.specs.declared.ends.PortEnd.{PortEnd}
 use Rattle.mav_router.specs.Journal.{Rules, SwitchState, frame_to, frames_to, given_to, bytes_of}
 use Rattle.mav_router.specs.Runs.{AllRead, Output, PortSoFar, RunSoFar, Reading, IsNew, IsFresh, AllFresh, HadTurns, AllTurned, IsDrained, FaultsBy, skips_of}
+use Rattle.mav_router.specs.Routed.{HasStopped}
+use Rattle.mav_router.proofs.Halts.{stops_as}
 use Rattle.mav_router.specs.Ends.{PortRun, TurnedBy, ParsedBy, WrittenBy, FaultsAtEnd, IsOpenParse, IsClosedParse, how_by, end_by}
 
 nothing_incomplete : (extras : List (ℕ × ℕ)) (old : Bool) → IsIncomplete extras old []
@@ -259,6 +261,14 @@ nothing_routed {A} state rules links = record {
       };
       output = record { written = []; rest = []; sent = append_known_nil first.sent; front = refl };
     }
+
+-- there was no memory before that
+pub unrouted : {A : Type 0} (one : Bool) (state : A → LinkState) (rules : Rules) (links after : List A) (why : SwitchFault) (journal : List Entry) → why ≡ NoMemory → journal ≡ [] → after ≡ links → HasStopped one state rules links after why journal
+unrouted {A} one state rules links after why journal is none same =
+    subst (λ (f : SwitchFault). HasStopped one state rules links after f journal) (sym is)
+    (subst (λ (j : List Entry). HasStopped one state rules links after NoMemory j) (sym none)
+    (subst (λ (l : List A). HasStopped one state rules links l NoMemory []) (sym same)
+    (record { legal = tt; stopped = stops_as one state rules NoMemory [] links links (nothing_routed state rules links) })))
 
 -- a lane that is new had no turn
 pub new_turned : (extras : List (ℕ × ℕ)) (old : Bool) (lane : Lane) → IsNew extras old lane → HadTurns lane 0

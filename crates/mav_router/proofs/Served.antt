@@ -1,5 +1,5 @@
 -- From the jobs of all ports to the end of a run.
-use Rattle.std.proofs.Common.{All, ◌⊎◌, ◌≡◌, ◌∙◌, ◌<◌, ◌≤◌, ℕ, ◌+◌, arith, List, [], length, map, replicate, sum_by, slice_get, Some, ap, sym, subst}
+use Rattle.std.proofs.Common.{All, false, ◌⊎◌, ◌≡◌, ◌∙◌, ◌<◌, ◌≤◌, ℕ, ◌+◌, arith, List, [], length, map, replicate, sum_by, slice_get, Some, ap, sym, subst}
 use Rattle.std.proofs.lemmas.List.{length-map, length-replicate}
 use Rattle.std.proofs.lemmas.Option.{get_or_from_slice_get}
 use Rattle.std.proofs.lemmas.Simd.{map-map}
@@ -25,7 +25,8 @@ use Rattle.mav_router.specs.History.{history_of, entries_in}
 use Rattle.mav_router.specs.Journal.{Rules, SwitchState, IsJournal, frames_from}
 use Rattle.mav_router.specs.Parts.{IsReady, PartSoFar, PartEnds}
 use Rattle.mav_router.specs.Runs.{HadTurns, IsFresh, AllFresh, AllTurned}
-use Rattle.mav_router.specs.Threads.{IsStocked, IsPlaced, HasServed, HasClosed, HasWrittenLeft, HasRouted, HasStopped}
+use Rattle.mav_router.specs.Threads.{IsStocked, IsPlaced, HasServed, HasClosed, HasWrittenLeft}
+use Rattle.mav_router.specs.Routed.{HasRouted, HasStopped}
 use Rattle.mav_router.proofs.Halts.{halted}
 use Rattle.mav_router.proofs.Joined.{own_frames, part_ready, part_starts, part_done, parts_halted}
 use Rattle.mav_router.proofs.Journals.{element}
@@ -54,7 +55,7 @@ job_ready {A} {J} lock rules of jobs lanes seats few new seats_are lanes_are tur
     )
 
 -- what they leave
-pub served : {A J : Type 0} (state : A → LinkState) (lock : Lock SwitchEvent) (rules : Rules) (turns : ℕ) (of : J → Part A) (before : List A) (lanes : List Lane) (seats : List (Participant SwitchEvent)) (old new : List J) (sides : List (Side A)) (last : List (Participant SwitchEvent)) → seats ≡ replicate rules.ports (opened lock.id (history_of rules [])) → map (λ (j : J). (of j).side.link) old ≡ before → map (λ (j : J). (of j).side.lane) old ≡ lanes → map (λ (j : J). (of j).seat) old ≡ seats → AllFresh rules lanes → ((k : ℕ) (job : J) → slice_get old k ≡ Some job → IsPlaced k (of job)) → length new ≡ length old → ((k : ℕ) (b c : J) → slice_get old k ≡ Some b → slice_get new k ≡ Some c → HasRun state lock rules turns (of b) (of c)) → sides ≡ map (λ (j : J). (of j).side) new → last ≡ map (λ (j : J). (of j).seat) new → HasServed state lock rules turns before sides last
+pub served : {A J : Type 0} (state : A → LinkState) (lock : Lock SwitchEvent) (rules : Rules) (turns : ℕ) (of : J → Part A) (before : List A) (lanes : List Lane) (seats : List (Participant SwitchEvent)) (old new : List J) (sides : List (Side A)) (last : List (Participant SwitchEvent)) → seats ≡ replicate rules.ports (opened lock.id (history_of rules [])) → map (λ (j : J). (of j).side.link) old ≡ before → map (λ (j : J). (of j).side.lane) old ≡ lanes → map (λ (j : J). (of j).seat) old ≡ seats → AllFresh rules lanes → ((k : ℕ) (job : J) → slice_get old k ≡ Some job → IsPlaced k (of job)) → length new ≡ length old → ((k : ℕ) (b c : J) → slice_get old k ≡ Some b → slice_get new k ≡ Some c → HasRun (of c).side.halt state lock rules turns (of b) (of c)) → sides ≡ map (λ (j : J). (of j).side) new → last ≡ map (λ (j : J). (of j).seat) new → HasServed state lock rules turns before sides last
 served {A} {J} state lock rules turns of before lanes seats old new sides last seats_new links_are lanes_are seats_are fresh placed long ran sides_are last_are = record {
   parts = map of new;
   count = length-map new of ∙ (long ∙ (sym (length-map old (λ (j : J). (of j).side.link)) ∙ ap length links_are));
@@ -96,14 +97,14 @@ jobs_ready {A} lock rules turns jobs lanes seats few new seats_are lanes_are tur
       r.1,
     ))
 
-pub jobs_served : {A : Type 0} (state : A → LinkState) (lock : Lock SwitchEvent) (rules : Rules) (turns : ℕ) (before : List A) (lanes : List Lane) (seats : List (Participant SwitchEvent)) (old new : List (PortJob A)) (sides : List (Side A)) (last : List (Participant SwitchEvent)) → seats ≡ replicate rules.ports (opened lock.id (history_of rules [])) → map (λ (j : PortJob A). j.part.side.link) old ≡ before → map (λ (j : PortJob A). j.part.side.lane) old ≡ lanes → map (λ (j : PortJob A). j.part.seat) old ≡ seats → AllFresh rules lanes → AllPlaced old → AllShare lock rules turns old → length new ≡ length old → ((k : ℕ) (b c : PortJob A) → slice_get old k ≡ Some b → slice_get new k ≡ Some c → HasRun state b.turn.now b.rules.now b.turns b.part c.part) → sides ≡ map (λ (j : PortJob A). j.part.side) new → last ≡ map (λ (j : PortJob A). j.part.seat) new → HasServed state lock rules turns before sides last
+pub jobs_served : {A : Type 0} (state : A → LinkState) (lock : Lock SwitchEvent) (rules : Rules) (turns : ℕ) (before : List A) (lanes : List Lane) (seats : List (Participant SwitchEvent)) (old new : List (PortJob A)) (sides : List (Side A)) (last : List (Participant SwitchEvent)) → seats ≡ replicate rules.ports (opened lock.id (history_of rules [])) → map (λ (j : PortJob A). j.part.side.link) old ≡ before → map (λ (j : PortJob A). j.part.side.lane) old ≡ lanes → map (λ (j : PortJob A). j.part.seat) old ≡ seats → AllFresh rules lanes → AllPlaced old → AllShare lock rules turns old → length new ≡ length old → ((k : ℕ) (b c : PortJob A) → slice_get old k ≡ Some b → slice_get new k ≡ Some c → HasRun c.part.side.halt state b.turn.now b.rules.now b.turns b.part c.part) → sides ≡ map (λ (j : PortJob A). j.part.side) new → last ≡ map (λ (j : PortJob A). j.part.seat) new → HasServed state lock rules turns before sides last
 jobs_served {A} state lock rules turns before lanes seats old new sides last seats_new links_are lanes_are seats_are fresh placed shared long ran sides_are last_are =
     served state lock rules turns (λ (j : PortJob A). j.part) before lanes seats old new sides last seats_new links_are lanes_are seats_are fresh placed long
     (λ k b c is_b is_c.
     let s = shared k b is_b in
-    subst (λ (m : ℕ). HasRun state lock rules m b.part c.part) s.2
-    (subst (λ (x : Rules). HasRun state lock x b.turns b.part c.part) s.1
-    (subst (λ (l : Lock SwitchEvent). HasRun state l b.rules.now b.turns b.part c.part) s.0 (ran k b c is_b is_c))))
+    subst (λ (m : ℕ). HasRun c.part.side.halt state lock rules m b.part c.part) s.2
+    (subst (λ (x : Rules). HasRun c.part.side.halt state lock x b.turns b.part c.part) s.1
+    (subst (λ (l : Lock SwitchEvent). HasRun c.part.side.halt state l b.rules.now b.turns b.part c.part) s.0 (ran k b c is_b is_c))))
     sides_are last_are
 
 -- how many they are, and that no seat is between two steps
@@ -187,23 +188,15 @@ routed {A} state rules turns journal before after old new ends few small legal h
           (subst (λ (x : PortEnd). PortRun rules journal turns part.0.port (state b) (state n.0.link) x) (image_is (λ (x : Side A). end_by x.lane turns) new ends k n.0 e ends_are n.1 is_e) run));
     }
 
-pub stopped : {A : Type 0} (state : A → LinkState) (rules : Rules) (turns : ℕ) (why : SwitchFault) (journal : List Entry) (before after : List A) (sides : List (Side A)) → length journal ≤ 1000000 → IsJournal rules [] journal → ((why ≡ NoMemory) ⊎ HasFault sides why) → after ≡ map (λ (s : Side A). s.link) sides → HasClosed state rules turns journal before sides → HasStopped state rules before after why journal
+pub stopped : {A : Type 0} (state : A → LinkState) (rules : Rules) (turns : ℕ) (why : SwitchFault) (journal : List Entry) (before after : List A) (sides : List (Side A)) → length journal ≤ 1000000 → IsJournal rules [] journal → ((why ≡ NoMemory) ⊎ HasFault sides why) → after ≡ map (λ (s : Side A). s.link) sides → HasClosed state rules turns journal before sides → HasStopped false state rules before after why journal
 stopped {A} state rules turns why journal before after sides small legal fault after_are c =
     let s = c.served in
     record {
       legal = legal;
-      halted = parts_halted state c.lock rules turns why journal before after s.parts small s.count s.ready (begins_of state rules turns journal before sides c) (whole_of state rules turns journal before sides c) s.ends
+      stopped = parts_halted state c.lock rules turns why journal before after s.parts small s.count s.ready (begins_of state rules turns journal before sides c) (whole_of state rules turns journal before sides c) s.ends
           (λ k x p is_x is_p. ap state (sym (image_is (λ (y : Side A). y.link) sides after k p.side x after_are (mapped_at (λ (q : Part A). q.side) s.parts sides k p s.of_sides is_p) is_x)))
           (subst (λ (l : List (Side A)). (why ≡ NoMemory) ⊎ HasFault l why) (sym s.of_sides) fault);
     }
-
--- nothing was routed
-pub unrouted : {A : Type 0} (state : A → LinkState) (rules : Rules) (links after : List A) (why : SwitchFault) (journal : List Entry) → why ≡ NoMemory → journal ≡ [] → after ≡ links → HasStopped state rules links after why journal
-unrouted {A} state rules links after why journal is none same =
-    subst (λ (f : SwitchFault). HasStopped state rules links after f journal) (sym is)
-    (subst (λ (j : List Entry). HasStopped state rules links after NoMemory j) (sym none)
-    (subst (λ (l : List A). HasStopped state rules links l NoMemory []) (sym same)
-    (record { legal = tt; halted = halted state rules NoMemory [] links links (nothing_routed state rules links) })))
 
 -- the end of a run by the rules that its threads went by
 pub ends_routed : {A : Type 0} (state : A → LinkState) (lock : Lock SwitchEvent) (rules : Rules) (turns : ℕ) (before after : List A) (sides : List (Side A)) (seats : List (Participant SwitchEvent)) (switch : SwitchState) (opening : List SwitchEvent) (journal : List Entry) (ends : List PortEnd) → 0 < length before → HasServed state lock rules turns before sides seats → All (Continues (history_of switch.rules switch.journal)) seats → opening ≡ history_of rules [] → length (history_of switch.rules switch.journal) ≡ length opening + sum_by (λ (s : Participant SwitchEvent). length s.own) seats → ((b : List A) → HasClosed state switch.rules turns switch.journal b sides → HasRouted state switch.rules turns b after journal ends) → HasRouted state rules turns before after journal ends
@@ -211,17 +204,17 @@ ends_routed {A} state lock rules turns before after sides seats switch opening j
     subst (λ (r : Rules). HasRouted state r turns before after journal ends) (rules_kept state lock rules turns before sides seats switch some s begins)
     (goes before (closed state lock rules turns before sides seats switch opening some s begins opened_as whole))
 
-pub ends_stopped : {A : Type 0} (state : A → LinkState) (lock : Lock SwitchEvent) (rules : Rules) (turns : ℕ) (before after : List A) (sides : List (Side A)) (seats : List (Participant SwitchEvent)) (switch : SwitchState) (opening : List SwitchEvent) (why : SwitchFault) (journal : List Entry) → 0 < length before → HasServed state lock rules turns before sides seats → All (Continues (history_of switch.rules switch.journal)) seats → opening ≡ history_of rules [] → length (history_of switch.rules switch.journal) ≡ length opening + sum_by (λ (s : Participant SwitchEvent). length s.own) seats → ((b : List A) → HasClosed state switch.rules turns switch.journal b sides → HasStopped state switch.rules b after why journal) → HasStopped state rules before after why journal
+pub ends_stopped : {A : Type 0} (state : A → LinkState) (lock : Lock SwitchEvent) (rules : Rules) (turns : ℕ) (before after : List A) (sides : List (Side A)) (seats : List (Participant SwitchEvent)) (switch : SwitchState) (opening : List SwitchEvent) (why : SwitchFault) (journal : List Entry) → 0 < length before → HasServed state lock rules turns before sides seats → All (Continues (history_of switch.rules switch.journal)) seats → opening ≡ history_of rules [] → length (history_of switch.rules switch.journal) ≡ length opening + sum_by (λ (s : Participant SwitchEvent). length s.own) seats → ((b : List A) → HasClosed state switch.rules turns switch.journal b sides → HasStopped false state switch.rules b after why journal) → HasStopped false state rules before after why journal
 ends_stopped {A} state lock rules turns before after sides seats switch opening why journal some s begins opened_as whole goes =
-    subst (λ (r : Rules). HasStopped state r before after why journal) (rules_kept state lock rules turns before sides seats switch some s begins)
+    subst (λ (r : Rules). HasStopped false state r before after why journal) (rules_kept state lock rules turns before sides seats switch some s begins)
     (goes before (closed state lock rules turns before sides seats switch opening some s begins opened_as whole))
 
 -- the same by equal rules
 pub rules_ports : (r : Rules) (n m : ℕ) → n ≡ m → ◌≡◌ {A = Rules} (record r { ports = n }) (record r { ports = m })
 rules_ports r n m e = ap (λ (k : ℕ). record r { ports = k }) e
 
-pub stopped_as : {A : Type 0} (state : A → LinkState) (rules other : Rules) (before after : List A) (why : SwitchFault) (journal : List Entry) → other ≡ rules → HasStopped state other before after why journal → HasStopped state rules before after why journal
-stopped_as state rules other before after why journal e s = subst (λ (r : Rules). HasStopped state r before after why journal) e s
+pub stopped_as : {A : Type 0} (state : A → LinkState) (rules other : Rules) (before after : List A) (why : SwitchFault) (journal : List Entry) → other ≡ rules → HasStopped false state other before after why journal → HasStopped false state rules before after why journal
+stopped_as state rules other before after why journal e s = subst (λ (r : Rules). HasStopped false state r before after why journal) e s
 
 pub stocked_as : {A : Type 0} (rules other : Rules) (stock : Stock A) → other ≡ rules → IsStocked other stock → IsStocked rules stock
 stocked_as rules other stock e s = subst (λ (r : Rules). IsStocked r stock) e s

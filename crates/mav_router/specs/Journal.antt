@@ -23,6 +23,9 @@ pub record Rules : Type 0 where
   pub ports : ℕ
   pub plain : List Bool
 
+abbrev pub rules_of : List ℕ → List Definition → List Bool → ℕ → Rules
+rules_of key known plain ports = record { key = key; known = known; ports = ports; plain = plain }
+
 abbrev pub is_unsigned : Packet → Bool
 is_unsigned packet = is_none packet.block
 

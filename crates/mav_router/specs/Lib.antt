@@ -3,6 +3,7 @@ pub mod Outgoing
 pub mod Runs
 pub mod Ends
 pub mod Faults
+pub mod Routed
 pub mod Delivery
 pub mod History
 pub mod Unheard

@@ -38,6 +38,13 @@ pub record PartStopped {A : Type 0} (state : A → LinkState) (rules : Rules) (f
   pub input : StopsInput rules (entries_in part.seat.own) part.port first (state part.side.link)
   pub output : Output (frames_to part.port (take part.side.taken (entries_in part.seat.seen))) first (state part.side.link) part.side.lane
 
+-- what a thread does between two reads of its port keeps what its part stands for
+pub record KeepsOn {A : Type 0} (state : A → LinkState) (lock : Lock SwitchEvent) (rules : Rules) (old new : Part A) : Type 0 where
+  pub ready : IsReady lock rules new
+  pub port : new.port ≡ old.port
+  pub so_far : (first : LinkState) → PartSoFar state rules first old → PartSoFar state rules first new
+  pub turned : (turns : ℕ) → HadTurns old.side.lane turns → HadTurns new.side.lane turns
+
 -- what a thread has done, by how it ended
 abbrev pub PartEnds : {A : Type 0} → Halt → (A → LinkState) → Rules → ℕ → LinkState → Part A → Type 0
 PartEnds Done state rules turns first part = PartSoFar state rules first part × HadTurns part.side.lane turns

@@ -3,17 +3,13 @@ use Rattle.std.specs.Prelude.{ℕ, ◌≡◌, ◌≤◌, ◌+◌, List, [], map,
 use Rattle.mav_links.specs.Links.{LinkState}
 use Rattle.turnstile.specs.Merging.{Continues}
 use Rattle.turnstile.specs.Participants.{Lock, Participant}
-use Rattle.mav_router.specs.declared.ends.PortEnd.{PortEnd}
 use Rattle.mav_router.specs.declared.entries.Entry.{Entry}
 use Rattle.mav_router.specs.declared.history.SwitchEvent.{SwitchEvent}
 use Rattle.mav_router.specs.declared.joining.Stock.{Stock}
 use Rattle.mav_router.specs.declared.parts.Part.{Part}
 use Rattle.mav_router.specs.declared.parts.Side.{Side}
-use Rattle.mav_router.specs.declared.entries.SwitchFault.{SwitchFault}
-use Rattle.mav_router.specs.Ends.{PortRun}
-use Rattle.mav_router.specs.Faults.{RouteHalted}
 use Rattle.mav_router.specs.History.{history_of}
-use Rattle.mav_router.specs.Journal.{Rules, IsJournal, frames_to}
+use Rattle.mav_router.specs.Journal.{Rules, frames_to}
 use Rattle.mav_router.specs.Parts.{IsReady, PartEnds}
 use Rattle.mav_router.specs.Runs.{Input, Output, HadTurns, AllFresh, AllTurned}
 
@@ -54,15 +50,3 @@ pub record HasWrittenLeft {A : Type 0} (state : A → LinkState) (journal : List
   pub output : (first : LinkState) → Output (frames_to port (take old.taken journal)) first (state old.link) old.lane → Output (frames_to port (take new.taken journal)) first (state new.link) new.lane
   pub turned : (turns : ℕ) → HadTurns old.lane turns → HadTurns new.lane turns
   pub drained : new.lane.failed ≡ false → frames_to port (take new.taken journal) ≡ frames_to port journal
-
--- the run came to its end
-pub record HasRouted {A : Type 0} (state : A → LinkState) (rules : Rules) (turns : ℕ) (before after : List A) (journal : List Entry) (ends : List PortEnd) : Type 0 where
-  pub legal : IsJournal rules [] journal
-  pub few : length journal ≤ 1000000
-  pub count : length ends ≡ length before
-  pub each : (k : ℕ) (b c : A) (e : PortEnd) → slice_get before k ≡ Some b → slice_get after k ≡ Some c → slice_get ends k ≡ Some e → PortRun rules journal turns (k + 1) (state b) (state c) e
-
--- the run stopped
-pub record HasStopped {A : Type 0} (state : A → LinkState) (rules : Rules) (before after : List A) (why : SwitchFault) (journal : List Entry) : Type 0 where
-  pub legal : IsJournal rules [] journal
-  pub halted : RouteHalted state rules why journal before after

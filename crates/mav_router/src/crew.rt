@@ -28,7 +28,7 @@ impl<'a, 't> Job for PortJob<'a, 't, BoxedLink> {
 
     ghost ready = { λ job. IsReady job.turn.now job.rules.now job.part × HadTurns job.part.side.lane 0 };
 
-    ghost ran = { λ old new. HasRun (λ b. (Link-box b).state b.value) old.turn.now old.rules.now old.turns old.part new.part };
+    ghost ran = { λ old new. HasRun new.part.side.halt (λ b. (Link-box b).state b.value) old.turn.now old.rules.now old.turns old.part new.part };
 
     fn run<R: Wait>(&mut self, rt: &R) {
         run_part(

@@ -1,11 +1,12 @@
 // A run of a router.
 ghost use Rattle.std.specs.Prelude.{◌≡◌, ◌≤◌, ◌<◌, ◌+◌, ℕ, List, [], length, false, true, OnOk, OnErr, IfOk, IfErr, slice_get, Some};
 ghost use Rattle.mav_links.specs.Links.{LinkState};
-ghost use Rattle.mav_router.specs.Journal.{Rules, IsJournal, given_to};
+ghost use Rattle.mav_router.specs.Journal.{Rules, given_to, rules_of};
 ghost use Rattle.mav_profile.specs.Messages.{extras_of};
 ghost use Rattle.mav_router.specs.Runs.{IsNew, RunSoFar, IsDrained, AllFresh, AllTurned};
 ghost use Rattle.mav_router.specs.Ends.{PortRun, end_by};
 ghost use Rattle.mav_router.specs.Faults.{IsSwitchFault, StopsRound, RouteStopped};
+ghost use Rattle.mav_router.specs.Routed.{CanRoute, HasRouted, HasStopped};
 
 use crate::lane::Lane;
 use crate::parts::Room;
@@ -135,7 +136,7 @@ pub(crate) fn new_lanes(
     requires { count ≤ 8 }
     ensures length { IfOk result (λ lanes. length lanes.items ≡ count) }
     ensures fresh { IfOk result (λ lanes. (key : List ℕ) (ports : ℕ)
-        → AllFresh (record { key = key; known = known.now; ports = ports; plain = plain }) lanes.items) }
+        → AllFresh (rules_of key known.now plain ports) lanes.items) }
     ensures turned { IfOk result (λ lanes. AllTurned lanes.items 0) }
 {
     let mut lanes = Vec::new(alloc);
@@ -202,9 +203,9 @@ fn route_in<L: Link>(
     ensures each { IfOk result (λ ends. (key : List ℕ) (ports : ℕ)
         → (k : ℕ) (b c : _) (e : PortEnd) → slice_get links.old k ≡ Some b
         → slice_get links.new k ≡ Some c → slice_get ends.items k ≡ Some e
-        → PortRun (record { key = key; known = known.now; ports = ports; plain = plan.plain }) switch.new.journal plan.turns (k + 1) (L.state b) (L.state c) e) }
+        → PortRun (rules_of key known.now plan.plain ports) switch.new.journal plan.turns (k + 1) (L.state b) (L.state c) e) }
     ensures stopped { IfErr result (λ fault. (key : List ℕ) (ports : ℕ)
-        → RouteStopped L.state (record { key = key; known = known.now; ports = ports; plain = plan.plain }) fault switch.new.journal links.old links.new) }
+        → RouteStopped L.state (rules_of key known.now plan.plain ports) fault switch.new.journal links.old links.new) }
 {
     let Ok(mut lanes) = new_lanes(alloc, known, plan.plain, links.len()) else {
         return Err(SwitchFault::NoMemory);
@@ -212,33 +213,15 @@ fn route_in<L: Link>(
     route_lanes(alloc, switch, lanes.as_mut_slice(), links, room, plan.turns)
 }
 
-// The same, with room for what is read and what is written.
-fn route_switch<L: Link>(
-    alloc: Global,
-    known: &Dialect,
-    switch: &mut Switch<'_>,
-    links: &mut [L],
-    plan: RoutePlan,
-) -> Result<Vec<PortEnd>, SwitchFault>
-    requires ports { length links.old ≤ switch.old.rules.ports }
-    requires some { 1 ≤ length links.old }
-    requires few { length links.old ≤ 8 }
-    requires journal { switch.old.journal ≡ [] }
-    requires given { (port : ℕ) → given_to switch.old port ≡ [] }
-    requires turns { plan.turns ≤ 1_000_000_000 }
-    ensures rules { switch.new.rules ≡ switch.old.rules }
-    ensures length { IfOk result (λ ends. length ends.items ≡ length links.old) }
-    ensures each { IfOk result (λ ends. (key : List ℕ) (ports : ℕ)
-        → (k : ℕ) (b c : _) (e : PortEnd) → slice_get links.old k ≡ Some b
-        → slice_get links.new k ≡ Some c → slice_get ends.items k ≡ Some e
-        → PortRun (record { key = key; known = known.now; ports = ports; plain = plan.plain }) switch.new.journal plan.turns (k + 1) (L.state b) (L.state c) e) }
-    ensures stopped { IfErr result (λ fault. (key : List ℕ) (ports : ℕ)
-        → RouteStopped L.state (record { key = key; known = known.now; ports = ports; plain = plan.plain }) fault switch.new.journal links.old links.new) }
+/// Nothing was routed, since there was no memory.
+pub(crate) fn no_memory(alloc: Global) -> RouteFault
+    ensures why { result.why ≡ SwitchFault.NoMemory }
+    ensures journal { result.journal ≡ [] }
 {
-    let Ok(mut room) = Room::new(alloc) else {
-        return Err(SwitchFault::NoMemory);
-    };
-    route_in(alloc, known, switch, links, &mut room, plan)
+    RouteFault {
+        why: SwitchFault::NoMemory,
+        journal: Journal::new(alloc),
+    }
 }
 
 /// Routes between links on one thread, as [`route_one`] does.
@@ -249,25 +232,17 @@ pub fn route_links<L: Link>(
     links: &mut [L],
     plan: RoutePlan,
 ) -> Result<RouteEnd, RouteFault>
-    requires from { 1 ≤ length links.old }
-    requires to { length links.old ≤ 8 }
-    requires turns { plan.turns ≤ 1_000_000_000 }
-    ensures journal { IfOk result (λ end. IsJournal (record { key = key.now; known = known.now; ports = length links.old; plain = plan.plain }) [] end.journal) }
-    ensures few { IfOk result (λ end. length end.journal ≤ 1000000) }
-    ensures ports { IfOk result (λ end. length end.ports.items ≡ length links.old) }
-    ensures each { IfOk result (λ end. (k : ℕ) (b c : _) (e : PortEnd) → slice_get links.old k ≡ Some b
-        → slice_get links.new k ≡ Some c → slice_get end.ports.items k ≡ Some e
-        → PortRun (record { key = key.now; known = known.now; ports = length links.old; plain = plan.plain }) end.journal plan.turns (k + 1) (L.state b) (L.state c) e) }
-    ensures kept { IfErr result (λ fault. IsJournal (record { key = key.now; known = known.now; ports = length links.old; plain = plan.plain }) [] fault.journal) }
-    ensures stopped { IfErr result (λ fault. RouteStopped L.state (record { key = key.now; known = known.now; ports = length links.old; plain = plan.plain }) fault.why fault.journal links.old links.new) }
+    requires { CanRoute (length links.old) plan.turns }
+    ensures routed { IfOk result (λ end. HasRouted L.state (rules_of key.now known.now plan.plain (length links.old)) plan.turns links.old links.new end.journal end.ports.items) }
+    ensures stopped { IfErr result (λ fault. HasStopped true L.state (rules_of key.now known.now plan.plain (length links.old)) links.old links.new fault.why fault.journal) }
 {
-    let Ok(mut switch) = Switch::new(alloc, *key, known, links.len() as u8, plan.plain) else {
-        return Err(RouteFault {
-            why: SwitchFault::NoMemory,
-            journal: Journal::new(alloc),
-        });
+    let Ok(mut room) = Room::new(alloc) else {
+        return Err(no_memory(alloc));
     };
-    match route_switch(alloc, known, &mut switch, links, plan) {
+    let Ok(mut switch) = Switch::new(alloc, *key, known, links.len() as u8, plan.plain) else {
+        return Err(no_memory(alloc));
+    };
+    match route_in(alloc, known, &mut switch, links, &mut room, plan) {
         Ok(ports) => Ok(RouteEnd {
             journal: switch.into_journal(),
             ports,
@@ -289,20 +264,10 @@ pub fn route_one(
     ports: &mut Vec<Box<dyn Link>>,
     plan: RoutePlan,
 ) -> Result<RouteEnd, RouteFault>
-    requires from { 1 ≤ length ports.old.items }
-    requires to { length ports.old.items ≤ 8 }
-    requires turns { plan.turns ≤ 1_000_000_000 }
+    requires { CanRoute (length ports.old.items) plan.turns }
     ensures links { length ports.new.items ≡ length ports.old.items }
-    ensures journal { IfOk result (λ end. IsJournal (record { key = key.now; known = known.now; ports = length ports.old.items; plain = plan.plain }) [] end.journal) }
-    ensures few { IfOk result (λ end. length end.journal ≤ 1000000) }
-    ensures ports { IfOk result (λ end. length end.ports.items ≡ length ports.old.items) }
-    // What was read from each port, and what was written to it.
-    ensures each { IfOk result (λ end. (k : ℕ) (b c : _) (e : PortEnd) → slice_get ports.old.items k ≡ Some b
-        → slice_get ports.new.items k ≡ Some c → slice_get end.ports.items k ≡ Some e
-        → PortRun (record { key = key.now; known = known.now; ports = length ports.old.items; plain = plan.plain }) end.journal plan.turns (k + 1) (state b) (state c) e) }
-    // A run that stopped, with its journal so far.
-    ensures kept { IfErr result (λ fault. IsJournal (record { key = key.now; known = known.now; ports = length ports.old.items; plain = plan.plain }) [] fault.journal) }
-    ensures stopped { IfErr result (λ fault. RouteStopped state (record { key = key.now; known = known.now; ports = length ports.old.items; plain = plan.plain }) fault.why fault.journal ports.old.items ports.new.items) }
+    ensures routed { IfOk result (λ end. HasRouted state (rules_of key.now known.now plan.plain (length ports.old.items)) plan.turns ports.old.items ports.new.items end.journal end.ports.items) }
+    ensures stopped { IfErr result (λ fault. HasStopped true state (rules_of key.now known.now plan.plain (length ports.old.items)) ports.old.items ports.new.items fault.why fault.journal) }
 {
     route_links(alloc, key, known, ports.as_mut_slice(), plan)
 }

@@ -5,7 +5,8 @@ ghost use Rattle.mav_links.specs.Links.{LinkState};
 ghost use Rattle.mav_router.specs.Runs.{Reading, AllRead, HadTurns};
 ghost use Rattle.mav_router.specs.Faults.{IsSwitchFault, StopsReading};
 ghost use Rattle.mav_router.specs.History.{entries_in};
-ghost use Rattle.mav_router.specs.Parts.{IsSeated, IsReady, PartSoFar, PartStopped, PartEnds};
+ghost use Rattle.mav_router.specs.Parts.{IsSeated, IsReady, KeepsOn, PartSoFar, PartStopped};
+ghost use Rattle.mav_router.specs.Crews.{HasRun};
 
 use crate::buffer::Buffer;
 use crate::found::FoundFrames;
@@ -104,10 +105,7 @@ fn write_some<'a, R: Wait, L: Link>(
     part: &mut Part<'a, L>,
 ) -> bool
     requires ready { IsReady turn.now rules.now part.old }
-    ensures ready { IsReady turn.now rules.now part.new }
-    ensures port { part.new.port ≡ part.old.port }
-    ensures so_far { (first : LinkState) → PartSoFar L.state rules.now first part.old → PartSoFar L.state rules.now first part.new }
-    ensures turned { (turns : ℕ) → HadTurns part.old.side.lane turns → HadTurns part.new.side.lane turns }
+    ensures { KeepsOn L.state turn.now rules.now part.old part.new }
 {
     let side = &mut part.side;
     let all = share_waiting(
@@ -138,10 +136,7 @@ fn write_part<'a, R: Wait, L: Link>(
     part: &mut Part<'a, L>,
 )
     requires ready { IsReady turn.now rules.now part.old }
-    ensures ready { IsReady turn.now rules.now part.new }
-    ensures port { part.new.port ≡ part.old.port }
-    ensures so_far { (first : LinkState) → PartSoFar L.state rules.now first part.old → PartSoFar L.state rules.now first part.new }
-    ensures turned { (turns : ℕ) → HadTurns part.old.side.lane turns → HadTurns part.new.side.lane turns }
+    ensures { KeepsOn L.state turn.now rules.now part.old part.new }
 {
     for _ in rt.forever() {
         if part.side.lane.failed {
@@ -170,10 +165,7 @@ fn write_or_put_off<'a, R: Wait, L: Link>(
     put_off: u32,
 ) -> u32
     requires ready { IsReady turn.now rules.now part.old }
-    ensures ready { IsReady turn.now rules.now part.new }
-    ensures port { part.new.port ≡ part.old.port }
-    ensures so_far { (first : LinkState) → PartSoFar L.state rules.now first part.old → PartSoFar L.state rules.now first part.new }
-    ensures turned { (turns : ℕ) → HadTurns part.old.side.lane turns → HadTurns part.new.side.lane turns }
+    ensures { KeepsOn L.state turn.now rules.now part.old part.new }
 {
     if put_off < MOST_PUT_OFF && is_whole_piece(before, part.side.lane.read) {
         return put_off + 1;
@@ -193,9 +185,7 @@ fn read_turns<'a, R: Wait, L: Link>(
 ) -> Halt
     requires ready { IsReady turn.now rules.now part.old }
     requires turned { HadTurns part.old.side.lane 0 }
-    ensures ready { IsReady turn.now rules.now part.new }
-    ensures port { part.new.port ≡ part.old.port }
-    ensures ends { (first : LinkState) → PartSoFar L.state rules.now first part.old → PartEnds result L.state rules.now turns first part.new }
+    ensures { HasRun result L.state turn.now rules.now turns part.old part.new }
 {
     let mut put_off = 0;
     for turned in 0..turns {
@@ -225,10 +215,7 @@ fn write_on<'a, R: Wait, L: Link>(
     part: &mut Part<'a, L>,
 )
     requires ready { IsReady turn.now rules.now part.old }
-    ensures ready { IsReady turn.now rules.now part.new }
-    ensures port { part.new.port ≡ part.old.port }
-    ensures so_far { (first : LinkState) → PartSoFar L.state rules.now first part.old → PartSoFar L.state rules.now first part.new }
-    ensures turned { (turns : ℕ) → HadTurns part.old.side.lane turns → HadTurns part.new.side.lane turns }
+    ensures { KeepsOn L.state turn.now rules.now part.old part.new }
 {
     let mut looks = 0;
     for _ in rt.forever() {
@@ -257,9 +244,7 @@ fn serve<'a, R: Wait, L: Link>(
 ) -> Halt
     requires ready { IsReady turn.now rules.now part.old }
     requires turned { HadTurns part.old.side.lane 0 }
-    ensures ready { IsReady turn.now rules.now part.new }
-    ensures port { part.new.port ≡ part.old.port }
-    ensures ends { (first : LinkState) → PartSoFar L.state rules.now first part.old → PartEnds result L.state rules.now turns first part.new }
+    ensures { HasRun result L.state turn.now rules.now turns part.old part.new }
 {
     signals.begin_reading();
     let halt = read_turns(rt, turn, rules, signals, part, turns);
@@ -282,9 +267,7 @@ pub(crate) fn run_part<'a, R: Wait, L: Link>(
 )
     requires ready { IsReady turn.now rules.now part.old }
     requires turned { HadTurns part.old.side.lane 0 }
-    ensures ready { IsReady turn.now rules.now part.new }
-    ensures port { part.new.port ≡ part.old.port }
-    ensures ends { (first : LinkState) → PartSoFar L.state rules.now first part.old → PartEnds part.new.side.halt L.state rules.now turns first part.new }
+    ensures { HasRun part.new.side.halt L.state turn.now rules.now turns part.old part.new }
 {
     part.side.halt = serve(rt, turn, rules, signals, part, turns);
 }

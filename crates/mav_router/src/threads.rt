@@ -1,18 +1,19 @@
 // A run of a router with a thread for each port.
-ghost use Rattle.std.specs.Prelude.{◌≡◌, ◌≤◌, ◌<◌, ◌+◌, ℕ, List, [], length, replicate, IfOk, IfErr, OnOk, OnErr, slice_get, Some, vec_len, vec_capacity};
+ghost use Rattle.std.specs.Prelude.{◌≡◌, ◌≤◌, ◌<◌, ◌+◌, ℕ, List, [], length, replicate, false, IfOk, IfErr, OnOk, OnErr, slice_get, Some, vec_len, vec_capacity};
 ghost use Rattle.turnstile.specs.Participants.{opened};
 ghost use Rattle.mav_router.specs.History.{history_of};
-ghost use Rattle.mav_router.specs.Threads.{IsStocked, HasServed, HasClosed, HasRouted, HasStopped};
+ghost use Rattle.mav_router.specs.Threads.{IsStocked, HasServed, HasClosed};
+ghost use Rattle.mav_router.specs.Journal.{rules_of};
+ghost use Rattle.mav_router.specs.Routed.{CanRoute, HasRouted, HasStopped};
 
 use crate::closing::{first_fault, put_ends, write_each_left};
 use crate::crew::BoxedLink;
 use crate::jobs::run_all;
 use crate::joining::{Stock, dismiss, give_links, muster, new_stock};
 use crate::parts::Side;
+use crate::routing::no_memory;
 use crate::signals::Signals;
-use crate::{
-    Journal, NoMemory, PortEnd, RouteEnd, RouteFault, RoutePlan, RouterRules, Switch, SwitchFault,
-};
+use crate::{NoMemory, PortEnd, RouteEnd, RouteFault, RoutePlan, RouterRules, Switch, SwitchFault};
 use dialect::Dialect;
 use mav_links::Link;
 use mav_sign::Key;
@@ -67,7 +68,7 @@ fn finish<L: Link>(
     ensures routed { IfOk result (λ end. (before : List _) → HasClosed L.state switch.entry.rules turns switch.entry.journal before sides.old.items
         → HasRouted L.state switch.entry.rules turns before ports.new.items end.journal end.ports.items) }
     ensures stopped { IfErr result (λ fault. (before : List _) → HasClosed L.state switch.entry.rules turns switch.entry.journal before sides.old.items
-        → HasStopped L.state switch.entry.rules before ports.new.items fault.why fault.journal) }
+        → HasStopped false L.state switch.entry.rules before ports.new.items fault.why fault.journal) }
 {
     match first_fault(sides.as_slice()) {
         Some(why) => {
@@ -87,17 +88,6 @@ fn finish<L: Link>(
                 ports: ends,
             })
         }
-    }
-}
-
-// Nothing was routed, since there was no memory.
-fn no_memory(alloc: Global) -> RouteFault
-    ensures why { result.why ≡ SwitchFault.NoMemory }
-    ensures journal { result.journal ≡ [] }
-{
-    RouteFault {
-        why: SwitchFault::NoMemory,
-        journal: Journal::new(alloc),
     }
 }
 
@@ -127,7 +117,7 @@ fn route_seated<'a, R: Threads + Wait + Sync>(
     requires turns { turns ≤ 1_000_000_000 }
     ensures links { length ports.new.items ≡ length ports.old.items }
     ensures routed { IfOk result (λ end. HasRouted state rules.now turns ports.old.items ports.new.items end.journal end.ports.items) }
-    ensures stopped { IfErr result (λ fault. HasStopped state rules.now ports.old.items ports.new.items fault.why fault.journal) }
+    ensures stopped { IfErr result (λ fault. HasStopped false state rules.now ports.old.items ports.new.items fault.why fault.journal) }
 {
     let signals = Signals::new(ports.len() as u64);
     let mut seats = seats;
@@ -151,15 +141,13 @@ fn route_stocked<R: Threads + Wait + Sync>(
     ports: &mut Vec<BoxedLink>,
     plan: RoutePlan,
 ) -> Result<RouteEnd, RouteFault>
-    requires from { 1 ≤ length ports.old.items }
-    requires to { length ports.old.items ≤ 8 }
-    requires turns { plan.turns ≤ 1_000_000_000 }
-    requires stocked { IsStocked (record { key = key.now; known = known.now; ports = length ports.old.items; plain = plan.plain }) stock.old }
+    requires can { CanRoute (length ports.old.items) plan.turns }
+    requires stocked { IsStocked (rules_of key.now known.now plan.plain (length ports.old.items)) stock.old }
     requires new { vec_len ends ≡ 0 }
     requires room { length ports.old.items ≤ vec_capacity ends }
     ensures links { length ports.new.items ≡ length ports.old.items }
-    ensures routed { IfOk result (λ end. HasRouted state (record { key = key.now; known = known.now; ports = length ports.old.items; plain = plan.plain }) plan.turns ports.old.items ports.new.items end.journal end.ports.items) }
-    ensures stopped { IfErr result (λ fault. HasStopped state (record { key = key.now; known = known.now; ports = length ports.old.items; plain = plan.plain }) ports.old.items ports.new.items fault.why fault.journal) }
+    ensures routed { IfOk result (λ end. HasRouted state (rules_of key.now known.now plan.plain (length ports.old.items)) plan.turns ports.old.items ports.new.items end.journal end.ports.items) }
+    ensures stopped { IfErr result (λ fault. HasStopped false state (rules_of key.now known.now plan.plain (length ports.old.items)) ports.old.items ports.new.items fault.why fault.journal) }
 {
     let count = ports.len() as u8;
     let Ok(switch) = Switch::new(alloc, *key, known, count, plan.plain) else {
@@ -188,12 +176,10 @@ pub(crate) fn route_threads<R: Threads + Wait + Sync>(
     ports: &mut Vec<BoxedLink>,
     plan: RoutePlan,
 ) -> Result<RouteEnd, RouteFault>
-    requires from { 1 ≤ length ports.old.items }
-    requires to { length ports.old.items ≤ 8 }
-    requires turns { plan.turns ≤ 1_000_000_000 }
+    requires { CanRoute (length ports.old.items) plan.turns }
     ensures links { length ports.new.items ≡ length ports.old.items }
-    ensures routed { IfOk result (λ end. HasRouted state (record { key = key.now; known = known.now; ports = length ports.old.items; plain = plan.plain }) plan.turns ports.old.items ports.new.items end.journal end.ports.items) }
-    ensures stopped { IfErr result (λ fault. HasStopped state (record { key = key.now; known = known.now; ports = length ports.old.items; plain = plan.plain }) ports.old.items ports.new.items fault.why fault.journal) }
+    ensures routed { IfOk result (λ end. HasRouted state (rules_of key.now known.now plan.plain (length ports.old.items)) plan.turns ports.old.items ports.new.items end.journal end.ports.items) }
+    ensures stopped { IfErr result (λ fault. HasStopped false state (rules_of key.now known.now plan.plain (length ports.old.items)) ports.old.items ports.new.items fault.why fault.journal) }
 {
     let count = ports.len();
     let Ok(ends) = Vec::with_capacity(alloc, count) else {

@@ -1,8 +1,7 @@
 // A run of a router on one thread or on many.
-ghost use Rattle.std.specs.Prelude.{◌≡◌, ◌≤◌, ◌+◌, ℕ, [], length, IfOk, IfErr, slice_get, Some};
-ghost use Rattle.mav_router.specs.Journal.{IsJournal};
-ghost use Rattle.mav_router.specs.Ends.{PortRun};
-ghost use Rattle.mav_router.specs.Faults.{StopsBy};
+ghost use Rattle.std.specs.Prelude.{◌≡◌, length, IfOk, IfErr};
+ghost use Rattle.mav_router.specs.Journal.{rules_of};
+ghost use Rattle.mav_router.specs.Routed.{CanRoute, HasRouted, HasStopped};
 
 use crate::threads::route_threads;
 use crate::{PortEnd, RouteEnd, RouteFault, RoutePlan, route_one};
@@ -24,20 +23,10 @@ pub fn route_all<R: Threads + Wait + Sync>(
     ports: &mut Vec<Box<dyn Link>>,
     plan: RoutePlan,
 ) -> Result<RouteEnd, RouteFault>
-    requires from { 1 ≤ length ports.old.items }
-    requires to { length ports.old.items ≤ 8 }
-    requires turns { plan.turns ≤ 1_000_000_000 }
+    requires { CanRoute (length ports.old.items) plan.turns }
     ensures links { length ports.new.items ≡ length ports.old.items }
-    ensures journal { IfOk result (λ end. IsJournal (record { key = key.now; known = known.now; ports = length ports.old.items; plain = plan.plain }) [] end.journal) }
-    ensures few { IfOk result (λ end. length end.journal ≤ 1000000) }
-    ensures ports { IfOk result (λ end. length end.ports.items ≡ length ports.old.items) }
-    // What was read from each port, and what was written to it.
-    ensures each { IfOk result (λ end. (k : ℕ) (b c : _) (e : PortEnd) → slice_get ports.old.items k ≡ Some b
-        → slice_get ports.new.items k ≡ Some c → slice_get end.ports.items k ≡ Some e
-        → PortRun (record { key = key.now; known = known.now; ports = length ports.old.items; plain = plan.plain }) end.journal plan.turns (k + 1) (state b) (state c) e) }
-    // A run that stopped, with its journal so far.
-    ensures kept { IfErr result (λ fault. IsJournal (record { key = key.now; known = known.now; ports = length ports.old.items; plain = plan.plain }) [] fault.journal) }
-    ensures stopped { IfErr result (λ fault. StopsBy plan.one state (record { key = key.now; known = known.now; ports = length ports.old.items; plain = plan.plain }) fault.why fault.journal ports.old.items ports.new.items) }
+    ensures routed { IfOk result (λ end. HasRouted state (rules_of key.now known.now plan.plain (length ports.old.items)) plan.turns ports.old.items ports.new.items end.journal end.ports.items) }
+    ensures stopped { IfErr result (λ fault. HasStopped plan.one state (rules_of key.now known.now plan.plain (length ports.old.items)) ports.old.items ports.new.items fault.why fault.journal) }
 {
     if plan.one {
         route_one(alloc, key, known, ports, plan)

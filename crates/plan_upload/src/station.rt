@@ -4,7 +4,7 @@ ghost use Rattle.std.specs.Option.{option_map};
 ghost use Rattle.plan_items.specs.Kinds.{number_of};
 ghost use Rattle.plan_items.specs.Plans.{items_of};
 ghost use Rattle.plan_upload.specs.Kinds.{clear_number};
-ghost use Rattle.plan_upload.specs.Operations.{task_view, stage_view, pinging_view};
+ghost use Rattle.plan_upload.specs.Operations.{task_view, stage_view, cancelling_view, pinging_view};
 ghost use Rattle.plan_upload.specs.Outcomes.{told_of};
 ghost use Rattle.plan_upload.specs.Refusals.{refusal, upload_refusal, first_of, busy_with};
 ghost use Rattle.plan_upload.specs.Station.{fresh_station, with_operation, station_step, station_tick, station_cancel, begin_upload, begin_clear, begin_get, begins, starts, resynchronises, synchronised, ends_with, untold};
@@ -73,6 +73,34 @@ impl Station {
         self.operation = Some(OpenOperation { drone, stage });
     }
 
+    // It waits for the reply to a PING of this number; none was left for one without a number.
+    fn stay_pinging(&mut self, drone: Stream, task: Task, terminating: bool, number: Option<u32>)
+        ensures { self.new ≡ with_operation self.old (pinging_view drone task terminating number) }
+    {
+        self.stay(
+            drone,
+            Stage::Pinging {
+                task,
+                terminating,
+                number,
+            },
+        );
+    }
+
+    // It waits for the reply to a cancel, which was sent at the reply to that PING.
+    fn stay_cancelling(&mut self, drone: Stream, task: Task, terminating: bool, number: u32)
+        ensures { self.new ≡ with_operation self.old (cancelling_view drone task terminating number) }
+    {
+        self.stay(
+            drone,
+            Stage::Cancelling {
+                task,
+                terminating,
+                number,
+            },
+        );
+    }
+
     // A resynchronisation attempt, for which a PING number is left.
     fn ping(&mut self, drone: Stream, task: Task, terminating: bool) -> PlanMsg
         requires { self.old.pings < 4294967295 }
@@ -81,14 +109,7 @@ impl Station {
     {
         self.pings += 1;
         let number = self.pings;
-        self.stay(
-            drone,
-            Stage::Pinging {
-                task,
-                terminating,
-                number: Some(number),
-            },
-        );
+        self.stay_pinging(drone, task, terminating, Some(number));
         PlanMsg::Ping {
             to: everyone(),
             usec: self.boot,
@@ -104,14 +125,7 @@ impl Station {
         if self.pings < u32::MAX {
             return Some(self.ping(drone, task, terminating));
         }
-        self.stay(
-            drone,
-            Stage::Pinging {
-                task,
-                terminating,
-                number: None,
-            },
-        );
+        self.stay_pinging(drone, task, terminating, None);
         None
     }
 
@@ -353,25 +367,11 @@ impl Station {
         };
         match stage {
             Stage::Pinging { task, number, .. } => {
-                self.stay(
-                    drone,
-                    Stage::Pinging {
-                        task,
-                        terminating: true,
-                        number,
-                    },
-                );
+                self.stay_pinging(drone, task, true, number);
                 None
             }
             Stage::Cancelling { task, number, .. } => {
-                self.stay(
-                    drone,
-                    Stage::Cancelling {
-                        task,
-                        terminating: true,
-                        number,
-                    },
-                );
+                self.stay_cancelling(drone, task, true, number);
                 None
             }
             Stage::Sending { upload, .. } => {

@@ -1,8 +1,7 @@
 -- What a run of `route` has done at its ports, why it ends, and what it writes.
-use Rattle.std.specs.Prelude.{ℕ, ◌≡◌, ◌⊎◌, ◌≤◌, ◌+◌, Bool, true, false, if◌then◌else◌, List, [], ◌++◌, length, slice_get, Option, Some, None}
+use Rattle.std.specs.Prelude.{ℕ, ◌≡◌, ◌⊎◌, Bool, true, false, if◌then◌else◌, List, [], ◌++◌, length, Option, Some, None}
 use Rattle.std.specs.List.{list_any}
 use Rattle.std.specs.Io.KnownBytes.{append_known}
-use Rattle.field_layout.specs.Definition.{Definition}
 use Rattle.mav_ports.specs.Counts.{Rose}
 use Rattle.mav_ports.specs.Puts.{SentPrefix}
 use Rattle.mav_links.specs.Links.{LinkState}
@@ -12,9 +11,8 @@ use Rattle.mav_router.specs.declared.entries.SwitchFault.TheVariants.{Full, NoMe
 use Rattle.mav_router.specs.declared.ends.PortEnd.{PortEnd}
 use Rattle.mav_router.specs.declared.ends.How.{How}
 use Rattle.mav_router.specs.declared.ends.How.TheVariants.{Ended, Failed, Turns}
-use Rattle.mav_router.specs.Journal.{Rules, IsJournal}
-use Rattle.mav_router.specs.Ends.{PortRun}
-use Rattle.mav_router.specs.Faults.{StopsBy}
+use Rattle.mav_router.specs.Journal.{Rules}
+use Rattle.mav_router.specs.Routed.{HasRouted, HasStopped}
 use Rattle.run_status.specs.declared.input_errors.Bound.TheVariants.{Entries}
 use Rattle.run_status.specs.declared.input_errors.InputError.TheVariants.{AtLimit}
 use Rattle.run_status.specs.declared.live_ends.LiveEnd.TheVariants.{PortTurns}
@@ -22,10 +20,6 @@ use Rattle.run_status.specs.declared.run_ends.RunEnd.{RunEnd}
 use Rattle.run_status.specs.declared.run_ends.RunEnd.TheVariants.{Stopped, WriteFault, NoMemory, Live}
 use Rattle.run_status.specs.Endings.{text_of}
 use Rattle.route_command.specs.Texts.{route_text}
-
--- a router by a key, the known messages, and which of its ports are open to unsigned frames
-abbrev pub rules_of : List ℕ → List Definition → List Bool → ℕ → Rules
-rules_of key known plain ports = record { key = key; known = known; ports = ports; plain = plain }
 
 -- the ports before and after a run on one thread or with one for each, of which at most so many reads each may give bytes
 -- or return Idle
@@ -49,22 +43,15 @@ ports_of {A} state rules one most before after = record {
   after = after;
 }
 
--- the run came to its end at each port, with this journal: what came in at each is the parse of the bytes read there, and
--- what was written to each is what the journal sends there
+-- the run came to its end at each port, with this journal
 pub record Routed (p : Ports) (journal : List Entry) (ends : List PortEnd) : Type 0 where
-  pub legal : IsJournal p.rules [] journal
-  pub few : length journal ≤ 1000000
   pub links : length p.after ≡ length p.before
-  pub count : length ends ≡ length p.before
-  pub each : (k : ℕ) (b c : p.Port) (e : PortEnd) → slice_get p.before k ≡ Some b → slice_get p.after k ≡ Some c → slice_get ends k ≡ Some e
-      → PortRun p.rules journal p.most (k + 1) (p.state b) (p.state c) e
+  pub run : HasRouted p.state p.rules p.most p.before p.after journal ends
 
--- it stopped before that: the journal was full, or memory was out; there may be a frame more than those of the entries, with
--- threads one at each port
+-- it stopped before that: the journal was full, or memory was out
 pub record Halted (p : Ports) (why : SwitchFault) (journal : List Entry) : Type 0 where
-  pub legal : IsJournal p.rules [] journal
   pub links : length p.after ≡ length p.before
-  pub stopped : StopsBy p.one p.state p.rules why journal p.before p.after
+  pub run : HasStopped p.one p.state p.rules p.before p.after why journal
 
 -- a port hadn't ended after as many reads as it may have
 abbrev pub is_turns : How → Bool

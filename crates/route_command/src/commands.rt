@@ -1,22 +1,21 @@
 // The command `route`.
-ghost use Rattle.std.specs.Prelude.{◌≡◌, ◌≤◌, length, true, IsErrOf, None};
+ghost use Rattle.std.specs.Prelude.{◌≡◌, ◌≤◌, length, IsErrOf, None};
 ghost use Rattle.std.specs.Result.{result_err};
 ghost use Rattle.route_command.specs.Texts.{route_text};
-ghost use Rattle.route_command.specs.Routes.{ports_of, rules_of, end_of_ports, end_of_fault, WroteAll, RoutesBeforeStatus};
+ghost use Rattle.mav_router.specs.Journal.{rules_of};
+ghost use Rattle.mav_router.specs.Routed.{CanRoute};
+ghost use Rattle.route_command.specs.Routes.{ports_of, end_of_ports, end_of_fault, WroteAll, RoutesBeforeStatus};
 
 use crate::entry_lines::{LINE_BYTES, write_entries};
 use crate::port_lines::{has_turns, put_ends};
+use crate::routers::Router;
 use dialect::Dialect;
 use mav_links::Link;
 use mav_ports::Sink;
-use mav_router::{
-    Journal, PortEnd, RouteEnd, RouteFault, RoutePlan, SwitchFault, route_all, route_one,
-};
+use mav_router::{Journal, PortEnd, RouteEnd, RouteFault, RoutePlan, SwitchFault};
 use mav_sign::Key;
 use run_status::{Bound, ENOUGH_BYTES, InputError, LiveEnd, RunEnd, write_held};
 use std::alloc::Global;
-use std::sync::Wait;
-use std::thread::Threads;
 
 // Writes the report of a run.
 fn write_report<K: Sink>(
@@ -59,11 +58,11 @@ fn end_of_fault(fault: &RouteFault) -> RunEnd
     }
 }
 
-/// Routes between the ports, with a thread for each or with one as the plan says, and writes what came in and what became
-/// of each port. Nothing is written of a run that stops because its journal is full, or because memory is out. Why the run
+/// Routes between the ports by the router, with a thread for each or with one, and writes what came in and what became of
+/// each port. Nothing is written of a run that stops because its journal is full, or because memory is out. Why the run
 /// ended so isn't written.
-pub fn route<R: Threads + Wait + Sync, K: Sink>(
-    rt: &R,
+pub fn route<T: Router, K: Sink>(
+    router: &T,
     alloc: Global,
     key: &Key,
     known: &Dialect,
@@ -71,40 +70,15 @@ pub fn route<R: Threads + Wait + Sync, K: Sink>(
     plan: RoutePlan,
     out: &mut K,
 ) -> Result<(), RunEnd>
-    requires from { 1 ≤ length ports.old.items }
-    requires to { length ports.old.items ≤ 8 }
-    requires turns { plan.turns ≤ 1_000_000_000 }
+    requires ready { T.ready }
+    requires can { CanRoute (length ports.old.items) plan.turns }
     ensures routes { RoutesBeforeStatus (ports_of state
         (rules_of key.now known.now plan.plain (length ports.old.items)) plan.one plan.turns ports.old.items ports.new.items)
         (result_err result) (K.faults out.old) (K.faults out.new) (K.sent out.old) (K.sent out.new) }
     ensures sound { ¬ IsErrOf result RunEnd.WriteFault → K.faults out.new ≡ K.faults out.old }
 {
     let turns = plan.turns;
-    match route_all(rt, alloc, key, known, ports, plan) {
-        Ok(end) => report(alloc, &end, turns, out),
-        Err(fault) => Err(end_of_fault(&fault)),
-    }
-}
-
-/// The same on the caller's thread alone, whatever the plan says.
-pub fn route_alone<K: Sink>(
-    alloc: Global,
-    key: &Key,
-    known: &Dialect,
-    ports: &mut Vec<Box<dyn Link>>,
-    plan: RoutePlan,
-    out: &mut K,
-) -> Result<(), RunEnd>
-    requires from { 1 ≤ length ports.old.items }
-    requires to { length ports.old.items ≤ 8 }
-    requires turns { plan.turns ≤ 1_000_000_000 }
-    ensures routes { RoutesBeforeStatus (ports_of state
-        (rules_of key.now known.now plan.plain (length ports.old.items)) true plan.turns ports.old.items ports.new.items)
-        (result_err result) (K.faults out.old) (K.faults out.new) (K.sent out.old) (K.sent out.new) }
-    ensures sound { ¬ IsErrOf result RunEnd.WriteFault → K.faults out.new ≡ K.faults out.old }
-{
-    let turns = plan.turns;
-    match route_one(alloc, key, known, ports, plan) {
+    match router.route_ports(alloc, key, known, ports, plan) {
         Ok(end) => report(alloc, &end, turns, out),
         Err(fault) => Err(end_of_fault(&fault)),
     }

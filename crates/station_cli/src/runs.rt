@@ -17,12 +17,12 @@ use crate::making::run_make;
 use command_line::{Command, Line, OptionName, Task, WantedFault, read};
 use fence_command::fence;
 use line_commands::{
-    Alone, Inputs, Router, Store, Threaded, run_decode, run_dialect, run_drone, run_log, run_route,
-    run_station,
+    Inputs, Store, run_decode, run_dialect, run_drone, run_log, run_route, run_station,
 };
 use mav_links::Link;
 use mav_ports::{Clock, Sink, Source};
 use plan_store::Keeper;
+use route_command::{Alone, Router, Threaded};
 use run_status::{RunEnd, code_of, write_status};
 use std::alloc::Global;
 use std::sync::Wait;

@@ -4,7 +4,7 @@ ghost use Rattle.plan_upload.specs.Operations.{cancelling_view};
 ghost use Rattle.plan_upload.specs.Station.{Cancelling, with_operation, phase_step, synchronises};
 
 use super::Station;
-use crate::operations::{Stage, Task};
+use crate::operations::Task;
 use mav_names::Stream;
 use plan_items::{MissionResult, PlanMsg};
 
@@ -48,14 +48,7 @@ impl Station {
                 return self.answer_came(drone, task, terminating, number, code);
             }
         }
-        self.stay(
-            drone,
-            Stage::Cancelling {
-                task,
-                terminating,
-                number,
-            },
-        );
+        self.stay_cancelling(drone, task, terminating, number);
         None
     }
 }

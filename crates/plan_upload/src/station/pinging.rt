@@ -6,7 +6,7 @@ ghost use Rattle.plan_upload.specs.Station.{Pinging, with_operation, phase_step,
 
 use super::Station;
 use crate::addresses::acknowledge;
-use crate::operations::{Stage, Task};
+use crate::operations::Task;
 use mav_names::{Stream, everyone};
 use plan_items::{MissionResult, PlanMsg};
 
@@ -42,26 +42,12 @@ impl Station {
         ensures answer { let o = pinging_view drone task terminating number in result ≡ (phase_step (with_operation self.old o) o Pinging msg.now).answer }
     {
         if !self.is_reply(number, msg) {
-            self.stay(
-                drone,
-                Stage::Pinging {
-                    task,
-                    terminating,
-                    number,
-                },
-            );
+            self.stay_pinging(drone, task, terminating, number);
             return None;
         }
         let number = number?;
         let kind = task.kind();
-        self.stay(
-            drone,
-            Stage::Cancelling {
-                task,
-                terminating,
-                number,
-            },
-        );
+        self.stay_cancelling(drone, task, terminating, number);
         Some(acknowledge(drone, MissionResult::OPERATION_CANCELLED, kind))
     }
 
@@ -76,14 +62,7 @@ impl Station {
         ensures station { let o = pinging_view drone task terminating number in self.new ≡ (phase_tick (with_operation self.old o) o Pinging).station }
         ensures answer { let o = pinging_view drone task terminating number in result ≡ (phase_tick (with_operation self.old o) o Pinging).answer }
     {
-        self.stay(
-            drone,
-            Stage::Pinging {
-                task,
-                terminating,
-                number,
-            },
-        );
+        self.stay_pinging(drone, task, terminating, number);
         let seq = number?;
         Some(PlanMsg::Ping {
             to: everyone(),

@@ -1,8 +1,5 @@
-use Rattle.std.proofs.Common.{◌≡◌, true, false, subst, rules, map, string_bytes}
-use Rattle.std.specs.Option.{MatchOption}
-use Rattle.command_line.specs.Nodes.{OnePort}
-use Rattle.command_line.specs.PortTexts.{is_port}
-use Rattle.command_line.proofs.NodesHeld.{two_held, not_two, drone_read}
+use Rattle.std.proofs.Common.{rules, map, string_bytes}
+use Rattle.command_line.proofs.NodesHeld.{two_held, not_two, drone_held}
 use Rattle.command_line.proofs.nodes.read_drone.Goals.{in_default-via-then-words-lt2, in_default-via-else-words-lt2+else-words-lt3}
 use Rattle.command_line.proofs.nodes.read_drone.Goals as goal
 
@@ -12,8 +9,6 @@ returns-in_default c = not_two c.args.words.now (λ least most. elim c.in_defaul
 pub returns : goal.returns
 returns c =
     let words = c.args.words.now in
-    let port = c.as_str-2.result.now in
-    let (is, one) = subst (λ o. MatchOption o (is_port port ≡ false) (λ ports. (is_port port ≡ true) × OnePort port ports.items)) c.in-Some-2.is c.in_ok-ports.ensures in
-    drone_read (map string_bytes words) c.as_str.result.now port c.in-Some.system c.in-Some-2.ports.items
-    (two_held words c.system-item.result c.port-item.result c.as_str.result.now port c.in-len2.len_at_least c.in-len2.len_below c.system-item.is c.port-item.is c.as_str.ensures.value c.as_str-2.ensures.value)
-    c.in-Some.ensures is one
+    drone_held (map string_bytes words) c.as_str.result.now c.as_str-2.result.now c.read_node.result
+    (two_held words c.system-item.result c.port-item.result c.as_str.result.now c.as_str-2.result.now c.in-len2.len_at_least c.in-len2.len_below c.system-item.is c.port-item.is c.as_str.ensures.value c.as_str-2.ensures.value)
+    c.read_node.ensures

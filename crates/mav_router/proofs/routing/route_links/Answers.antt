@@ -1,12 +1,11 @@
-use Rattle.std.proofs.Common.{List, length, sym, subst}
-use Rattle.mav_router.specs.declared.entries.Entry.{Entry}
-use Rattle.mav_router.specs.declared.entries.SwitchFault.TheVariants.{NoMemory}
-use Rattle.mav_router.specs.Journal.{Rules}
-use Rattle.mav_router.specs.Faults.{RouteStopped}
-use Rattle.mav_router.proofs.PortEnds.{nothing_routed}
+use Rattle.std.proofs.Common.{refl, true}
+use Rattle.mav_router.proofs.PortEnds.{unrouted}
 use Rattle.mav_router.proofs.routing.route_links.Goals as goal
 
 pub returns-in_default-clause-stopped : goal.returns-in_default-clause-stopped
-returns-in_default-clause-stopped g c =
-    let rules : Rules = record { key = c.args.key.now; known = c.args.known.now; ports = length c.args.links.now; plain = c.args.plan.plain } in
-    subst (λ (j : List Entry). RouteStopped g.L.Link.state rules NoMemory j c.args.links.now c.args.links.now) (sym c.new-in_default.ensures) (nothing_routed g.L.Link.state rules c.args.links.now)
+returns-in_default-clause-stopped g c = unrouted true _ _ c.args.links.now c.args.links.now c.no_memory.result.why c.no_memory.result.journal c.no_memory.ensures.why c.no_memory.ensures.journal refl
+
+pub returns-in_default-new-clause-stopped : goal.returns-in_default-new-clause-stopped
+returns-in_default-new-clause-stopped g c =
+    let none = c.no_memory-in_default-new in
+    unrouted true _ _ c.args.links.now c.args.links.now none.result.why none.result.journal none.ensures.why none.ensures.journal refl

@@ -1,6 +1,11 @@
+use Rattle.std.proofs.Common.{◌∙◌}
 use Rattle.mav_router.proofs.running.serve.Goals as goal
 
-pub returns-clause-ends : goal.returns-clause-ends
-returns-clause-ends g c = λ first p.
-    let e = c.in-Done.ensures.ends first p in
-    (c.write_on.ensures.so_far first e.0, c.write_on.ensures.turned c.args.turns e.1)
+pub returns : goal.returns
+returns g c =
+    let e = c.in-Done.ensures in
+    record {
+      ready = c.write_on.ensures.ready;
+      port = c.write_on.ensures.port ∙ e.port;
+      ends = λ first p. (c.write_on.ensures.so_far first (e.ends first p).0, c.write_on.ensures.turned c.args.turns (e.ends first p).1);
+    }

@@ -1,12 +1,12 @@
-use Rattle.std.proofs.Common.{List, sym, subst}
+use Rattle.std.proofs.Common.{List, refl, sym, subst}
 use Rattle.mav_router.specs.declared.history.SwitchEvent.{SwitchEvent}
 use Rattle.mav_router.specs.History.{entries_in}
 use Rattle.mav_router.specs.Runs.{Input}
 use Rattle.mav_router.proofs.PartSteps.{output_longer, within_longer}
 use Rattle.mav_router.proofs.running.write_some.Goals as goal
 
-pub returns-clause-so_far : goal.returns-clause-so_far
-returns-clause-so_far g c = λ first so_far.
+pub returns : goal.returns
+returns g c =
     let part = c.args.part.now in
     let port = part.port in
     let taken = part.side.taken in
@@ -15,10 +15,17 @@ returns-clause-so_far g c = λ first so_far.
     let old = entries_in part.seat.seen in
     let seen = entries_in turn.new.seat.seen in
     let begins = turn.ensures.begins in
-    let within = within_longer taken old seen c.requires.ready.taken begins in
-    let before = output_longer port taken old seen first (g.L.Link.state part.side.link) part.side.lane c.requires.ready.taken begins so_far.output in
+    let ready = c.requires.ready in
+    let within = within_longer taken old seen ready.taken begins in
+    let writes = w.ensures.writes seen within turn.ensures.window in
     record {
-      input = subst (λ (own : List SwitchEvent). Input c.args.rules.now (entries_in own) port first (g.L.Link.state w.new.link) w.new.lane) (sym turn.ensures.own)
-          (w.ensures.keeps.input c.args.rules.now (entries_in part.seat.own) port first so_far.input);
-      output = (w.ensures.writes seen within turn.ensures.window).output first before;
+      ready = record { seated = turn.ensures.seated; from = ready.from; to = ready.to; few = ready.few; taken = writes.within };
+      port = refl;
+      so_far = λ first so_far.
+          record {
+            input = subst (λ (own : List SwitchEvent). Input c.args.rules.now (entries_in own) port first (g.L.Link.state w.new.link) w.new.lane) (sym turn.ensures.own)
+                (w.ensures.keeps.input c.args.rules.now (entries_in part.seat.own) port first so_far.input);
+            output = writes.output first (output_longer port taken old seen first (g.L.Link.state part.side.link) part.side.lane ready.taken begins so_far.output);
+          };
+      turned = w.ensures.keeps.turned;
     }

@@ -1,11 +1,11 @@
-use Rattle.std.proofs.Common.{◌∙◌, ◌<◌, length, ap, arith}
-use Rattle.mav_router.proofs.PortEnds.{if_ok, if_err}
-use Rattle.mav_router.proofs.Served.{closed, ends_routed, ends_stopped, seats_long, seats_outside, sides_long, taken_within, unrouted}
+use Rattle.std.proofs.Common.{◌∙◌, ◌<◌, length, ap, arith, false}
+use Rattle.mav_router.proofs.PortEnds.{if_ok, if_err, unrouted}
+use Rattle.mav_router.proofs.Served.{closed, ends_routed, ends_stopped, seats_long, seats_outside, sides_long, taken_within}
 use Rattle.mav_router.proofs.threads.route_seated.Goals as goal
 
 pub returns-in-Err-clause-stopped : goal.returns-in-Err-clause-stopped
 returns-in-Err-clause-stopped g c =
-    unrouted _ c.args.rules.now c.args.ports.now.items c.serve_ports.new.ports.items c.no_memory.result.why c.no_memory.result.journal c.no_memory.ensures.why c.no_memory.ensures.journal c.in-Err.ensures.kept
+    unrouted false _ c.args.rules.now c.args.ports.now.items c.serve_ports.new.ports.items c.no_memory.result.why c.no_memory.result.journal c.no_memory.ensures.why c.no_memory.ensures.journal c.in-Err.ensures.kept
 
 pub close-requires-clause-outside : goal.close-requires-clause-outside
 close-requires-clause-outside g c = seats_outside _ c.args.turn c.args.rules.now c.args.turns c.args.ports.now.items c.serve_ports.new.stock.sides.items c.serve_ports.new.seats.items c.in_default.ensures.served

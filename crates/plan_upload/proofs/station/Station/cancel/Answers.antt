@@ -10,7 +10,7 @@ use Rattle.plan_upload.proofs.station.Station.cancel.Goals as goal
 pub returns-in-Pinging-clause-station : goal.returns-in-Pinging-clause-station
 returns-in-Pinging-clause-station c =
     let now = station_view c.self.inside in let drone = c.in-Some.field-0.drone in let at = c.in-Pinging in
-    c.stay.ensures ∙ (given_up now (λ (t : Bool). pinging_view drone at.task t at.number) at.terminating ∙ sym (ap (λ (t : StationStep). t.station) (cancelled c.self.inside c.in-Some.field-0 _ c.args.self.now c.self.view_is (sym c.take.ensures.value ∙ c.in-Some.is) c.in-Pinging.is)))
+    c.stay_pinging.ensures ∙ (given_up now (λ (t : Bool). pinging_view drone at.task t at.number) at.terminating ∙ sym (ap (λ (t : StationStep). t.station) (cancelled c.self.inside c.in-Some.field-0 _ c.args.self.now c.self.view_is (sym c.take.ensures.value ∙ c.in-Some.is) c.in-Pinging.is)))
 
 pub returns-in-Pinging-clause-answer : goal.returns-in-Pinging-clause-answer
 returns-in-Pinging-clause-answer c =
@@ -20,7 +20,7 @@ returns-in-Pinging-clause-answer c =
 pub returns-in-Cancelling-clause-station : goal.returns-in-Cancelling-clause-station
 returns-in-Cancelling-clause-station c =
     let now = station_view c.self.inside in let drone = c.in-Some.field-0.drone in let at = c.in-Cancelling in
-    c.stay-in-Cancelling.ensures ∙ (given_up now (λ (t : Bool). cancelling_view drone at.task t at.number) at.terminating ∙ sym (ap (λ (t : StationStep). t.station) (cancelled c.self.inside c.in-Some.field-0 _ c.args.self.now c.self.view_is (sym c.take.ensures.value ∙ c.in-Some.is) c.in-Cancelling.is)))
+    c.stay_cancelling.ensures ∙ (given_up now (λ (t : Bool). cancelling_view drone at.task t at.number) at.terminating ∙ sym (ap (λ (t : StationStep). t.station) (cancelled c.self.inside c.in-Some.field-0 _ c.args.self.now c.self.view_is (sym c.take.ensures.value ∙ c.in-Some.is) c.in-Cancelling.is)))
 
 pub returns-in-Cancelling-clause-answer : goal.returns-in-Cancelling-clause-answer
 returns-in-Cancelling-clause-answer c =

@@ -1,0 +1,21 @@
+-- What a thread's part stands for is kept.
+use Rattle.std.proofs.Common.{◌∙◌, refl}
+use Rattle.mav_links.specs.Links.{LinkState}
+use Rattle.turnstile.specs.Participants.{Lock}
+use Rattle.mav_router.specs.declared.history.SwitchEvent.{SwitchEvent}
+use Rattle.mav_router.specs.declared.parts.Part.{Part}
+use Rattle.mav_router.specs.Journal.{Rules}
+use Rattle.mav_router.specs.Parts.{IsReady, KeepsOn}
+
+module _ {A : Type 0} (state : A → LinkState) (lock : Lock SwitchEvent) (rules : Rules) where
+  pub keeps_still : (part : Part A) → IsReady lock rules part → KeepsOn state lock rules part part
+  keeps_still part ready = record { ready = ready; port = refl; so_far = λ first s. s; turned = λ turns had. had }
+
+  -- by one step after another
+  pub keeps_on : (old next new : Part A) → KeepsOn state lock rules old next → KeepsOn state lock rules next new → KeepsOn state lock rules old new
+  keeps_on old next new f s = record {
+    ready = s.ready;
+    port = s.port ∙ f.port;
+    so_far = λ first p. s.so_far first (f.so_far first p);
+    turned = λ turns had. s.turned turns (f.turned turns had);
+  }
