@@ -1,4 +1,4 @@
--- What a thread's part stands for is kept.
+-- What holds of a thread's part still holds after each step of the thread.
 use Rattle.std.proofs.Common.{◌∙◌, refl}
 use Rattle.mav_links.specs.Links.{LinkState}
 use Rattle.turnstile.specs.Participants.{Lock}

@@ -38,7 +38,7 @@ pub record PartStopped {A : Type 0} (state : A → LinkState) (rules : Rules) (f
   pub input : StopsInput rules (entries_in part.seat.own) part.port first (state part.side.link)
   pub output : Output (frames_to part.port (take part.side.taken (entries_in part.seat.seen))) first (state part.side.link) part.side.lane
 
--- what a thread does between two reads of its port keeps what its part stands for
+-- what holds of a thread's part still holds after what the thread does between two reads of its port
 pub record KeepsOn {A : Type 0} (state : A → LinkState) (lock : Lock SwitchEvent) (rules : Rules) (old new : Part A) : Type 0 where
   pub ready : IsReady lock rules new
   pub port : new.port ≡ old.port
