@@ -7,7 +7,7 @@ use Rattle.mav_messages.specs.declared.messages.Message.{Message}
 use Rattle.mav_messages.specs.Plans.{message_of_plan}
 use Rattle.mav_sign.specs.History.{next_in, greatest_stamp}
 use Rattle.mav_nodes.specs.News.{NodeEvent}
-use Rattle.mav_nodes.specs.Links.{Link, Outcome, done, behind, and_then, sent_at, sends, sends_all}
+use Rattle.mav_nodes.specs.Links.{Link, Outcome, done, after_events, and_then, sent_at, sends, sends_all}
 use Rattle.mav_nodes.specs.Signed.{signed_packet}
 use Rattle.mav_nodes.specs.Steps.{Side, answers, with_core}
 use Rattle.fleet_world.specs.Steps.{packets_in}
@@ -19,12 +19,12 @@ abbrev pub Goes : {A : Type 0} → (A → List Packet → Type 0) → List Packe
 Goes P ps None = Unit {0}
 Goes P ps (Some d) = P d.node (ps ++ packets_in d.events)
 
-pub goes_behind : {A : Type 0} (P : A → List Packet → Type 0) (ps : List Packet) (es : List NodeEvent) (o : Outcome A) → Goes P (ps ++ packets_in es) o → Goes P ps (behind es o)
+pub goes_behind : {A : Type 0} (P : A → List Packet → Type 0) (ps : List Packet) (es : List NodeEvent) (o : Outcome A) → Goes P (ps ++ packets_in es) o → Goes P ps (after_events es o)
 goes_behind P ps es None h = tt
 goes_behind P ps es (Some d) h =
     subst (P d.node) (append_assoc ps (packets_in es) (packets_in d.events) ∙ ap (λ qs. ps ++ qs) (sym (packets_more es d.events))) h
 
-pub goes_quietly : {A : Type 0} (P : A → List Packet → Type 0) (ps : List Packet) (es : List NodeEvent) (o : Outcome A) → Silent es → Goes P ps o → Goes P ps (behind es o)
+pub goes_quietly : {A : Type 0} (P : A → List Packet → Type 0) (ps : List Packet) (es : List NodeEvent) (o : Outcome A) → Silent es → Goes P ps o → Goes P ps (after_events es o)
 goes_quietly P ps es o silent h =
     goes_behind P ps es o (subst (λ qs. Goes P qs o) (sym (ap (λ qs. ps ++ qs) (silent_none es silent) ∙ append-nil ps)) h)
 

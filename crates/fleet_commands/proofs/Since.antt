@@ -45,7 +45,7 @@ use Rattle.fleet_world.specs.WorldState.{WorldState, stream_of, is_named, is_sta
 use Rattle.std.specs.List.{list_any}
 use Rattle.fleet_world.specs.declared.locations.Location.{Location}
 use Rattle.fleet_invariants.proofs.Hearing.{flown_silent}
-use Rattle.fleet_world.specs.Steps.{Step, StepError, behind, and_then, most_frames, most_drones, most_stations, most_restarts, packets_in, node_does, calls_at, calls_found, calls, given_to, given_from, given_to_all, flow_next, flows, delivers, restarts_at, restarts_found, starts_again, restart_line, station_line, orders, upload_begins, orders_at, orders_found, orders_to, asks, command_busy, params_busy, after_line, flies, location_in, locates_as}
+use Rattle.fleet_world.specs.Steps.{Step, StepError, after_events, and_then, most_frames, most_drones, most_stations, most_restarts, packets_in, node_does, calls_at, calls_found, calls, given_to, given_from, given_to_all, flow_next, flows, delivers, restarts_at, restarts_found, starts_again, restart_line, station_line, orders, upload_begins, orders_at, orders_found, orders_to, asks, command_busy, params_busy, after_line, flies, location_in, locates_as}
 use Rattle.fleet_invariants.proofs.Lists.{stays_where, more_there}
 use Rattle.fleet_invariants.proofs.Tests.{by_test}
 use Rattle.fleet_invariants.proofs.Nodes.{Silent}
@@ -185,7 +185,7 @@ On s (Err error) = Unit {0}
 rests_on : (s t : WorldState) → t.nodes ≡ s.nodes → (k : ℕ) (d : DroneSide) → slice_get s.nodes k ≡ Some (Drone d) → HasHistory t k d.link.history
 rests_on s t same k d found = record { node = d; found = ap (λ ns. slice_get ns k) same ∙ found; goes_on = still d.link.history }
 
-behind_on : (s : WorldState) (events : List Event) (r : Result Step StepError) → On s r → On s (behind events r)
+behind_on : (s : WorldState) (events : List Event) (r : Result Step StepError) → On s r → On s (after_events events r)
 behind_on s events (Ok t) h = λ k d found. let x = h k d found in record { node = x.node; found = x.found; goes_on = x.goes_on }
 behind_on s events (Err error) h = tt
 
@@ -312,7 +312,7 @@ module _ (s : WorldState) (drone : Name) where
   unchanged (Ok t) h = λ k d found. inl (h k d found)
   unchanged (Err error) h = tt
 
-  behind_restart : (events : List Event) (r : Result Step StepError) → RestartOn s drone r → RestartOn s drone (behind events r)
+  behind_restart : (events : List Event) (r : Result Step StepError) → RestartOn s drone r → RestartOn s drone (after_events events r)
   behind_restart events (Ok t) h = λ k d found. h k d found
   behind_restart events (Err error) h = tt
 

@@ -12,7 +12,7 @@ use Rattle.fleet_report.specs.Events.{Event}
 use Rattle.node_reports.specs.Nodes.{Node, Drone, Station, node_name}
 use Rattle.node_reports.specs.Calls.{as_drone, as_station, node_receives, node_beats, node_ticks, node_flies}
 use Rattle.fleet_world.specs.WorldState.{WorldState, is_named}
-use Rattle.fleet_world.specs.Steps.{Step, StepError, behind, most_frames, packets_in, node_does, calls_at, calls_found, calls}
+use Rattle.fleet_world.specs.Steps.{Step, StepError, after_events, most_frames, packets_in, node_does, calls_at, calls_found, calls}
 use Rattle.fleet_invariants.specs.Sound.{link_of, IsSent, Sound}
 use Rattle.fleet_invariants.specs.Kept.{IsAmong, Known}
 use Rattle.fleet_invariants.proofs.Lists.{which}
@@ -52,7 +52,7 @@ Stays s count (Err error) = Unit {0}
 abbrev pub no_line : Name → ℕ
 no_line name = 0
 
-pub stays_behind : (s : WorldState) (count : Name → ℕ) (events : List Event) (r : Result Step StepError) → Stays s count r → Stays s count (behind events r)
+pub stays_behind : (s : WorldState) (count : Name → ℕ) (events : List Event) (r : Result Step StepError) → Stays s count r → Stays s count (after_events events r)
 stays_behind s count events (Ok t) h = record { commanded = record { stations = h.commanded.stations; drones = h.commanded.drones }; begun = h.begun }
 stays_behind s count events (Err error) h = tt
 

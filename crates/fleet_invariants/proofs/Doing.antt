@@ -16,7 +16,7 @@ use Rattle.plan_upload.specs.Refusals.{upload_refusal}
 use Rattle.mav_frame.specs.FinalParse.{final_parse}
 use Rattle.mav_sign.specs.Endpoints.{frames_of}
 use Rattle.drone_sim.specs.Sim.{armed, sim_tick}
-use Rattle.mav_nodes.specs.Links.{Outcome, behind, sends}
+use Rattle.mav_nodes.specs.Links.{Outcome, after_events, sends}
 use Rattle.mav_nodes.specs.Steps.{Side, CoreStep, with_core, steps}
 use Rattle.mav_nodes.specs.Nodes.{DroneSide, StationSide, drone_receives, drone_waits, tick_answer, drone_ticks, drone_heartbeat, drone_beats, station_receives, station_does, services_tick, station_ticks, station_heartbeat, station_beats, station_begins, station_cancels, station_clears, station_gets, station_commands, station_lists_params, drone_sims}
 use Rattle.mav_nodes.specs.FileServices.{transfer_waits}
@@ -48,7 +48,7 @@ as_station_is : (o : Outcome StationSide) → as_node Station o ≡ as_station o
 as_station_is None = refl
 as_station_is (Some d) = refl
 
-behind_none : {Core Services : Type 0} (o : Outcome (Side Core Services)) → behind [] o ≡ o
+behind_none : {Core Services : Type 0} (o : Outcome (Side Core Services)) → after_events [] o ≡ o
 behind_none None = refl
 behind_none (Some d) = refl
 

@@ -11,7 +11,7 @@ use Rattle.fleet_report.specs.Events.{Event}
 use Rattle.node_reports.specs.Nodes.{Node, node_name}
 use Rattle.node_reports.specs.Calls.{node_receives, node_flies}
 use Rattle.fleet_world.specs.WorldState.{WorldState, is_named}
-use Rattle.fleet_world.specs.Steps.{Step, StepError, behind, and_then, calls_at, calls_found, calls, given_to, given_from, given_to_all, flow_next, flows, flies}
+use Rattle.fleet_world.specs.Steps.{Step, StepError, after_events, and_then, calls_at, calls_found, calls, given_to, given_from, given_to_all, flow_next, flows, flies}
 use Rattle.fleet_invariants.specs.Sound.{Sound}
 use Rattle.fleet_invariants.specs.Kept.{StepKeeps, Keeps}
 use Rattle.fleet_invariants.specs.Laws.{CallKeeps, EveryGivingKeeps}
@@ -28,7 +28,7 @@ rests_so s g = record { sound = g; kept = kept_still s s refl refl refl (omega a
 step_on : (s t u : WorldState) → StepKeeps s t → StepKeeps t u → StepKeeps s u
 step_on s t u h k = record { sound = k.sound; kept = kept_on s t u h.kept k.kept; names = k.names ∙ h.names; clock = k.clock ∙ h.clock }
 
-behind_keeps : (s t : WorldState) (events : List Event) (r : Result Step StepError) → StepKeeps s t → Keeps t r → Keeps s (behind events r)
+behind_keeps : (s t : WorldState) (events : List Event) (r : Result Step StepError) → StepKeeps s t → Keeps t r → Keeps s (after_events events r)
 behind_keeps s t events (Ok u) h k = step_on s t u.state h k
 behind_keeps s t events (Err error) h k = tt
 

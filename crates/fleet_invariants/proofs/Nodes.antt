@@ -12,7 +12,7 @@ use Rattle.mav_frame.specs.Packet.{Packet}
 use Rattle.mav_sign.specs.Signing.{Verifies}
 use Rattle.mav_nodes.specs.LowBounds.{stored_low}
 use Rattle.mav_nodes.specs.News.{NodeEvent, Sends, Installs, Empties, Drops, Ends, Ends_command, Gives_param, Ends_params, Reaches, Captures, Ends_file}
-use Rattle.mav_nodes.specs.Links.{Link, Done, Outcome, done, behind, and_then, tries}
+use Rattle.mav_nodes.specs.Links.{Link, Done, Outcome, done, after_events, and_then, tries}
 use Rattle.mav_nodes.specs.Services.{DroneServices, StationServices}
 use Rattle.mav_nodes.specs.Steps.{Side, CoreStep, answers, with_core, steps}
 use Rattle.plan_ranges.specs.Ranges.{InRange, DroneInRange, StationInRange}
@@ -172,7 +172,7 @@ module _ (s : WorldState) (k : ℕ) (n : DroneSide) (g : Steady s) (found : slic
       }
 
   pub drone_done : (services : DroneServices) → SoundDroneServices (has_heard n.link) (node_of n.link.me) services → (step : CoreStep DroneState) → Silent step.first → Silent step.last → DroneInRange step.core → step.core.sys ≡ n.core.sys → Roomy (has_heard n.link) step.core → Unstored step.core
-      → (o : Outcome Link) → LinkDoes s n.link o → NodeDoes s k (as_node Drone (behind step.first (with_core step.core services step.last o)))
+      → (o : Outcome Link) → LinkDoes s n.link o → NodeDoes s k (as_node Drone (after_events step.first (with_core step.core services step.last o)))
   drone_done services served step h l range same room unstored None m = tt
   drone_done services served step h l range same room unstored (Some d) m =
       let all : List NodeEvent = step.first ++ (d.events ++ step.last) in
@@ -209,7 +209,7 @@ module _ (s : WorldState) (k : ℕ) (n : StationSide) (g : Steady s) (found : sl
       }
 
   pub station_done : (step : CoreStep StationState) → Silent step.first → Silent step.last → StationInRange step.core → step.core.me ≡ n.core.me → step.core.outcome ≡ None
-      → (o : Outcome Link) → LinkDoes s n.link o → NodeDoes s k (as_node Station (behind step.first (with_core step.core n.services step.last o)))
+      → (o : Outcome Link) → LinkDoes s n.link o → NodeDoes s k (as_node Station (after_events step.first (with_core step.core n.services step.last o)))
   station_done step h l range same told None m = tt
   station_done step h l range same told (Some d) m =
       let all : List NodeEvent = step.first ++ (d.events ++ step.last) in
@@ -235,7 +235,7 @@ after_first s k n1 None first then_ = tt
 after_first s k n1 (Some d) first then_ = goes_on s k (record { node = n1; events = [] }) d first then_
 
 pub then_behind : {Core Services : Type 0} (wrap : Side Core Services → Node) (s : WorldState) (k : ℕ) (d : Done (Side Core Services)) (o : Outcome (Side Core Services)) → NodeGoes s k (record { node = wrap d.node; events = d.events })
-    → NodeDoes (advanced s k (wrap d.node) d.events) k (as_node wrap o) → NodeDoes s k (as_node wrap (behind d.events o))
+    → NodeDoes (advanced s k (wrap d.node) d.events) k (as_node wrap o) → NodeDoes s k (as_node wrap (after_events d.events o))
 then_behind wrap s k d None first next = tt
 then_behind wrap s k d (Some e) first next =
     goes_on s k (record { node = wrap d.node; events = d.events }) (record { node = wrap e.node; events = e.events }) first next

@@ -16,7 +16,7 @@ use Rattle.fleet_report.specs.Events.{Event, Restarted}
 use Rattle.node_reports.specs.Nodes.{Node, Drone, Station}
 use Rattle.node_reports.specs.Calls.{as_drone}
 use Rattle.fleet_world.specs.WorldState.{WorldState, named, is_drone_named}
-use Rattle.fleet_world.specs.Steps.{Step, StepError, behind, most_restarts, node_does, restarts_at, restarts_found, starts_again, restart_line}
+use Rattle.fleet_world.specs.Steps.{Step, StepError, after_events, most_restarts, node_does, restarts_at, restarts_found, starts_again, restart_line}
 use Rattle.fleet_invariants.specs.Sound.{link_of, has_heard, SoundLink, SoundDrone, Sound}
 use Rattle.fleet_invariants.specs.Kept.{Kept, Keeps}
 use Rattle.fleet_invariants.proofs.Lists.{nowhere}
@@ -160,7 +160,7 @@ module _ (s : WorldState) (g : Steady s) (k : ℕ) (n : DroneSide) (found : slic
 
 -- ---- a line
 
-reported : (s : WorldState) (events : List Event) (r : Result Step StepError) → Keeps s r → Keeps s (behind events r)
+reported : (s : WorldState) (events : List Event) (r : Result Step StepError) → Keeps s r → Keeps s (after_events events r)
 reported s events (Ok t) h = record { sound = h.sound; kept = h.kept; names = h.names; clock = h.clock }
 reported s events (Err error) h = tt
 

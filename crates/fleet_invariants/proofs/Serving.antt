@@ -3,7 +3,7 @@ use Rattle.std.proofs.Common.{◌≡◌, ℕ, List, [], ◌∷◌, slice_get, So
 use Rattle.plan_upload.specs.Addresses.{node_of}
 use Rattle.mav_messages.specs.declared.messages.Message.{Message}
 use Rattle.mav_nodes.specs.News.{NodeEvent}
-use Rattle.mav_nodes.specs.Links.{Link, Done, Outcome, done, behind, and_then, sends, sends_all}
+use Rattle.mav_nodes.specs.Links.{Link, Done, Outcome, done, after_events, and_then, sends, sends_all}
 use Rattle.mav_nodes.specs.Services.{ServiceStep, DroneServices, StationServices}
 use Rattle.mav_nodes.specs.Steps.{Side, with_core, serves}
 use Rattle.mav_nodes.specs.Nodes.{DroneSide, StationSide}
@@ -19,7 +19,7 @@ use Rattle.fleet_invariants.proofs.Services.{Serves}
 use Rattle.fleet_invariants.proofs.Nodes.{Silent, silent_none, silent_read, advanced, NodeGoes, NodeDoes, node_goes, as_node, drone_moves, station_moves, after_first, then_behind}
 
 -- events of the link are before the last ones
-with_behind : {Core Services : Type 0} (core : Core) (services : Services) (last es : List NodeEvent) (o : Outcome Link) → behind es (with_core core services last o) ≡ with_core core services last (behind es o)
+with_behind : {Core Services : Type 0} (core : Core) (services : Services) (last es : List NodeEvent) (o : Outcome Link) → after_events es (with_core core services last o) ≡ with_core core services last (after_events es o)
 with_behind core services last es None = refl
 with_behind {Core} {Services} core services last es (Some d) =
     ap (λ (events : List NodeEvent). done {A = Side Core Services} (record { link = d.node; core = core; services = services }) events) (sym (append_assoc es d.events last))

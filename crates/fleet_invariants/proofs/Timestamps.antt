@@ -11,7 +11,7 @@ use Rattle.mav_sign.specs.declared.admission.Admit.TheVariants.{Admitted, Unsign
 use Rattle.mav_sign.specs.Signing.{Verifies}
 use Rattle.mav_sign.specs.History.{Entry, tried, sent, local_of, next_in, answer_to, greatest_stamp, stream_of}
 use Rattle.mav_nodes.specs.News.{NodeEvent}
-use Rattle.mav_nodes.specs.Links.{Link, Outcome, behind, and_then, tries, sends, sends_all}
+use Rattle.mav_nodes.specs.Links.{Link, Outcome, after_events, and_then, tries, sends, sends_all}
 use Rattle.mav_nodes.specs.Payloads.{plan_in, service_in}
 use Rattle.mav_nodes.specs.Services.{ServiceStep}
 use Rattle.mav_nodes.specs.Steps.{Side, Rules, CoreStep, answers, with_core, steps, serves, takes, admits, hears, hears_all}
@@ -35,7 +35,7 @@ pub ends_done : {A : Type 0} (P : A → Type 0) (o : Outcome A) → Ends P o →
 ends_done P None h = h
 ends_done P (Some d) h = tt
 
-ends_behind : {A : Type 0} (P : A → Type 0) (events : List NodeEvent) (o : Outcome A) → Ends P o → Ends P (behind events o)
+ends_behind : {A : Type 0} (P : A → Type 0) (events : List NodeEvent) (o : Outcome A) → Ends P o → Ends P (after_events events o)
 ends_behind P events None h = h
 ends_behind P events (Some d) h = h
 
@@ -47,7 +47,7 @@ ends_then : {A B : Type 0} (P : A → Type 0) (Q : B → Type 0) (o : Outcome A)
 ends_then P Q None next h each = h
 ends_then P Q (Some d) next h each = ends_behind Q d.events (next d.node) (each d.node h)
 
-behind_done : {A : Type 0} (events : List NodeEvent) (o : Outcome A) → IsDone o → IsDone (behind events o)
+behind_done : {A : Type 0} (events : List NodeEvent) (o : Outcome A) → IsDone o → IsDone (after_events events o)
 behind_done events None h = h
 behind_done events (Some d) h = tt
 

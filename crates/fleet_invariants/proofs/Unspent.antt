@@ -42,7 +42,7 @@ use Rattle.node_reports.specs.Nodes.{Node, Drone, Station, node_name}
 use Rattle.node_reports.specs.Calls.{as_drone, as_station, node_receives, node_beats, node_ticks, node_flies}
 use Rattle.fleet_world.specs.WorldState.{WorldState, is_named, is_drone_named, is_station_named, stream_of, context_of, drones_in, stations_in}
 use Rattle.fleet_world.specs.declared.locations.Location.{Location}
-use Rattle.fleet_world.specs.Steps.{Step, StepError, At_limit, Stamps_spent, most_frames, most_drones, most_stations, most_restarts, restarts_at, restarts_found, starts_again, restart_line, behind, and_then, packets_in, node_does, calls_at, calls_found, calls, given_to, given_from, given_to_all, flow_next, flows, delivers, station_line, orders, upload_begins, orders_at, orders_found, orders_to, begins, cancels, clears, gets, asks, command_busy, params_busy, commands, lists_params, after_line, flies, location_in, locates_as}
+use Rattle.fleet_world.specs.Steps.{Step, StepError, At_limit, Stamps_spent, most_frames, most_drones, most_stations, most_restarts, restarts_at, restarts_found, starts_again, restart_line, after_events, and_then, packets_in, node_does, calls_at, calls_found, calls, given_to, given_from, given_to_all, flow_next, flows, delivers, station_line, orders, upload_begins, orders_at, orders_found, orders_to, begins, cancels, clears, gets, asks, command_busy, params_busy, commands, lists_params, after_line, flies, location_in, locates_as}
 use Rattle.fleet_world.specs.Scenario.{ScenarioError, Bad, Too_many_lines, Not_done, Played, stopped, goes_on, judged, line_played, unless_stopped, lines_played, at_start, last_played, rest_played, played}
 use Rattle.scenario_lines.specs.FileLines.{most_lines, whole_lines, unfinished, without_cr}
 use Rattle.fleet_world.specs.Authentic.{AuthenticLine, line_read, line_done, AuthenticDone, UnlessStopped, AuthenticLines, AuthenticLast}
@@ -179,7 +179,7 @@ Unspent (Ok t) = Unit {0}
 Unspent (Err (At_limit limit)) = Unit {0}
 Unspent (Err Stamps_spent) = ⊥
 
-behind_unspent : (events : List Event) (r : Result Step StepError) → Unspent r → Unspent (behind events r)
+behind_unspent : (events : List Event) (r : Result Step StepError) → Unspent r → Unspent (after_events events r)
 behind_unspent events (Ok t) h = tt
 behind_unspent events (Err (At_limit limit)) h = tt
 behind_unspent events (Err Stamps_spent) h = h

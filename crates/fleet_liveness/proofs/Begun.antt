@@ -21,7 +21,7 @@ use Rattle.mav_frame.specs.Packet.{Packet}
 use Rattle.mav_messages.specs.Plans.{message_of_plan}
 use Rattle.mav_sign.specs.History.{low_of, last_of, next_in, greatest_stamp}
 use Rattle.mav_nodes.specs.News.{Sends}
-use Rattle.mav_nodes.specs.Links.{Link, Outcome, done, behind, sent_at}
+use Rattle.mav_nodes.specs.Links.{Link, Outcome, done, after_events, sent_at}
 use Rattle.mav_nodes.specs.Signed.{signed_packet}
 use Rattle.mav_nodes.specs.Steps.{CoreStep, with_core, steps}
 use Rattle.mav_nodes.specs.Nodes.{DroneSide, StationSide, station_does, station_begins, told_events}
@@ -127,7 +127,7 @@ data Says {Core Services : Type 0} (clock : ℕ) (link : Link) (v : Services) (r
 orders_say : {Core Services : Type 0} (clock : ℕ) (link : Link) (v : Services) (r : CoreStep Core) (answer : PlanMsg) → r.answer ≡ Some answer → Says clock link v r answer
 orders_say clock link v r answer is =
     let stamp = next_in link.history clock in
-    by_test (λ (o : Outcome Link). steps clock link v r ≡ behind r.first (with_core r.core v r.last o) → Says clock link v r answer) (nat_lt greatest_stamp stamp) _ _
+    by_test (λ (o : Outcome Link). steps clock link v r ≡ after_events r.first (with_core r.core v r.last o) → Says clock link v r answer) (nat_lt greatest_stamp stamp) _ _
     (λ _ e. Spent e)
     (λ _ e. Said (signed_packet link.key link.extras link.me link.seq stamp (message_of_plan answer)) refl e)
     (ap (λ z. steps clock link v (record r { answer = z })) is)

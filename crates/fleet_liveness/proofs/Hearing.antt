@@ -17,7 +17,7 @@ use Rattle.mav_sign.specs.Endpoints.{frames_of}
 use Rattle.mav_sign.specs.History.{Entry, answer_to, block_answer, stamp_answer, answer_after, unless_below, low_of, one_minute, stream_limit, last_of, local_of, streams_of, next_in, greatest_stamp}
 use Rattle.mav_nodes.specs.News.{NodeEvent, Sends, Installs, Empties, Drops, Ends, Ends_command, Gives_param, Ends_params, Reaches, Captures, Ends_file}
 use Rattle.mav_nodes.specs.Payloads.{plan_in, service_in}
-use Rattle.mav_nodes.specs.Links.{Link, Outcome, done, behind, and_then, tries, sent_at, sends}
+use Rattle.mav_nodes.specs.Links.{Link, Outcome, done, after_events, and_then, tries, sent_at, sends}
 use Rattle.mav_nodes.specs.Signed.{signed_packet}
 use Rattle.mav_nodes.specs.Steps.{Side, Rules, CoreStep, with_core, steps, takes, admits, hears, hears_all, receives}
 use Rattle.fleet_world.specs.WorldState.{stream_of}
@@ -173,11 +173,11 @@ module _ (key : List ℕ) (p : Packet) (stamp : ℕ) (m : PlanMsg) (c : Carries 
     says r is answer answers admitted =
         let stamp = next_in after.history clock in
         let packet = signed_packet y.link.key y.link.extras y.link.me y.link.seq stamp (message_of_plan answer) in
-        let whole : Received ≡ and_then (behind r.first (with_core r.core (noted r) r.last (sends clock (message_of_plan answer) after))) (hears_all rules clock []) =
+        let whole : Received ≡ and_then (after_events r.first (with_core r.core (noted r) r.last (sends clock (message_of_plan answer) after))) (hears_all rules clock []) =
         taken admitted
         ∙ ap (λ z. and_then (steps clock after (noted z) z) (hears_all rules clock [])) is
         ∙ ap (λ z. and_then (steps clock after (noted r) (record r { answer = z })) (hears_all rules clock [])) answers in
-        by_test (λ (o : Outcome Link). Received ≡ and_then (behind r.first (with_core r.core (noted r) r.last o)) (hears_all rules clock []) → Says r answer) (nat_lt greatest_stamp stamp) _ _
+        by_test (λ (o : Outcome Link). Received ≡ and_then (after_events r.first (with_core r.core (noted r) r.last o)) (hears_all rules clock []) → Says r answer) (nat_lt greatest_stamp stamp) _ _
         (λ _ e. Spent e)
         (λ _ e. Said packet refl (e ∙ ap (done (record { link = sent_at stamp after; core = r.core; services = noted r })) (append-nil (r.first ++ Sends packet (message_of_plan answer) ∷ r.last))))
         whole

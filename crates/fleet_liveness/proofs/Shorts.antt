@@ -24,7 +24,7 @@ use Rattle.mav_sign.specs.Endpoints.{frames_of}
 use Rattle.mav_sign.specs.History.{answer_to, stream_of as stream_in, next_in, greatest_stamp}
 use Rattle.mav_nodes.specs.News.{NodeEvent}
 use Rattle.mav_nodes.specs.Payloads.{plan_in, service_in}
-use Rattle.mav_nodes.specs.Links.{Link, Done, Outcome, behind, and_then, tries, sends, sends_all}
+use Rattle.mav_nodes.specs.Links.{Link, Done, Outcome, after_events, and_then, tries, sends, sends_all}
 use Rattle.mav_nodes.specs.FileServices.{transfer_heard}
 use Rattle.mav_nodes.specs.Services.{DroneServices, StationServices, station_served}
 use Rattle.mav_nodes.specs.Nodes.{DroneSide, StationSide, drone_rules, station_rules, change_events}
@@ -64,7 +64,7 @@ at_most_more : {A : Type 0} (n m : ℕ) (o : Outcome A) → n ≤ m → AtMost n
 at_most_more n m None le h = tt
 at_most_more n m (Some d) le h = omega (arith, le, h)
 
-at_most_behind : {A : Type 0} (n m : ℕ) (events : List NodeEvent) (o : Outcome A) → length (packets_in events) ≤ n → AtMost m o → AtMost (n + m) (behind events o)
+at_most_behind : {A : Type 0} (n m : ℕ) (events : List NodeEvent) (o : Outcome A) → length (packets_in events) ≤ n → AtMost m o → AtMost (n + m) (after_events events o)
 at_most_behind n m events None few h = tt
 at_most_behind n m events (Some d) few h =
     let all = ap (λ (ps : List Packet). length ps) (packets_append events d.events) in

@@ -12,7 +12,7 @@ use Rattle.node_reports.specs.Nodes.{Node, node_name}
 use Rattle.node_reports.specs.Calls.{node_receives}
 use Rattle.node_reports.specs.Reporting.{reported_by}
 use Rattle.fleet_world.specs.WorldState.{WorldState}
-use Rattle.fleet_world.specs.Steps.{Step, StepError, behind, and_then, packets_in, node_does, most_frames, given_to}
+use Rattle.fleet_world.specs.Steps.{Step, StepError, after_events, and_then, packets_in, node_does, most_frames, given_to}
 use Rattle.fleet_invariants.specs.Kept.{StepKeeps, Keeps}
 use Rattle.fleet_invariants.proofs.Tests.{by_test}
 
@@ -33,7 +33,7 @@ weaker P Q (Err error) f h = tt
 abbrev pub step_behind : List Event → Step → Step
 step_behind events t = record { state = t.state; events = events ++ t.events }
 
-pub ok_behind : (P : Step → Type 0) (events : List Event) (r : Result Step StepError) → IfOk r (λ t. P (step_behind events t)) → IfOk (behind events r) P
+pub ok_behind : (P : Step → Type 0) (events : List Event) (r : Result Step StepError) → IfOk r (λ t. P (step_behind events t)) → IfOk (after_events events r) P
 ok_behind P events (Ok t) h = h
 ok_behind P events (Err error) h = tt
 

@@ -24,7 +24,7 @@ use Rattle.plan_safety.specs.World.{Begins, Clears, Gets, Cancels, Drone_ticks, 
 use Rattle.plan_safety.proofs.Keys.{by_test, bool_split, name_eq}
 use Rattle.drone_sim.specs.Sim.{armed}
 use Rattle.mav_nodes.specs.News.{NodeEvent}
-use Rattle.mav_nodes.specs.Links.{Link, Outcome, behind, and_then, tries, sends, sends_all}
+use Rattle.mav_nodes.specs.Links.{Link, Outcome, after_events, and_then, tries, sends, sends_all}
 use Rattle.mav_nodes.specs.LowBounds.{stored_low}
 use Rattle.mav_nodes.specs.Restarts.{restarted_drone}
 use Rattle.mav_nodes.specs.Payloads.{plan_in, service_in}
@@ -156,7 +156,7 @@ module _ (me : Stream) where
   then_sends None next h k = tt
   then_sends (Some d) next h k = after (next d.node) (k d.node h)
     where
-      after : (o : Outcome Link) → LinkKeeps o → LinkKeeps (behind d.events o)
+      after : (o : Outcome Link) → LinkKeeps o → LinkKeeps (after_events d.events o)
       after None l = tt
       after (Some e) l = l
 
@@ -177,7 +177,7 @@ module _ {Core Services : Type 0} (me : Stream) where
   core_keeps core services last None h = tt
   core_keeps core services last (Some d) h = h
 
-  steps_keep : (first : List NodeEvent) (o : Outcome (Side Core Services)) → Keeps o → Keeps (behind first o)
+  steps_keep : (first : List NodeEvent) (o : Outcome (Side Core Services)) → Keeps o → Keeps (after_events first o)
   steps_keep first None h = tt
   steps_keep first (Some d) h = h
 

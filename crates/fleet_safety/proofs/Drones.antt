@@ -34,7 +34,7 @@ use Rattle.mav_sign.specs.History.{Entry, Stamped, tried, stamped, next_in, answ
 use Rattle.mav_sign.specs.History as signed
 use Rattle.drone_sim.specs.Sim.{armed}
 use Rattle.mav_nodes.specs.News.{NodeEvent, Sends, Drops}
-use Rattle.mav_nodes.specs.Links.{Link, Done, Outcome, done, behind, sends, sends_all}
+use Rattle.mav_nodes.specs.Links.{Link, Done, Outcome, done, after_events, sends, sends_all}
 use Rattle.mav_nodes.specs.Links as links
 use Rattle.mav_nodes.specs.Payloads.{plan_in, service_in}
 use Rattle.mav_nodes.specs.Services.{ServiceStep, DroneServices, drone_serves, drone_notes, drone_flies}
@@ -236,9 +236,9 @@ module _ (n : Nodes) (sound : Distinct n) (clock : ℕ) (nodes : List Node) (sen
         (packets_on first [] ∙ append-nil (packets_in first) ∙ none)
         (quiet_seen x (length sent) (length w.sent) first [] news none changes nothing_behind many ∙ sym (step_is u (drone_after u x (drone_node core last next) None news) None refl))
 
-    says : (e : world.Event) (message : Message) (said : Option PlanMsg) → IfSome said InRange → plan_of message ≡ said → happens n u e ≡ drone_after u x (drone_node core last (next + 1)) (Some (frame_of x next said)) news → refused_reported n u e ≡ [] → Leads n clock nodes sent w k (Drone a) Drone (behind first (with_core core services [] (sends clock message link))) (moves clock (Drone a) e) []
+    says : (e : world.Event) (message : Message) (said : Option PlanMsg) → IfSome said InRange → plan_of message ≡ said → happens n u e ≡ drone_after u x (drone_node core last (next + 1)) (Some (frame_of x next said)) news → refused_reported n u e ≡ [] → Leads n clock nodes sent w k (Drone a) Drone (after_events first (with_core core services [] (sends clock message link))) (moves clock (Drone a) e) []
     says e message said within carries is silent =
-        by_test (λ o. Leads n clock nodes sent w k (Drone a) Drone (behind first (with_core core services [] o)) (moves clock (Drone a) e) []) (nat_lt greatest_stamp (next_in link.history clock)) _ _ (λ _. tt)
+        by_test (λ o. Leads n clock nodes sent w k (Drone a) Drone (after_events first (with_core core services [] o)) (moves clock (Drone a) e) []) (nat_lt greatest_stamp (next_in link.history clock)) _ _ (λ _. tt)
         (λ _ reads.
         let q : Packet = packet_of link clock message in
         let f : Frame = frame_of x next said in
@@ -248,7 +248,7 @@ module _ (n : Nodes) (sound : Distinct n) (clock : ℕ) (nodes : List Node) (sen
         (sends_seen x (length sent) (length w.sent) first [] news none changes nothing_behind many q message said next (sym (ap node_of me)) carries ∙ sym (step_is u (drone_after u x (drone_node core last (next + 1)) (Some f) news) (Some f) refl)))
 
     -- by the answer
-    answers_lead : (o : Option PlanMsg) → IfSome o InRange → (e : world.Event) → happens n u e ≡ drone_after u x (says_node (drone_node core last next) o) (says_frame x next o) news → refused_reported n u e ≡ [] → Leads n clock nodes sent w k (Drone a) Drone (behind first (with_core core services [] (answers clock o link))) (moves clock (Drone a) e) []
+    answers_lead : (o : Option PlanMsg) → IfSome o InRange → (e : world.Event) → happens n u e ≡ drone_after u x (says_node (drone_node core last next) o) (says_frame x next o) news → refused_reported n u e ≡ [] → Leads n clock nodes sent w k (Drone a) Drone (after_events first (with_core core services [] (answers clock o link))) (moves clock (Drone a) e) []
     answers_lead None within e is silent = λ _. says_nothing e is silent
     answers_lead (Some m) within e is silent = says e (message_of_plan m) (Some m) within (carried m within) is silent
 

@@ -25,7 +25,7 @@ use Rattle.node_reports.specs.Calls.{node_beats}
 use Rattle.node_reports.specs.Reporting.{reported_by}
 use Rattle.fleet_world.specs.declared.faults.Bound.TheVariants.{Frames}
 use Rattle.fleet_world.specs.WorldState.{WorldState, is_drone_named}
-use Rattle.fleet_world.specs.Steps.{Step, StepError, At_limit, behind, most_frames, most_restarts, packets_in, node_does, restarts_at, restarts_found, starts_again, restart_line}
+use Rattle.fleet_world.specs.Steps.{Step, StepError, At_limit, after_events, most_frames, most_restarts, packets_in, node_does, restarts_at, restarts_found, starts_again, restart_line}
 use Rattle.fleet_invariants.specs.Sound.{SoundDrone, Sound}
 use Rattle.fleet_invariants.specs.Laws.{EveryCallKeeps}
 use Rattle.fleet_invariants.proofs.Lists.{set_there, set_twice}
@@ -189,7 +189,7 @@ module _ (number : ℕ) (n : Nodes) (distinct : Distinct n) (every_call : EveryC
 
     restarts_lead : StateLeads n w (Goes n s) (restarts_at t k (Some (Drone a))) (actions_restarted number t k a)
     restarts_lead =
-        subst (λ (q : Result Step StepError). StateLeads n w (Goes n s) (behind (Restarted (node_of x) ∷ []) q) (actions_restarted number t k a)) (does_anew (node_beats s.clock (Drone r)))
+        subst (λ (q : Result Step StepError). StateLeads n w (Goes n s) (after_events (Restarted (node_of x) ∷ []) q) (actions_restarted number t k a)) (does_anew (node_beats s.clock (Drone r)))
         (state_then n w IsAnew (Goes n s) (Ok first) (action ∷ []) (λ u. node_does u k (node_name (Drone r)) (node_beats u.clock (Drone r))) (λ u. beaten number u k (Drone r)) first_leads then_beats)
 
   -- ---- the drone at an index, and the one of a name

@@ -14,7 +14,7 @@ use Rattle.mav_messages.specs.declared.messages.Message.{Message}
 use Rattle.mav_messages.specs.Plans.{plan_of, message_of_plan}
 use Rattle.mav_sign.specs.History.{next_in, greatest_stamp}
 use Rattle.mav_nodes.specs.News.{NodeEvent, Sends, Installs, Empties, Drops, Ends, Ends_command, Gives_param, Ends_params, Reaches, Captures, Ends_file}
-use Rattle.mav_nodes.specs.Links.{Link, Done, Outcome, done, behind, and_then, sends_all, sent_at}
+use Rattle.mav_nodes.specs.Links.{Link, Done, Outcome, done, after_events, and_then, sends_all, sent_at}
 use Rattle.mav_nodes.specs.Steps.{Side, with_core, answers}
 use Rattle.node_reports.specs.Nodes.{Node, node_name}
 use Rattle.fleet_world.specs.Steps.{packets_in}
@@ -180,7 +180,7 @@ module _ (n : Nodes) (clock k : ℕ) {Core Services : Type 0} (wrap : Side Core 
     said_is : speaks (wait a.link.me) a.link.me q (plan_of m) ≡ events
     said_is = ap (speaks (wait a.link.me) a.link.me q) other
 
-    more : (o : Outcome Link) → (Reads (Sends q m) → Says n clock (slice_set nodes k (wrap b)) (sent ++ q ∷ []) (final n w events) k wrap wait b (ends b o)) → Says n clock nodes sent w k wrap wait a (ends a (behind (Sends q m ∷ []) o))
+    more : (o : Outcome Link) → (Reads (Sends q m) → Says n clock (slice_set nodes k (wrap b)) (sent ++ q ∷ []) (final n w events) k wrap wait b (ends b o)) → Says n clock nodes sent w k wrap wait a (ends a (after_events (Sends q m ∷ []) o))
     more None rest = tt
     more (Some d) rest = λ reads.
         let e : Done Node = record { node = wrap (record { link = d.node; core = a.core; services = a.services }); events = d.events ++ last } in
@@ -209,10 +209,10 @@ Unsaid wait me None = Unit {0}
 Unsaid wait me (Some d) = speaks_all wait me d.events ≡ []
 
 pub answers_unsaid : {Core Services : Type 0} (wait : ℕ → world.Event) (me : Stream) (clock : ℕ) (first last : List NodeEvent) (core : Core) (services : Services) (o : Option PlanMsg) (link : Link)
-    → speaks_all wait me first ≡ [] → speaks_all wait me last ≡ [] → Unsaid wait me (behind first (with_core core services last (answers clock o link)))
+    → speaks_all wait me first ≡ [] → speaks_all wait me last ≡ [] → Unsaid wait me (after_events first (with_core core services last (answers clock o link)))
 answers_unsaid wait me clock first last core services None link a b = spoken_on wait me first last ∙ ap (λ r. r ++ speaks_all wait me last) a ∙ b
 answers_unsaid wait me clock first last core services (Some m) link a b =
-    by_test (λ o. Unsaid wait me (behind first (with_core core services last o))) (nat_lt greatest_stamp (next_in link.history clock)) _ _ (λ _. tt)
+    by_test (λ o. Unsaid wait me (after_events first (with_core core services last o))) (nat_lt greatest_stamp (next_in link.history clock)) _ _ (λ _. tt)
     (λ _.
     let q : Packet = packet_of link clock (message_of_plan m) in
     spoken_on wait me first (Sends q (message_of_plan m) ∷ last)
@@ -245,7 +245,7 @@ module _ (n : Nodes) (clock : ℕ) (nodes : List Node) (sent : List Packet) (w :
       → (Led n clock nodes sent w k (wrap a) (record { node = wrap d.node; events = d.events }) es os → a.link.me ≡ d.node.link.me)
       → (AllRead d.events → Led n clock nodes sent w k (wrap a) (record { node = wrap d.node; events = d.events }) es os) → (o : Outcome (Side Core Services))
       → (Led n clock nodes sent w k (wrap a) (record { node = wrap d.node; events = d.events }) es os → Says n clock (slice_set nodes k (wrap d.node)) (sent ++ packets_in d.events) (final n w es) k wrap wait d.node o)
-      → Leads n clock nodes sent w k (wrap a) wrap (behind d.events o) (es ++ said (wait a.link.me) a.link.me (behind d.events o)) os
+      → Leads n clock nodes sent w k (wrap a) wrap (after_events d.events o) (es ++ said (wait a.link.me) a.link.me (after_events d.events o)) os
   led_says wrap wait a d es os unsaid same h None s = tt
   led_says wrap wait a d es os unsaid same h (Some e) s = λ reads.
       let first = h (read_first d.events e.events reads) in

@@ -23,7 +23,7 @@ use Rattle.node_reports.specs.Calls.{node_receives}
 use Rattle.node_reports.specs.Reporting.{reported_by}
 use Rattle.fleet_world.specs.WorldState.{WorldState, is_named}
 use Rattle.fleet_world.specs.declared.locations.Location.{Location}
-use Rattle.fleet_world.specs.Steps.{Step, StepError, rests, behind, and_then, most_frames, packets_in, node_does, calls_at, calls_found, calls, given_to, given_from, given_to_all, flow_next, flows, delivers, locates_as}
+use Rattle.fleet_world.specs.Steps.{Step, StepError, rests, after_events, and_then, most_frames, packets_in, node_does, calls_at, calls_found, calls, given_to, given_from, given_to_all, flow_next, flows, delivers, locates_as}
 use Rattle.fleet_invariants.proofs.Restated.{sound_restated}
 use Rattle.fleet_invariants.proofs.Heard.{reads_alone}
 use Rattle.fleet_invariants.specs.Sound.{link_of, Sound}
@@ -61,7 +61,7 @@ pub state_then : (n : Nodes) (w : World) (P Q : WorldState → World → Type 0)
 state_then n w P Q (Err error) actions next nexts h k = tt
 state_then n w P Q (Ok t) actions next nexts h k = after (next t.state) (k t.state (final n w (events_of actions)) h.holds)
   where
-    after : (u : Result Step StepError) → StateLeads n (final n w (events_of actions)) Q u (nexts t.state) → StateLeads n w Q (behind t.events u) (actions ++ nexts t.state)
+    after : (u : Result Step StepError) → StateLeads n (final n w (events_of actions)) Q u (nexts t.state) → StateLeads n w Q (after_events t.events u) (actions ++ nexts t.state)
     after (Err error) l = tt
     after (Ok u) l = record {
       follows = follows_on n w actions (nexts t.state) h.follows l.follows;

@@ -35,7 +35,7 @@ use Rattle.mav_sign.specs.Signing.{Verifies}
 use Rattle.mav_sign.specs.History.{Entry, Stamped, tried, stamped, next_in, answer_to, block_answer, stamp_answer, greatest_stamp}
 use Rattle.mav_sign.specs.History as signed
 use Rattle.mav_nodes.specs.News.{NodeEvent, Sends, Drops}
-use Rattle.mav_nodes.specs.Links.{Link, Done, Outcome, done, behind, and_then, sends, sends_all}
+use Rattle.mav_nodes.specs.Links.{Link, Done, Outcome, done, after_events, and_then, sends, sends_all}
 use Rattle.mav_nodes.specs.Links as links
 use Rattle.mav_nodes.specs.Payloads.{plan_in, service_in}
 use Rattle.mav_nodes.specs.FileServices.{transfer_heard, transfer_waits}
@@ -281,12 +281,12 @@ module _ (n : Nodes) (sound : Distinct n) (clock : ℕ) (nodes : List Node) (sen
         (q, ap (λ ps. q ∷ ps) none, same)
         (sends_seen y (length sent) (length w.sent) [] ending news refl (λ k. sym changeless) ends many q message said next (sym (ap node_of me)) carries ∙ sym (step_is u (station_after u y (station_node before last (next + 1)) (Some f) news) (Some f) refl)))
 
-    in_front : (o : Outcome StationSide) (e : world.Event) → Leads n clock nodes sent w k (Station a) Station o (moves clock (Station a) e) os → Leads n clock nodes sent w k (Station a) Station (behind [] o) (moves clock (Station a) e) os
+    in_front : (o : Outcome StationSide) (e : world.Event) → Leads n clock nodes sent w k (Station a) Station o (moves clock (Station a) e) os → Leads n clock nodes sent w k (Station a) Station (after_events [] o) (moves clock (Station a) e) os
     in_front None e h = tt
     in_front (Some d) e h = h
 
     -- by the answer
-    answers_lead : (o : Option PlanMsg) → IfSome o InRange → (e : world.Event) → happens n u e ≡ station_after u y (says_node (station_node before last next) o) (says_frame y next o) news → refused_reported n u e ≡ [] → Leads n clock nodes sent w k (Station a) Station (behind [] (with_core core services ending (answers clock o link))) (moves clock (Station a) e) os
+    answers_lead : (o : Option PlanMsg) → IfSome o InRange → (e : world.Event) → happens n u e ≡ station_after u y (says_node (station_node before last next) o) (says_frame y next o) news → refused_reported n u e ≡ [] → Leads n clock nodes sent w k (Station a) Station (after_events [] (with_core core services ending (answers clock o link))) (moves clock (Station a) e) os
     answers_lead None within e is silent = λ _. says_nothing e is silent
     answers_lead (Some m) within e is silent = in_front (with_core core services ending (sends clock (message_of_plan m) link)) e (says e (message_of_plan m) (Some m) within (carried m within) is silent)
 

@@ -17,7 +17,7 @@ use Rattle.mav_sign.specs.History.{next_in, answer_to, stream_of, greatest_stamp
 use Rattle.command_proto.specs.Commander.{commands, commander_tick}
 use Rattle.param_proto.specs.Client.{lists, client_tick}
 use Rattle.mav_nodes.specs.News.{NodeEvent, Sends, Installs, Empties, Drops, Ends, Ends_command, Gives_param, Ends_params, Reaches, Captures, Ends_file}
-use Rattle.mav_nodes.specs.Links.{Link, Done, Outcome, behind, and_then, tries, sends, sends_all, sent_at}
+use Rattle.mav_nodes.specs.Links.{Link, Done, Outcome, after_events, and_then, tries, sends, sends_all, sent_at}
 use Rattle.mav_nodes.specs.Payloads.{plan_in, service_in}
 use Rattle.mav_nodes.specs.FileServices.{TransferStep, transfer_waits}
 use Rattle.mav_nodes.specs.Services.{StationServices, station_waits, command_of, asks_command, asks_params}
@@ -140,7 +140,7 @@ module _ {Core Services : Type 0} (wait : ℕ → world.Event) (me : Stream) (is
       by_test (λ o. Few wait me (suc (length ms)) (with_core core services last (and_then o (sends_all clock ms)))) (nat_lt greatest_stamp (next_in link.history clock)) _ _ (λ _. omega arith)
       (λ _. more (sends_all clock ms (sent_at (next_in link.history clock) link)) (all_few ms (sent_at (next_in link.history clock) link)))
     where
-      more : (o : Outcome Link) → Few wait me (length ms) (with_core core services last o) → Few wait me (suc (length ms)) (with_core core services last (behind (Sends (packet_of link clock m) m ∷ []) o))
+      more : (o : Outcome Link) → Few wait me (length ms) (with_core core services last o) → Few wait me (suc (length ms)) (with_core core services last (after_events (Sends (packet_of link clock m) m ∷ []) o))
       more None h = omega arith
       more (Some d) h = one_more (packet_of link clock m) m (d.events ++ last) (length ms) h
 
@@ -218,11 +218,11 @@ ticks_at_most Kind most few clock a kind =
     t = station_tick a.core
 
     -- the core's step leaves the services
-    same : (o : Outcome Link) → IfSome (behind [] (with_core (untold t.station) a.services (told_events t.station.outcome) o)) (λ (d : Done StationSide). Kind d.node.services)
+    same : (o : Outcome Link) → IfSome (after_events [] (with_core (untold t.station) a.services (told_events t.station.outcome) o)) (λ (d : Done StationSide). Kind d.node.services)
     same None = tt
     same (Some d) = kind
 
-    then_few : (es : List NodeEvent) → speaks_all (Station_waits a.link.me) a.link.me es ≡ [] → (o : Outcome StationSide) → Few (Station_waits a.link.me) a.link.me most o → Few (Station_waits a.link.me) a.link.me most (behind es o)
+    then_few : (es : List NodeEvent) → speaks_all (Station_waits a.link.me) a.link.me es ≡ [] → (o : Outcome StationSide) → Few (Station_waits a.link.me) a.link.me most o → Few (Station_waits a.link.me) a.link.me most (after_events es o)
     then_few es h None k = omega arith
     then_few es h (Some d) k =
         subst (λ fs. length (without_waits fs) ≤ most) (sym (spoken_on (Station_waits a.link.me) a.link.me es d.events ∙ ap (λ r. r ++ speaks_all (Station_waits a.link.me) a.link.me d.events) h)) k

@@ -5,7 +5,7 @@ use Rattle.mav_names.specs.declared.names.Name.{Name}
 use Rattle.fleet_world.specs.declared.sent.Span.{Span}
 use Rattle.mav_sign.specs.Signing.{BytesVerify}
 use Rattle.fleet_world.specs.WorldView.{Kept, bytes_of}
-use Rattle.fleet_world.specs.Cuts.{cut, cuts, AreWithin, AreSigned, behind}
+use Rattle.fleet_world.specs.Cuts.{cut, cuts, AreWithin, AreSigned, span_after}
 
 pub cuts_length : (bytes : List ℕ) (spans : List Span) → length (cuts bytes spans) ≡ length spans
 cuts_length bytes [] = refl
@@ -58,13 +58,13 @@ whole : (more : List ℕ) (n : ℕ) → n ≡ length more → take n more ≡ mo
 whole [] n e = rw e
 whole (b ∷ bs) n e = rw e (ap (λ (l : List ℕ). b ∷ l) (whole bs (length bs) refl))
 
-cut_last : (from : Name) (signed : Bool) (bytes more : List ℕ) → cut (bytes ++ more) (behind from signed bytes more) ≡ (from, more)
+cut_last : (from : Name) (signed : Bool) (bytes more : List ℕ) → cut (bytes ++ more) (span_after from signed bytes more) ≡ (from, more)
 cut_last from signed bytes more =
-    let behind : drop (length bytes) (bytes ++ more) ≡ drop (length bytes) bytes ++ more = drop-append-le (length bytes) bytes more (omega arith) in
+    let span_after : drop (length bytes) (bytes ++ more) ≡ drop (length bytes) bytes ++ more = drop-append-le (length bytes) bytes more (omega arith) in
     let none : drop (length bytes) bytes ≡ [] = drop_all bytes in
     let size : length bytes + length more - length bytes ≡ length more = omega arith in
     ap (λ (n : ℕ). (from, take n (drop (length bytes) (bytes ++ more)))) size
-    ∙ ap (λ (l : List ℕ). (from, take (length more) l)) (behind ∙ ap (λ (l : List ℕ). l ++ more) none)
+    ∙ ap (λ (l : List ℕ). (from, take (length more) l)) (span_after ∙ ap (λ (l : List ℕ). l ++ more) none)
     ∙ ap (λ (l : List ℕ). (from, l)) (whole more (length more) refl)
   where
     drop_all : (l : List ℕ) → drop (length l) l ≡ []
@@ -72,7 +72,7 @@ cut_last from signed bytes more =
     drop_all (x ∷ xs) = drop_all xs
 
 -- a part more, after bytes that come after
-pub pushed : (from : Name) (signed : Bool) (bytes more b : List ℕ) (spans ps : List Span) (p : Span) (kept : List Kept) → AreWithin bytes spans → cuts bytes spans ≡ kept → p ≡ behind from signed bytes more → b ≡ bytes ++ more → ps ≡ spans ++ p ∷ [] → cuts b ps ≡ kept ++ (from, more) ∷ []
+pub pushed : (from : Name) (signed : Bool) (bytes more b : List ℕ) (spans ps : List Span) (p : Span) (kept : List Kept) → AreWithin bytes spans → cuts bytes spans ≡ kept → p ≡ span_after from signed bytes more → b ≡ bytes ++ more → ps ≡ spans ++ p ∷ [] → cuts b ps ≡ kept ++ (from, more) ∷ []
 pushed from signed bytes more b spans ps p kept all view is joined more_spans =
     ap (λ (l : List Span). cuts b l) more_spans
     ∙ ap (λ (l : List ℕ). cuts l (spans ++ p ∷ [])) joined
@@ -80,7 +80,7 @@ pushed from signed bytes more b spans ps p kept all view is joined more_spans =
     ∙ ap (λ (front : List Kept). front ++ cut (bytes ++ more) p ∷ []) (cuts_stay bytes more spans all ∙ view)
     ∙ ap (λ (one : Kept). kept ++ one ∷ []) (ap (cut (bytes ++ more)) is ∙ cut_last from signed bytes more)
 
-pub pushed_within : (from : Name) (signed : Bool) (bytes more b : List ℕ) (spans ps : List Span) (p : Span) → AreWithin bytes spans → p ≡ behind from signed bytes more → b ≡ bytes ++ more → ps ≡ spans ++ p ∷ [] → AreWithin b ps
+pub pushed_within : (from : Name) (signed : Bool) (bytes more b : List ℕ) (spans ps : List Span) (p : Span) → AreWithin bytes spans → p ≡ span_after from signed bytes more → b ≡ bytes ++ more → ps ≡ spans ++ p ∷ [] → AreWithin b ps
 pushed_within from signed bytes more b spans ps p all is joined more_spans =
     let order : p.start ≤ p.end = subst (λ (q : Span). q.start ≤ q.end) (sym is) (omega arith) in
     let below : p.end ≤ length (bytes ++ more) = subst (λ (q : Span). q.end ≤ length (bytes ++ more)) (sym is) (omega (arith, length-append bytes more)) in
@@ -109,7 +109,7 @@ kept_signed key bytes more b spans ps all signed joined same =
     subst (λ (l : List Span). AreSigned key b l) (sym same)
     (subst (λ (l : List ℕ). AreSigned key l spans) (sym joined) (signed_more key bytes more spans all signed))
 
-pub pushed_signed : (key : List ℕ) (from : Name) (known : Bool) (bytes more b : List ℕ) (spans ps : List Span) (p : Span) → AreWithin bytes spans → AreSigned key bytes spans → (IsTrue known → BytesVerify key more) → p ≡ behind from known bytes more → b ≡ bytes ++ more → ps ≡ spans ++ p ∷ [] → AreSigned key b ps
+pub pushed_signed : (key : List ℕ) (from : Name) (known : Bool) (bytes more b : List ℕ) (spans ps : List Span) (p : Span) → AreWithin bytes spans → AreSigned key bytes spans → (IsTrue known → BytesVerify key more) → p ≡ span_after from known bytes more → b ≡ bytes ++ more → ps ≡ spans ++ p ∷ [] → AreSigned key b ps
 pushed_signed key from known bytes more b spans ps p all signed last is joined more_spans =
     let same : (cut (bytes ++ more) p).1 ≡ more = ap (λ (q : Span). (cut (bytes ++ more) q).1) is ∙ ap (λ (one : Kept). one.1) (cut_last from known bytes more) in
     let flag : p.signed ≡ known = ap (λ (q : Span). q.signed) is in

@@ -17,7 +17,7 @@ use Rattle.mav_nodes.specs.Services.{ServiceStep, StationServices, drone_flies, 
 use Rattle.command_proto.specs.Commander.{commands}
 use Rattle.param_proto.specs.Client.{reads, sets, lists}
 use Rattle.mav_nodes.specs.News.{NodeEvent}
-use Rattle.mav_nodes.specs.Links.{Link, Outcome, done, behind, and_then, tries, sends, sends_all}
+use Rattle.mav_nodes.specs.Links.{Link, Outcome, done, after_events, and_then, tries, sends, sends_all}
 use Rattle.mav_nodes.specs.Steps.{Side, Rules, CoreStep, answers, with_core, steps, serves, serves_if, takes, admits, hears, hears_all, receives}
 use Rattle.mav_nodes.specs.Nodes.{DroneSide, StationSide, drone_rules, drone_receives, drone_beats, drone_ticks, drone_sims, drone_heartbeat, drone_waits, station_rules, station_receives, station_beats, station_ticks, station_heartbeat, services_tick, station_does, station_obeys}
 use Rattle.mav_nodes.specs.declared.orders.Order.{Order}
@@ -54,7 +54,7 @@ links-keep : (me : Stream) (o : Outcome Link) (next : Link → Outcome Link) →
 links-keep me None next h rest = tt
 links-keep me (Some d) next h rest = moved (next d.node) (rest d.node)
   where
-    moved : (o : Outcome Link) → LinkKeeps d.node.me o → LinkKeeps me (behind d.events o)
+    moved : (o : Outcome Link) → LinkKeeps d.node.me o → LinkKeeps me (after_events d.events o)
     moved None k = tt
     moved (Some e) k = k ∙ h
 
@@ -68,7 +68,7 @@ module _ {Core Services : Type 0} (of : Core → ℕ) where
   with_core-keep me sys core services last None h e = tt
   with_core-keep me sys core services last (Some d) h e = (h, e)
 
-  behind-keep : (me : Stream) (sys : ℕ) (events : List NodeEvent) (o : Outcome (Side Core Services)) → SideKeeps of me sys o → SideKeeps of me sys (behind events o)
+  behind-keep : (me : Stream) (sys : ℕ) (events : List NodeEvent) (o : Outcome (Side Core Services)) → SideKeeps of me sys o → SideKeeps of me sys (after_events events o)
   behind-keep me sys events None h = tt
   behind-keep me sys events (Some d) h = h
 

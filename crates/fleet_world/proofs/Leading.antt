@@ -19,17 +19,17 @@ use Rattle.mav_nodes.specs.declared.faults.NodeFault.TheVariants.{StampsSpent, S
 use Rattle.fleet_world.specs.declared.faults.Bound.TheVariants.{Frames}
 use Rattle.fleet_world.specs.WorldState.{WorldState}
 use Rattle.fleet_world.specs.WorldView.{WorldView, IsState}
-use Rattle.fleet_world.specs.Steps.{Step, StepError, At_limit, rests, behind, and_then, most_frames, packets_in, node_does, given_to, given_from, given_to_all, flow_next, flows, calls, flies}
+use Rattle.fleet_world.specs.Steps.{Step, StepError, At_limit, rests, after_events, and_then, most_frames, packets_in, node_does, given_to, given_from, given_to_all, flow_next, flows, calls, flies}
 use Rattle.fleet_world.specs.Flowing.{IsTaken}
 use Rattle.fleet_world.specs.Promises.{WorldOutcome, IsStepError}
 use Rattle.fleet_world.proofs.NodeLists.{as_many}
 use Rattle.fleet_world.proofs.WorldCalls.{sent_length, past_end}
 
-behind-nil : (r : Result Step StepError) → r ≡ behind [] r
+behind-nil : (r : Result Step StepError) → r ≡ after_events [] r
 behind-nil (Ok t) = refl
 behind-nil (Err error) = refl
 
-behind_twice : (xs ys : List Event) (r : Result Step StepError) → behind xs (behind ys r) ≡ behind (xs ++ ys) r
+behind_twice : (xs ys : List Event) (r : Result Step StepError) → after_events xs (after_events ys r) ≡ after_events (xs ++ ys) r
 behind_twice xs ys (Ok t) = ap (λ (es : List Event). Ok (record { state = t.state; events = es })) (sym (append_assoc xs ys t.events))
 behind_twice xs ys (Err error) = refl
 
@@ -39,7 +39,7 @@ pub record Leads (frames : Bool) (whole : Result Step StepError) (rest : WorldSt
   pub is : IsState state frames world
   pub holds : P state
   pub events : List Event
-  pub whole_is : whole ≡ behind events (rest state)
+  pub whole_is : whole ≡ after_events events (rest state)
   pub text : now ≡ reports start events
 
 module _ (frames : Bool) (whole : Result Step StepError) (P Q : WorldState → Type 0) where
@@ -54,7 +54,7 @@ module _ (frames : Bool) (whole : Result Step StepError) (P Q : WorldState → T
   }
 
   -- a first step of the rest is done
-  leads_one : (r : Result Step StepError) (events : List Event) (rest : WorldState → Result Step StepError) (next : WorldView) (start now after : ReportState) → whole ≡ behind events (and_then r rest) → now ≡ reports start events → ((t : Step) → r ≡ Ok t → Q t.state) → WorldOutcome r frames next now after → Leads frames whole rest Q next start after
+  leads_one : (r : Result Step StepError) (events : List Event) (rest : WorldState → Result Step StepError) (next : WorldView) (start now after : ReportState) → whole ≡ after_events events (and_then r rest) → now ≡ reports start events → ((t : Step) → r ≡ Ok t → Q t.state) → WorldOutcome r frames next now after → Leads frames whole rest Q next start after
   leads_one (Err error) events rest next start now after e text q did = absurd did
   leads_one (Ok t) events rest next start now after e text q did = record {
     state = t.state;
@@ -67,11 +67,11 @@ module _ (frames : Bool) (whole : Result Step StepError) (P Q : WorldState → T
 
   pub leads_step : (before : WorldState → Result Step StepError) (rest : WorldState → Result Step StepError) (r : Result Step StepError) (w next : WorldView) (start now after : ReportState) → (l : Leads frames whole before P w start now) → before l.state ≡ and_then r rest → ((t : Step) → r ≡ Ok t → Q t.state) → WorldOutcome r frames next now after → Leads frames whole rest Q next start after
   leads_step before rest r w next start now after l e q did =
-      leads_one r l.events rest next start now after (l.whole_is ∙ ap (behind l.events) e) l.text q did
+      leads_one r l.events rest next start now after (l.whole_is ∙ ap (after_events l.events) e) l.text q did
 
-error_behind : (r : Result Step StepError) (events : List Event) (rest : WorldState → Result Step StepError) (fault : WorldFault) → IsStepError r fault → IsStepError (behind events (and_then r rest)) fault
-error_behind r events rest (Limit bound) h = ap (λ (z : Result Step StepError). behind events (and_then z rest)) h
-error_behind r events rest (NodeFails StampsSpent) h = ap (λ (z : Result Step StepError). behind events (and_then z rest)) h
+error_behind : (r : Result Step StepError) (events : List Event) (rest : WorldState → Result Step StepError) (fault : WorldFault) → IsStepError r fault → IsStepError (after_events events (and_then r rest)) fault
+error_behind r events rest (Limit bound) h = ap (λ (z : Result Step StepError). after_events events (and_then z rest)) h
+error_behind r events rest (NodeFails StampsSpent) h = ap (λ (z : Result Step StepError). after_events events (and_then z rest)) h
 error_behind r events rest (NodeFails NodeStore) h = h
 error_behind r events rest (NodeFails NoNodeMemory) h = tt
 error_behind r events rest NoMemory h = tt
@@ -80,12 +80,12 @@ module _ (frames : Bool) (whole : Result Step StepError) (P : WorldState → Typ
   -- it isn't done
   pub leads_error : (before : WorldState → Result Step StepError) (rest : WorldState → Result Step StepError) (r : Result Step StepError) (w : WorldView) (start now : ReportState) (fault : WorldFault) → (l : Leads frames whole before P w start now) → before l.state ≡ and_then r rest → IsStepError r fault → IsStepError whole fault
   leads_error before rest r w start now fault l e h =
-      subst (λ (z : Result Step StepError). IsStepError z fault) (sym (l.whole_is ∙ ap (behind l.events) e)) (error_behind r l.events rest fault h)
+      subst (λ (z : Result Step StepError). IsStepError z fault) (sym (l.whole_is ∙ ap (after_events l.events) e)) (error_behind r l.events rest fault h)
 
   -- nothing is left to do
   pub leads_end : (rest : WorldState → Result Step StepError) (w : WorldView) (start now : ReportState) → (l : Leads frames whole rest P w start now) → rest l.state ≡ rests l.state → WorldOutcome whole frames w start now
   leads_end rest w start now l e =
-      subst (λ (z : Result Step StepError). WorldOutcome z frames w start now) (sym (l.whole_is ∙ ap (behind l.events) e))
+      subst (λ (z : Result Step StepError). WorldOutcome z frames w start now) (sym (l.whole_is ∙ ap (after_events l.events) e))
       (l.is, l.text ∙ ap (reports start) (sym (append-nil l.events)))
 
 -- ---- a frame for all nodes

@@ -31,7 +31,7 @@ use Rattle.mav_nodes.specs.declared.faults.NodeFault.TheVariants.{StampsSpent, S
 use Rattle.fleet_world.specs.StoredDrones.{StoredView, IsStoredDrone}
 use Rattle.fleet_world.specs.WorldState.{WorldState, is_drone_named}
 use Rattle.fleet_world.specs.WorldView.{IsFleet, WorldView, IsState}
-use Rattle.fleet_world.specs.Steps.{Step, StepError, At_limit, rests, behind, most_restarts, node_does, calls_at, restarts_at, restarts_found, starts_again, restart_line}
+use Rattle.fleet_world.specs.Steps.{Step, StepError, At_limit, rests, after_events, most_restarts, node_does, calls_at, restarts_at, restarts_found, starts_again, restart_line}
 use Rattle.fleet_world.specs.NodeSteps.{node_restarts, restarts_as}
 use Rattle.fleet_world.specs.Promises.{WorldOutcome, IsStepError}
 use Rattle.fleet_world.proofs.KeptNames.{SideKeeps, sys_of}
@@ -108,14 +108,14 @@ starts_stored key view new store same infallible node is from =
 -- ---- the world
 
 -- after events that were reported before
-behind_outcome : (events : List Event) (r : Result Step StepError) (frames : Bool) (last : WorldView) (start now end : ReportState) → now ≡ reports start events → WorldOutcome r frames last now end → WorldOutcome (behind events r) frames last start end
+behind_outcome : (events : List Event) (r : Result Step StepError) (frames : Bool) (last : WorldView) (start now end : ReportState) → now ≡ reports start events → WorldOutcome r frames last now end → WorldOutcome (after_events events r) frames last start end
 behind_outcome events (Err error) frames last start now end text did = absurd did
 behind_outcome events (Ok t) frames last start now end text did =
     (did.0, did.1 ∙ ap (λ (r : ReportState). reports r t.events) text ∙ reports-both start events t.events)
 
-behind_fails : (events : List Event) (r : Result Step StepError) (fault : WorldFault) → IsStepError r fault → IsStepError (behind events r) fault
-behind_fails events r (Limit bound) h = ap (behind events) h
-behind_fails events r (NodeFails StampsSpent) h = ap (behind events) h
+behind_fails : (events : List Event) (r : Result Step StepError) (fault : WorldFault) → IsStepError r fault → IsStepError (after_events events r) fault
+behind_fails events r (Limit bound) h = ap (after_events events) h
+behind_fails events r (NodeFails StampsSpent) h = ap (after_events events) h
 behind_fails events r (NodeFails NodeStore) h = h
 behind_fails events r (NodeFails NoNodeMemory) h = tt
 behind_fails events r NoMemory h = tt

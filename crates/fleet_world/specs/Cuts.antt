@@ -23,5 +23,5 @@ AreSigned key bytes [] = Unit {0}
 AreSigned key bytes (span ∷ spans) = (IsTrue span.signed → BytesVerify key (cut bytes span).1) × AreSigned key bytes spans
 
 -- the part that a frame takes after all bytes
-abbrev pub behind : Name → Bool → List ℕ → List ℕ → Span
-behind from signed bytes frame = record { from = from; start = length bytes; end = length bytes + length frame; signed = signed }
+abbrev pub span_after : Name → Bool → List ℕ → List ℕ → Span
+span_after from signed bytes frame = record { from = from; start = length bytes; end = length bytes + length frame; signed = signed }

@@ -21,7 +21,7 @@ use Rattle.fleet_world.specs.declared.calls.Call.{Call}
 use Rattle.fleet_world.specs.declared.calls.Call.TheVariants.{Take, Noise, Heartbeat, Tick, Sim, Restart}
 use Rattle.fleet_world.specs.WorldState.{WorldState}
 use Rattle.fleet_world.specs.WorldView.{Kept, WorldView, bytes_of}
-use Rattle.fleet_world.specs.Steps.{Step, StepError, At_limit, behind, most_frames, packets_in, node_does}
+use Rattle.fleet_world.specs.Steps.{Step, StepError, At_limit, after_events, most_frames, packets_in, node_does}
 
 -- a node of this name has done this: its frames are the next of the scenario
 abbrev pub reports_news : WorldState → Name → List NodeEvent → Result Step StepError
@@ -83,4 +83,4 @@ obeys s k name node order =
 
 -- a drone starts again, and is reported by this name
 abbrev pub restarts_as : WorldState → ℕ → Name → DroneSide → Result Step StepError
-restarts_as s k name node = behind (Restarted name ∷ []) (node_does s k (node_of node.link.me) (as_drone (drone_restarts s.key s.clock node)))
+restarts_as s k name node = after_events (Restarted name ∷ []) (node_does s k (node_of node.link.me) (as_drone (drone_restarts s.key s.clock node)))

@@ -41,13 +41,13 @@ abbrev pub rests : WorldState → Result Step StepError
 rests s = Ok (record { state = s; events = [] })
 
 -- one step after events that came before it
-abbrev pub behind : List Event → Result Step StepError → Result Step StepError
-behind events (Ok t) = Ok (record { state = t.state; events = events ++ t.events })
-behind events (Err error) = Err error
+abbrev pub after_events : List Event → Result Step StepError → Result Step StepError
+after_events events (Ok t) = Ok (record { state = t.state; events = events ++ t.events })
+after_events events (Err error) = Err error
 
 -- one step and then another
 abbrev pub and_then : Result Step StepError → (WorldState → Result Step StepError) → Result Step StepError
-and_then (Ok t) next = behind t.events (next t.state)
+and_then (Ok t) next = after_events t.events (next t.state)
 and_then (Err error) next = Err error
 
 abbrev pub most_frames : ℕ
@@ -174,7 +174,7 @@ abbrev pub restarts_at : WorldState → ℕ → Option Node → Result Step Step
 restarts_at s k None = rests s
 restarts_at s k (Some (Station n)) = rests s
 restarts_at s k (Some (Drone n)) =
-    behind (Restarted (node_of n.link.me) ∷ []) (node_does s k (node_of n.link.me) (as_drone (drone_restarts s.key s.clock n)))
+    after_events (Restarted (node_of n.link.me) ∷ []) (node_does s k (node_of n.link.me) (as_drone (drone_restarts s.key s.clock n)))
 
 abbrev pub restarts_found : WorldState → Option ℕ → Result Step StepError
 restarts_found s None = rests s

@@ -1,7 +1,7 @@
 // The frames that were sent.
 ghost use Rattle.std.specs.Prelude.{◌≡◌, ◌≤◌, ◌++◌, ◌∷◌, [], length, option_map, slice_get, IsTrue, OnOk, OnErr, IfOk};
 ghost use Rattle.mav_sign.specs.Signing.{BytesVerify};
-ghost use Rattle.fleet_world.specs.Cuts.{cut, behind};
+ghost use Rattle.fleet_world.specs.Cuts.{cut, span_after};
 ghost use Rattle.fleet_world.specs.WorldView.{Kept, kept_as, bytes_of};
 
 use crate::NoMemory;
@@ -73,7 +73,7 @@ fn datagram_at<'a>(key: Key, bytes: &'a [u8], at: Span) -> Datagram<'a>
 // Appends the bytes of a sender's frame, and returns their span.
 fn append(bytes: &mut Vec<u8>, from: Name, signed: bool, frame: &[u8]) -> Result<Span, NoMemory>
     ensures joined { OnOk result (bytes.new.items ≡ bytes.old.items ++ frame.now) }
-    ensures span { IfOk result (λ span. span ≡ behind from signed bytes.old.items frame.now) }
+    ensures span { IfOk result (λ span. span ≡ span_after from signed bytes.old.items frame.now) }
     ensures kept { OnErr result (bytes.new.items ≡ bytes.old.items) }
 {
     let start = bytes.len();

@@ -13,7 +13,7 @@ use Rattle.mav_nodes.specs.declared.faults.NodeFault.{NodeFault}
 use Rattle.mav_nodes.specs.declared.faults.NodeFault.TheVariants.{StampsSpent as NoStamp, Store, NoMemory as NoNodeMemory}
 use Rattle.mav_nodes.specs.declared.news.News.{News}
 use Rattle.mav_nodes.specs.News.{NodeEvent, shown, events_of}
-use Rattle.mav_nodes.specs.Links.{Outcome, done, behind, and_then}
+use Rattle.mav_nodes.specs.Links.{Outcome, done, after_events, and_then}
 use Rattle.mav_nodes.specs.Stores.{Serves, HasFailed, AllKept}
 use Rattle.mav_nodes.specs.Promises.{Did}
 use Rattle.mav_nodes.proofs.StoreCalls.{serves_both, failed_then, then_failed}
@@ -42,7 +42,7 @@ use Rattle.live_node.proofs.Known.{known}
 
 -- ---- outcomes
 
-behind_none : {A : Type 0} (outcome : Outcome A) → behind [] outcome ≡ outcome
+behind_none : {A : Type 0} (outcome : Outcome A) → after_events [] outcome ≡ outcome
 behind_none None = refl
 behind_none (Some d) = refl
 
@@ -50,18 +50,18 @@ then_done : {A : Type 0} (outcome : Outcome A) → and_then outcome (λ node. do
 then_done None = refl
 then_done (Some d) = ap (λ (l : List NodeEvent). done d.node l) (append-nil d.events)
 
-behind_twice : {A : Type 0} (first next : List NodeEvent) (outcome : Outcome A) → behind first (behind next outcome) ≡ behind (first ++ next) outcome
+behind_twice : {A : Type 0} (first next : List NodeEvent) (outcome : Outcome A) → after_events first (after_events next outcome) ≡ after_events (first ++ next) outcome
 behind_twice first next None = refl
 behind_twice first next (Some d) = ap (λ (l : List NodeEvent). done d.node l) (sym (append_assoc first next d.events))
 
-behind_then : {A B : Type 0} (events : List NodeEvent) (outcome : Outcome A) (next : A → Outcome B) → behind events (and_then outcome next) ≡ and_then (behind events outcome) next
+behind_then : {A B : Type 0} (events : List NodeEvent) (outcome : Outcome A) (next : A → Outcome B) → after_events events (and_then outcome next) ≡ and_then (after_events events outcome) next
 behind_then events None next = refl
 behind_then events (Some d) next = behind_twice events d.events (next d.node)
 
 -- calls, and then one more
 later : (xs : List LiveCall) (call : LiveCall) → ((node : Node) → calls_do (xs ++ call ∷ []) node ≡ and_then (calls_do xs node) (call_does call)) → (o : Outcome Node) → and_then o (calls_do (xs ++ call ∷ [])) ≡ and_then (and_then o (calls_do xs)) (call_does call)
 later xs call h None = refl
-later xs call h (Some d) = ap (behind d.events) (h d.node) ∙ behind_then d.events (calls_do xs d.node) (call_does call)
+later xs call h (Some d) = ap (after_events d.events) (h d.node) ∙ behind_then d.events (calls_do xs d.node) (call_does call)
 
 pub one_more : (made : List LiveCall) (call : LiveCall) (node : Node) → calls_do (made ++ call ∷ []) node ≡ and_then (calls_do made node) (call_does call)
 one_more [] call node = then_done (call_does call node) ∙ sym (behind_none (call_does call node))
@@ -145,7 +145,7 @@ heard {S} {stores} {before} {old} {now} {start} {made} {call} {was} {live} {t} {
     record {
       node = d.node;
       events = d.events;
-      run = one_more made call start ∙ (ap (λ (out : Outcome Node). and_then out (call_does call)) o.run ∙ ap (behind o.events) d.does);
+      run = one_more made call start ∙ (ap (λ (out : Outcome Node). and_then out (call_does call)) o.run ∙ ap (after_events o.events) d.does);
       is = d.is;
       told = c.said d.events d.said have;
     }

@@ -16,7 +16,7 @@ use Rattle.mav_nodes.specs.declared.faults.NodeFault.{NodeFault}
 use Rattle.mav_nodes.specs.declared.faults.NodeFault.TheVariants.{NoMemory}
 use Rattle.mav_nodes.specs.News.{NodeEvent, Drops, Shown, shown, events_of}
 use Rattle.mav_nodes.specs.Payloads.{plan_in, service_in}
-use Rattle.mav_nodes.specs.Links.{LinkView, Link, IsLink, Done, Outcome, done, behind, and_then, tries, sends, sends_all}
+use Rattle.mav_nodes.specs.Links.{LinkView, Link, IsLink, Done, Outcome, done, after_events, and_then, tries, sends, sends_all}
 use Rattle.mav_nodes.specs.Services.{ServiceStep}
 use Rattle.mav_nodes.specs.Steps.{Side, Rules, CoreStep, answers, with_core, steps, steps_noted, serves, takes, admits, hears}
 use Rattle.mav_nodes.specs.declared.steps.Step.{Step}
@@ -46,7 +46,7 @@ pub said_in_turn : (clock : ℕ) (link : Link) (first last : List NodeEvent) (an
 said_in_turn clock link first last answer endpoint one two three four e h f =
     joined (answers clock answer link) h
   where
-    joined : (outcome : Outcome Link) → LinkDid outcome endpoint two three → LinkDid (behind first (ends last outcome)) endpoint one four
+    joined : (outcome : Outcome Link) → LinkDid outcome endpoint two three → LinkDid (after_events first (ends last outcome)) endpoint one four
     joined None h = h
     joined (Some d) h =
         let A = events_of one in
@@ -60,7 +60,7 @@ pub stepped : {Core Services : Type 0} (clock : ℕ) (link : Link) (services see
 stepped {Core} {Services} clock link services seen did view given endpoint before after same is h =
     with_view did.core did.first did.last (answers clock did.answer link) is.core (subst (λ (a : Option PlanMsg). LinkDid (says clock did.first a did.last link) endpoint before after) is.answer h)
   where
-    with_view : (core : Core) (first last : List NodeEvent) (outcome : Outcome Link) → view ≡ core → LinkDid (behind first (ends last outcome)) endpoint before after → Did (behind first (with_core core services last outcome)) (λ (node : Side Core Services). IsNode node endpoint view seen) before after
+    with_view : (core : Core) (first last : List NodeEvent) (outcome : Outcome Link) → view ≡ core → LinkDid (after_events first (ends last outcome)) endpoint before after → Did (after_events first (with_core core services last outcome)) (λ (node : Side Core Services). IsNode node endpoint view seen) before after
     with_view core first last None e h = h
     with_view core first last (Some d) e h = (record { link = h.0; core = e; served = same }, h.1)
 
@@ -82,7 +82,7 @@ pub steps_none : {Core Services : Type 0} (clock : ℕ) (link : Link) (services 
 steps_none {Core} {Services} clock link services did view given is h =
     with_none did.core did.first did.last (answers clock did.answer link) (ap (λ (a : Option PlanMsg). says clock did.first a did.last link) (sym is.answer) ∙ h)
   where
-    with_none : (core : Core) (first last : List NodeEvent) (outcome : Outcome Link) → behind first (ends last outcome) ≡ None → behind first (with_core core services last outcome) ≡ None
+    with_none : (core : Core) (first last : List NodeEvent) (outcome : Outcome Link) → after_events first (ends last outcome) ≡ None → after_events first (with_core core services last outcome) ≡ None
     with_none core first last None h = refl
     with_none core first last (Some d) h = absurd cc
 
@@ -187,7 +187,7 @@ module _ {Core Services : Type 0} (rules : Rules Core Services) (clock : ℕ) wh
   core_keeps core services last None extras h = tt
   core_keeps core services last (Some d) extras h = h
 
-  behind_link : (events : List NodeEvent) (outcome : Outcome Link) (extras : List (ℕ × ℕ)) → LinkKeeps outcome extras → LinkKeeps (behind events outcome) extras
+  behind_link : (events : List NodeEvent) (outcome : Outcome Link) (extras : List (ℕ × ℕ)) → LinkKeeps outcome extras → LinkKeeps (after_events events outcome) extras
   behind_link events None extras h = tt
   behind_link events (Some d) extras h = h
 
@@ -199,7 +199,7 @@ module _ {Core Services : Type 0} (rules : Rules Core Services) (clock : ℕ) wh
   all_keep [] link = refl
   all_keep (message ∷ messages) link = then_keep (sends_all clock messages) (sends clock message link) link.extras (sends_keep message link) (all_keep messages)
 
-  behind_keeps : (events : List NodeEvent) (outcome : Outcome (Side Core Services)) (extras : List (ℕ × ℕ)) → Keeps outcome extras → Keeps (behind events outcome) extras
+  behind_keeps : (events : List NodeEvent) (outcome : Outcome (Side Core Services)) (extras : List (ℕ × ℕ)) → Keeps outcome extras → Keeps (after_events events outcome) extras
   behind_keeps events None extras h = tt
   behind_keeps events (Some d) extras h = h
 

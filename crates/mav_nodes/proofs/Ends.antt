@@ -11,7 +11,7 @@ use Rattle.mav_nodes.specs.News.{NodeEvent, Shown, shown, events_of}
 use Rattle.mav_nodes.specs.Services.{StationServices, station_waits}
 use Rattle.mav_nodes.specs.declared.faults.NodeFault.{NodeFault}
 use Rattle.mav_nodes.specs.declared.faults.NodeFault.TheVariants.{StampsSpent, Store, NoMemory}
-use Rattle.mav_nodes.specs.Links.{Link, LinkView, IsLink, Outcome, behind, and_then}
+use Rattle.mav_nodes.specs.Links.{Link, LinkView, IsLink, Outcome, after_events, and_then}
 use Rattle.mav_nodes.specs.Stores.{AllKept}
 use Rattle.mav_nodes.specs.Steps.{Side, steps, serves}
 use Rattle.mav_nodes.specs.Cores.{IsNode, NodeDid, NodeDidKeeping, says}
@@ -145,7 +145,7 @@ module _ (clock : ℕ) where
   abbrev pub core_tick : StationSide → Outcome StationSide
   core_tick node = steps clock node.link node.services (station_does (station_tick node.core))
 
-  behind_did : (first : List NodeEvent) (outcome : Outcome StationSide) (new : StationView) (one two : List News) → events_of one ≡ events_of [] ++ map shown first → StationDid outcome new one two → StationDid (behind first outcome) new [] two
+  behind_did : (first : List NodeEvent) (outcome : Outcome StationSide) (new : StationView) (one two : List News) → events_of one ≡ events_of [] ++ map shown first → StationDid outcome new one two → StationDid (after_events first outcome) new [] two
   behind_did first None new one two e h = h
   behind_did first (Some d) new one two e h =
       (h.0, h.1 ∙ (ap (λ (l : List Shown). l ++ map shown d.events) e ∙ (append_assoc (events_of []) (map shown first) (map shown d.events) ∙ ap (λ (l : List Shown). events_of [] ++ l) (sym (map-append shown first d.events)))))
@@ -168,7 +168,7 @@ module _ (clock : ℕ) where
       spent : (first : Outcome StationSide) → StationDid first mid [] one → and_then first (services_tick clock) ≡ None
       spent None e = refl
       spent (Some d) e =
-          ap (behind d.events)
+          ap (after_events d.events)
           (subst (λ (v : StationServices). serves clock d.node.link d.node.core (station_waits v) ≡ None) e.0.services
           (subst (λ (core : StationState). serves clock d.node.link core (station_waits mid.services) ≡ None) e.0.station (h d.node.link e.0.link)))
   tick_spent old mid one Store did h = h

@@ -7,7 +7,7 @@ use Rattle.mav_nodes.specs.declared.faults.NodeFault.{NodeFault}
 use Rattle.mav_nodes.specs.declared.faults.NodeFault.TheVariants.{StampsSpent, Store, NoMemory}
 use Rattle.mav_nodes.specs.declared.steps.Step.{Step}
 use Rattle.mav_nodes.specs.News.{NodeEvent}
-use Rattle.mav_nodes.specs.Links.{LinkView, Link, IsLink, Outcome, behind, and_then}
+use Rattle.mav_nodes.specs.Links.{LinkView, Link, IsLink, Outcome, after_events, and_then}
 use Rattle.mav_nodes.specs.Stores.{IsKept, AllKept, HasFailedAt, HasFailed}
 use Rattle.mav_nodes.specs.Steps.{Side, Rules, CoreStep, steps, steps_noted, hears, hears_all, hears_keeping}
 use Rattle.mav_nodes.specs.Cores.{IsStep, IsNode, says}
@@ -92,7 +92,7 @@ receive_fails one whole Is Now F G NoMemory f same h = tt
 
 and_so : {A B : Type 0} (outcome : Outcome A) (f g : A → Outcome B) → ((a : A) → f a ≡ g a) → and_then outcome f ≡ and_then outcome g
 and_so None f g h = refl
-and_so (Some d) f g h = ap (behind d.events) (h d.node)
+and_so (Some d) f g h = ap (after_events d.events) (h d.node)
 
 module _ {Core Services : Type 0} (rules : Bool → Rules Core Services) (clock : ℕ) where
   pub keeps_all : (keeps : List Bool) (packets : List Packet) (node : Side Core Services) → All (λ kept. kept ≡ true) keeps → hears_keeping rules clock keeps packets node ≡ hears_all (rules true) clock packets node

@@ -13,7 +13,7 @@ use Rattle.mav_frame.proofs.ParsedByFunction.{parse_goes_on}
 use Rattle.mav_sign.specs.Endpoints.{frames_of}
 use Rattle.mav_nodes.specs.declared.news.News.{News}
 use Rattle.mav_nodes.specs.News.{NodeEvent, Shown, shown, events_of}
-use Rattle.mav_nodes.specs.Links.{LinkView, Outcome, behind, and_then}
+use Rattle.mav_nodes.specs.Links.{LinkView, Outcome, after_events, and_then}
 use Rattle.mav_nodes.specs.Stores.{IsKept, AllKept}
 use Rattle.mav_nodes.specs.Steps.{Side, Rules, hears, hears_keeping, receives_keeping}
 use Rattle.mav_nodes.specs.Cores.{IsNode, NodeDidKeeping}
@@ -21,7 +21,7 @@ use Rattle.mav_nodes.specs.Promises.{Did, SpentKeeping}
 use Rattle.mav_nodes.proofs.Cores.{Keeps, hears_keep}
 use Rattle.mav_nodes.proofs.Keeping.{none_yet, one_more, kept_so}
 
-pub behind_twice : {A : Type 0} (first next : List NodeEvent) (outcome : Outcome A) → behind first (behind next outcome) ≡ behind (first ++ next) outcome
+pub behind_twice : {A : Type 0} (first next : List NodeEvent) (outcome : Outcome A) → after_events first (after_events next outcome) ≡ after_events (first ++ next) outcome
 behind_twice first next None = refl
 behind_twice first next (Some d) = ap (λ (l : List NodeEvent). Some (record { node = d.node; events = l })) (sym (append_assoc first next d.events))
 
@@ -29,7 +29,7 @@ nothing : (left : List ℕ) → length left ≡ 0 → left ≡ []
 nothing [] e = refl
 nothing (x ∷ xs) e = absurd (omega arith)
 
-pub behind_none : {A : Type 0} (outcome : Outcome A) → behind [] outcome ≡ outcome
+pub behind_none : {A : Type 0} (outcome : Outcome A) → after_events [] outcome ≡ outcome
 behind_none None = refl
 behind_none (Some d) = refl
 
@@ -43,7 +43,7 @@ module _ {Core Services : Type 0} (rules : Bool → Rules Core Services) (clock 
     pub is : Is node
     pub events : List NodeEvent
     pub said : events_of news ≡ map shown events
-    pub leads : (more : List Bool) → total (keeps ++ more) ≡ behind events (receives_keeping rules clock more left node)
+    pub leads : (more : List Bool) → total (keeps ++ more) ≡ after_events events (receives_keeping rules clock more left node)
 
   pub leads_at_first : (node : Side Core Services) (bytes : List ℕ) (Is : Side Core Services → Type 0) (failed : Type 0) (news : List News) → news ≡ [] → Is node → Leads (λ keeps. receives_keeping rules clock keeps bytes node) bytes Is failed news
   leads_at_first node bytes Is failed news none is = record {
@@ -65,17 +65,17 @@ module _ {Core Services : Type 0} (rules : Bool → Rules Core Services) (clock 
     is = l.is;
     events = l.events;
     said = l.said;
-    leads = λ keeps. l.leads keeps ∙ ap (λ (events : List Event). behind l.events (hears_keeping rules clock keeps (frames_of events) l.node)) (parse_goes_on l.node.link.extras false (Skipped byte why) left rest bytes more at);
+    leads = λ keeps. l.leads keeps ∙ ap (λ (events : List Event). after_events l.events (hears_keeping rules clock keeps (frames_of events) l.node)) (parse_goes_on l.node.link.extras false (Skipped byte why) left rest bytes more at);
   }
 
   here : (total : List Bool → Outcome (Side Core Services)) (left rest : List ℕ) (Is : Side Core Services → Type 0) (failed : Type 0) (news : List News) (packet : Packet) (kept : Bool) (keeps : List Bool) → (l : Leads total left Is failed news) → All (λ x. x < 256) left → All (λ x. x < 256) rest → EventAt l.node.link.extras false (Frame packet) left rest
-      → total ((l.keeps ++ kept ∷ []) ++ keeps) ≡ behind l.events (and_then (hears (rules kept) clock packet l.node) (hears_keeping rules clock keeps (frames_of (final_parse l.node.link.extras false rest))))
+      → total ((l.keeps ++ kept ∷ []) ++ keeps) ≡ after_events l.events (and_then (hears (rules kept) clock packet l.node) (hears_keeping rules clock keeps (frames_of (final_parse l.node.link.extras false rest))))
   here total left rest Is failed news packet kept keeps l bytes more at =
       ap total (append_assoc l.keeps (kept ∷ []) keeps)
-      ∙ (l.leads (kept ∷ keeps) ∙ ap (λ (events : List Event). behind l.events (hears_keeping rules clock (kept ∷ keeps) (frames_of events) l.node)) (parse_goes_on l.node.link.extras false (Frame packet) left rest bytes more at))
+      ∙ (l.leads (kept ∷ keeps) ∙ ap (λ (events : List Event). after_events l.events (hears_keeping rules clock (kept ∷ keeps) (frames_of events) l.node)) (parse_goes_on l.node.link.extras false (Frame packet) left rest bytes more at))
 
   goes_on : (total : List Bool → Outcome (Side Core Services)) (first : Outcome (Side Core Services)) (extras : List (ℕ × ℕ)) (rest : List ℕ) (Is : Side Core Services → Type 0) (failed : Type 0) (news after : List News) (events : List NodeEvent) (keeps : List Bool) → AllKept failed keeps → Keeps (rules true) clock first extras → events_of news ≡ map shown events
-      → ((more : List Bool) → total (keeps ++ more) ≡ behind events (and_then first (hears_keeping rules clock more (frames_of (final_parse extras false rest))))) → Did first Is news after → Leads total rest Is failed after
+      → ((more : List Bool) → total (keeps ++ more) ≡ after_events events (and_then first (hears_keeping rules clock more (frames_of (final_parse extras false rest))))) → Did first Is news after → Leads total rest Is failed after
   goes_on total None extras rest Is failed news after events keeps all kept said e did = absurd did
   goes_on total (Some d) extras rest Is failed news after events keeps all kept said e did = record {
     keeps = keeps;
@@ -84,7 +84,7 @@ module _ {Core Services : Type 0} (rules : Bool → Rules Core Services) (clock 
     is = did.0;
     events = events ++ d.events;
     said = did.1 ∙ (ap (λ (l : List Shown). l ++ map shown d.events) said ∙ sym (map-append shown events d.events));
-    leads = λ more. e more ∙ (behind_twice events d.events (hears_keeping rules clock more (frames_of (final_parse extras false rest)) d.node) ∙ λ i. behind (events ++ d.events) (hears_keeping rules clock more (frames_of (final_parse (sym kept i) false rest)) d.node));
+    leads = λ more. e more ∙ (behind_twice events d.events (hears_keeping rules clock more (frames_of (final_parse extras false rest)) d.node) ∙ λ i. after_events (events ++ d.events) (hears_keeping rules clock more (frames_of (final_parse (sym kept i) false rest)) d.node));
   }
 
   -- a frame
@@ -101,13 +101,13 @@ module _ {Core Services : Type 0} (rules : Bool → Rules Core Services) (clock 
     is_kept = subst (AllKept now_failed) (sym (append-nil (l.keeps ++ spent.keeps ∷ []))) (one_more l.keeps spent.keeps f l.is_kept (kept_so spent.keeps g spent.is_kept));
     none =
         here total left rest Is failed news packet spent.keeps [] l bytes more at
-        ∙ ap (λ (o : Outcome (Side Core Services)). behind l.events (and_then o (hears_keeping rules clock [] (frames_of (final_parse l.node.link.extras false rest))))) spent.none;
+        ∙ ap (λ (o : Outcome (Side Core Services)). after_events l.events (and_then o (hears_keeping rules clock [] (frames_of (final_parse l.node.link.extras false rest))))) spent.none;
   }
 
   -- nothing is left
   pub leads_whole : (total : List Bool → Outcome (Side Core Services)) (left : List ℕ) (end : LinkView) (view : Core) (services : Services) (failed : Type 0) (news : List News) → length left ≡ 0 → Leads total left (λ n. IsNode n end view services) failed news → NodeDidKeeping total (AllKept failed) end view services news
   leads_whole total left end view services failed news empty l =
-      let e : total (l.keeps ++ []) ≡ behind l.events (receives_keeping rules clock [] [] l.node) = l.leads [] ∙ ap (λ (b : List ℕ). behind l.events (receives_keeping rules clock [] b l.node)) (nothing left empty) in
+      let e : total (l.keeps ++ []) ≡ after_events l.events (receives_keeping rules clock [] [] l.node) = l.leads [] ∙ ap (λ (b : List ℕ). after_events l.events (receives_keeping rules clock [] b l.node)) (nothing left empty) in
       record {
         keeps = l.keeps ++ [];
         is_kept = subst (AllKept failed) (sym (append-nil l.keeps)) l.is_kept;

@@ -13,7 +13,7 @@ use Rattle.mav_nodes.specs.declared.faults.NodeFault.{NodeFault}
 use Rattle.mav_nodes.specs.declared.faults.NodeFault.TheVariants.{StampsSpent, Store, NoMemory}
 use Rattle.mav_nodes.specs.declared.news.News.{News}
 use Rattle.mav_nodes.specs.News.{NodeEvent, Shown, shown, events_of}
-use Rattle.mav_nodes.specs.Links.{Link, LinkView, IsLink, Outcome, behind, and_then}
+use Rattle.mav_nodes.specs.Links.{Link, LinkView, IsLink, Outcome, after_events, and_then}
 use Rattle.mav_nodes.specs.Stores.{IsKept, AllKept}
 use Rattle.mav_nodes.specs.Steps.{Side, Rules, hears, hears_all, hears_keeping}
 use Rattle.mav_nodes.specs.Cores.{IsNode, NodeDid}
@@ -65,7 +65,7 @@ module _ {Core Services : Type 0} (rules : Bool → Rules Core Services) (clock 
     pub is : Is node
     pub events : List NodeEvent
     pub said : events_of news ≡ map shown events
-    pub leads : (more : List Bool) (others : List Packet) → hears_keeping rules clock (keeps ++ more) (packets ++ others) start ≡ behind events (hears_keeping rules clock more others node)
+    pub leads : (more : List Bool) (others : List Packet) → hears_keeping rules clock (keeps ++ more) (packets ++ others) start ≡ after_events events (hears_keeping rules clock more others node)
 
   heard_at_first : (start : Side Core Services) (Is : Side Core Services → Type 0) (failed : Type 0) (news : List News) → news ≡ [] → Is start → Heard start [] Is failed news
   heard_at_first start Is failed news none is = record {
@@ -79,13 +79,13 @@ module _ {Core Services : Type 0} (rules : Bool → Rules Core Services) (clock 
   }
 
   here : (start : Side Core Services) (packets others : List Packet) (Is : Side Core Services → Type 0) (failed : Type 0) (news : List News) (packet : Packet) (kept : Bool) (more : List Bool) → (h : Heard start packets Is failed news)
-      → hears_keeping rules clock ((h.keeps ++ kept ∷ []) ++ more) ((packets ++ packet ∷ []) ++ others) start ≡ behind h.events (and_then (hears (rules kept) clock packet h.node) (hears_keeping rules clock more others))
+      → hears_keeping rules clock ((h.keeps ++ kept ∷ []) ++ more) ((packets ++ packet ∷ []) ++ others) start ≡ after_events h.events (and_then (hears (rules kept) clock packet h.node) (hears_keeping rules clock more others))
   here start packets others Is failed news packet kept more h =
       (λ i. hears_keeping rules clock (append_assoc h.keeps (kept ∷ []) more i) (append_assoc packets (packet ∷ []) others i) start)
       ∙ h.leads (kept ∷ more) (packet ∷ others)
 
   goes_on : (start : Side Core Services) (packets : List Packet) (first : Outcome (Side Core Services)) (Is : Side Core Services → Type 0) (failed : Type 0) (news after : List News) (events : List NodeEvent) (keeps : List Bool) → AllKept failed keeps → events_of news ≡ map shown events
-      → ((more : List Bool) (others : List Packet) → hears_keeping rules clock (keeps ++ more) (packets ++ others) start ≡ behind events (and_then first (hears_keeping rules clock more others))) → Did first Is news after → Heard start packets Is failed after
+      → ((more : List Bool) (others : List Packet) → hears_keeping rules clock (keeps ++ more) (packets ++ others) start ≡ after_events events (and_then first (hears_keeping rules clock more others))) → Did first Is news after → Heard start packets Is failed after
   goes_on start packets None Is failed news after events keeps all said e did = absurd did
   goes_on start packets (Some d) Is failed news after events keeps all said e did = record {
     keeps = keeps;
@@ -112,12 +112,12 @@ module _ {Core Services : Type 0} (rules : Bool → Rules Core Services) (clock 
     is_kept = subst (AllKept now_failed) (sym (append-nil (h.keeps ++ spent.keeps ∷ []))) (one_more h.keeps spent.keeps f h.is_kept (kept_so spent.keeps g spent.is_kept));
     none =
         here start packets others Is failed news packet spent.keeps [] h
-        ∙ ap (λ (o : Outcome (Side Core Services)). behind h.events (and_then o (hears_keeping rules clock [] others))) spent.none;
+        ∙ ap (λ (o : Outcome (Side Core Services)). after_events h.events (and_then o (hears_keeping rules clock [] others))) spent.none;
   }
 
   heard_whole : (start : Side Core Services) (packets : List Packet) (Is : Side Core Services → Type 0) (failed : Type 0) (news : List News) (h : Heard start packets Is failed news) → Did (hears_keeping rules clock (h.keeps ++ []) packets start) Is [] news
   heard_whole start packets Is failed news h =
-      let e : hears_keeping rules clock (h.keeps ++ []) packets start ≡ behind h.events (hears_keeping rules clock [] [] h.node) = ap (λ (l : List Packet). hears_keeping rules clock (h.keeps ++ []) l start) (sym (append-nil packets)) ∙ h.leads [] [] in
+      let e : hears_keeping rules clock (h.keeps ++ []) packets start ≡ after_events h.events (hears_keeping rules clock [] [] h.node) = ap (λ (l : List Packet). hears_keeping rules clock (h.keeps ++ []) l start) (sym (append-nil packets)) ∙ h.leads [] [] in
       subst (λ (o : Outcome (Side Core Services)). Did o Is [] news) (sym e) (h.is, h.said ∙ ap (map shown) (sym (append-nil h.events)))
 
   -- the parse has come to the end of these bytes, and the frames by which it grew were heard

@@ -7,7 +7,7 @@ use Rattle.mav_nodes.specs.declared.faults.NodeFault.{NodeFault}
 use Rattle.mav_nodes.specs.declared.faults.NodeFault.TheVariants.{StampsSpent, Store, NoMemory}
 use Rattle.mav_nodes.specs.declared.news.News.{News}
 use Rattle.mav_nodes.specs.News.{NodeEvent, Shown, shown, events_of}
-use Rattle.mav_nodes.specs.Links.{LinkView, Link, IsLink, Outcome, done, behind, and_then, sends, sends_all}
+use Rattle.mav_nodes.specs.Links.{LinkView, Link, IsLink, Outcome, done, after_events, and_then, sends, sends_all}
 use Rattle.mav_nodes.specs.Stores.{Holds, HoldsNearly}
 use Rattle.mav_nodes.specs.Promises.{Fails, LinkDid}
 
@@ -17,13 +17,13 @@ pub record SentSoFar (clock : ℕ) (total : Outcome Link) (left : List Message) 
   pub is : IsLink link view
   pub events : List NodeEvent
   pub said : events_of now ≡ events_of before ++ map shown events
-  pub leads : total ≡ behind events (sends_all clock left link)
+  pub leads : total ≡ after_events events (sends_all clock left link)
 
-behind_none : (outcome : Outcome Link) → behind [] outcome ≡ outcome
+behind_none : (outcome : Outcome Link) → after_events [] outcome ≡ outcome
 behind_none None = refl
 behind_none (Some d) = refl
 
-behind_twice : (first next : List NodeEvent) (outcome : Outcome Link) → behind first (behind next outcome) ≡ behind (first ++ next) outcome
+behind_twice : (first next : List NodeEvent) (outcome : Outcome Link) → after_events first (after_events next outcome) ≡ after_events (first ++ next) outcome
 behind_twice first next None = refl
 behind_twice first next (Some d) = ap (λ (l : List NodeEvent). done d.node l) (sym (append_assoc first next d.events))
 
@@ -47,7 +47,7 @@ module _ (clock : ℕ) where
       → ((link : Link) → IsLink link old → LinkDid (sends clock message link) view news now) → SentSoFar clock total left view before now
   one_more total message left old view before news now so did = after (sends clock message so.link) (did so.link so.is) so.leads
     where
-      after : (outcome : Outcome Link) → LinkDid outcome view news now → total ≡ behind so.events (and_then outcome (sends_all clock left)) → SentSoFar clock total left view before now
+      after : (outcome : Outcome Link) → LinkDid outcome view news now → total ≡ after_events so.events (and_then outcome (sends_all clock left)) → SentSoFar clock total left view before now
       after None h e = absurd h
       after (Some d) h e = record {
         link = d.node;
@@ -64,7 +64,7 @@ module _ (clock : ℕ) where
   pub all_sent : (total : Outcome Link) (left : List Message) (view : LinkView) (before now : List News) → left ≡ [] → SentSoFar clock total left view before now → LinkDid total view before now
   all_sent total left view before now none so =
       subst (λ (o : Outcome Link). LinkDid o view before now)
-      (sym (so.leads ∙ ap (λ (ms : List Message). behind so.events (sends_all clock ms so.link)) none))
+      (sym (so.leads ∙ ap (λ (ms : List Message). after_events so.events (sends_all clock ms so.link)) none))
       (so.is, so.said ∙ ap (λ (l : List NodeEvent). events_of before ++ map shown l) (sym (append-nil so.events)))
 
   -- one of them has no timestamp left
@@ -73,6 +73,6 @@ module _ (clock : ℕ) where
       → Fails fault (λ (link : Link). IsLink link old) (λ (link : Link). sends clock message link) F → Fails fault (λ (link : Link). IsLink link end) (λ (link : Link). sends_all clock messages link) G
   none_sent messages message left end old before news F G StampsSpent f so h = λ link is.
       let s = so link is in
-      s.leads ∙ ap (λ (o : Outcome Link). behind s.events (and_then o (sends_all clock left))) (h s.link s.is)
+      s.leads ∙ ap (λ (o : Outcome Link). after_events s.events (and_then o (sends_all clock left))) (h s.link s.is)
   none_sent messages message left end old before news F G Store f so h = f h
   none_sent messages message left end old before news F G NoMemory f so h = tt

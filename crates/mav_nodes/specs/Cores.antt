@@ -13,7 +13,7 @@ use Rattle.mav_nodes.specs.declared.steps.Step.{Step}
 use Rattle.mav_nodes.specs.declared.services.Served.{Served}
 use Rattle.mav_nodes.specs.News.{NodeEvent, Shown, Shows_installed, Shows_emptied, Shows_ended, shown, events_of}
 use Rattle.mav_nodes.specs.Services.{ServiceStep}
-use Rattle.mav_nodes.specs.Links.{Link, LinkView, IsLink, Outcome, done, behind}
+use Rattle.mav_nodes.specs.Links.{Link, LinkView, IsLink, Outcome, done, after_events}
 use Rattle.mav_nodes.specs.Steps.{Side, Rules, CoreStep, answers}
 use Rattle.mav_nodes.specs.Promises.{Did}
 
@@ -48,7 +48,7 @@ ends last None = None
 ends last (Some d) = done d.node (d.events ++ last)
 
 abbrev pub says : ℕ → List NodeEvent → Option PlanMsg → List NodeEvent → Link → Outcome Link
-says clock first answer last link = behind first (ends last (answers clock answer link))
+says clock first answer last link = after_events first (ends last (answers clock answer link))
 
 -- the rules of a core's and of services' steps; `kept` says whether the store keeps what a step changes
 abbrev pub rules_of : {Core Services : Type 0} → (Bool → Core → Stream → PlanMsg → CoreStep Core) → (Services → List NodeEvent → Services) → (Core → Services → Stream → Message → ServiceStep Services) → Bool → Rules Core Services

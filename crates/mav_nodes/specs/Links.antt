@@ -63,14 +63,14 @@ abbrev pub done : {A : Type 0} → A → List NodeEvent → Outcome A
 done node events = Some (record { node = node; events = events })
 
 -- the same after earlier events
-abbrev pub behind : {A : Type 0} → List NodeEvent → Outcome A → Outcome A
-behind events None = None
-behind events (Some d) = done d.node (events ++ d.events)
+abbrev pub after_events : {A : Type 0} → List NodeEvent → Outcome A → Outcome A
+after_events events None = None
+after_events events (Some d) = done d.node (events ++ d.events)
 
 -- one thing and then another
 abbrev pub and_then : {A B : Type 0} → Outcome A → (A → Outcome B) → Outcome B
 and_then None next = None
-and_then (Some d) next = behind d.events (next d.node)
+and_then (Some d) next = after_events d.events (next d.node)
 
 -- a frame was tried
 abbrev pub tries : Packet → Link → Link

@@ -14,7 +14,7 @@ use Rattle.mav_sign.specs.Endpoints.{frames_of}
 use Rattle.mav_nodes.specs.News.{NodeEvent, Drops}
 use Rattle.mav_nodes.specs.Services.{ServiceStep}
 use Rattle.mav_nodes.specs.Payloads.{plan_in, service_in}
-use Rattle.mav_nodes.specs.Links.{Link, Outcome, done, behind, and_then, tries, sends, sends_all}
+use Rattle.mav_nodes.specs.Links.{Link, Outcome, done, after_events, and_then, tries, sends, sends_all}
 
 -- a node: its end of the links, its core, and its services
 pub record Side (Core Services : Type 0) : Type 0 where
@@ -48,7 +48,7 @@ with_core core services last (Some d) = done (record { link = d.node; core = cor
 
 -- a core's step is done
 abbrev pub steps : {Core Services : Type 0} → ℕ → Link → Services → CoreStep Core → Outcome (Side Core Services)
-steps clock link services step = behind step.first (with_core step.core services step.last (answers clock step.answer link))
+steps clock link services step = after_events step.first (with_core step.core services step.last (answers clock step.answer link))
 
 -- a step of the services is done
 abbrev pub serves : {Core Services : Type 0} → ℕ → Link → Core → ServiceStep Services → Outcome (Side Core Services)

@@ -33,7 +33,7 @@ use Rattle.mav_nodes.specs.Payloads.{plan_in, service_in}
 use Rattle.mav_nodes.specs.declared.news.FileEnd.{FileEnd}
 use Rattle.mav_nodes.specs.FileServices.{transfer_heard, transfer_waits, begins, file_order}
 use Rattle.mav_nodes.specs.Services.{ServiceStep, DroneServices, drone_flies, sim_step, reached_events, captured_events, StationServices, command_events, params_events, station_serves, station_waits, asks_command, asks_params, asks_file, file_events, command_of}
-use Rattle.mav_nodes.specs.Links.{Link, Outcome, done, behind, and_then, tries, sends, sends_all}
+use Rattle.mav_nodes.specs.Links.{Link, Outcome, done, after_events, and_then, tries, sends, sends_all}
 use Rattle.mav_nodes.specs.Steps.{Side, Rules, CoreStep, answers, with_core, steps, serves, serves_if, takes, admits, hears, hears_all, hears_keeping, receives}
 use Rattle.mav_nodes.specs.Nodes.{DroneSide, StationSide, change_events, told_events, drone_rules, drone_rules_keeping, drone_receives, drone_beats, drone_ticks, drone_sims, drone_heartbeat, drone_waits, station_rules, station_does, station_heartbeat, services_tick, station_ticks, station_beats, station_obeys}
 use Rattle.mav_nodes.specs.declared.orders.Order.{Order}
@@ -109,7 +109,7 @@ links-quiet : (o : Outcome Link) (next : Link → Outcome Link) → QuietLink o 
 links-quiet None next h rest = tt
 links-quiet (Some d) next h rest = joined (next d.node) (rest d.node)
   where
-    joined : (o : Outcome Link) → QuietLink o → QuietLink (behind d.events o)
+    joined : (o : Outcome Link) → QuietLink o → QuietLink (after_events d.events o)
     joined None k = tt
     joined (Some e) k = quiet-append d.events e.events h k
 
@@ -127,7 +127,7 @@ module _ {Core Services : Type 0} (R : Services → Services → List NodeEvent 
     with_core-did before core services last None q r = tt
     with_core-did before core services last (Some d) q r = both before before services d.events last (quiet before d.events q) r
 
-    behind-did : (s after : Services) (first : List NodeEvent) (o : Outcome (Side Core Services)) → R s after first → Did after o → Did s (behind first o)
+    behind-did : (s after : Services) (first : List NodeEvent) (o : Outcome (Side Core Services)) → R s after first → Did after o → Did s (after_events first o)
     behind-did s after first None q r = tt
     behind-did s after first (Some d) q r = both s after d.node.services first d.events q r
 
@@ -146,7 +146,7 @@ module _ {Core Services : Type 0} (R : Services → Services → List NodeEvent 
     and_then-did s None next h rest = tt
     and_then-did s (Some d) next h rest = joined (next d.node) (rest d.node)
       where
-        joined : (o : Outcome (Side Core Services)) → Did d.node.services o → Did s (behind d.events o)
+        joined : (o : Outcome (Side Core Services)) → Did d.node.services o → Did s (after_events d.events o)
         joined None k = tt
         joined (Some e) k = both s d.node.services e.node.services d.events e.events h k
 

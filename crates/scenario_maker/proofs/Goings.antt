@@ -17,7 +17,7 @@ use Rattle.scenario_lines.specs.declared.naming.Role.TheVariants.{Drone as Drone
 use Rattle.fleet_report.specs.Events.{Event}
 use Rattle.node_reports.specs.Nodes.{Node}
 use Rattle.fleet_world.specs.WorldState.{WorldState, names_of}
-use Rattle.fleet_world.specs.Steps.{Step, StepError, At_limit, Stamps_spent, most_frames, behind, and_then, packets_in, node_does}
+use Rattle.fleet_world.specs.Steps.{Step, StepError, At_limit, Stamps_spent, most_frames, after_events, and_then, packets_in, node_does}
 use Rattle.fleet_invariants.specs.Sound.{Sound}
 use Rattle.fleet_invariants.specs.Kept.{OutcomeReads, Keeps}
 use Rattle.fleet_invariants.proofs.Lists.{nowhere, some_is, which, more_there}
@@ -182,7 +182,7 @@ went_more s a b t le w = let h = w.grown in record { calm = w.calm; grown = omeg
 went_on : (s : WorldState) (a b : ℕ) (t u : WorldState) → Went s a t → Went t b u → Went s (a + b) u
 went_on s a b t u w v = let h = w.grown in let k = v.grown in record { calm = v.calm; grown = omega (arith, h, k); sent = λ i p e. v.sent i p (w.sent i p e) }
 
-goes_behind : (s : WorldState) (a b : ℕ) (t : WorldState) (events : List Event) (r : Result Step StepError) → Went s a t → Goes t b r → Goes s (a + b) (behind events r)
+goes_behind : (s : WorldState) (a b : ℕ) (t : WorldState) (events : List Event) (r : Result Step StepError) → Went s a t → Goes t b r → Goes s (a + b) (after_events events r)
 goes_behind s a b t events (Ok u) w h = went_on s a b t u.state w h
 goes_behind s a b t events (Err Stamps_spent) w h = tt
 goes_behind s a b t events (Err (At_limit limit)) w h = h

@@ -30,7 +30,7 @@ use Rattle.param_proto.specs.Client.{operation_ticks}
 use Rattle.mav_nodes.specs.FileServices.{transfer_waits}
 use Rattle.mav_nodes.specs.Services.{DroneServices, StationServices, drone_notes, station_served, station_waits}
 use Rattle.mav_nodes.specs.Signed.{signed_packet}
-use Rattle.mav_nodes.specs.Links.{Link, Done, Outcome, done, behind, and_then, tries}
+use Rattle.mav_nodes.specs.Links.{Link, Done, Outcome, done, after_events, and_then, tries}
 use Rattle.mav_nodes.specs.Steps.{Side, Rules, CoreStep, answers, with_core, steps, steps_noted, serves, takes, admits, hears, hears_all, receives}
 use Rattle.mav_nodes.specs.Nodes.{DroneSide, StationSide, drone_core, drone_rules, drone_waits, change_events, station_rules, station_does, told_events, drone_ticks, services_tick}
 use Rattle.node_reports.specs.Nodes.{Node, Drone, Station}
@@ -100,12 +100,12 @@ between first last f l = packets_append first last ∙ ap (λ ps. ps ++ packets_
 
 module _ {Core Services : Type 0} (clock : ℕ) (services : Services) where
   by_answer : (step : CoreStep Core) (answer : Option PlanMsg) (link : Link) → packets_in step.first ≡ [] → packets_in step.last ≡ []
-      → IfSome (behind step.first (with_core step.core services step.last (answers clock answer link))) (Steps step.core services answer)
+      → IfSome (after_events step.first (with_core step.core services step.last (answers clock answer link))) (Steps step.core services answer)
   by_answer step None link f l = record { core_is = refl; services_is = refl; frames = λ _. quiet (step.first ++ step.last) (between step.first step.last f l) }
   by_answer step (Some m) link f l =
       let q = signed_packet link.key link.extras link.me link.seq (next_in link.history clock) (message_of_plan m) in
       let e = Sends q (message_of_plan m) in
-      by_test (λ (o : Outcome Link). IfSome (behind step.first (with_core step.core services step.last o)) (Steps step.core services (Some m))) (nat_lt greatest_stamp (next_in link.history clock)) _ _
+      by_test (λ (o : Outcome Link). IfSome (after_events step.first (with_core step.core services step.last o)) (Steps step.core services (Some m))) (nat_lt greatest_stamp (next_in link.history clock)) _ _
       (λ _. tt)
       (λ _. record {
         core_is = refl;
@@ -174,7 +174,7 @@ services_rest clock n idle = ap (serves clock n.link n.core) (no_answers n.servi
 
 then_rest : (clock : ℕ) (o : Outcome StationSide) → IfSome o (λ d. IsIdle (Station d.node)) → and_then o (services_tick clock) ≡ o
 then_rest clock None idle = refl
-then_rest clock (Some d) idle = ap (behind d.events) (services_rest clock d.node idle) ∙ ap (done d.node) (append-nil d.events)
+then_rest clock (Some d) idle = ap (after_events d.events) (services_rest clock d.node idle) ∙ ap (done d.node) (append-nil d.events)
 
 left_idle : (n : StationSide) (core : StationState) (answer : Option PlanMsg) (o : Outcome StationSide) → IsIdle (Station n) → IfSome o (Steps core n.services answer) → IfSome o (λ d. IsIdle (Station d.node))
 left_idle n core answer None idle h = tt

@@ -1,6 +1,6 @@
 use Rattle.std.proofs.Common.{◌++◌, List, ap, ◌∙◌, refl}
 use Rattle.std.proofs.lemmas.Result.{err_from_is_err_and}
-use Rattle.mav_nodes.specs.Links.{Link, Outcome, IsLink, behind}
+use Rattle.mav_nodes.specs.Links.{Link, Outcome, IsLink, after_events}
 use Rattle.mav_nodes.specs.News.{Shown, events_of}
 use Rattle.mav_nodes.specs.Steps.{answers}
 use Rattle.mav_nodes.specs.Stores.{HasFailed}
@@ -32,7 +32,7 @@ returns-in_err-answer g c =
       serves = c.answer.ensures.serves;
       fault = λ first last.
           fails_so _ (λ (link : Link). IsLink link c.args.self.now) (λ (link : Link). answers c.args.clock c.args.step.answer link) failed (λ (link : Link). IsLink link c.args.self.now) (λ (link : Link). says c.args.clock first c.args.step.answer last link) failed (λ h. h)
-          (λ link is. (link, is, λ none. ap (λ (o : Outcome Link). behind first (ends last o)) none)) c.in_err-answer.ensures.fault;
+          (λ link is. (link, is, λ none. ap (λ (o : Outcome Link). after_events first (ends last o)) none)) c.in_err-answer.ensures.fault;
     })
 
 pub returns : goal.returns
