@@ -2,7 +2,6 @@ use Rattle.std.proofs.Common.{◌≡◌, ◌∙◌, ◌⊎◌, ◌+◌, ◌<◌,
 use Rattle.std.proofs.lemmas.Option.{get_or_from_slice_get, slice_get_within}
 use Rattle.std.proofs.lemmas.Bool.Decides.{nat_tests}
 use Rattle.mav_router.specs.declared.entries.SwitchFault.{SwitchFault}
-use Rattle.mav_router.specs.declared.parts.Halt.{Halt}
 use Rattle.mav_router.specs.declared.parts.Halt.TheVariants.{Done, Fault}
 use Rattle.mav_router.specs.declared.parts.Side.{Side}
 use Rattle.mav_router.proofs.Journals.{element}
