@@ -15,14 +15,14 @@ use Rattle.mav_nodes.specs.FileServices.{StationFiles, file_order}
 use Rattle.mav_nodes.specs.Services.{StationServices, sent_of}
 use Rattle.mav_nodes.specs.Cores.{IsServed}
 use Rattle.mav_nodes.specs.Nodes.{service_step, command_refusal, params_refusal, file_refusal}
-use Rattle.mav_nodes.specs.Promises.{AcceptsService, RefusesService, KeepsService}
+use Rattle.mav_nodes.specs.Promises.{AcceptsService, RefusesService, OrderKeeps}
 use Rattle.mav_nodes.proofs.station_services.StationServices.ask.Goals as goal
 
 record Asked (r : Result Served OrderFault) (order : Order) (v new : StationServices) : Type 0 where
   done : IfOk r (IsServed (service_step v order) new)
   accepted : OnOk r (AcceptsService v order)
   refused : IfErr r (RefusesService v order)
-  unchanged : IfErr r (KeepsService v new)
+  unchanged : IfErr r (OrderKeeps v new)
 
 -- an order that is followed by one message
 asked_so : (r : Result Served OrderFault) (given order : Order) (inside v new : StationServices) (message : Message) → order ≡ given → inside ≡ v → new ≡ (service_step inside given).services → (service_step inside given).answers ≡ message ∷ [] → map shown (service_step inside given).last ≡ [] → AcceptsService inside given
@@ -41,7 +41,7 @@ asked_so r given order inside v new message is view services answers last accept
       done = tt;
       accepted = tt;
       refused = subst (RefusesService inside given) (sym memory) (accepts, refl);
-      unchanged = subst (KeepsService inside new) (sym memory) tt;
+      unchanged = subst (OrderKeeps inside new) (sym memory) tt;
     }
 
 pub returns-in-Ok : goal.returns-in-Ok
