@@ -83,6 +83,6 @@ write_each_left-requires-clause-few g c =
     omega (arith, same, c.args.sides.now.ok.0, c.requires.few)
 
 pub write_each_left-requires-clause-within : goal.write_each_left-requires-clause-within
-write_each_left-requires-clause-within g c = λ k side is.
+write_each_left-requires-clause-within g c = λ κs lives k side is.
     subst (λ (l : List Entry). side.taken ≤ length l) (sym c.journal.ensures.entries)
     (c.requires.within k side (subst (λ (l : List (Side g.row.L.Denot)). slice_get l k ≡ Some side) c.as_mut_slice.ensures.value is))
