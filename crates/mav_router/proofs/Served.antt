@@ -27,12 +27,10 @@ use Rattle.mav_router.specs.Parts.{IsReady, PartSoFar, PartEnds}
 use Rattle.mav_router.specs.Runs.{HadTurns, IsFresh, AllFresh, AllTurned}
 use Rattle.mav_router.specs.Threads.{IsStocked, IsPlaced, HasServed, HasClosed, HasWrittenLeft}
 use Rattle.mav_router.specs.Routed.{HasRouted, HasStopped}
-use Rattle.mav_router.proofs.Halts.{halted}
 use Rattle.mav_router.proofs.Joined.{own_frames, part_ready, part_starts, part_done, parts_halted}
 use Rattle.mav_router.proofs.Journals.{element}
 use Rattle.mav_router.proofs.Moving.{all_from, mapped_at, mapped_from, image_is, replicated}
 use Rattle.mav_router.proofs.PartSteps.{within_longer}
-use Rattle.mav_router.proofs.PortEnds.{nothing_routed}
 use Rattle.mav_router.proofs.RunSteps.{index_within}
 use Rattle.mav_router.proofs.Seats.{begins_with}
 

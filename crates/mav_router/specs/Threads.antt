@@ -1,5 +1,5 @@
 -- What threads start with, and what they leave.
-use Rattle.std.specs.Prelude.{ℕ, ◌≡◌, ◌≤◌, ◌+◌, List, [], map, length, take, vec_len, vec_capacity, slice_get, Some, false, All, sum_by}
+use Rattle.std.specs.Prelude.{ℕ, ◌≡◌, ◌≤◌, ◌+◌, List, map, length, take, vec_len, vec_capacity, slice_get, Some, false, All, sum_by}
 use Rattle.mav_links.specs.Links.{LinkState}
 use Rattle.turnstile.specs.Merging.{Continues}
 use Rattle.turnstile.specs.Participants.{Lock, Participant}

@@ -12,3 +12,13 @@ loop-turned-preserved g c =
       so_far = λ first p. w.so_far first (c.in_default.ensures.so_far first (i.so_far first p));
       turned = w.turned (c.loop-turned.turned + 1) (r.turned c.loop-turned.turned (omega (arith, c.loop-turned-test.true, c.ranges.turns.fits)) i.turned);
     }
+
+pub returns-in-Err : goal.returns-in-Err
+returns-in-Err g c =
+    let i = c.loop-turned.invariant in
+    let r = c.in-Err.ensures in
+    record {
+      ready = c.read_part.ensures.ready;
+      port = c.read_part.ensures.port ∙ i.port;
+      ends = λ first p. (r.stopped first (i.so_far first p), r.fault);
+    }
