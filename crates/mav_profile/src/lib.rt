@@ -2,14 +2,15 @@
 //! of their CRC_EXTRA bytes.
 #![tactic(auto)]
 
-ghost use Rattle.std.specs.Prelude.{◌≡◌};
+ghost use Rattle.std.specs.Prelude.{◌≡◌, IfOk};
 ghost use Rattle.mav_profile.specs.Messages.{extras_of};
 ghost use Rattle.mav_profile.specs.Profile.{profile_definitions};
 
-use x25_check::Extras;
+use std::alloc::Global;
+use x25_check::{Extras, NoMemory};
 
 // The CRC_EXTRA byte of each message id, as the common message set publishes them.
-static CRC_EXTRAS: [(u32, u8); 19] = [
+const CRC_EXTRAS: [(u32, u8); 19] = [
     (0, 50),
     (4, 237),
     (20, 214),
@@ -31,9 +32,10 @@ static CRC_EXTRAS: [(u32, u8); 19] = [
     (253, 83),
 ];
 
-/// The table of the profile's CRC_EXTRA bytes, which all nodes of a program share.
-pub fn profile_extras() -> Extras
-    ensures { result ≡ extras_of profile_definitions }
+/// The table of the profile's CRC_EXTRA bytes.
+pub fn profile_extras(alloc: Global) -> Result<Extras, NoMemory>
+    ensures { IfOk result (λ extras. extras ≡ extras_of profile_definitions) }
 {
-    Extras::of_static(&CRC_EXTRAS)
+    let pairs = Vec::from_array(alloc, CRC_EXTRAS)?;
+    Ok(Extras::new(pairs))
 }
