@@ -3,12 +3,11 @@ use Rattle.std.specs.Prelude.{◌≡◌, ℕ, Bool, true, List, [], Option, Some
 use Rattle.std.specs.declared.result.Result.{Result}
 use Rattle.std.specs.Io.KnownBytes.{prepend_known}
 use Rattle.scenario_lines.specs.declared.faults.Reason.{Reason}
-use Rattle.scenario_lines.specs.declared.faults.Reason.TheVariants.{Long, Word, Later, Count, Number, Node, Kind, Hex, Twice, Range, Draft, Clock}
+use Rattle.scenario_lines.specs.declared.faults.Reason.TheVariants.{Long}
 use Rattle.scenario_lines.specs.declared.faults.LineFault.{LineFault}
 use Rattle.scenario_lines.specs.declared.faults.LineFault.TheVariants.{Bad as IsBad, NoMemory as NoLineMemory}
 use Rattle.run_status.specs.declared.input_errors.Place.TheVariants.{Line as AtLine}
-use Rattle.run_status.specs.declared.input_errors.Reason.{Reason as StatusReason}
-use Rattle.run_status.specs.declared.input_errors.Reason.TheVariants.{Long as IsLong, Word as IsWord, Later as IsLater, Count as IsCount, Number as IsNumber, Node as IsNode, Kind as IsKind, Hex as IsHex, Twice as IsTwice, Range as IsRange, Draft as IsDraft, Clock as IsClock}
+use Rattle.run_status.specs.declared.input_errors.Reason.TheVariants.{Line as OfLine}
 use Rattle.run_status.specs.declared.input_errors.Bound.TheVariants.{Lines}
 use Rattle.run_status.specs.declared.input_errors.InputError.{InputError}
 use Rattle.run_status.specs.declared.input_errors.InputError.TheVariants.{Bad, AtLimit}
@@ -16,24 +15,9 @@ use Rattle.run_status.specs.declared.run_ends.RunEnd.{RunEnd}
 use Rattle.run_status.specs.Runs.{CommandSpec, PortOutcome, Cause}
 use Rattle.line_input.specs.LineRules.{LineRules, bytes_read}
 
--- a reason against a line, as a run's status has it
-abbrev pub reported_reason : Reason → StatusReason
-reported_reason Long = IsLong
-reported_reason Word = IsWord
-reported_reason Later = IsLater
-reported_reason Count = IsCount
-reported_reason Number = IsNumber
-reported_reason Node = IsNode
-reported_reason Kind = IsKind
-reported_reason Hex = IsHex
-reported_reason Twice = IsTwice
-reported_reason Range = IsRange
-reported_reason Draft = IsDraft
-reported_reason Clock = IsClock
-
 -- `bad line K: REASON`
 abbrev pub bad_line : ℕ → Reason → InputError
-bad_line number reason = Bad (AtLine number) (reported_reason reason)
+bad_line number reason = Bad (AtLine number) (OfLine reason)
 
 -- what a text says: the state after it, or the first reason against it
 abbrev pub Says : Type 0 → Type 0

@@ -1,10 +1,12 @@
 -- How a run ends: its status, and the text of the status.
 use Rattle.std.specs.Prelude.{ℕ, List, [], ◌++◌, codes, Option, Some, None}
 use Rattle.std.specs.Fmt.{decimal}
+use Rattle.scenario_lines.specs.declared.faults.Reason.{Reason as LineReason}
+use Rattle.scenario_lines.specs.declared.faults.Reason.TheVariants.{Long, Word, Later, Count, Number, Node, Kind, Hex, Twice, Range, Draft, Clock}
 use Rattle.run_status.specs.declared.input_errors.Place.{Place}
-use Rattle.run_status.specs.declared.input_errors.Place.TheVariants.{Line, Key as KeyPlace, Definitions, Operation, Store, Fence, Mission}
+use Rattle.run_status.specs.declared.input_errors.Place.TheVariants.{Line as AtLine, Key as KeyPlace, Definitions, Operation, Store, Fence, Mission}
 use Rattle.run_status.specs.declared.input_errors.Reason.{Reason}
-use Rattle.run_status.specs.declared.input_errors.Reason.TheVariants.{Long, Word, Later, Count, Number, Node, Kind, Hex, Twice, Range, Draft, Clock, Key, Json, Shape, FieldType, Name, TwiceId, TwiceName, Layout, TooMany, Refused, Kept, Plan}
+use Rattle.run_status.specs.declared.input_errors.Reason.TheVariants.{Line as OfLine, Key, Json, Shape, FieldType, Name, TwiceId, TwiceName, Layout, TooMany, Refused, Kept, Plan}
 use Rattle.run_status.specs.declared.input_errors.Bound.{Bound}
 use Rattle.run_status.specs.declared.input_errors.Bound.TheVariants.{Lines, Frames, Drones, Stations, Restarts, DefinitionBytes, InputBytes, Entries}
 use Rattle.run_status.specs.declared.input_errors.InputError.{InputError}
@@ -14,19 +16,22 @@ use Rattle.run_status.specs.declared.live_ends.LiveEnd.TheVariants.{RefusedWith,
 use Rattle.run_status.specs.declared.run_ends.RunEnd.{RunEnd}
 use Rattle.run_status.specs.declared.run_ends.RunEnd.TheVariants.{Usage, Stopped, ReadFault, WriteFault, NoMemory, TurnsSpent, Live}
 
+abbrev pub line_word : LineReason → List ℕ
+line_word Long = codes "long"
+line_word Word = codes "word"
+line_word Later = codes "later"
+line_word Count = codes "count"
+line_word Number = codes "number"
+line_word Node = codes "node"
+line_word Kind = codes "kind"
+line_word Hex = codes "hex"
+line_word Twice = codes "twice"
+line_word Range = codes "range"
+line_word Draft = codes "draft"
+line_word Clock = codes "clock"
+
 abbrev pub reason_word : Reason → List ℕ
-reason_word Long = codes "long"
-reason_word Word = codes "word"
-reason_word Later = codes "later"
-reason_word Count = codes "count"
-reason_word Number = codes "number"
-reason_word Node = codes "node"
-reason_word Kind = codes "kind"
-reason_word Hex = codes "hex"
-reason_word Twice = codes "twice"
-reason_word Range = codes "range"
-reason_word Draft = codes "draft"
-reason_word Clock = codes "clock"
+reason_word (OfLine reason) = line_word reason
 reason_word Key = codes "key"
 reason_word Json = codes "json"
 reason_word Shape = codes "shape"
@@ -52,7 +57,7 @@ bound_words InputBytes = codes "bytes 268435456"
 bound_words Entries = codes "entries 1000000"
 
 abbrev pub place_text : Place → List ℕ
-place_text (Line line) = codes "line " ++ decimal line
+place_text (AtLine line) = codes "line " ++ decimal line
 place_text KeyPlace = codes "key"
 place_text Definitions = codes "definitions"
 place_text Operation = codes "operation"

@@ -1,8 +1,9 @@
 // What in an input ends a run, and how it is printed.
 ghost use Rattle.std.specs.Prelude.{◌≡◌, IfOk, string_bytes};
-ghost use Rattle.run_status.specs.Endings.{reason_word, bound_words, place_text, error_code, error_text};
+ghost use Rattle.run_status.specs.Endings.{line_word, reason_word, bound_words, place_text, error_code, error_text};
 
 use crate::NoMemory;
+use scenario_lines::Reason as LineReason;
 use std::alloc::Global;
 
 /// Where an input has an error.
@@ -26,18 +27,8 @@ pub enum Place {
 /// What is wrong there. Each is printed as one or two words.
 #[derive(Clone, Copy)]
 pub enum Reason {
-    Long,
-    Word,
-    Later,
-    Count,
-    Number,
-    Node,
-    Kind,
-    Hex,
-    Twice,
-    Range,
-    Draft,
-    Clock,
+    /// The reason against a line.
+    Line(LineReason),
     Key,
     Json,
     Shape,
@@ -77,23 +68,31 @@ pub enum InputError {
     StampsSpent,
 }
 
+fn line_word(reason: LineReason) -> &'static str
+    ensures { result.now ≡ line_word reason }
+{
+    match reason {
+        LineReason::Long => "long",
+        LineReason::Word => "word",
+        LineReason::Later => "later",
+        LineReason::Count => "count",
+        LineReason::Number => "number",
+        LineReason::Node => "node",
+        LineReason::Kind => "kind",
+        LineReason::Hex => "hex",
+        LineReason::Twice => "twice",
+        LineReason::Range => "range",
+        LineReason::Draft => "draft",
+        LineReason::Clock => "clock",
+    }
+}
+
 impl Reason {
     fn word(self) -> &'static str
         ensures { result.now ≡ reason_word self }
     {
         match self {
-            Reason::Long => "long",
-            Reason::Word => "word",
-            Reason::Later => "later",
-            Reason::Count => "count",
-            Reason::Number => "number",
-            Reason::Node => "node",
-            Reason::Kind => "kind",
-            Reason::Hex => "hex",
-            Reason::Twice => "twice",
-            Reason::Range => "range",
-            Reason::Draft => "draft",
-            Reason::Clock => "clock",
+            Reason::Line(reason) => line_word(reason),
             Reason::Key => "key",
             Reason::Json => "json",
             Reason::Shape => "shape",
