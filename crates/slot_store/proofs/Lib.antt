@@ -6,5 +6,6 @@ mod Runs
 mod Saves
 mod Options
 mod Past
+mod MemCalls
 mod Patches
 mod Draws

@@ -4,7 +4,7 @@ ghost use Rattle.std.proofs.Common.{inl, refl};
 ghost use Rattle.mav_ports.specs.Calls.{call_after};
 ghost use Rattle.mav_ports.specs.Counts.{next_count};
 ghost use Rattle.slot_store.specs.Disks.{bytes_at, SameOutside, Writes, Tears, LeavesNoMore, LeavesAlone, CountsDiskFault};
-ghost use Rattle.slot_store.specs.MemDisks.{IsImage, IsRecorded, LeftSince, TimePasses, drawn, drawn_byte, next_state, only_image, own_image, fails_at};
+ghost use Rattle.slot_store.specs.MemDisks.{IsImage, IsRecorded, LeftSince, drawn, drawn_byte, next_state, only_image, own_image, fails_at};
 
 use crate::unsynced::{Moment, Range, is_covered};
 use crate::{Disk, DiskFault};
@@ -198,6 +198,8 @@ fn replace(held: &mut Vec<u8>, at: usize, bytes: &[u8])
 }
 
 impl Disk for MemDisk {
+    ghost use Rattle.slot_store.specs.MemCalls.{MemCall};
+
     ghost is_observable = { ⊤ };
 
     ghost extent = { λ d. length d.bytes.items };
@@ -229,13 +231,7 @@ impl Disk for MemDisk {
         ensures bytes { OnOk result (out.new ≡ bytes_at at (length out.old) self.old.bytes.items) }
         ensures seen { self.new.bytes.items ≡ self.old.bytes.items }
         ensures crash { LeavesNoMore (IsImage self.old.bytes.items self.old.ranges.items) (IsImage self.new.bytes.items self.new.ranges.items) }
-        ensures time { TimePasses self.old.bytes.items self.old.ranges.items self.old.past.items
-            self.new.bytes.items self.new.ranges.items self.new.past.items }
-        ensures extent { length self.new.bytes.items ≡ length self.old.bytes.items }
-        ensures faults { CountsDiskFault result self.old.faults self.new.faults }
-        ensures call { self.new.call ≡ call_after self.old.call }
-        ensures listed { OnOk result (fails_at self.old.fails.items self.old.stop self.old.call ≡ false) }
-        ensures stays { (self.new.fails ≡ self.old.fails) × (self.new.stop ≡ self.old.stop) }
+        ensures passes { MemCall result self.old self.new }
     {
         if self.begin()? {
             return Err(self.fault());
@@ -250,13 +246,7 @@ impl Disk for MemDisk {
         ensures written { OnOk result (Writes at bytes.now self.old.bytes.items self.new.bytes.items) }
         ensures unwritten { OnErr result (self.new.bytes.items ≡ self.old.bytes.items) }
         ensures crash { Tears at (length bytes.now) (IsImage self.old.bytes.items self.old.ranges.items) (IsImage self.new.bytes.items self.new.ranges.items) }
-        ensures time { TimePasses self.old.bytes.items self.old.ranges.items self.old.past.items
-            self.new.bytes.items self.new.ranges.items self.new.past.items }
-        ensures extent { length self.new.bytes.items ≡ length self.old.bytes.items }
-        ensures faults { CountsDiskFault result self.old.faults self.new.faults }
-        ensures call { self.new.call ≡ call_after self.old.call }
-        ensures listed { OnOk result (fails_at self.old.fails.items self.old.stop self.old.call ≡ false) }
-        ensures stays { (self.new.fails ≡ self.old.fails) × (self.new.stop ≡ self.old.stop) }
+        ensures passes { MemCall result self.old self.new }
     {
         let fails = self.begin()?;
         match mark(&mut self.ranges, at, bytes.len() as u64) {
@@ -272,13 +262,7 @@ impl Disk for MemDisk {
         ensures durable { OnOk result (LeavesAlone self.new.bytes.items (IsImage self.new.bytes.items self.new.ranges.items)) }
         ensures seen { OnOk result (self.new.bytes.items ≡ self.old.bytes.items) }
         ensures crash { LeavesNoMore (IsImage self.old.bytes.items self.old.ranges.items) (IsImage self.new.bytes.items self.new.ranges.items) }
-        ensures time { TimePasses self.old.bytes.items self.old.ranges.items self.old.past.items
-            self.new.bytes.items self.new.ranges.items self.new.past.items }
-        ensures extent { length self.new.bytes.items ≡ length self.old.bytes.items }
-        ensures faults { CountsDiskFault result self.old.faults self.new.faults }
-        ensures call { self.new.call ≡ call_after self.old.call }
-        ensures listed { OnOk result (fails_at self.old.fails.items self.old.stop self.old.call ≡ false) }
-        ensures stays { (self.new.fails ≡ self.old.fails) × (self.new.stop ≡ self.old.stop) }
+        ensures passes { MemCall result self.old self.new }
     {
         if self.begin()? {
             return Err(self.fault());

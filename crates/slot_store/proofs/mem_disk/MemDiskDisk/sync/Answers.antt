@@ -1,24 +1,12 @@
 use Rattle.std.proofs.lemmas.Result.{err_from_is_err_and}
-use Rattle.std.proofs.Common.{ap, refl, subst, length}
-use Rattle.slot_store.specs.declared.mem_disk.MemDisk.{MemDisk}
-use Rattle.slot_store.proofs.Past.{elapses, elapses_kept}
+use Rattle.std.proofs.Common.{◌∙◌, ap, refl, sym, subst, length}
 use Rattle.slot_store.specs.MemDisks.{IsImage}
 use Rattle.slot_store.proofs.Patches.{no_range, images_kept}
+use Rattle.slot_store.proofs.MemCalls.{mem_done, mem_failed, mem_refused}
 use Rattle.slot_store.proofs.mem_disk.MemDiskDisk.sync.Goals as goal
-
-pub returns-then-branch-clause-time : goal.returns-then-branch-clause-time
-returns-then-branch-clause-time c = elapses c.args.self.now.past.items c.begin.new.self.past.items c.fault.new.self.past.items c.args.self.now.bytes.items c.fault.new.self.bytes.items c.args.self.now.ranges.items c.fault.new.self.ranges.items c.in_ok-begin.ensures.past (ap (λ (d : MemDisk). d.past.items) c.fault.ensures)
 
 pub returns-clause-durable : goal.returns-clause-durable
 returns-clause-durable c = λ image is. no_range c.begin.new.self.bytes.items image (subst (λ r. IsImage c.begin.new.self.bytes.items r image) c.clear.ensures.items is)
-
-pub returns-clause-time : goal.returns-clause-time
-returns-clause-time c = elapses c.args.self.now.past.items c.begin.new.self.past.items c.begin.new.self.past.items c.args.self.now.bytes.items c.begin.new.self.bytes.items c.args.self.now.ranges.items c.clear.new.self.items c.in_ok-begin.ensures.past refl
-
-pub returns-in_err-begin-clause-time : goal.returns-in_err-begin-clause-time
-returns-in_err-begin-clause-time c =
-    let old = c.args.self.now in let new = c.begin.new.self in
-    elapses_kept old.past.items new.past.items old.bytes.items new.bytes.items old.ranges.items new.ranges.items c.in_err-begin.ensures.past_err (ap (λ v. v.items) c.begin.ensures.bytes) (ap (λ v. v.items) c.begin.ensures.ranges)
 
 pub returns-in_err-begin-clause-durable : goal.returns-in_err-begin-clause-durable
 returns-in_err-begin-clause-durable c = rw (err_from_is_err_and c.from_residual.result c.from_residual.ensures.1).1 tt
@@ -26,20 +14,14 @@ returns-in_err-begin-clause-durable c = rw (err_from_is_err_and c.from_residual.
 pub returns-in_err-begin-clause-seen : goal.returns-in_err-begin-clause-seen
 returns-in_err-begin-clause-seen c = rw (err_from_is_err_and c.from_residual.result c.from_residual.ensures.1).1 tt
 
-pub returns-in_err-begin-clause-listed : goal.returns-in_err-begin-clause-listed
-returns-in_err-begin-clause-listed c = rw (err_from_is_err_and c.from_residual.result c.from_residual.ensures.1).1 tt
-
 pub returns-in_err-begin-clause-crash : goal.returns-in_err-begin-clause-crash
 returns-in_err-begin-clause-crash c = images_kept c.args.self.now.bytes.items c.begin.new.self.bytes.items c.args.self.now.ranges.items c.begin.new.self.ranges.items (ap (λ v. v.items) c.begin.ensures.bytes) (ap (λ v. v.items) c.begin.ensures.ranges)
 
-pub returns-in_err-begin-clause-extent : goal.returns-in_err-begin-clause-extent
-returns-in_err-begin-clause-extent c = ap (λ v. length v.items) c.begin.ensures.bytes
+pub returns-then-branch-clause-passes : goal.returns-then-branch-clause-passes
+returns-then-branch-clause-passes c = mem_failed c.args.self.now c.begin.new.self c.fault.new.self c.fault.result c.in_ok-begin.ensures.past c.begin.ensures.bytes c.in_ok-begin.ensures.faults c.begin.ensures.call (c.begin.ensures.listed, c.begin.ensures.stop) c.fault.ensures
 
-pub returns-in_err-begin-clause-faults : goal.returns-in_err-begin-clause-faults
-returns-in_err-begin-clause-faults c = rw (err_from_is_err_and c.from_residual.result c.from_residual.ensures.1).1 c.in_err-begin.ensures.faults
+pub returns-clause-passes : goal.returns-clause-passes
+returns-clause-passes c = mem_done c.args.self.now c.begin.new.self (record c.begin.new.self { ranges = c.clear.new.self }) c.in_ok-begin.ensures.past refl (ap (λ v. length v.items) c.begin.ensures.bytes) c.in_ok-begin.ensures.faults c.begin.ensures.call (sym c.in_ok-begin.ensures.fails ∙ c.if-branch.false) (c.begin.ensures.listed, c.begin.ensures.stop)
 
-pub returns-in_err-begin-clause-call : goal.returns-in_err-begin-clause-call
-returns-in_err-begin-clause-call c = c.begin.ensures.call
-
-pub returns-in_err-begin-clause-stays : goal.returns-in_err-begin-clause-stays
-returns-in_err-begin-clause-stays c = (c.begin.ensures.listed, c.begin.ensures.stop)
+pub returns-in_err-begin-clause-passes : goal.returns-in_err-begin-clause-passes
+returns-in_err-begin-clause-passes c = rw (err_from_is_err_and c.from_residual.result c.from_residual.ensures.1).1 (mem_refused c.args.self.now c.begin.new.self _ c.in_err-begin.ensures.past_err c.begin.ensures.bytes c.begin.ensures.ranges c.in_err-begin.ensures.faults c.begin.ensures.call (c.begin.ensures.listed, c.begin.ensures.stop))

@@ -1,14 +1,11 @@
 use Rattle.std.proofs.lemmas.Result.{err_from_is_err_and}
-use Rattle.std.proofs.Common.{ℕ, List, ◌≤◌, ◌+◌, length, ap, refl, sym, subst, arith}
+use Rattle.std.proofs.Common.{ℕ, List, ◌≤◌, ◌+◌, ◌∙◌, length, ap, refl, sym, subst, arith}
 use Rattle.slot_store.specs.Disks.{Tears, Writes}
 use Rattle.slot_store.specs.MemDisks.{IsImage}
-use Rattle.slot_store.specs.declared.mem_disk.MemDisk.{MemDisk}
-use Rattle.slot_store.proofs.Past.{elapses, elapses_kept}
 use Rattle.slot_store.proofs.Patches.{carried, tears_kept}
+use Rattle.slot_store.specs.declared.mem_disk.MemDisk.{MemDisk}
+use Rattle.slot_store.proofs.MemCalls.{mem_done, mem_failed, mem_refused}
 use Rattle.slot_store.proofs.mem_disk.MemDiskDisk.write.Goals as goal
-
-pub returns-in-Ok-clause-time : goal.returns-in-Ok-clause-time
-returns-in-Ok-clause-time c = elapses c.args.self.now.past.items c.begin.new.self.past.items c.begin.new.self.past.items c.args.self.now.bytes.items c.replace.new.held.items c.args.self.now.ranges.items c.mark.new.ranges.items c.in_ok-fails.ensures.past refl
 
 pub returns-in_default-clause-crash : goal.returns-in_default-clause-crash
 returns-in_default-clause-crash c =
@@ -19,14 +16,6 @@ returns-in_default-clause-crash c =
     let torn = carried c.args.at n c.args.self.now.bytes.items c.begin.new.self.bytes.items c.args.self.now.ranges.items c.begin.new.self.ranges.items _ bytes ranges
     (c.mark.ensures.torn c.begin.new.self.bytes.items within) in
     subst (λ (d : MemDisk). Tears c.args.at n (IsImage c.args.self.now.bytes.items c.args.self.now.ranges.items) (IsImage d.bytes.items d.ranges.items)) (sym c.fault.ensures) torn
-
-pub returns-in_default-clause-time : goal.returns-in_default-clause-time
-returns-in_default-clause-time c = elapses c.args.self.now.past.items c.begin.new.self.past.items c.fault.new.self.past.items c.args.self.now.bytes.items c.fault.new.self.bytes.items c.args.self.now.ranges.items c.fault.new.self.ranges.items c.in_ok-fails.ensures.past (ap (λ (d : MemDisk). d.past.items) c.fault.ensures)
-
-pub returns-in_err-fails-clause-time : goal.returns-in_err-fails-clause-time
-returns-in_err-fails-clause-time c =
-    let old = c.args.self.now in let new = c.begin.new.self in
-    elapses_kept old.past.items new.past.items old.bytes.items new.bytes.items old.ranges.items new.ranges.items c.in_err-fails.ensures.past_err (ap (λ v. v.items) c.begin.ensures.bytes) (ap (λ v. v.items) c.begin.ensures.ranges)
 
 pub returns-in_err-fails-clause-crash : goal.returns-in_err-fails-clause-crash
 returns-in_err-fails-clause-crash c =
@@ -47,17 +36,11 @@ returns-in-Ok-clause-crash c =
 pub returns-in_err-fails-clause-written : goal.returns-in_err-fails-clause-written
 returns-in_err-fails-clause-written c = rw (err_from_is_err_and c.from_residual.result c.from_residual.ensures.1).1 tt
 
-pub returns-in_err-fails-clause-listed : goal.returns-in_err-fails-clause-listed
-returns-in_err-fails-clause-listed c = rw (err_from_is_err_and c.from_residual.result c.from_residual.ensures.1).1 tt
+pub returns-in_default-clause-passes : goal.returns-in_default-clause-passes
+returns-in_default-clause-passes c = mem_failed c.args.self.now (record c.begin.new.self { ranges = c.mark.new.ranges }) c.fault.new.self c.fault.result c.in_ok-fails.ensures.past c.begin.ensures.bytes c.in_ok-fails.ensures.faults c.begin.ensures.call (c.begin.ensures.listed, c.begin.ensures.stop) c.fault.ensures
 
-pub returns-in_err-fails-clause-extent : goal.returns-in_err-fails-clause-extent
-returns-in_err-fails-clause-extent c = ap (λ v. length v.items) c.begin.ensures.bytes
+pub returns-in-Ok-clause-passes : goal.returns-in-Ok-clause-passes
+returns-in-Ok-clause-passes c = mem_done c.args.self.now c.begin.new.self (record c.begin.new.self { ranges = c.mark.new.ranges; bytes = c.replace.new.held }) c.in_ok-fails.ensures.past refl (c.replace.ensures.outside.size ∙ ap (λ v. length v.items) c.begin.ensures.bytes) c.in_ok-fails.ensures.faults c.begin.ensures.call (sym c.in_ok-fails.ensures.fails ∙ c.if-not-fails.true) (c.begin.ensures.listed, c.begin.ensures.stop)
 
-pub returns-in_err-fails-clause-faults : goal.returns-in_err-fails-clause-faults
-returns-in_err-fails-clause-faults c = rw (err_from_is_err_and c.from_residual.result c.from_residual.ensures.1).1 c.in_err-fails.ensures.faults
-
-pub returns-in_err-fails-clause-call : goal.returns-in_err-fails-clause-call
-returns-in_err-fails-clause-call c = c.begin.ensures.call
-
-pub returns-in_err-fails-clause-stays : goal.returns-in_err-fails-clause-stays
-returns-in_err-fails-clause-stays c = (c.begin.ensures.listed, c.begin.ensures.stop)
+pub returns-in_err-fails-clause-passes : goal.returns-in_err-fails-clause-passes
+returns-in_err-fails-clause-passes c = rw (err_from_is_err_and c.from_residual.result c.from_residual.ensures.1).1 (mem_refused c.args.self.now c.begin.new.self _ c.in_err-fails.ensures.past_err c.begin.ensures.bytes c.begin.ensures.ranges c.in_err-fails.ensures.faults c.begin.ensures.call (c.begin.ensures.listed, c.begin.ensures.stop))
