@@ -13,7 +13,7 @@ use Rattle.live_node.specs.declared.tellers.Teller.{Teller}
 use Rattle.live_node.specs.Nodes.{IsLive, IsKeptBy}
 use Rattle.live_node.specs.Calls.{LiveCall, Beats, IsTime}
 use Rattle.live_node.specs.Turns.{Turn}
-use Rattle.live_node.specs.Ports.{SameRead, IsRunEnd}
+use Rattle.live_node.specs.Ports.{FaultsBy, SameRead, IsRunEnd}
 use Rattle.live_node.specs.Runs.{Outside, Stores, IsWhole, RunAt}
 use Rattle.live_node.specs.Progress.{Between, CallsStopped, PortEnded, TurnsTaken}
 use Rattle.live_node.specs.Drones.{IsDroneEnd, DroneEnds, DroneKeeps, DroneLived, start_end}
@@ -65,6 +65,11 @@ pub unstarted_end : (most : ℕ) (fault : StartFault) → IsDroneEnd most (start
 unstarted_end most Store = tt
 unstarted_end most BadKept = tt
 unstarted_end most NoStartMemory = tt
+
+pub unstarted_counts : (fault : StartFault) (port out : ℕ) → FaultsBy (Some (start_end fault)) port port out out
+unstarted_counts Store port out = (refl, refl)
+unstarted_counts BadKept port out = (refl, refl)
+unstarted_counts NoStartMemory port out = refl
 
 pub drone_left : (end : RunEnd) (contents : Option (List ℕ)) (node : Node) → IsRunEnd end → DroneKeeps (Some end) contents node
 drone_left Usage contents node h = absurd h

@@ -1,7 +1,9 @@
 -- The run of a live node: its calls, and what was read and written.
-use Rattle.std.specs.Prelude.{ℕ, ◌≡◌, ◌≤◌, Bool, List, [], ◌∷◌, ◌++◌, length, map, Option, Some, None}
+use Rattle.std.specs.Prelude.{ℕ, ◌≡◌, ◌≤◌, Bool, List, [], ◌∷◌, ◌++◌, length, map, Option, Some, None, IfErr}
 use Rattle.std.specs.List.{flat_map}
 use Rattle.std.specs.Option.{option_map}
+use Rattle.std.specs.Result.{result_err}
+use Rattle.std.specs.declared.result.Result.{Result}
 use Rattle.std.specs.Io.KnownBytes.{prepend_known}
 use Rattle.mav_frame.specs.declared.events.Event.{Event}
 use Rattle.mav_links.specs.Links.{LinkState}
@@ -18,7 +20,7 @@ use Rattle.run_status.specs.declared.run_ends.RunEnd.TheVariants.{Stopped, NoMem
 use Rattle.live_node.specs.Calls.{LiveCall, extras_at, call_does, calls_do, node_hears, keeps_in, AreTimed}
 use Rattle.live_node.specs.Turns.{Turn, Breaks, turn_bytes, turn_events, idles_over, pauses_over, ReadFrom, IsHeard, AllHeard, Rest, calls_of, last_calls, AreTurnsTimed, AreRestsTimed}
 use Rattle.live_node.specs.Texts.{frames_text, lines_of}
-use Rattle.live_node.specs.Ports.{SentBy, PrintedBy}
+use Rattle.live_node.specs.Ports.{SentBy, PrintedBy, FaultsBy}
 
 -- the port, the text that the output was sent, and the one time that the clock returns, if that is known
 pub record Outside : Type 0 where
@@ -28,6 +30,12 @@ pub record Outside : Type 0 where
 
 abbrev pub outside : LinkState → Option (List ℕ) → Option ℕ → Outside
 outside link text time = record { link = link; text = text; time = time }
+
+-- a run on a link between two moments: what it did, how it may end, and which counts of faults rose
+pub record LinkRun (Did : Option RunEnd → (first last : Outside) → Type 0) (MayEnd : RunEnd → Type 0) (result : Result (Unit {0}) RunEnd) (first last : Outside) (out_before out_after : ℕ) : Type 0 where
+  pub runs : Did (result_err result) first last
+  pub end : IfErr result MayEnd
+  pub faults : FaultsBy (result_err result) first.link.faults last.link.faults out_before out_after
 
 -- what is known of stores of a type
 pub record Stores (S : Type 0) : Type 1 where

@@ -5,7 +5,7 @@ ghost use Rattle.mav_nodes.specs.Nodes.{DroneSide};
 ghost use Rattle.node_reports.specs.Nodes.{Node, Drone as StateDrone};
 ghost use Rattle.live_node.specs.Calls.{LiveCall};
 ghost use Rattle.live_node.specs.Ports.{FaultsBy, IsRunEnd};
-ghost use Rattle.live_node.specs.Runs.{Outside, outside, stores_of};
+ghost use Rattle.live_node.specs.Runs.{Outside, LinkRun, outside, stores_of};
 ghost use Rattle.live_node.specs.Progress.{Between, TurnsStopped, TurnsRan, Opened};
 ghost use Rattle.live_node.specs.Drones.{DroneLived, DroneRuns, NewDroneRuns, IsDroneEnd, start_end};
 
@@ -105,9 +105,7 @@ pub fn run_drone<L: Link, K: Sink, C: Clock, S: Keeper>(
     clock: &mut C,
     keeper: &mut S,
 ) -> Result<(), RunEnd>
-    ensures runs { DroneRuns (stores_of S.faults S.is_infallible S.contents) key plan keeper.old keeper.new (result_err result) (outside (L.state link.old) (K.sent out.old) (C.always clock.old)) (outside (L.state link.new) (K.sent out.new) (C.always clock.new)) }
-    ensures end { IfErr result (IsDroneEnd plan.turns) }
-    ensures faults { FaultsBy (result_err result) (L.state link.old).faults (L.state link.new).faults (K.faults out.old) (K.faults out.new) }
+    ensures { LinkRun (DroneRuns (stores_of S.faults S.is_infallible S.contents) key plan keeper.old keeper.new) (IsDroneEnd plan.turns) result (outside (L.state link.old) (K.sent out.old) (C.always clock.old)) (outside (L.state link.new) (K.sent out.new) (C.always clock.new)) (K.faults out.old) (K.faults out.new) }
 {
     match DroneNode::start(alloc, key, plan.sys, 0, 0, keeper) {
         Ok(drone) => {
@@ -130,9 +128,7 @@ pub fn run_new_drone<L: Link, K: Sink, C: Clock>(
     out: &mut K,
     clock: &mut C,
 ) -> Result<(), RunEnd>
-    ensures runs { NewDroneRuns key plan (result_err result) (outside (L.state link.old) (K.sent out.old) (C.always clock.old)) (outside (L.state link.new) (K.sent out.new) (C.always clock.new)) }
-    ensures end { IfErr result (IsDroneEnd plan.turns) }
-    ensures faults { FaultsBy (result_err result) (L.state link.old).faults (L.state link.new).faults (K.faults out.old) (K.faults out.new) }
+    ensures { LinkRun (NewDroneRuns key plan) (IsDroneEnd plan.turns) result (outside (L.state link.old) (K.sent out.old) (C.always clock.old)) (outside (L.state link.new) (K.sent out.new) (C.always clock.new)) (K.faults out.old) (K.faults out.new) }
 {
     let mut keeper = MemKeeper::new(alloc, Vec::new(alloc), Vec::new(alloc));
     run_drone(alloc, key, plan, link, out, clock, &mut keeper)

@@ -9,7 +9,7 @@ ghost use Rattle.live_node.specs.Nodes.{end_of};
 ghost use Rattle.live_node.specs.Calls.{LiveCall};
 ghost use Rattle.live_node.specs.Turns.{Turn};
 ghost use Rattle.live_node.specs.Ports.{PrintedBy, PrintFaults, FaultsBy, SameRead, IsRunEnd};
-ghost use Rattle.live_node.specs.Runs.{Outside, outside, stores_of};
+ghost use Rattle.live_node.specs.Runs.{Outside, LinkRun, outside, stores_of};
 ghost use Rattle.live_node.specs.Progress.{Output, Between, PortEnded, Opened};
 ghost use Rattle.live_node.specs.Waiting.{OrderDone, OrderStopped, Watched, WatchStopped, Outlasted, OutlastStopped, WaitedFor};
 ghost use Rattle.live_node.specs.Stations.{StationLived, StationRuns, IsOrderEnd, IsWaitedEnd, IsStationEnd, Awaited, Gives, verdict, judged};
@@ -221,9 +221,7 @@ pub fn run_station<L: Link, K: Sink, C: Clock>(
     out: &mut K,
     clock: &mut C,
 ) -> Result<(), RunEnd>
-    ensures runs { StationRuns key plan order (result_err result) (outside (L.state link.old) (K.sent out.old) (C.always clock.old)) (outside (L.state link.new) (K.sent out.new) (C.always clock.new)) }
-    ensures end { IfErr result IsStationEnd }
-    ensures faults { FaultsBy (result_err result) (L.state link.old).faults (L.state link.new).faults (K.faults out.old) (K.faults out.new) }
+    ensures { LinkRun (StationRuns key plan order) IsStationEnd result (outside (L.state link.old) (K.sent out.old) (C.always clock.old)) (outside (L.state link.new) (K.sent out.new) (C.always clock.new)) (K.faults out.old) (K.faults out.new) }
 {
     let boot = clock.now();
     let me = Stream {
