@@ -4,7 +4,8 @@ use Rattle.std.specs.Io.KnownBytes.{append_known}
 use Rattle.mav_ports.specs.Puts.{Sent, SentPrefix}
 use Rattle.mav_ports.proofs.Known.{sent_all, sent_start}
 use Rattle.run_status.specs.declared.run_ends.RunEnd.{RunEnd}
-use Rattle.mav_log.specs.Tellings.{Telling, Leads, Tells, ToldAll}
+use Rattle.decode_command.specs.Tellings.{Telling}
+use Rattle.mav_log.specs.Tellings.{Leads, Tells, ToldAll}
 
 -- a prefix of a text is one of a longer text
 pub longer_front : (before now : Option (List ℕ)) (text more whole : List ℕ) → whole ≡ text ++ more → SentPrefix before now text → SentPrefix before now whole
