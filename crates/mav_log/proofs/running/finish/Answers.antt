@@ -4,7 +4,9 @@ use Rattle.mav_ports.specs.Puts.{Sent}
 use Rattle.mav_ports.proofs.Known.{sent_all}
 use Rattle.decode_command.proofs.Halts.{halts_unfed, halts_there, halts_written}
 use Rattle.decode_command.specs.Tellings.{Telling}
-use Rattle.mav_log.proofs.Telling.{longer_front, closed, if_err, on_ok_both}
+use Rattle.decode_command.proofs.Steps.{longer_front}
+use Rattle.decode_command.proofs.Results.{if_err, on_ok_both}
+use Rattle.mav_log.proofs.Telling.{closed}
 use Rattle.mav_log.proofs.running.finish.Goals as goal
 
 pub returns-in_err-tell_all-clause-halted : goal.returns-in_err-tell_all-clause-halted

@@ -3,7 +3,8 @@ use Rattle.std.proofs.lemmas.Result.{err_from_is_err_and}
 use Rattle.mav_ports.specs.Puts.{SentPrefix}
 use Rattle.decode_command.proofs.Halts.{halts_there, halts_written}
 use Rattle.decode_command.specs.Tellings.{Telling}
-use Rattle.mav_log.proofs.Telling.{tells_written, on_ok, if_err}
+use Rattle.decode_command.proofs.Results.{on_ok, if_err}
+use Rattle.mav_log.proofs.Telling.{tells_written}
 use Rattle.mav_log.proofs.running.take.Goals as goal
 
 pub returns-clause-told : goal.returns-clause-told
