@@ -1,4 +1,5 @@
 pub mod Results
+pub mod Halts
 pub mod Parses
 pub mod Lines
 pub mod Steps

@@ -13,7 +13,7 @@ use Rattle.mav_stream.specs.Progress.{Progress, IsWhole}
 use Rattle.mav_stream.specs.Spans.{first_packet}
 use Rattle.decode_command.specs.Parsing.{final_events, incremental_events}
 use Rattle.decode_command.specs.DecodeText.{decode_text, event_size, frames_of, skips_of, event_line, event_lines, lines_from, bytes_in, frames_in, skips_in}
-use Rattle.decode_command.specs.Spec.{most_input_bytes}
+use Rattle.decode_command.specs.Tellings.{most_input_bytes}
 use Rattle.decode_command.specs.declared.decoder.Decoder.{Decoder}
 
 -- no byte was taken, and nothing is held

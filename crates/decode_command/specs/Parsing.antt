@@ -1,5 +1,5 @@
 -- The parse of a stream as a function, by what is at each offset of it. Frames of MAVLink 1 are read too.
-use Rattle.std.specs.Prelude.{ℕ, zero, suc, ◌-◌, true, List, [], ◌∷◌}
+use Rattle.std.specs.Prelude.{ℕ, zero, suc, ◌-◌, Bool, true, false, List, [], ◌∷◌}
 use Rattle.mav_frame.specs.Looks.{look_of}
 use Rattle.mav_frame.specs.declared.looks.Look.{Look}
 use Rattle.mav_frame.specs.declared.looks.Look.TheVariants.{Frame as Found, NotHere, More}
@@ -7,33 +7,26 @@ use Rattle.mav_frame.specs.declared.looks.Why.TheVariants.{Short}
 use Rattle.mav_frame.specs.declared.events.Event.{Event}
 use Rattle.mav_frame.specs.declared.events.Event.TheVariants.{Frame, Skipped}
 
--- the events from a byte on, by what is there, with those after it if so many bytes more belong to a frame
-abbrev pub final_at : Look → ℕ → (ℕ → List Event) → List Event
-final_at (Found packet size) byte after = Frame packet ∷ after (size - 1)
-final_at (NotHere why) byte after = Skipped byte why ∷ after 0
-final_at (More lacking) byte after = Skipped byte Short ∷ after 0
+-- the events from a byte on, by what is there, with those after it if so many bytes more belong to a frame. The Bool
+-- says that the input has ended: bytes that lack more are then skipped, and are else the end of the events
+abbrev pub events_at : Look → Bool → ℕ → (ℕ → List Event) → List Event
+events_at (Found packet size) ended byte after = Frame packet ∷ after (size - 1)
+events_at (NotHere why) ended byte after = Skipped byte why ∷ after 0
+events_at (More lacking) true byte after = Skipped byte Short ∷ after 0
+events_at (More lacking) false byte after = []
 
 -- the events after the first bytes, which belong to a frame
-abbrev pub final_after : List (ℕ × ℕ) → ℕ → List ℕ → List Event
-final_after extras inside [] = []
-final_after extras (suc inside) (byte ∷ rest) = final_after extras inside rest
-final_after extras zero (byte ∷ rest) = final_at (look_of extras true (byte ∷ rest)) byte (λ inside. final_after extras inside rest)
+abbrev pub events_after : List (ℕ × ℕ) → Bool → ℕ → List ℕ → List Event
+events_after extras ended inside [] = []
+events_after extras ended (suc inside) (byte ∷ rest) = events_after extras ended inside rest
+events_after extras ended zero (byte ∷ rest) = events_at (look_of extras true (byte ∷ rest)) ended byte (λ inside. events_after extras ended inside rest)
 
--- the events of the final parse
+-- the events of the parse: of the final one if the input has ended, else of the incremental one
+abbrev pub parse_events : List (ℕ × ℕ) → Bool → List ℕ → List Event
+parse_events extras ended bytes = events_after extras ended 0 bytes
+
 abbrev pub final_events : List (ℕ × ℕ) → List ℕ → List Event
-final_events extras bytes = final_after extras 0 bytes
+final_events extras bytes = parse_events extras true bytes
 
--- the same for the incremental parse, which ends at an incomplete frame
-abbrev pub incremental_at : Look → ℕ → (ℕ → List Event) → List Event
-incremental_at (Found packet size) byte after = Frame packet ∷ after (size - 1)
-incremental_at (NotHere why) byte after = Skipped byte why ∷ after 0
-incremental_at (More lacking) byte after = []
-
-abbrev pub incremental_after : List (ℕ × ℕ) → ℕ → List ℕ → List Event
-incremental_after extras inside [] = []
-incremental_after extras (suc inside) (byte ∷ rest) = incremental_after extras inside rest
-incremental_after extras zero (byte ∷ rest) = incremental_at (look_of extras true (byte ∷ rest)) byte (λ inside. incremental_after extras inside rest)
-
--- the events of the incremental parse
 abbrev pub incremental_events : List (ℕ × ℕ) → List ℕ → List Event
-incremental_events extras bytes = incremental_after extras 0 bytes
+incremental_events extras bytes = parse_events extras false bytes

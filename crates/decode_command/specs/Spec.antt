@@ -1,26 +1,22 @@
 -- What `decode` does with the bytes of its input, by given definitions and perhaps a key.
-use Rattle.std.specs.Prelude.{ℕ, nat_lt, Bool, true, false, if◌then◌else◌, List, length, take, Some, None}
+use Rattle.std.specs.Prelude.{ℕ, Bool, List}
 use Rattle.decode_command.specs.declared.known.Known.{Known}
 use Rattle.mav_profile.specs.Messages.{extras_of}
-use Rattle.run_status.specs.declared.input_errors.Bound.TheVariants.{InputBytes}
-use Rattle.run_status.specs.declared.input_errors.InputError.TheVariants.{AtLimit}
 use Rattle.run_status.specs.Runs.{CommandSpec}
-use Rattle.decode_command.specs.Parsing.{final_events, incremental_events}
+use Rattle.decode_command.specs.Parsing.{final_events, parse_events}
 use Rattle.decode_command.specs.DecodeText.{event_lines, last_line}
-
--- the most bytes of an input
-abbrev pub most_input_bytes : ℕ
-most_input_bytes = 268435456
+use Rattle.decode_command.specs.Tellings.{Telling, telling_spec}
 
 -- the lines of all events: of the final parse if the input ended, else of the incremental parse
 abbrev pub lines_at : Known → Bool → List ℕ → List ℕ
-lines_at known true bytes = event_lines known (final_events (extras_of known.dialect) bytes)
-lines_at known false bytes = event_lines known (incremental_events (extras_of known.dialect) bytes)
+lines_at known ended bytes = event_lines known (parse_events (extras_of known.dialect) ended bytes)
 
--- too many bytes stop a run, and then only those up to the limit are decoded
-abbrev pub decode_spec : Known → CommandSpec
-decode_spec known = record {
-  stop = λ ended bytes. if nat_lt most_input_bytes (length bytes) then Some (AtLimit InputBytes) else None;
-  report = λ ended bytes. if nat_lt most_input_bytes (length bytes) then lines_at known false (take most_input_bytes bytes) else lines_at known ended bytes;
+-- and after them the counts
+abbrev pub decode_telling : Known → Telling
+decode_telling known = record {
+  told = lines_at known;
   closing = λ bytes. last_line (final_events (extras_of known.dialect) bytes);
 }
+
+abbrev pub decode_spec : Known → CommandSpec
+decode_spec known = telling_spec (decode_telling known)

@@ -1,12 +1,12 @@
 // A stream that is decoded as its bytes come.
-ghost use Rattle.std.specs.Prelude.{◌≡◌, ◌<◌, ◌≤◌, ◌+◌, ◌++◌, ◌⊎◌, ℕ, List, [], length, take, map, true, false, IfOk, IfErr, OnOk, OnErr, IsErrOf};
+ghost use Rattle.std.specs.Prelude.{◌≡◌, ◌<◌, ◌≤◌, ◌+◌, ◌++◌, ℕ, List, [], length, take, map, true, false, IfOk, IfErr, OnOk, OnErr};
 ghost use Rattle.std.specs.declared.option.Option.{Option};
-ghost use Rattle.mav_ports.specs.Counts.{Rose};
 ghost use Rattle.decode_command.specs.declared.known.Known.{Known};
 ghost use Rattle.mav_frame.specs.declared.events.Event.TheVariants.{Frame as FrameEvent};
 ghost use Rattle.mav_stream.specs.Spans.{first_packet, held_after, next_span, span_events, span_size, skipped_for, IfFrame};
 ghost use Rattle.mav_stream.specs.Held.{nothing_held};
 ghost use Rattle.mav_profile.specs.Messages.{extras_of};
+ghost use Rattle.decode_command.specs.Halts.{CountsHalt};
 ghost use Rattle.decode_command.specs.Decodes.{Decoding, Drained, Halted, Front, Finished, Unfinished, Gave, IsFrameOf, PutsLine, Puts, IsWithin, Stepped, IsNew};
 
 use crate::counts::put_counts;
@@ -98,11 +98,7 @@ impl Decoder {
         ensures halted { (known : Known) (taken : List ℕ) (before : Option (List ℕ))
             → Drained known taken self.old before (K.sent out.old)
             → IfErr result (λ _. Front known (taken ++ piece.now) before (K.sent out.new)) }
-        ensures error { IfErr result (λ e. (e ≡ RunEnd.WriteFault) ⊎ (e ≡ RunEnd.NoMemory)) }
-        ensures rose { IsErrOf result RunEnd.WriteFault
-            → Rose (K.faults out.old) (K.faults out.new) }
-        ensures sound { ¬ IsErrOf result RunEnd.WriteFault
-            → K.faults out.new ≡ K.faults out.old }
+        ensures halts { CountsHalt result (K.faults out.old) (K.faults out.new) }
     {
         let mut place = 0;
         while place < piece.len() {
@@ -121,11 +117,7 @@ impl Decoder {
         ensures halted { (known : Known) (taken : List ℕ) (before : Option (List ℕ))
             → Drained known taken self.old before (K.sent out.old)
             → IfErr result (λ _. Unfinished known taken before (K.sent out.new)) }
-        ensures error { IfErr result (λ e. (e ≡ RunEnd.WriteFault) ⊎ (e ≡ RunEnd.NoMemory)) }
-        ensures rose { IsErrOf result RunEnd.WriteFault
-            → Rose (K.faults out.old) (K.faults out.new) }
-        ensures sound { ¬ IsErrOf result RunEnd.WriteFault
-            → K.faults out.new ≡ K.faults out.old }
+        ensures halts { CountsHalt result (K.faults out.old) (K.faults out.new) }
     {
         self.reader.end();
         self.drain(out)?;
@@ -148,11 +140,7 @@ impl Decoder {
             → Decoding known taken self.old before (K.sent out.old)
             → IfErr result (λ _. Halted known taken self.new before (K.sent out.new)
             × (self.new.reader.ended ≡ self.old.reader.ended)) }
-        ensures error { IfErr result (λ e. (e ≡ RunEnd.WriteFault) ⊎ (e ≡ RunEnd.NoMemory)) }
-        ensures rose { IsErrOf result RunEnd.WriteFault
-            → Rose (K.faults out.old) (K.faults out.new) }
-        ensures sound { ¬ IsErrOf result RunEnd.WriteFault
-            → K.faults out.new ≡ K.faults out.old }
+        ensures halts { CountsHalt result (K.faults out.old) (K.faults out.new) }
     {
         loop {
             match self.reader.next_span() {
@@ -178,11 +166,7 @@ impl Decoder {
             → Gave known taken (span_events self.old.reader span) self.old.reader
             (held_after self.old.reader span)
             → IfErr result (λ _. Halted known taken self.new before (K.sent out.new)) }
-        ensures error { IfErr result (λ e. (e ≡ RunEnd.WriteFault) ⊎ (e ≡ RunEnd.NoMemory)) }
-        ensures rose { IsErrOf result RunEnd.WriteFault
-            → Rose (K.faults out.old) (K.faults out.new) }
-        ensures sound { ¬ IsErrOf result RunEnd.WriteFault
-            → K.faults out.new ≡ K.faults out.old }
+        ensures halts { CountsHalt result (K.faults out.old) (K.faults out.new) }
     {
         self.append(span)?;
         self.reader.consume(span.size());

@@ -1,5 +1,4 @@
 pub mod Telling
-pub mod Ends
 pub mod Steps
 pub mod Stays
 mod StatusTold

@@ -9,7 +9,7 @@ use Rattle.run_status.specs.Runs.{PortOutcome, RunBeforeStatus}
 use Rattle.log_rows.specs.Progress.{no_bytes_held}
 use Rattle.log_rows.proofs.LogSteps.{log_begun}
 use Rattle.mav_log.specs.Spec.{show_telling}
-use Rattle.mav_log.specs.Tellings.{Telling, telling_spec}
+use Rattle.decode_command.specs.Tellings.{Telling, telling_spec}
 use Rattle.mav_log.specs.Tellers.{Showing, HasShown, shown_load, Filtering, HasKept, Making, HasMade}
 
 -- a run that tells the same

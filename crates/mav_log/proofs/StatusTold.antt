@@ -9,7 +9,7 @@ use Rattle.run_status.specs.Runs.{RunBeforeStatus, Promises, port_outcome}
 use Rattle.run_status.specs.StatusText.{WritesStatus}
 use Rattle.run_status.proofs.Ends.{promised}
 use Rattle.run_status.proofs.RunsBeforeStatus.{run_reported}
-use Rattle.mav_log.specs.Tellings.{Telling, telling_spec}
+use Rattle.decode_command.specs.Tellings.{Telling, telling_spec}
 use Rattle.mav_log.proofs.Stays.{telling_steady}
 
 pub status_told : (t : Telling) (spent : Type 0) (faults_before faults_after idles_before idles_after refusals_before refusals_told refusals_after : ℕ) (left_before left_after sent_before sent_told sent_after : Option (List ℕ)) (ended reported : Result (Unit {0}) RunEnd) → (spent → IsSpent left_after)

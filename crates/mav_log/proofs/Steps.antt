@@ -12,6 +12,7 @@ use Rattle.mav_frame.specs.declared.events.Event.TheVariants.{Frame}
 use Rattle.mav_stream.specs.Held.{Held}
 use Rattle.mav_stream.specs.Progress.{Progress, IsWhole}
 use Rattle.mav_stream.specs.Spans.{skipped_for}
+use Rattle.decode_command.specs.Parsing.{parse_events}
 use Rattle.decode_command.proofs.Parses.{final_is, incremental_is}
 use Rattle.log_rows.specs.LogEvents.{log_events}
 use Rattle.log_rows.specs.LogParse.{LogEvent, RowEvent, SkipEvent, LogParse}
@@ -19,7 +20,7 @@ use Rattle.log_rows.specs.Progress.{LogHeld, LogProgress, IsWholeLog}
 use Rattle.log_rows.proofs.Parses.{parse_is_function}
 use Rattle.log_rows.proofs.LogSteps.{fed_on, closed_on}
 use Rattle.mav_log.specs.LogText.{event_size, rows_of, skips_of, event_line, lines_from, bytes_in, rows_in, skips_in, counts_line}
-use Rattle.mav_log.specs.RowsMade.{row_of, rows_of_system, time_after, rows_from, micros_after, frames_read}
+use Rattle.mav_log.specs.RowsMade.{row_of, rows_of_system, time_after, rows_from, micros_after}
 use Rattle.mav_log.specs.Spec.{show_telling, filter_telling, make_telling}
 use Rattle.mav_log.specs.Tellers.{Showing, HasShown, Filtering, HasKept, Making, HasMade}
 use Rattle.mav_log.specs.TellingLaws.{log_begins, shown_leads, lines_append, kept_append, made_append}
@@ -140,7 +141,7 @@ pub no_time : (why : Why) (bytes : List ℕ) (micros : ℕ) → micros ≡ micro
 no_time why [] micros = refl
 no_time why (b ∷ bs) micros = no_time why bs micros
 
-frames_whole : (extras : List (ℕ × ℕ)) (ended : Bool) (taken : List ℕ) (given : List Event) (held : Held) → held.ended ≡ ended → IsWhole extras true taken given held → given ≡ frames_read extras ended taken
+frames_whole : (extras : List (ℕ × ℕ)) (ended : Bool) (taken : List ℕ) (given : List Event) (held : Held) → held.ended ≡ ended → IsWhole extras true taken given held → given ≡ parse_events extras ended taken
 frames_whole extras true taken given held is whole = sym (final_is extras given taken (whole.final is))
 frames_whole extras false taken given held is whole = sym (incremental_is extras given held.bytes taken (whole.incremental is))
 

@@ -1,21 +1,11 @@
 -- What was told is sent, or a prefix of it.
-use Rattle.std.proofs.Common.{◌≡◌, ℕ, Bool, true, false, List, [], ◌++◌, sym, ap, ◌∙◌, subst, append_assoc, Option, Result, Ok, Err, OnOk, IfErr}
+use Rattle.std.proofs.Common.{◌≡◌, ℕ, Bool, true, false, List, [], ◌++◌, sym, ap, ◌∙◌, subst, append_assoc, Option}
 use Rattle.std.specs.Io.KnownBytes.{append_known}
 use Rattle.mav_ports.specs.Puts.{Sent, SentPrefix}
 use Rattle.mav_ports.proofs.Known.{sent_all, sent_start}
-use Rattle.run_status.specs.declared.run_ends.RunEnd.{RunEnd}
-use Rattle.mav_log.specs.Tellings.{Telling, Leads, Tells, ToldAll}
-
--- a prefix of a text is one of a longer text
-pub longer_front : (before now : Option (List ℕ)) (text more whole : List ℕ) → whole ≡ text ++ more → SentPrefix before now text → SentPrefix before now whole
-longer_front before now text more whole e (rest, s) = (
-  rest ++ more,
-  record {
-    part = s.part;
-    whole = sym (append_assoc s.part rest more) ∙ (ap (λ (t : List ℕ). t ++ more) s.whole ∙ sym e);
-    appended = s.appended;
-  },
-)
+use Rattle.decode_command.proofs.Steps.{longer_front}
+use Rattle.decode_command.specs.Tellings.{Telling}
+use Rattle.mav_log.specs.Tellings.{Leads, Tells, ToldAll}
 
 -- more text is held
 pub sent_held : (before now : Option (List ℕ)) (told held more : List ℕ) → Sent before now told held → Sent before now (told ++ more) (held ++ more)
@@ -68,17 +58,3 @@ start_sent t has text now new nothing empty = record {
 pub closed : (t : Telling) (taken told text longer closing : List ℕ) (before now : Option (List ℕ)) → Sent before now told text → told ≡ t.told true taken → longer ≡ text ++ closing → closing ≡ t.closing taken → Sent before now (t.told true taken ++ t.closing taken) longer
 closed t taken told text longer closing before now s all e last =
     subst (λ (z : List ℕ × List ℕ). Sent before now z.0 z.1) (λ i. (all i ++ last i, sym e i)) (sent_held before now told text closing s)
-
--- ---- results
-
-pub on_ok : {A : Type 0} {P : Type 0} {Q : Type 0} (r : Result A RunEnd) → OnOk r P → (P → Q) → OnOk r Q
-on_ok (Ok done) p f = f p
-on_ok (Err halt) p f = tt
-
-pub if_err : {A : Type 0} {P : Type 0} (r : Result A RunEnd) → P → IfErr r (λ halt. P)
-if_err (Ok done) p = tt
-if_err (Err halt) p = p
-
-pub on_ok_both : {P : Type 0} {Q : Type 0} {R : Type 0} (r : Result (Unit {0}) RunEnd) → OnOk r P → OnOk r Q → (P → Q → R) → OnOk r R
-on_ok_both (Ok done) p q f = f p q
-on_ok_both (Err halt) p q f = tt

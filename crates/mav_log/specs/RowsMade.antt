@@ -1,8 +1,7 @@
 -- The rows that `log filter` and `log make` write.
-use Rattle.std.specs.Prelude.{ℕ, ◌+◌, ◌==◌, if◌then◌else◌, Bool, true, false, List, [], ◌∷◌, ◌++◌, flat_map}
+use Rattle.std.specs.Prelude.{ℕ, ◌+◌, ◌==◌, if◌then◌else◌, List, [], ◌∷◌, ◌++◌, flat_map}
 use Rattle.mav_frame.specs.declared.events.Event.{Event}
 use Rattle.mav_frame.specs.declared.events.Event.TheVariants.{Frame, Skipped}
-use Rattle.decode_command.specs.Parsing.{final_events, incremental_events}
 use Rattle.log_rows.specs.LogParse.{LogEvent, RowEvent, SkipEvent}
 use Rattle.log_rows.specs.Rows.{row_encoding}
 
@@ -13,11 +12,6 @@ row_of sys (SkipEvent byte why) = []
 
 abbrev pub rows_of_system : ℕ → List LogEvent → List ℕ
 rows_of_system sys events = flat_map (row_of sys) events
-
--- the events of a stream as `decode` reads it: of the final parse if the input ended, else of the incremental one
-abbrev pub frames_read : List (ℕ × ℕ) → Bool → List ℕ → List Event
-frames_read extras true b = final_events extras b
-frames_read extras false b = incremental_events extras b
 
 -- the row of a frame at a time, and the time of the next one
 abbrev pub made_of : ℕ → Event → List ℕ

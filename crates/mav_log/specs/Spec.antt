@@ -2,10 +2,11 @@
 use Rattle.std.specs.Prelude.{ℕ, true, List, []}
 use Rattle.field_layout.specs.Definition.{Definition}
 use Rattle.mav_profile.specs.Messages.{extras_of}
+use Rattle.decode_command.specs.Parsing.{parse_events}
 use Rattle.log_rows.specs.LogEvents.{log_events}
 use Rattle.mav_log.specs.LogText.{lines_from, counts_line, rows_in, skips_in}
-use Rattle.mav_log.specs.RowsMade.{rows_of_system, rows_from, frames_read}
-use Rattle.mav_log.specs.Tellings.{Telling, telling_spec}
+use Rattle.mav_log.specs.RowsMade.{rows_of_system, rows_from}
+use Rattle.decode_command.specs.Tellings.{Telling, telling_spec}
 use Rattle.run_status.specs.Runs.{CommandSpec}
 
 -- `log show`: the lines of the events, and then the counts
@@ -25,7 +26,7 @@ filter_telling known sys = record {
 -- `log make`: the frames of a stream as rows from a time on
 abbrev pub make_telling : List Definition → ℕ → Telling
 make_telling known start = record {
-  told = λ ended b. rows_from start (frames_read (extras_of known) ended b);
+  told = λ ended b. rows_from start (parse_events (extras_of known) ended b);
   closing = λ b. [];
 }
 

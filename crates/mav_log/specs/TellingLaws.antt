@@ -3,13 +3,14 @@ use Rattle.std.proofs.Common.{◌≡◌, ℕ, ◌+◌, Bool, true, false, List, 
 use Rattle.field_layout.specs.Definition.{Definition}
 use Rattle.mav_profile.specs.Messages.{extras_of}
 use Rattle.mav_frame.specs.declared.events.Event.{Event}
+use Rattle.decode_command.specs.Parsing.{parse_events}
 use Rattle.decode_command.proofs.Parses.{final_begins, incremental_begins}
 use Rattle.log_rows.specs.LogEvents.{log_events}
 use Rattle.log_rows.specs.LogParse.{LogEvent, BeginsLog}
 use Rattle.log_rows.specs.Progress.{LogHeld, LogProgress}
 use Rattle.log_rows.proofs.Parses.{begins_by_function}
 use Rattle.mav_log.specs.LogText.{event_size, event_line, lines_from, bytes_in}
-use Rattle.mav_log.specs.RowsMade.{row_of, rows_of_system, made_of, time_after, rows_from, micros_after, frames_read}
+use Rattle.mav_log.specs.RowsMade.{row_of, rows_of_system, made_of, time_after, rows_from, micros_after}
 use Rattle.mav_log.specs.Spec.{show_telling, filter_telling, make_telling}
 use Rattle.mav_log.specs.Tellers.{Showing, HasShown, Filtering, HasKept, Making, HasMade}
 use Rattle.mav_log.specs.Tellings.{Leads}
@@ -55,13 +56,13 @@ kept_leads f ended taken told h =
           ∙ (kept_append f.sys h.given more ∙ ap (λ (text : List ℕ). text ++ rows_of_system f.sys more) (sym h.kept)),
     )
 
-frames_begin : (m : Making) (ended : Bool) (taken told : List ℕ) (h : HasMade m ended taken told) → frames_read (extras_of m.known) ended taken ≡ h.given ++ frames_read (extras_of m.known) ended m.reader.bytes
+frames_begin : (m : Making) (ended : Bool) (taken told : List ℕ) (h : HasMade m ended taken told) → parse_events (extras_of m.known) ended taken ≡ h.given ++ parse_events (extras_of m.known) ended m.reader.bytes
 frames_begin m true taken told h = final_begins (extras_of m.known) h.given m.reader.bytes taken h.progress.final
 frames_begin m false taken told h = incremental_begins (extras_of m.known) h.given m.reader.bytes taken (h.progress.incremental h.is_ended)
 
 pub made_leads : (m : Making) (ended : Bool) (taken told : List ℕ) → HasMade m ended taken told → Leads (make_telling m.known m.start) ended taken told
 made_leads m ended taken told h =
-    let more = frames_read (extras_of m.known) ended m.reader.bytes in (
+    let more = parse_events (extras_of m.known) ended m.reader.bytes in (
       rows_from (micros_after m.start h.given) more,
       ap (rows_from m.start) (frames_begin m ended taken told h)
           ∙ (made_append m.start h.given more ∙ ap (λ (text : List ℕ). text ++ rows_from (micros_after m.start h.given) more) (sym h.made)),

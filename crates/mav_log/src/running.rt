@@ -1,12 +1,13 @@
 // The run of a command over an input, as its bytes come.
-ghost use Rattle.std.specs.Prelude.{◌≡◌, ◌<◌, ◌≤◌, ◌+◌, ◌*◌, ◌++◌, ◌⊎◌, ℕ, Bool, List, [], length, true, false, OnOk, IfOk, IfErr, IsErrOf};
+ghost use Rattle.std.specs.Prelude.{◌≡◌, ◌<◌, ◌≤◌, ◌+◌, ◌*◌, ◌++◌, ℕ, Bool, List, [], length, true, false, OnOk, IfOk, IfErr, IsErrOf};
 ghost use Rattle.std.specs.declared.option.Option.{Option};
 ghost use Rattle.std.specs.Result.{result_err};
 ghost use Rattle.std.specs.Io.KnownBytes.{append_known};
-ghost use Rattle.mav_ports.specs.Counts.{Rose};
 ghost use Rattle.mav_ports.specs.Puts.{SentPrefix};
 ghost use Rattle.run_status.specs.Seen.{before_status_over, input_of, output_of};
-ghost use Rattle.mav_log.specs.Tellings.{Tells, ToldAll, telling_spec};
+ghost use Rattle.decode_command.specs.Halts.{CountsHalt};
+ghost use Rattle.decode_command.specs.Tellings.{telling_spec};
+ghost use Rattle.mav_log.specs.Tellings.{Tells, ToldAll};
 
 use crate::tellers::Teller;
 use mav_ports::{Got, NoMemory, Sink, Source};
@@ -41,9 +42,7 @@ fn tell_more<T: Teller, K: Sink>(
     ensures halted { (ended : Bool) (taken : List ℕ) (before : Option (List ℕ))
         → Tells (T.has_told teller.old) ended taken text.old.items before (K.sent out.old)
         → IfErr result (λ _. SentPrefix before (K.sent out.new) ((T.telling teller.old).told ended taken)) }
-    ensures error { IfErr result (λ e. (e ≡ RunEnd.WriteFault) ⊎ (e ≡ RunEnd.NoMemory)) }
-    ensures rose { IsErrOf result RunEnd.WriteFault → Rose (K.faults out.old) (K.faults out.new) }
-    ensures sound { ¬ IsErrOf result RunEnd.WriteFault → K.faults out.new ≡ K.faults out.old }
+    ensures halts { CountsHalt result (K.faults out.old) (K.faults out.new) }
 {
     let more = teller.tell(text)?;
     write_enough(text, out)?;
@@ -66,9 +65,7 @@ fn tell_all<T: Teller, K: Sink>(
     ensures halted { (ended : Bool) (taken : List ℕ) (before : Option (List ℕ))
         → Tells (T.has_told teller.old) ended taken text.old.items before (K.sent out.old)
         → IfErr result (λ _. SentPrefix before (K.sent out.new) ((T.telling teller.old).told ended taken)) }
-    ensures error { IfErr result (λ e. (e ≡ RunEnd.WriteFault) ⊎ (e ≡ RunEnd.NoMemory)) }
-    ensures rose { IsErrOf result RunEnd.WriteFault → Rose (K.faults out.old) (K.faults out.new) }
-    ensures sound { ¬ IsErrOf result RunEnd.WriteFault → K.faults out.new ≡ K.faults out.old }
+    ensures halts { CountsHalt result (K.faults out.old) (K.faults out.new) }
 {
     loop {
         if !tell_more(teller, text, out)? {
@@ -97,9 +94,7 @@ fn take<T: Teller, K: Sink>(
     ensures halted { (taken : List ℕ) (before : Option (List ℕ))
         → Tells (T.has_told teller.old) false taken text.old.items before (K.sent out.old)
         → IfErr result (λ _. SentPrefix before (K.sent out.new) ((T.telling teller.old).told false (taken ++ piece.now))) }
-    ensures error { IfErr result (λ e. (e ≡ RunEnd.WriteFault) ⊎ (e ≡ RunEnd.NoMemory)) }
-    ensures rose { IsErrOf result RunEnd.WriteFault → Rose (K.faults out.old) (K.faults out.new) }
-    ensures sound { ¬ IsErrOf result RunEnd.WriteFault → K.faults out.new ≡ K.faults out.old }
+    ensures halts { CountsHalt result (K.faults out.old) (K.faults out.new) }
 {
     teller.feed(piece);
     tell_all(teller, text, out)?;
@@ -115,9 +110,7 @@ fn finish<T: Teller, K: Sink>(teller: &mut T, text: &mut Vec<u8>, out: &mut K) -
     ensures halted { (taken : List ℕ) (before : Option (List ℕ))
         → Tells (T.has_told teller.old) false taken text.old.items before (K.sent out.old)
         → IfErr result (λ _. SentPrefix before (K.sent out.new) ((T.telling teller.old).told true taken ++ (T.telling teller.old).closing taken)) }
-    ensures error { IfErr result (λ e. (e ≡ RunEnd.WriteFault) ⊎ (e ≡ RunEnd.NoMemory)) }
-    ensures rose { IsErrOf result RunEnd.WriteFault → Rose (K.faults out.old) (K.faults out.new) }
-    ensures sound { ¬ IsErrOf result RunEnd.WriteFault → K.faults out.new ≡ K.faults out.old }
+    ensures halts { CountsHalt result (K.faults out.old) (K.faults out.new) }
 {
     teller.end();
     tell_all(teller, text, out)?;

@@ -8,7 +8,8 @@ pub(crate) fn discard(_known: Dialect) {}
 
 /// A text that is made of the bytes of an input as they come.
 pub(crate) trait Teller {
-    ghost use Rattle.mav_log.specs.Tellings.{Telling, Leads};
+    ghost use Rattle.decode_command.specs.Tellings.{Telling};
+    ghost use Rattle.mav_log.specs.Tellings.{Leads};
 
     /// What it makes of an input.
     ghost telling: { Self → Telling };

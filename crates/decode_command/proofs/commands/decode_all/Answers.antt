@@ -1,22 +1,12 @@
-use Rattle.std.proofs.Common.{◌≡◌, ◌≤◌, ◌+◌, ◌++◌, ◌∙◌, [], ℕ, List, ap, sym, refl, arith, take, length, subst, Err, length-append, length-take}
-use Rattle.std.proofs.lemmas.List.{take-take}
+use Rattle.std.proofs.Common.{◌≡◌, ◌≤◌, ◌++◌, ◌∙◌, [], ℕ, List, ap, sym, refl, arith, take, length, subst, Err, length-take}
 use Rattle.std.proofs.lemmas.Result.{err_from_is_err_and}
 use Rattle.mav_ports.specs.Counts.{Rose}
 use Rattle.mav_ports.proofs.Known.{prepend_known_nil}
 use Rattle.run_status.proofs.RunsBeforeStatus.{took_none, took_more}
-use Rattle.decode_command.specs.Spec.{most_input_bytes}
+use Rattle.decode_command.specs.Spec.{decode_telling}
 use Rattle.decode_command.specs.Decodes.{Drained, Front}
-use Rattle.decode_command.proofs.Ends.{untold_fault, untold_idle, untold_limit, untold_within, untold_past, untold_end, up_to_limit}
+use Rattle.decode_command.proofs.Ends.{untold_fault, untold_idle, untold_limit, untold_within, untold_past, untold_end, read_length, limited, all_lines, all_sent}
 use Rattle.decode_command.proofs.commands.decode_all.Goals as goal
-
--- a read of so many bytes
-read_length : (taken buf : List ℕ) (count : ℕ) → count ≤ length buf → length (taken ++ take count buf) ≡ length taken + count
-read_length taken buf count h = omega (arith, length-append taken (take count buf), length-take count buf)
-
--- those up to the limit
-limited : (taken buf : List ℕ) (count left : ℕ) → left ≤ count → length taken + left ≡ most_input_bytes → take most_input_bytes (taken ++ take count buf) ≡ taken ++ take left buf
-limited taken buf count left h e =
-    up_to_limit taken (take count buf) left e ∙ ap (λ (bytes : List ℕ). taken ++ bytes) (take-take left count buf h)
 
 pub loop-count-preserved : goal.loop-count-preserved
 loop-count-preserved g c =
@@ -39,7 +29,7 @@ loop-count-preserved g c =
           );
       faults = read.sound (λ e. cc) ∙ inv.faults;
       idles = omega (arith, read.idles, inv.idles);
-      refusals = after.sound (λ e. cc) ∙ inv.refusals;
+      refusals = after.halts.sound (λ e. cc) ∙ inv.refusals;
     }
 
 pub returns-in_err-take-in-Bytes-clause-untold : goal.returns-in_err-take-in-Bytes-clause-untold
@@ -53,10 +43,10 @@ returns-in_err-take-in-Bytes-clause-untold g c =
     let (taken, took, len, d) = inv.drained start in
     let more = read_length taken buf count read.within.1 in
     let below : left ≤ count = omega (arith, test) in
-    untold_past known _ (g.S.Source.left c.args.main.now) (g.S.Source.left c.read_on.new.source) sb sa (taken ++ take count buf) halt
+    untold_past (decode_telling known) _ (g.S.Source.left c.args.main.now) (g.S.Source.left c.read_on.new.source) sb sa (taken ++ take count buf) halt
     (took_more taken (take count buf) (g.S.Source.left c.args.main.now) (g.S.Source.left c.loop-count.main) (g.S.Source.left c.read_on.new.source) took read.bytes)
-    (omega (arith, more, len, test)) err.error
-    (λ f. subst (λ n. Rose n (g.K.Sink.faults c.take.new.out)) inv.refusals (err.rose (ap Err f)))
+    (omega (arith, more, len, test)) err.halts.error
+    (λ f. subst (λ n. Rose n (g.K.Sink.faults c.take.new.out)) inv.refusals (err.halts.rose (ap Err f)))
     (subst (λ (bytes : List ℕ). Front known bytes sb sa) (sym (limited taken buf count left below len)) (err.halted known taken sb d)))
 
 pub returns-then-count-left-clause-untold : goal.returns-then-count-left-clause-untold
@@ -69,10 +59,10 @@ returns-then-count-left-clause-untold g c =
     let (taken, took, len, d) = inv.drained start in
     let more = read_length taken buf count read.within.1 in
     let below : left ≤ count = omega (arith, test) in
-    untold_limit known _ (g.S.Source.left c.args.main.now) (g.S.Source.left c.read_on.new.source) sb sa (taken ++ take count buf) c.take.new.self
+    untold_limit (decode_telling known) _ (g.S.Source.left c.args.main.now) (g.S.Source.left c.read_on.new.source) sb sa (taken ++ take count buf)
     (took_more taken (take count buf) (g.S.Source.left c.args.main.now) (g.S.Source.left c.loop-count.main) (g.S.Source.left c.read_on.new.source) took read.bytes)
-    (omega (arith, more, len, test)) after.still after.empty
-    (subst (λ (bytes : List ℕ). Drained known bytes c.take.new.self sb sa) (sym (limited taken buf count left below len)) (after.drained known taken sb d))
+    (omega (arith, more, len, test))
+    (all_lines known _ c.take.new.self sb sa after.still after.empty (subst (λ (bytes : List ℕ). Drained known bytes c.take.new.self sb sa) (sym (limited taken buf count left below len)) (after.drained known taken sb d)))
 
 pub returns-in_err-take-in-Bytes-2-clause-untold : goal.returns-in_err-take-in-Bytes-2-clause-untold
 returns-in_err-take-in-Bytes-2-clause-untold g c =
@@ -84,10 +74,10 @@ returns-in_err-take-in-Bytes-2-clause-untold g c =
     rw (e.1, e.2) (λ start.
     let (taken, took, len, d) = inv.drained start in
     let more = read_length taken buf count read.within.1 in
-    untold_within known _ (g.S.Source.left c.args.main.now) (g.S.Source.left c.read_on.new.source) sb sa (taken ++ take count buf) halt
+    untold_within (decode_telling known) _ (g.S.Source.left c.args.main.now) (g.S.Source.left c.read_on.new.source) sb sa (taken ++ take count buf) halt
     (took_more taken (take count buf) (g.S.Source.left c.args.main.now) (g.S.Source.left c.loop-count.main) (g.S.Source.left c.read_on.new.source) took read.bytes)
-    (omega (arith, more, len, test)) err.error
-    (λ f. subst (λ n. Rose n (g.K.Sink.faults c.take-in-Bytes.new.out)) inv.refusals (err.rose (ap Err f)))
+    (omega (arith, more, len, test)) err.halts.error
+    (λ f. subst (λ n. Rose n (g.K.Sink.faults c.take-in-Bytes.new.out)) inv.refusals (err.halts.rose (ap Err f)))
     (err.halted known taken sb d))
 
 pub returns-in-Idle-clause-untold : goal.returns-in-Idle-clause-untold
@@ -95,9 +85,9 @@ returns-in-Idle-clause-untold g c =
     let inv = c.loop-count.invariant in let read = c.in-Idle.ensures in
     λ start.
     let (taken, took, len, d) = inv.drained start in
-    untold_idle c.args.decoder.now.known _ (g.S.Source.left c.args.main.now) (g.S.Source.left c.read_on.new.source) (g.K.Sink.sent c.args.out.now) (g.K.Sink.sent c.loop-count.out) taken c.loop-count.decoder
+    untold_idle (decode_telling c.args.decoder.now.known) _ (g.S.Source.left c.args.main.now) (g.S.Source.left c.read_on.new.source) (g.K.Sink.sent c.args.out.now) (g.K.Sink.sent c.loop-count.out) taken
     (took_none taken (g.S.Source.left c.args.main.now) (g.S.Source.left c.loop-count.main) (g.S.Source.left c.read_on.new.source) took read.bytes)
-    (omega (arith, len)) inv.still inv.empty d
+    (omega (arith, len)) (all_lines c.args.decoder.now.known taken c.loop-count.decoder (g.K.Sink.sent c.args.out.now) (g.K.Sink.sent c.loop-count.out) inv.still inv.empty d)
     (λ below. omega (arith, read.idled refl below, inv.idles))
 
 pub returns-in-End-clause-untold : goal.returns-in-End-clause-untold
@@ -106,20 +96,20 @@ returns-in-End-clause-untold g c =
     let sb = g.K.Sink.sent c.args.out.now in
     λ start.
     let (taken, took, len, d) = inv.drained start in
-    untold_end c.args.decoder.now.known _ (g.S.Source.left c.args.main.now) (g.S.Source.left c.read_on.new.source) sb (g.K.Sink.sent c.finish.new.out) taken c.finish.result
+    untold_end (decode_telling c.args.decoder.now.known) _ (g.S.Source.left c.args.main.now) (g.S.Source.left c.read_on.new.source) sb (g.K.Sink.sent c.finish.new.out) taken c.finish.result
     (took_none taken (g.S.Source.left c.args.main.now) (g.S.Source.left c.loop-count.main) (g.S.Source.left c.read_on.new.source) took read.bytes)
     (read.ended refl) (omega (arith, len))
-    (c.finish.ensures.done c.args.decoder.now.known taken sb d) (c.finish.ensures.halted c.args.decoder.now.known taken sb d) c.finish.ensures.error
-    (λ e. subst (λ n. Rose n (g.K.Sink.faults c.finish.new.out)) inv.refusals (c.finish.ensures.rose e))
+    (all_sent c.args.decoder.now.known taken c.finish.result sb (g.K.Sink.sent c.finish.new.out) (c.finish.ensures.done c.args.decoder.now.known taken sb d)) (c.finish.ensures.halted c.args.decoder.now.known taken sb d) c.finish.ensures.halts.error
+    (λ e. subst (λ n. Rose n (g.K.Sink.faults c.finish.new.out)) inv.refusals (c.finish.ensures.halts.rose e))
 
 pub returns-in-Failed-clause-untold : goal.returns-in-Failed-clause-untold
 returns-in-Failed-clause-untold g c =
     let inv = c.loop-count.invariant in let read = c.in-Failed.ensures in
     λ start.
     let (taken, took, len, d) = inv.drained start in
-    untold_fault c.args.decoder.now.known _ (g.S.Source.left c.args.main.now) (g.S.Source.left c.read_on.new.source) (g.K.Sink.sent c.args.out.now) (g.K.Sink.sent c.loop-count.out) taken c.loop-count.decoder
+    untold_fault (decode_telling c.args.decoder.now.known) _ (g.S.Source.left c.args.main.now) (g.S.Source.left c.read_on.new.source) (g.K.Sink.sent c.args.out.now) (g.K.Sink.sent c.loop-count.out) taken
     (took_none taken (g.S.Source.left c.args.main.now) (g.S.Source.left c.loop-count.main) (g.S.Source.left c.read_on.new.source) took read.bytes)
-    (omega (arith, len)) inv.still inv.empty d
+    (omega (arith, len)) (all_lines c.args.decoder.now.known taken c.loop-count.decoder (g.K.Sink.sent c.args.out.now) (g.K.Sink.sent c.loop-count.out) inv.still inv.empty d)
     (subst (λ n. Rose n (g.S.Source.faults c.read_on.new.source)) inv.faults (read.failed refl))
 
 pub loop-count-init : goal.loop-count-init
@@ -138,18 +128,18 @@ loop-count-init g c = record {
 pub returns-in_err-take-in-Bytes-clause-sound : goal.returns-in_err-take-in-Bytes-clause-sound
 returns-in_err-take-in-Bytes-clause-sound g c =
     let e = err_from_is_err_and c.from_residual.result c.from_residual.ensures.1 in
-    rw (e.1, e.2) (λ other. c.in_err-take-in-Bytes.ensures.sound other ∙ c.loop-count.invariant.refusals)
+    rw (e.1, e.2) (λ other. c.in_err-take-in-Bytes.ensures.halts.sound other ∙ c.loop-count.invariant.refusals)
 
 pub returns-in_err-take-in-Bytes-2-clause-sound : goal.returns-in_err-take-in-Bytes-2-clause-sound
 returns-in_err-take-in-Bytes-2-clause-sound g c =
     let e = err_from_is_err_and c.from_residual-in_err-take-in-Bytes-2.result c.from_residual-in_err-take-in-Bytes-2.ensures.1 in
-    rw (e.1, e.2) (λ other. c.in_err-take-in-Bytes-2.ensures.sound other ∙ c.loop-count.invariant.refusals)
+    rw (e.1, e.2) (λ other. c.in_err-take-in-Bytes-2.ensures.halts.sound other ∙ c.loop-count.invariant.refusals)
 
 pub returns-then-count-left-clause-sound : goal.returns-then-count-left-clause-sound
-returns-then-count-left-clause-sound g c = λ other. c.in_ok-take-in-Bytes.ensures.sound (λ e. cc) ∙ c.loop-count.invariant.refusals
+returns-then-count-left-clause-sound g c = λ other. c.in_ok-take-in-Bytes.ensures.halts.sound (λ e. cc) ∙ c.loop-count.invariant.refusals
 
 pub returns-in-End-clause-sound : goal.returns-in-End-clause-sound
-returns-in-End-clause-sound g c = λ other. c.finish.ensures.sound other ∙ c.loop-count.invariant.refusals
+returns-in-End-clause-sound g c = λ other. c.finish.ensures.halts.sound other ∙ c.loop-count.invariant.refusals
 
 pub returns-in-Idle-clause-sound : goal.returns-in-Idle-clause-sound
 returns-in-Idle-clause-sound g c = λ other. c.loop-count.invariant.refusals

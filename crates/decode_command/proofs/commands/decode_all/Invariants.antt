@@ -1,7 +1,7 @@
 use Rattle.std.proofs.Common.{◌≡◌, ◌<◌, ◌≤◌, ◌+◌, [], ℕ, List, length, false}
 use Rattle.std.specs.Io.KnownBytes.{prepend_known}
 use Rattle.decode_command.specs.Decodes.{Drained, IsWithin}
-use Rattle.decode_command.specs.Spec.{most_input_bytes}
+use Rattle.decode_command.specs.Tellings.{most_input_bytes}
 use Rattle.decode_command.proofs.commands.decode_all.Given as goal
 
 abbrev pub invariant-loop-count : goal.invariant-loop-count

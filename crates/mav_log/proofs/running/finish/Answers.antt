@@ -1,9 +1,12 @@
-use Rattle.std.proofs.Common.{ℕ, List, ◌++◌, true, sym, ap, ◌∙◌, subst}
+use Rattle.std.proofs.Common.{ℕ, List, ◌++◌, true, refl, sym, ap, ◌∙◌, subst}
 use Rattle.std.proofs.lemmas.Result.{err_from_is_err_and}
 use Rattle.mav_ports.specs.Puts.{Sent}
 use Rattle.mav_ports.proofs.Known.{sent_all}
-use Rattle.mav_log.specs.Tellings.{Telling}
-use Rattle.mav_log.proofs.Telling.{longer_front, closed, if_err, on_ok_both}
+use Rattle.decode_command.proofs.Halts.{halts_unfed, halts_there, halts_written}
+use Rattle.decode_command.specs.Tellings.{Telling}
+use Rattle.decode_command.proofs.Steps.{longer_front}
+use Rattle.decode_command.proofs.Results.{if_err, on_ok_both}
+use Rattle.mav_log.proofs.Telling.{closed}
 use Rattle.mav_log.proofs.running.finish.Goals as goal
 
 pub returns-in_err-tell_all-clause-halted : goal.returns-in_err-tell_all-clause-halted
@@ -46,3 +49,17 @@ returns-clause-halted g c = λ taken before h.
     let whole = closed t taken all.tells.told c.tell_all.new.text.items c.close.new.text.items (last.closing taken) before (g.K.Sink.sent c.tell_all.new.out) all.tells.sent
     (is ∙ ap (λ (z : Telling). z.told true taken) same) (c.in_ok-close.ensures taken all.tells.told all.tells.has is) (ap (λ (z : Telling). z.closing taken) same) in
     if_err c.write_held.result (c.write_held.ensures.front before (t.told true taken ++ t.closing taken) whole)
+
+pub returns-in_err-tell_all-clause-halts : goal.returns-in_err-tell_all-clause-halts
+returns-in_err-tell_all-clause-halts g c =
+    let e = err_from_is_err_and c.from_residual.result c.from_residual.ensures.1 in
+    rw (e.1, e.2) (halts_there _ _ _ _ refl c.in_err-tell_all.ensures.halts)
+
+pub returns-in_err-close-clause-halts : goal.returns-in_err-close-clause-halts
+returns-in_err-close-clause-halts g c =
+    let e = err_from_is_err_and c.from_residual-in_err-close.result c.from_residual-in_err-close.ensures.1 in
+    rw (e.1, e.2) (halts_unfed _ _ (c.in_ok-tell_all.ensures.halts.sound (λ e. cc)))
+
+pub returns-clause-halts : goal.returns-clause-halts
+returns-clause-halts g c =
+    let wrote = c.write_held.ensures in halts_written c.write_held.result _ _ _ (c.in_ok-tell_all.ensures.halts.sound (λ e. cc)) wrote.error wrote.rose wrote.sound

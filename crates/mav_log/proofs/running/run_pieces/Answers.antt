@@ -1,24 +1,14 @@
-use Rattle.std.proofs.Common.{rules, true, OnOk, IfErr, ◌≡◌, ◌≤◌, ◌+◌, ◌++◌, ◌∙◌, [], ℕ, List, false, ap, sym, refl, arith, take, length, subst, Err, length-append, length-take}
-use Rattle.std.proofs.lemmas.List.{take-take}
+use Rattle.std.proofs.Common.{rules, true, OnOk, IfErr, ◌≡◌, ◌≤◌, ◌++◌, ◌∙◌, [], ℕ, List, false, ap, sym, refl, arith, take, length, subst, Err, length-take}
 use Rattle.std.proofs.lemmas.Result.{err_from_is_err_and}
 use Rattle.mav_ports.specs.Counts.{Rose}
 use Rattle.mav_ports.specs.Puts.{SentPrefix}
 use Rattle.mav_ports.proofs.Known.{prepend_known_nil}
 use Rattle.run_status.proofs.RunsBeforeStatus.{took_none, took_more}
 use Rattle.std.specs.Io.KnownBytes.{append_known}
-use Rattle.mav_log.specs.Tellings.{Telling, most_input_bytes}
+use Rattle.decode_command.specs.Tellings.{Telling}
+use Rattle.decode_command.proofs.Ends.{untold_fault, untold_idle, untold_limit, untold_within, untold_past, untold_end, read_length, limited}
 use Rattle.mav_log.proofs.Telling.{all_sent, start_sent}
-use Rattle.mav_log.proofs.Ends.{untold_fault, untold_idle, untold_limit, untold_within, untold_past, untold_end, up_to_limit}
 use Rattle.mav_log.proofs.running.run_pieces.Goals as goal
-
--- a read of so many bytes
-read_length : (taken buf : List ℕ) (count : ℕ) → count ≤ length buf → length (taken ++ take count buf) ≡ length taken + count
-read_length taken buf count h = omega (arith, length-append taken (take count buf), length-take count buf)
-
--- those up to the limit
-limited : (taken buf : List ℕ) (count left : ℕ) → left ≤ count → length taken + left ≡ most_input_bytes → take most_input_bytes (taken ++ take count buf) ≡ taken ++ take left buf
-limited taken buf count left h e =
-    up_to_limit taken (take count buf) left e ∙ ap (λ (bytes : List ℕ). taken ++ bytes) (take-take left count buf h)
 
 pub loop-count-init : goal.loop-count-init
 loop-count-init g c = record {
@@ -56,8 +46,8 @@ returns-in_err-take-in-Bytes-clause-untold g c =
     let below : left ≤ count = omega (arith, test) in
     rw (e.1, e.2) (untold_past t _ (g.S.Source.left c.args.main.now) (g.S.Source.left c.read_on.new.source) sb sa (taken ++ take count buf) halt
     (took_more taken (take count buf) (g.S.Source.left c.args.main.now) (g.S.Source.left c.loop-count.main) (g.S.Source.left c.read_on.new.source) took read.bytes)
-    (omega (arith, more, len, test)) err.error
-    (λ f. subst (λ n. Rose n (g.K.Sink.faults c.take.new.out)) inv.refusals (err.rose (ap Err f)))
+    (omega (arith, more, len, test)) err.halts.error
+    (λ f. subst (λ n. Rose n (g.K.Sink.faults c.take.new.out)) inv.refusals (err.halts.rose (ap Err f)))
     (subst (λ (z : Telling × List ℕ). SentPrefix sb sa (z.0.told false z.1)) (λ i. (inv.same i, sym (limited taken buf count left below len) i)) (err.halted taken sb d.tells)))
 
 pub returns-then-count-left-clause-untold : goal.returns-then-count-left-clause-untold
@@ -87,8 +77,8 @@ returns-in_err-take-in-Bytes-2-clause-untold g c =
     let more = read_length taken buf count read.within.1 in
     rw (e.1, e.2) (untold_within t _ (g.S.Source.left c.args.main.now) (g.S.Source.left c.read_on.new.source) sb sa (taken ++ take count buf) halt
     (took_more taken (take count buf) (g.S.Source.left c.args.main.now) (g.S.Source.left c.loop-count.main) (g.S.Source.left c.read_on.new.source) took read.bytes)
-    (omega (arith, more, len, test)) err.error
-    (λ f. subst (λ n. Rose n (g.K.Sink.faults c.take-in-Bytes.new.out)) inv.refusals (err.rose (ap Err f)))
+    (omega (arith, more, len, test)) err.halts.error
+    (λ f. subst (λ n. Rose n (g.K.Sink.faults c.take-in-Bytes.new.out)) inv.refusals (err.halts.rose (ap Err f)))
     (subst (λ (z : Telling). SentPrefix sb sa (z.told false (taken ++ take count buf))) inv.same (err.halted taken sb d.tells)))
 
 pub take-requires-in-Bytes-clause-room : goal.take-requires-in-Bytes-clause-room
@@ -120,7 +110,7 @@ loop-count-preserved g c =
       );
       faults = read.sound (λ e. cc) ∙ inv.faults;
       idles = omega (arith, read.idles, inv.idles);
-      refusals = after.sound (λ e. cc) ∙ inv.refusals;
+      refusals = after.halts.sound (λ e. cc) ∙ inv.refusals;
     }
 
 pub returns-in-Idle-clause-untold : goal.returns-in-Idle-clause-untold
@@ -142,8 +132,8 @@ returns-in-End-clause-untold g c =
     (took_none taken (g.S.Source.left c.args.main.now) (g.S.Source.left c.loop-count.main) (g.S.Source.left c.read_on.new.source) took read.bytes)
     (read.ended refl) (omega (arith, len))
     (subst (λ (z : Telling). OnOk c.finish.result (sa ≡ append_known sb (z.told true taken ++ z.closing taken))) inv.same (done.done taken sb d.tells))
-    (subst (λ (z : Telling). IfErr c.finish.result (λ halt. SentPrefix sb sa (z.told true taken ++ z.closing taken))) inv.same (done.halted taken sb d.tells)) done.error
-    (λ e. subst (λ n. Rose n (g.K.Sink.faults c.finish.new.out)) inv.refusals (done.rose e))
+    (subst (λ (z : Telling). IfErr c.finish.result (λ halt. SentPrefix sb sa (z.told true taken ++ z.closing taken))) inv.same (done.halted taken sb d.tells)) done.halts.error
+    (λ e. subst (λ n. Rose n (g.K.Sink.faults c.finish.new.out)) inv.refusals (done.halts.rose e))
 
 pub returns-in-Failed-clause-untold : goal.returns-in-Failed-clause-untold
 returns-in-Failed-clause-untold g c =
@@ -161,18 +151,18 @@ finish-requires g c = omega (arith, c.loop-count.invariant.load)
 pub returns-in_err-take-in-Bytes-clause-sound : goal.returns-in_err-take-in-Bytes-clause-sound
 returns-in_err-take-in-Bytes-clause-sound g c =
     let e = err_from_is_err_and c.from_residual.result c.from_residual.ensures.1 in
-    rw (e.1, e.2) (λ other. c.in_err-take-in-Bytes.ensures.sound other ∙ c.loop-count.invariant.refusals)
+    rw (e.1, e.2) (λ other. c.in_err-take-in-Bytes.ensures.halts.sound other ∙ c.loop-count.invariant.refusals)
 
 pub returns-in_err-take-in-Bytes-2-clause-sound : goal.returns-in_err-take-in-Bytes-2-clause-sound
 returns-in_err-take-in-Bytes-2-clause-sound g c =
     let e = err_from_is_err_and c.from_residual-in_err-take-in-Bytes-2.result c.from_residual-in_err-take-in-Bytes-2.ensures.1 in
-    rw (e.1, e.2) (λ other. c.in_err-take-in-Bytes-2.ensures.sound other ∙ c.loop-count.invariant.refusals)
+    rw (e.1, e.2) (λ other. c.in_err-take-in-Bytes-2.ensures.halts.sound other ∙ c.loop-count.invariant.refusals)
 
 pub returns-then-count-left-clause-sound : goal.returns-then-count-left-clause-sound
-returns-then-count-left-clause-sound g c = λ other. c.in_ok-take-in-Bytes.ensures.sound (λ e. cc) ∙ c.loop-count.invariant.refusals
+returns-then-count-left-clause-sound g c = λ other. c.in_ok-take-in-Bytes.ensures.halts.sound (λ e. cc) ∙ c.loop-count.invariant.refusals
 
 pub returns-in-End-clause-sound : goal.returns-in-End-clause-sound
-returns-in-End-clause-sound g c = λ other. c.finish.ensures.sound other ∙ c.loop-count.invariant.refusals
+returns-in-End-clause-sound g c = λ other. c.finish.ensures.halts.sound other ∙ c.loop-count.invariant.refusals
 
 pub returns-in-Idle-clause-sound : goal.returns-in-Idle-clause-sound
 returns-in-Idle-clause-sound g c = λ other. c.loop-count.invariant.refusals

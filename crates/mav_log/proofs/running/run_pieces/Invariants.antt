@@ -1,6 +1,7 @@
 use Rattle.std.proofs.Common.{◌≡◌, ◌<◌, ◌≤◌, ◌+◌, ◌*◌, [], ℕ, List, length, false}
 use Rattle.std.specs.Io.KnownBytes.{prepend_known}
-use Rattle.mav_log.specs.Tellings.{ToldAll, most_input_bytes}
+use Rattle.decode_command.specs.Tellings.{most_input_bytes}
+use Rattle.mav_log.specs.Tellings.{ToldAll}
 use Rattle.mav_log.proofs.running.run_pieces.Given as goal
 
 abbrev pub invariant-loop-count : goal.invariant-loop-count

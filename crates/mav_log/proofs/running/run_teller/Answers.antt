@@ -1,7 +1,7 @@
 use Rattle.std.proofs.Common.{refl}
 use Rattle.std.proofs.lemmas.Result.{err_from_is_err_and}
 use Rattle.run_status.proofs.RunsBeforeStatus.{before_status_nothing}
-use Rattle.mav_log.specs.Tellings.{telling_spec}
+use Rattle.decode_command.specs.Tellings.{telling_spec}
 use Rattle.mav_log.proofs.running.run_teller.Goals as goal
 
 pub returns-in_err-text-clause-untold : goal.returns-in_err-text-clause-untold

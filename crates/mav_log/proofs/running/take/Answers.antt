@@ -1,7 +1,10 @@
-use Rattle.std.proofs.Common.{ℕ, List, ◌++◌, false, ap, ◌∙◌, subst}
+use Rattle.std.proofs.Common.{ℕ, List, ◌++◌, false, refl, ap, ◌∙◌, subst}
+use Rattle.std.proofs.lemmas.Result.{err_from_is_err_and}
 use Rattle.mav_ports.specs.Puts.{SentPrefix}
-use Rattle.mav_log.specs.Tellings.{Telling}
-use Rattle.mav_log.proofs.Telling.{tells_written, on_ok, if_err}
+use Rattle.decode_command.proofs.Halts.{halts_there, halts_written}
+use Rattle.decode_command.specs.Tellings.{Telling}
+use Rattle.decode_command.proofs.Results.{on_ok, if_err}
+use Rattle.mav_log.proofs.Telling.{tells_written}
 use Rattle.mav_log.proofs.running.take.Goals as goal
 
 pub returns-clause-told : goal.returns-clause-told
@@ -20,3 +23,12 @@ returns-clause-halted g c = λ taken before h.
     if_err c.write_held.result
     (subst (λ (text : List ℕ). SentPrefix before (g.K.Sink.sent c.write_held.new.out) text) (all.all ∙ ap (λ (t : Telling). t.told false bytes) c.feed.ensures.same)
     (c.write_held.ensures.front before all.tells.told all.tells.sent))
+
+pub returns-in_err-tell_all-clause-halts : goal.returns-in_err-tell_all-clause-halts
+returns-in_err-tell_all-clause-halts g c =
+    let e = err_from_is_err_and c.from_residual.result c.from_residual.ensures.1 in
+    rw (e.1, e.2) (halts_there _ _ _ _ refl c.in_err-tell_all.ensures.halts)
+
+pub returns-clause-halts : goal.returns-clause-halts
+returns-clause-halts g c =
+    let wrote = c.write_held.ensures in halts_written c.write_held.result _ _ _ (c.in_ok-tell_all.ensures.halts.sound (λ e. cc)) wrote.error wrote.rose wrote.sound

@@ -1,5 +1,6 @@
-use Rattle.std.proofs.Common.{inl, inr, refl, ap, Err}
+use Rattle.std.proofs.Common.{refl, ap, Err}
 use Rattle.std.proofs.lemmas.Result.{err_from_is_err_and}
+use Rattle.decode_command.proofs.Halts.{halts_never, halts_unfed, halts_refused}
 use Rattle.mav_log.proofs.Telling.{tells_more, tells_written, tells_cut, tells_front}
 use Rattle.mav_log.proofs.running.tell_more.Goals as goal
 
@@ -29,15 +30,6 @@ returns-in_err-more-clause-halted g c =
     tells_front ended taken before (g.T.Teller.telling teller) (g.T.Teller.telling teller) (g.T.Teller.has_told teller) c.args.text.now.items (g.K.Sink.sent c.args.out.now) refl
     (λ told has. g.met.T.Teller.leads teller ended taken told has) h)
 
-pub returns-in_err-more-clause-error : goal.returns-in_err-more-clause-error
-returns-in_err-more-clause-error g c = let e = err_from_is_err_and c.from_residual.result c.from_residual.ensures.1 in rw (e.1, e.2) (inr refl)
-
-pub returns-in_err-more-clause-rose : goal.returns-in_err-more-clause-rose
-returns-in_err-more-clause-rose g c = let e = err_from_is_err_and c.from_residual.result c.from_residual.ensures.1 in rw (e.1, e.2) (λ never. absurd (cc never))
-
-pub returns-in_err-more-clause-sound : goal.returns-in_err-more-clause-sound
-returns-in_err-more-clause-sound g c = λ other. refl
-
 pub returns-in_err-write_enough-clause-same : goal.returns-in_err-write_enough-clause-same
 returns-in_err-write_enough-clause-same g c = c.in_ok-more.ensures.same
 
@@ -66,15 +58,6 @@ returns-in_err-write_enough-clause-halted g c =
     (tells_more ended taken before (g.T.Teller.has_told c.args.teller.now) (g.T.Teller.has_told teller) c.args.text.now.items c.tell.new.text.items now h (c.in_ok-more.ensures.told ended taken h.told h.has))
     c.in_err-write_enough.ensures.front)
 
-pub returns-in_err-write_enough-clause-error : goal.returns-in_err-write_enough-clause-error
-returns-in_err-write_enough-clause-error g c = let e = err_from_is_err_and c.from_residual-in_err-write_enough.result c.from_residual-in_err-write_enough.ensures.1 in rw (e.1, e.2) (inl c.in_err-write_enough.ensures.error)
-
-pub returns-in_err-write_enough-clause-rose : goal.returns-in_err-write_enough-clause-rose
-returns-in_err-write_enough-clause-rose g c = let e = err_from_is_err_and c.from_residual-in_err-write_enough.result c.from_residual-in_err-write_enough.ensures.1 in rw (e.1, e.2) (λ is. c.in_err-write_enough.ensures.rose (ap Err c.in_err-write_enough.ensures.error))
-
-pub returns-in_err-write_enough-clause-sound : goal.returns-in_err-write_enough-clause-sound
-returns-in_err-write_enough-clause-sound g c = let e = err_from_is_err_and c.from_residual-in_err-write_enough.result c.from_residual-in_err-write_enough.ensures.1 in rw (e.1, e.2) (λ other. absurd (other (ap Err c.in_err-write_enough.ensures.error)))
-
 pub returns-clause-same : goal.returns-clause-same
 returns-clause-same g c = c.in_ok-more.ensures.same
 
@@ -100,11 +83,14 @@ returns-clause-all g c = λ ended taken told has. c.in_ok-more.ensures.all ended
 pub returns-clause-halted : goal.returns-clause-halted
 returns-clause-halted g c = λ ended taken before h. tt
 
-pub returns-clause-error : goal.returns-clause-error
-returns-clause-error g c = tt
+pub returns-in_err-more-clause-halts : goal.returns-in_err-more-clause-halts
+returns-in_err-more-clause-halts g c = let e = err_from_is_err_and c.from_residual.result c.from_residual.ensures.1 in rw (e.1, e.2) (halts_unfed _ _ refl)
 
-pub returns-clause-rose : goal.returns-clause-rose
-returns-clause-rose g c = λ never. absurd (cc never)
+pub returns-in_err-write_enough-clause-halts : goal.returns-in_err-write_enough-clause-halts
+returns-in_err-write_enough-clause-halts g c =
+    let e = err_from_is_err_and c.from_residual-in_err-write_enough.result c.from_residual-in_err-write_enough.ensures.1 in
+    let wrote = c.in_err-write_enough.ensures in
+    rw (e.1, e.2) (halts_refused _ _ _ wrote.error (wrote.rose (ap Err wrote.error)))
 
-pub returns-clause-sound : goal.returns-clause-sound
-returns-clause-sound g c = λ other. c.in_ok-write_enough.ensures.sound
+pub returns-clause-halts : goal.returns-clause-halts
+returns-clause-halts g c = halts_never _ _ _ c.in_ok-write_enough.ensures.sound

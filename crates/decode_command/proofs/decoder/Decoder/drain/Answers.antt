@@ -1,9 +1,9 @@
-use Rattle.std.proofs.Common.{◌≡◌, length, drop, refl, ap, ◌∙◌, arith, length-drop, subst}
-use Rattle.mav_ports.specs.Counts.{Rose}
+use Rattle.std.proofs.Common.{◌≡◌, length, drop, refl, ap, ◌∙◌, arith, length-drop}
 use Rattle.std.proofs.lemmas.Result.{err_from_is_err_and}
 use Rattle.mav_stream.specs.Held.{Held}
 use Rattle.mav_stream.specs.Spans.{span_events, span_size}
 use Rattle.decode_command.specs.DecodeText.{bytes_in}
+use Rattle.decode_command.proofs.Halts.{halts_never, halts_there}
 use Rattle.decode_command.proofs.Steps.{drained_at_need}
 use Rattle.decode_command.proofs.Passes.{span_bytes}
 use Rattle.decode_command.proofs.decoder.Decoder.drain.Goals as goal
@@ -24,7 +24,7 @@ loop-span-preserved g c =
       sum = omega (arith, done.offset, left, size, seen.within, length-drop (span_size c.next_span.result) old.reader.bytes, inv.sum);
       ended = passed.ended ∙ inv.ended;
       decoding = λ known taken before d. done.decoding known taken before old.reader (inv.decoding known taken before d) (λ given p. seen.progress _ _ taken given p);
-      refusals = passed.sound (λ e. cc) ∙ inv.refusals;
+      refusals = passed.halts.sound (λ e. cc) ∙ inv.refusals;
     }
 
 pub returns-in_err-pass-in_default-clause-halted : goal.returns-in_err-pass-in_default-clause-halted
@@ -35,21 +35,6 @@ returns-in_err-pass-in_default-clause-halted g c =
       passed.halted known taken before (c.loop-span.invariant.decoding known taken before d) (λ given p. c.next_span.ensures.progress _ _ taken given p),
       passed.ended ∙ c.loop-span.invariant.ended,
     ))
-
-pub returns-in_err-pass-in_default-clause-error : goal.returns-in_err-pass-in_default-clause-error
-returns-in_err-pass-in_default-clause-error g c =
-    let e = err_from_is_err_and c.from_residual.result c.from_residual.ensures.1 in
-    rw (e.1, e.2) c.in_err-pass-in_default.ensures.error
-
-pub returns-in_err-pass-in_default-clause-rose : goal.returns-in_err-pass-in_default-clause-rose
-returns-in_err-pass-in_default-clause-rose g c =
-    let e = err_from_is_err_and c.from_residual.result c.from_residual.ensures.1 in
-    rw (e.1, e.2) (λ refused. subst (λ n. Rose n (g.K.Sink.faults c.pass.new.out)) c.loop-span.invariant.refusals (c.in_err-pass-in_default.ensures.rose refused))
-
-pub returns-in_err-pass-in_default-clause-sound : goal.returns-in_err-pass-in_default-clause-sound
-returns-in_err-pass-in_default-clause-sound g c =
-    let e = err_from_is_err_and c.from_residual.result c.from_residual.ensures.1 in
-    rw (e.1, e.2) (λ other. c.in_err-pass-in_default.ensures.sound other ∙ c.loop-span.invariant.refusals)
 
 pub returns-in_err-pass-in_default-clause-within : goal.returns-in_err-pass-in_default-clause-within
 returns-in_err-pass-in_default-clause-within g c = rw (err_from_is_err_and c.from_residual.result c.from_residual.ensures.1).1 tt
@@ -65,3 +50,11 @@ returns-in_err-pass-in_default-clause-ended g c = rw (err_from_is_err_and c.from
 
 pub returns-in_err-pass-in_default-clause-drained : goal.returns-in_err-pass-in_default-clause-drained
 returns-in_err-pass-in_default-clause-drained g c = λ known taken before d. rw (err_from_is_err_and c.from_residual.result c.from_residual.ensures.1).1 tt
+
+pub returns-in_err-pass-in_default-clause-halts : goal.returns-in_err-pass-in_default-clause-halts
+returns-in_err-pass-in_default-clause-halts g c =
+    let e = err_from_is_err_and c.from_residual.result c.from_residual.ensures.1 in
+    rw (e.1, e.2) (halts_there _ _ _ _ c.loop-span.invariant.refusals c.in_err-pass-in_default.ensures.halts)
+
+pub returns-in-Need-clause-halts : goal.returns-in-Need-clause-halts
+returns-in-Need-clause-halts g c = halts_never _ _ _ c.loop-span.invariant.refusals

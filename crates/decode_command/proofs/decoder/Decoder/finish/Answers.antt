@@ -1,8 +1,9 @@
-use Rattle.std.proofs.Common.{◌∙◌, ap}
+use Rattle.std.proofs.Common.{refl, ◌∙◌, ap}
 use Rattle.std.proofs.lemmas.Result.{err_from_is_err_and}
 use Rattle.mav_stream.specs.Held.{Held}
 use Rattle.decode_command.proofs.Results.{on_ok_both, if_err}
 use Rattle.decode_command.proofs.Fronts.{halted_unfinished}
+use Rattle.decode_command.proofs.Halts.{halts_unfed, halts_there, halts_written}
 use Rattle.decode_command.proofs.Pieces.{decoding_fed, uncounted, finished, unfinished}
 use Rattle.decode_command.proofs.decoder.Decoder.finish.Goals as goal
 
@@ -44,3 +45,17 @@ returns-in_err-drain-clause-done g c = λ known taken before d. rw (err_from_is_
 
 pub returns-in_err-put_counts-clause-done : goal.returns-in_err-put_counts-clause-done
 returns-in_err-put_counts-clause-done g c = λ known taken before d. rw (err_from_is_err_and c.from_residual-in_err-put_counts.result c.from_residual-in_err-put_counts.ensures.1).1 tt
+
+pub returns-in_err-drain-clause-halts : goal.returns-in_err-drain-clause-halts
+returns-in_err-drain-clause-halts g c =
+    let e = err_from_is_err_and c.from_residual.result c.from_residual.ensures.1 in
+    rw (e.1, e.2) (halts_there _ _ _ _ refl c.in_err-drain.ensures.halts)
+
+pub returns-in_err-put_counts-clause-halts : goal.returns-in_err-put_counts-clause-halts
+returns-in_err-put_counts-clause-halts g c =
+    let e = err_from_is_err_and c.from_residual-in_err-put_counts.result c.from_residual-in_err-put_counts.ensures.1 in
+    rw (e.1, e.2) (halts_unfed _ _ (c.in_ok-drain.ensures.halts.sound (λ e. cc)))
+
+pub returns-clause-halts : goal.returns-clause-halts
+returns-clause-halts g c =
+    let wrote = c.write_held.ensures in halts_written c.write_held.result _ _ _ (c.in_ok-drain.ensures.halts.sound (λ e. cc)) wrote.error wrote.rose wrote.sound

@@ -1,8 +1,8 @@
-use Rattle.std.proofs.Common.{◌≡◌, ◌≤◌, ◌+◌, ◌-◌, ℕ, length, take, drop, refl, ap, ◌∙◌, arith, length-take, length-append, subst}
-use Rattle.mav_ports.specs.Counts.{Rose}
+use Rattle.std.proofs.Common.{◌≡◌, ◌≤◌, ◌+◌, ◌-◌, ℕ, length, take, drop, refl, ap, ◌∙◌, arith, length-take, length-append}
 use Rattle.std.proofs.lemmas.Result.{err_from_is_err_and}
 use Rattle.mav_stream.specs.Held.{Held}
 use Rattle.decode_command.proofs.Results.{on_ok, if_err}
+use Rattle.decode_command.proofs.Halts.{halts_there, halts_written}
 use Rattle.decode_command.proofs.Pieces.{part_fed, piece_halted, piece_whole, drained_written, drained_front}
 use Rattle.decode_command.proofs.decoder.Decoder.take.Goals as goal
 
@@ -25,7 +25,7 @@ loop-place-preserved g c =
       drained = λ known taken before d.
           after.drained known _ before
           (part_fed known taken piece place n l.self c.feed-place.new.self before (g.K.Sink.sent l.out) short (inv.drained known taken before d) (λ given p. c.feed-place.ensures.progress _ _ _ given inv.still p));
-      refusals = after.sound (λ e. cc) ∙ inv.refusals;
+      refusals = after.halts.sound (λ e. cc) ∙ inv.refusals;
     }
 
 pub returns-in_err-drain-clause-halted : goal.returns-in_err-drain-clause-halted
@@ -56,25 +56,6 @@ returns-clause-halted g c = λ known taken before d.
     (drained_front known _ l.self before (g.K.Sink.sent l.out) (g.K.Sink.sent c.write_held.new.out) l.invariant.still
     (piece_whole known taken c.args.piece.now l.place l.self before (g.K.Sink.sent l.out) c.loop-place-test.false (l.invariant.drained known taken before d)) c.write_held.ensures.front)
 
-pub returns-in_err-drain-clause-error : goal.returns-in_err-drain-clause-error
-returns-in_err-drain-clause-error g c =
-    let e = err_from_is_err_and c.from_residual.result c.from_residual.ensures.1 in
-    rw (e.1, e.2) c.in_err-drain.ensures.error
-
-pub returns-in_err-drain-clause-rose : goal.returns-in_err-drain-clause-rose
-returns-in_err-drain-clause-rose g c =
-    let e = err_from_is_err_and c.from_residual.result c.from_residual.ensures.1 in
-    rw (e.1, e.2) (λ refused. subst (λ n. Rose n (g.K.Sink.faults c.drain.new.out)) c.loop-place.invariant.refusals (c.in_err-drain.ensures.rose refused))
-
-pub returns-in_err-drain-clause-sound : goal.returns-in_err-drain-clause-sound
-returns-in_err-drain-clause-sound g c =
-    let e = err_from_is_err_and c.from_residual.result c.from_residual.ensures.1 in
-    rw (e.1, e.2) (λ other. c.in_err-drain.ensures.sound other ∙ c.loop-place.invariant.refusals)
-
-pub returns-clause-rose : goal.returns-clause-rose
-returns-clause-rose g c = λ refused.
-    subst (λ n. Rose n (g.K.Sink.faults c.write_held.new.out)) c.loop-place.invariant.refusals (c.write_held.ensures.rose refused)
-
 pub returns-in_err-drain-clause-within : goal.returns-in_err-drain-clause-within
 returns-in_err-drain-clause-within g c = rw (err_from_is_err_and c.from_residual.result c.from_residual.ensures.1).1 tt
 
@@ -92,3 +73,12 @@ returns-in_err-drain-clause-empty g c = rw (err_from_is_err_and c.from_residual.
 
 pub returns-in_err-drain-clause-drained : goal.returns-in_err-drain-clause-drained
 returns-in_err-drain-clause-drained g c = λ known taken before d. rw (err_from_is_err_and c.from_residual.result c.from_residual.ensures.1).1 tt
+
+pub returns-in_err-drain-clause-halts : goal.returns-in_err-drain-clause-halts
+returns-in_err-drain-clause-halts g c =
+    let e = err_from_is_err_and c.from_residual.result c.from_residual.ensures.1 in
+    rw (e.1, e.2) (halts_there _ _ _ _ c.loop-place.invariant.refusals c.in_err-drain.ensures.halts)
+
+pub returns-clause-halts : goal.returns-clause-halts
+returns-clause-halts g c =
+    let wrote = c.write_held.ensures in halts_written c.write_held.result _ _ _ c.loop-place.invariant.refusals wrote.error wrote.rose wrote.sound
