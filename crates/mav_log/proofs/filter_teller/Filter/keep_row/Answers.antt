@@ -1,5 +1,6 @@
 use Rattle.std.proofs.Common.{◌∙◌, refl, ap}
 use Rattle.std.proofs.lemmas.Result.{err_from_is_err_and}
+use Rattle.mav_log.specs.Tellers.{Filtering}
 use Rattle.mav_log.proofs.RowBytes.{row_kept, row_left, row_gone}
 use Rattle.mav_log.proofs.filter_teller.Filter.keep_row.Goals.{then-system_of-self+in_ok-extend_from_slice, else-system_of-self}
 use Rattle.mav_log.proofs.filter_teller.Filter.keep_row.Goals as goal
@@ -25,7 +26,13 @@ returns-clause-text c = elim c.if-system_of-self.branch [
 
 pub returns-clause-kept : goal.returns-clause-kept
 returns-clause-kept c =
-    row_gone c.args.self.now (record { known = c.self.inside.known; sys = c.self.inside.sys; reader = c.self.inside.reader }) c.args.size c.consume.new.self c.self.view_is c.consume.ensures
+    let at = c.if-system_of-self.self-inside in
+    row_gone c.args.self.now (record { known = at.known; sys = at.sys; reader = at.reader }) c.args.size c.consume.new.self
+    (elim c.if-system_of-self.branch [
+      | then-system_of-self+in_ok-extend_from_slice w ↦ ap (λ f. let v : Filtering = record { known = f.known; sys = f.sys; reader = f.reader } in v) w.self-inside-is ∙ c.self.view_is
+      | else-system_of-self w ↦ ap (λ f. let v : Filtering = record { known = f.known; sys = f.sys; reader = f.reader } in v) w.self-inside-is ∙ c.self.view_is
+    ])
+    c.consume.ensures
 
 pub returns-clause-unkept : goal.returns-clause-unkept
 returns-clause-unkept c = tt
