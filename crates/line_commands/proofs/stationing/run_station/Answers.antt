@@ -30,5 +30,5 @@ returns-clause-stationed g c =
       c.in_ok-key.ensures.holds,
       after_file _ _ _ _ _ _ _ _ (sort_said (asked_by c.args.line.now) _ _ c.args.task c.requires.says) c.in_ok-contents.ensures.are
           (stationed_at _ _ (asked_by c.args.line.now) c.args.ports.now.items c.index_mut.result.now run.new.link c.args.keepers.now.items _ _ _ _ _ _ (record { sys = c.args.line.now.system; comp = c.args.task.component; ticks = c.ticks.result; turns = 1000000 }) c.args.task c.order_of-order.result c.args.line.now.system c.args.line.now.ports.items c.requires.link c.index_mut.ensures.value
-          c.requires.says refl c.ticks.ensures.asked refl c.order_of-order.ensures run.ensures.runs (station_why run.result run.ensures.end) run.ensures.faults),
+          c.requires.says refl c.ticks.ensures.asked refl (rw c.drone_stream.ensures at c.order_of-order.ensures) run.ensures.runs (station_why run.result run.ensures.end) run.ensures.faults),
     )
