@@ -182,7 +182,7 @@ abbrev pub Goes : (Step → Type 0) → Result Step StepError → Type 0
 Goes P (Ok t) = P t
 Goes P (Err error) = ⊥
 
-goes_behind : (P : Step → Type 0) (events : List Event) (r : Result Step StepError) → Goes (λ t. P (step_behind events t)) r → Goes P (world.behind events r)
+goes_behind : (P : Step → Type 0) (events : List Event) (r : Result Step StepError) → Goes (λ t. P (step_behind events t)) r → Goes P (world.after_events events r)
 goes_behind P events (Ok t) h = h
 goes_behind P events (Err error) h = h
 

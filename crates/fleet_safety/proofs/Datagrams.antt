@@ -70,17 +70,17 @@ node_hears_all clock (p ∷ ps) a = links.and_then (node_hears clock p a) (node_
 
 drone_then : (o : Outcome DroneSide) (next : DroneSide → Outcome DroneSide) (after : Node → Outcome Node) → ((b : DroneSide) → as_drone (next b) ≡ after (Drone b)) → as_drone (links.and_then o next) ≡ links.and_then (as_drone o) after
 drone_then None next after same = refl
-drone_then (Some d) next after same = behind_is (next d.node) ∙ ap (links.behind d.events) (same d.node)
+drone_then (Some d) next after same = behind_is (next d.node) ∙ ap (links.after_events d.events) (same d.node)
   where
-    behind_is : (o : Outcome DroneSide) → as_drone (links.behind d.events o) ≡ links.behind d.events (as_drone o)
+    behind_is : (o : Outcome DroneSide) → as_drone (links.after_events d.events o) ≡ links.after_events d.events (as_drone o)
     behind_is None = refl
     behind_is (Some e) = refl
 
 station_then : (o : Outcome StationSide) (next : StationSide → Outcome StationSide) (after : Node → Outcome Node) → ((b : StationSide) → as_station (next b) ≡ after (Station b)) → as_station (links.and_then o next) ≡ links.and_then (as_station o) after
 station_then None next after same = refl
-station_then (Some d) next after same = behind_is (next d.node) ∙ ap (links.behind d.events) (same d.node)
+station_then (Some d) next after same = behind_is (next d.node) ∙ ap (links.after_events d.events) (same d.node)
   where
-    behind_is : (o : Outcome StationSide) → as_station (links.behind d.events o) ≡ links.behind d.events (as_station o)
+    behind_is : (o : Outcome StationSide) → as_station (links.after_events d.events o) ≡ links.after_events d.events (as_station o)
     behind_is None = refl
     behind_is (Some e) = refl
 
@@ -161,7 +161,7 @@ module _ (number : ℕ) (n : Nodes) (distinct : Distinct n) (k : ℕ) where
   then_hear s w a p None next after l m = tt
   then_hear s w a p (Some d) next after l m = behind_hears (after d.node) refl
     where
-      behind_hears : (o : Outcome Node) → after d.node ≡ o → HearsAll n s w k a (hears_then number s k a p (Some d) next) (links.behind d.events o)
+      behind_hears : (o : Outcome Node) → after d.node ≡ o → HearsAll n s w k a (hears_then number s k a p (Some d) next) (links.after_events d.events o)
       behind_hears None is = tt
       behind_hears (Some e) is = λ reads.
           let first : Led n s.clock s.nodes s.sent w k a d (heard s.clock s.sent a p d.events) [] = l (read_first d.events e.events reads) in
