@@ -76,12 +76,11 @@ impl Model for Link {
 }
 
 // The CRC_EXTRA bytes of the profile.
-fn profile_extras(alloc: Global) -> Result<Extras, NoMemory>
-    ensures same { IfOk result (λ extras. extras ≡ extras_of profile_definitions) }
-    ensures profile { IfOk result (λ extras. HasProfile extras) }
+fn profile_extras() -> Extras
+    ensures same { result ≡ extras_of profile_definitions }
+    ensures profile { HasProfile result }
 {
-    let extras = mav_profile::profile_extras(alloc)?;
-    Ok(extras)
+    mav_profile::profile_extras()
 }
 
 // The plan message of a message that a payload represents.
@@ -168,7 +167,7 @@ impl Link {
         ensures new { IfOk result (λ link. IsLink (new_link key me (extras_of profile_definitions)) link) }
         ensures stream { IfOk result (λ link. HasRead [] [] link) }
     {
-        let endpoint = Endpoint::new(alloc, key, me, profile_extras(alloc)?)?;
+        let endpoint = Endpoint::new(alloc, key, me, profile_extras())?;
         Ok(Link {
             alloc,
             endpoint,
@@ -182,7 +181,7 @@ impl Link {
         ensures started { IfOk result (λ link. IsLink (started_link key me (extras_of profile_definitions) (Some low)) link) }
         ensures stream { IfOk result (λ link. HasRead [] [] link) }
     {
-        let endpoint = Endpoint::start(alloc, key, me, profile_extras(alloc)?, low)?;
+        let endpoint = Endpoint::start(alloc, key, me, profile_extras(), low)?;
         Ok(Link {
             alloc,
             endpoint,

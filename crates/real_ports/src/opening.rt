@@ -52,10 +52,7 @@ fn files_link(rt: &HostRuntime, files: &Files) -> Result<RealLink, NoMemory>
     let link = two_files(rt, files)?;
     match files.kind {
         FilesKind::File => Ok(RealLink::Files(link)),
-        FilesKind::Replay => {
-            let extras = profile_extras(rt.alloc())?;
-            Ok(RealLink::Log(Replay::new(link, extras)))
-        }
+        FilesKind::Replay => Ok(RealLink::Log(Replay::new(link, profile_extras()))),
     }
 }
 

@@ -1,5 +1,5 @@
 -- A run of the router and what is written of it are a run of `route`.
-use Rattle.std.proofs.Common.{◌≡◌, inl, inr, ℕ, List, length, refl, sym, subst, append-nil, Option, Some, Bool, true, false, Result, Ok, Err, IfErr}
+use Rattle.std.proofs.Common.{◌≡◌, inl, inr, ℕ, List, length, refl, sym, subst, append-nil, Option, Some, Bool, true, false, if◌then◌else◌}
 use Rattle.mav_links.specs.Links.{LinkState}
 use Rattle.mav_ports.proofs.Known.{append_known_nil}
 use Rattle.mav_router.specs.declared.entries.Entry.{Entry}
@@ -38,15 +38,30 @@ module _ {A : Type 0} (state : A → LinkState) (rules : Rules) (one : Bool) (mo
       })
 
 -- a run on one thread that stopped, by a plan that may be for threads
-pub stopped_as : {A : Type 0} (one : Bool) (state : A → LinkState) (rules : Rules) (before after : List A) (why : SwitchFault) (journal : List Entry) → HasStopped true state rules before after why journal → HasStopped one state rules before after why journal
+stopped_as : {A : Type 0} (one : Bool) (state : A → LinkState) (rules : Rules) (before after : List A) (why : SwitchFault) (journal : List Entry) → HasStopped true state rules before after why journal → HasStopped one state rules before after why journal
 stopped_as one state rules before after why journal s = record { legal = s.legal; stopped = stops_as one state rules why journal before after s.stopped }
+
+-- what holds of a run by a router that starts no thread, or else by its plan, holds by its plan
+pub by_plan : {A : Type 0} (alone one : Bool) (state : A → LinkState) (rules : Rules) (most : ℕ) (before after : List A) (end : Option RunEnd) (rb ra : ℕ) (sb sa : Option (List ℕ))
+    → RoutesBeforeStatus (ports_of state rules (if alone then true else one) most before after) end rb ra sb sa
+    → RoutesBeforeStatus (ports_of state rules one most before after) end rb ra sb sa
+by_plan false one state rules most before after end rb ra sb sa r = r
+by_plan true one state rules most before after end rb ra sb sa (inl r) =
+    inl (record {
+      journal = r.journal;
+      ends = r.ends;
+      routed = record { links = r.routed.links; run = r.routed.run };
+      wrote = r.wrote;
+    })
+by_plan true one state rules most before after end rb ra sb sa (inr s) =
+    inr (record {
+      journal = s.journal;
+      why = s.why;
+      halted = record { links = s.halted.links; run = stopped_as one state rules before after s.why s.journal s.halted.run };
+      wrote = s.wrote;
+    })
 
 -- either way there may be a frame at each port
 pub as_halted : {A : Type 0} (one : Bool) (state : A → LinkState) (rules : Rules) (why : SwitchFault) (journal : List Entry) (before after : List A) → StopsBy one state rules why journal before after → RouteHalted state rules why journal before after
 as_halted true state rules why journal before after s = halted state rules why journal before after s
 as_halted false state rules why journal before after s = s
-
--- what holds of a fault holds of another fact of it
-pub if_err : {A E : Type 0} {P Q : E → Type 0} (r : Result A E) → ((e : E) → P e → Q e) → IfErr r P → IfErr r Q
-if_err (Ok a) f p = p
-if_err (Err e) f p = f e p

@@ -1,5 +1,5 @@
 // The command `route`.
-ghost use Rattle.std.specs.Prelude.{◌≡◌, ◌≤◌, length, IsErrOf, None};
+ghost use Rattle.std.specs.Prelude.{◌≡◌, ◌≤◌, length, IsErrOf, None, true, if◌then◌else◌};
 ghost use Rattle.std.specs.Result.{result_err};
 ghost use Rattle.route_command.specs.Texts.{route_text};
 ghost use Rattle.mav_router.specs.Journal.{rules_of};
@@ -73,7 +73,7 @@ pub fn route<T: Router, K: Sink>(
     requires ready { T.ready }
     requires can { CanRoute (length ports.old.items) plan.turns }
     ensures routes { RoutesBeforeStatus (ports_of state
-        (rules_of key.now known.now plan.plain (length ports.old.items)) plan.one plan.turns ports.old.items ports.new.items)
+        (rules_of key.now known.now plan.plain (length ports.old.items)) (if T.alone then true else plan.one) plan.turns ports.old.items ports.new.items)
         (result_err result) (K.faults out.old) (K.faults out.new) (K.sent out.old) (K.sent out.new) }
     ensures sound { ¬ IsErrOf result RunEnd.WriteFault → K.faults out.new ≡ K.faults out.old }
 {

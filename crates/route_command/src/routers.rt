@@ -1,5 +1,5 @@
 // How a router runs: on the caller's thread alone, or with threads.
-ghost use Rattle.std.specs.Prelude.{◌≡◌, length, IfOk, IfErr};
+ghost use Rattle.std.specs.Prelude.{◌≡◌, length, IfOk, IfErr, Bool, true, if◌then◌else◌};
 ghost use Rattle.mav_router.specs.Journal.{rules_of};
 ghost use Rattle.mav_router.specs.Routed.{CanRoute, HasRouted, HasStopped};
 
@@ -15,6 +15,9 @@ pub trait Router {
     // What it needs of its handle.
     ghost ready: { Type 0 };
 
+    // Whether it starts no thread, whatever the plan says.
+    ghost alone: { Bool };
+
     /// Routes between the ports, and returns what came in and what became of each port. A run that stops gives back its
     /// journal so far.
     fn route_ports(
@@ -29,7 +32,7 @@ pub trait Router {
         requires can { CanRoute (length ports.old.items) plan.turns }
         ensures links { length ports.new.items ≡ length ports.old.items }
         ensures routed { IfOk result (λ end. HasRouted state (rules_of key.now known.now plan.plain (length ports.old.items)) plan.turns ports.old.items ports.new.items end.journal end.ports.items) }
-        ensures stopped { IfErr result (λ fault. HasStopped plan.one state (rules_of key.now known.now plan.plain (length ports.old.items)) ports.old.items ports.new.items fault.why fault.journal) };
+        ensures stopped { IfErr result (λ fault. HasStopped (if alone then true else plan.one) state (rules_of key.now known.now plan.plain (length ports.old.items)) ports.old.items ports.new.items fault.why fault.journal) };
 }
 
 /// On the caller's thread, whatever the plan says.
@@ -43,9 +46,10 @@ pub struct Threaded<'a, R: Threads + Wait + Sync> {
 }
 
 impl Router for Alone {
-    ghost use Rattle.std.specs.Prelude.{⊤};
+    ghost use Rattle.std.specs.Prelude.{⊤, true};
 
     ghost ready = { ⊤ };
+    ghost alone = { true };
 
     fn route_ports(
         &self,
@@ -61,8 +65,10 @@ impl Router for Alone {
 
 impl<'a, R: Threads + Wait + Sync> Router for Threaded<'a, R> {
     ghost use Rattle.std.specs.Thread.{IsSync};
+    ghost use Rattle.std.specs.Prelude.{false};
 
     ghost ready = { IsSync R.row };
+    ghost alone = { false };
 
     fn route_ports(
         &self,

@@ -5,6 +5,7 @@ use Rattle.dialect_command.specs.Spec.{definitions_spec}
 use Rattle.dialect_command.proofs.Endings.{untold_unread}
 use Rattle.command_line.specs.Lines.{asked_by}
 use Rattle.command_line.specs.PortTexts.{port_text}
+use Rattle.route_command.proofs.Runs.{by_plan}
 use Rattle.line_commands.specs.Routing.{open_ports}
 use Rattle.line_commands.proofs.Decoded.{after_definitions, at_definitions}
 use Rattle.line_commands.proofs.Routed.{unrouted, routed_as}
@@ -33,5 +34,6 @@ returns-clause-routed g c =
       c.in_ok-key.ensures.holds,
       after_definitions _ _ _ _ _ c.in_ok-known.known _ c.in_ok-known.ensures.is
           (routed_as _ c.in_ok-key.key c.in_ok-known.known _ c.args.ports.now.items c.route.new.ports.items _ _ _ _ _ _ _ _ _ _ _
-          (c.open_ports.ensures ∙ ap open_ports (ap (map port_text) c.deref.ensures.value ∙ c.requires.ports)) c.has.ensures c.turns.ensures.asked c.route.ensures.routes),
+          (c.open_ports.ensures ∙ ap open_ports (ap (map port_text) c.deref.ensures.value ∙ c.requires.ports)) c.has.ensures c.turns.ensures.asked
+          (by_plan g.T.Router.alone _ _ _ _ _ _ _ _ _ _ _ c.route.ensures.routes)),
     )
