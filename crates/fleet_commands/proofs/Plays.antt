@@ -9,7 +9,7 @@ use Rattle.fleet_world.specs.WorldState.{context_of}
 use Rattle.fleet_world.specs.Steps.{Step, StepError, after_line}
 use Rattle.fleet_world.specs.Scenario.{ScenarioError, Bad, Too_many_lines, Played, stopped, goes_on, judged, line_played, unless_stopped, lines_played, at_start, last_played, rest_played, played}
 use Rattle.scenario_lines.specs.FileLines.{most_lines, whole_lines, unfinished, without_cr}
-use Rattle.fleet_world.specs.Authentic.{line_read, line_done, AuthenticDone, UnlessStopped, AuthenticLines, AuthenticLast, Authentic}
+use Rattle.fleet_world.specs.Authentic.{line_read, line_done, AuthenticDone, UnlessStopped, HoldsOfLines, HoldsOfLast, Authentic}
 use Rattle.fleet_invariants.specs.Sound.{Sound}
 use Rattle.fleet_invariants.proofs.Lists.{nowhere}
 use Rattle.fleet_invariants.proofs.Tests.{by_test}
@@ -20,7 +20,7 @@ use Rattle.scenario_lines.specs.declared.lines.Line.{Line}
 use Rattle.fleet_invariants.proofs.Plays.{choosing, sound_start}
 use Rattle.fleet_world.specs.WorldState.{WorldState}
 use Rattle.mav_names.specs.declared.names.Name.{Name}
-use Rattle.fleet_commands.specs.Accepted.{accepted_by, BeginsLines, DoneBegins, LinesBegin, LastBegins, EveryLineBegins}
+use Rattle.fleet_commands.specs.Accepted.{accepted_by, BeginsLines, DoneBegins, EveryLineBegins}
 use Rattle.fleet_commands.proofs.Worlds.{Commanded, Stays}
 use Rattle.fleet_commands.proofs.Lines.{commanded_line}
 
@@ -58,7 +58,7 @@ halted : (o : Option ScenarioError) (p next : Played) (T : Type 0) → Holds p �
 halted None p next T g h each = each h
 halted (Some stop) p next T g h each = g
 
-holds_from : (lines : List (List ℕ)) (p : Played) → Holds p → (number : ℕ) → AuthenticLines p number lines → Holds (lines_played p number lines)
+holds_from : (lines : List (List ℕ)) (p : Played) → Holds p → (number : ℕ) → HoldsOfLines AuthenticDone p number lines → Holds (lines_played p number lines)
 holds_from [] p g number authentic = g
 holds_from (raw ∷ more) p g number authentic =
     halted p.stop p (lines_played (line_played p number raw) (number + 1) more) _ g authentic (λ h.
@@ -69,7 +69,7 @@ weaker : (o : Option ScenarioError) (T R : Type 0) → (T → R) → UnlessStopp
 weaker None T R f h = f h
 weaker (Some stop) T R f h = tt
 
-first_lines : (before after : List (List ℕ)) (p : Played) (number : ℕ) → AuthenticLines p number (before ++ after) → AuthenticLines p number before
+first_lines : (before after : List (List ℕ)) (p : Played) (number : ℕ) → HoldsOfLines AuthenticDone p number (before ++ after) → HoldsOfLines AuthenticDone p number before
 first_lines [] after p number h = tt
 first_lines (raw ∷ more) after p number h =
     weaker p.stop _ _ (λ k. (k.0, first_lines more after (line_played p number raw) (number + 1) k.1)) h
@@ -82,12 +82,12 @@ holds_start key = record {
   commanded = record { stations = λ k n e. absurd (nowhere k _ e); drones = λ k n e. absurd (nowhere k _ e) };
 }
 
-last_line : (p : Played) → Holds p → (number : ℕ) (rest : List ℕ) → p.stop ≡ None → AuthenticLast true p number rest → Holds (last_played p number rest)
+last_line : (p : Played) → Holds p → (number : ℕ) (rest : List ℕ) → p.stop ≡ None → HoldsOfLast AuthenticDone true p number rest → Holds (last_played p number rest)
 last_line p g number [] e authentic = g
 last_line p g number (b ∷ bs) e authentic =
     one_line p g number (b ∷ bs) (b ∷ bs) (subst (λ (o : Option ScenarioError). UnlessStopped o (AuthenticDone p.state (line_done p.state number (b ∷ bs) (b ∷ bs)))) e authentic)
 
-rest_line : (ended : Bool) (p : Played) → Holds p → (number : ℕ) (rest : List ℕ) → p.stop ≡ None → AuthenticLast ended p number rest → Holds (rest_played ended p number rest)
+rest_line : (ended : Bool) (p : Played) → Holds p → (number : ℕ) (rest : List ℕ) → p.stop ≡ None → HoldsOfLast AuthenticDone ended p number rest → Holds (rest_played ended p number rest)
 rest_line true p g number rest e authentic = last_line p g number rest e authentic
 rest_line false p g number rest e authentic =
     by_test Holds (nat_lt most_line_bytes (length rest)) _ p
@@ -106,7 +106,7 @@ holds_last key ended bytes authentic =
 
 pub holds_between : (key : List ℕ) (ended : Bool) (bytes : List ℕ) → Authentic key ended bytes → (before after : List (List ℕ)) → whole_lines bytes ≡ before ++ after → Holds (lines_played (at_start key) 1 before)
 holds_between key ended bytes authentic before after is =
-    holds_from before (at_start key) (holds_start key) 1 (first_lines before after (at_start key) 1 (subst (λ lines. AuthenticLines (at_start key) 1 lines) is authentic.lines))
+    holds_from before (at_start key) (holds_start key) 1 (first_lines before after (at_start key) 1 (subst (λ lines. HoldsOfLines AuthenticDone (at_start key) 1 lines) is authentic.lines))
 
 -- ---- the lines that begin in each line
 
@@ -131,7 +131,7 @@ done_begins p g number raw text authentic =
     (read_begins p g text (reason_against (context_of p.state) text) refl))
     authentic
 
-begins_from : (lines : List (List ℕ)) (p : Played) → Holds p → (number : ℕ) → AuthenticLines p number lines → LinesBegin p number lines
+begins_from : (lines : List (List ℕ)) (p : Played) → Holds p → (number : ℕ) → HoldsOfLines AuthenticDone p number lines → HoldsOfLines DoneBegins p number lines
 begins_from [] p g number authentic = tt
 begins_from (raw ∷ more) p g number authentic =
     weaker p.stop _ _ (λ h. (
@@ -139,7 +139,7 @@ begins_from (raw ∷ more) p g number authentic =
       begins_from more (line_played p number raw) (one_line p g number raw (without_cr raw) h.0) (number + 1) h.1,
     )) authentic
 
-last_begins : (ended : Bool) (p : Played) → Holds p → (number : ℕ) (rest : List ℕ) → AuthenticLast ended p number rest → LastBegins ended p number rest
+last_begins : (ended : Bool) (p : Played) → Holds p → (number : ℕ) (rest : List ℕ) → HoldsOfLast AuthenticDone ended p number rest → HoldsOfLast DoneBegins ended p number rest
 last_begins false p g number rest authentic = tt
 last_begins true p g number [] authentic = tt
 last_begins true p g number (b ∷ bs) authentic = weaker p.stop _ _ (λ h. done_begins p g number (b ∷ bs) (b ∷ bs) h) authentic

@@ -98,26 +98,7 @@ few_at text k = at_most_on _ _ _ (few_word (word_at (words_of text) k)) (short_p
 -- noise has at most so many bytes
 abbrev pub IsShort : Line → Type 0
 IsShort (Noise node bytes) = length bytes ≤ 4096
-IsShort Blank = Unit {0}
-IsShort (DroneLine sys x y) = Unit {0}
-IsShort (StationLine sys comp) = Unit {0}
-IsShort (OneItem item) = Unit {0}
-IsShort (Items n first) = Unit {0}
-IsShort Empty = Unit {0}
-IsShort (Begin station drone kind) = Unit {0}
-IsShort (Cancel station) = Unit {0}
-IsShort (Clear station drone kind) = Unit {0}
-IsShort (Get station drone kind) = Unit {0}
-IsShort (Command station drone number word) = Unit {0}
-IsShort (Params station drone) = Unit {0}
-IsShort (Heartbeat node) = Unit {0}
-IsShort (Deliver number node) = Unit {0}
-IsShort (Flow k) = Unit {0}
-IsShort (Tick node) = Unit {0}
-IsShort (Clock n) = Unit {0}
-IsShort (Restart drone) = Unit {0}
-IsShort (Sim drone n) = Unit {0}
-IsShort (WhereIs drone) = Unit {0}
+IsShort _ = Unit {0}
 
 words_short : (words : List (List ℕ)) → length (bytes_at words 2) ≤ 4096 → IsShort (line_from words)
 words_short words few =

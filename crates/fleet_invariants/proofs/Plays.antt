@@ -12,7 +12,7 @@ use Rattle.fleet_world.specs.WorldState.{empty_state, context_of}
 use Rattle.fleet_world.specs.Steps.{Step, StepError, after_line}
 use Rattle.fleet_world.specs.Scenario.{ScenarioError, Bad, Too_many_lines, Played, stopped, goes_on, judged, line_played, unless_stopped, lines_played, at_start, last_played, rest_played}
 use Rattle.scenario_lines.specs.FileLines.{most_lines, whole_lines, unfinished, without_cr}
-use Rattle.fleet_world.specs.Authentic.{line_read, line_done, AuthenticDone, UnlessStopped, AuthenticLines, AuthenticLast}
+use Rattle.fleet_world.specs.Authentic.{line_read, line_done, AuthenticDone, UnlessStopped, HoldsOfLines, HoldsOfLast}
 use Rattle.fleet_invariants.specs.Sound.{Sound}
 use Rattle.fleet_invariants.specs.Kept.{KeepsLine}
 use Rattle.fleet_invariants.specs.Laws.{EveryLinesSound, EveryStateSound}
@@ -55,7 +55,7 @@ halted : (o : Option ScenarioError) (p next : Played) (T : Type 0) → Sound p.s
 halted None p next T g h each = each h
 halted (Some stop) p next T g h each = g
 
-sound_from : (lines : List (List ℕ)) (p : Played) → Sound p.state → (number : ℕ) → AuthenticLines p number lines → Sound (lines_played p number lines).state
+sound_from : (lines : List (List ℕ)) (p : Played) → Sound p.state → (number : ℕ) → HoldsOfLines AuthenticDone p number lines → Sound (lines_played p number lines).state
 sound_from [] p g number authentic = g
 sound_from (raw ∷ more) p g number authentic =
     halted p.stop p (lines_played (line_played p number raw) (number + 1) more) _ g authentic (λ h.
@@ -81,12 +81,12 @@ sound_start key = record {
   restarts = omega arith;
 }
 
-last_line : (p : Played) → Sound p.state → (number : ℕ) (rest : List ℕ) → p.stop ≡ None → AuthenticLast true p number rest → IsSound (last_played p number rest)
+last_line : (p : Played) → Sound p.state → (number : ℕ) (rest : List ℕ) → p.stop ≡ None → HoldsOfLast AuthenticDone true p number rest → IsSound (last_played p number rest)
 last_line p g number [] e authentic = g
 last_line p g number (b ∷ bs) e authentic =
     one_line p g number (b ∷ bs) (b ∷ bs) (subst (λ (o : Option ScenarioError). UnlessStopped o (AuthenticDone p.state (line_done p.state number (b ∷ bs) (b ∷ bs)))) e authentic)
 
-rest_line : (ended : Bool) (p : Played) → Sound p.state → (number : ℕ) (rest : List ℕ) → p.stop ≡ None → AuthenticLast ended p number rest → IsSound (rest_played ended p number rest)
+rest_line : (ended : Bool) (p : Played) → Sound p.state → (number : ℕ) (rest : List ℕ) → p.stop ≡ None → HoldsOfLast AuthenticDone ended p number rest → IsSound (rest_played ended p number rest)
 rest_line true p g number rest e authentic = last_line p g number rest e authentic
 rest_line false p g number rest e authentic =
     by_test IsSound (nat_lt most_line_bytes (length rest)) _ p

@@ -10,7 +10,7 @@ use Rattle.scenario_lines.specs.Reasons.{reason_against}
 use Rattle.fleet_world.specs.WorldState.{WorldState, context_of}
 use Rattle.fleet_world.specs.Scenario.{ScenarioError, Played, line_played, lines_played, at_start}
 use Rattle.scenario_lines.specs.FileLines.{most_lines, whole_lines, unfinished, without_cr}
-use Rattle.fleet_world.specs.Authentic.{AuthenticLine, line_read, line_done, AuthenticDone, UnlessStopped, AuthenticLines, AuthenticLast}
+use Rattle.fleet_world.specs.Authentic.{AuthenticLine, line_read, line_done, AuthenticDone, UnlessStopped, HoldsOfLines, HoldsOfLast}
 use Rattle.fleet_invariants.specs.Laws.{is_noise, EveryQuietAuthentic}
 use Rattle.fleet_invariants.proofs.Tests.{by_test, differ}
 
@@ -60,12 +60,12 @@ unless : (o : Option ScenarioError) (T : Type 0) → T → UnlessStopped o T
 unless None T h = h
 unless (Some stop) T h = tt
 
-all_lines : (lines : List (List ℕ)) (p : Played) (number : ℕ) → ((i : ℕ) (raw : List ℕ) → slice_get lines i ≡ Some raw → is_noise (without_cr raw) ≡ false) → AuthenticLines p number lines
+all_lines : (lines : List (List ℕ)) (p : Played) (number : ℕ) → ((i : ℕ) (raw : List ℕ) → slice_get lines i ≡ Some raw → is_noise (without_cr raw) ≡ false) → HoldsOfLines AuthenticDone p number lines
 all_lines [] p number quiet = tt
 all_lines (raw ∷ more) p number quiet =
     unless p.stop _ (when_done p.state number raw (without_cr raw) (quiet 0 raw refl), all_lines more (line_played p number raw) (number + 1) (λ i line e. quiet (suc i) line e))
 
-last_line : (ended : Bool) (p : Played) (number : ℕ) (rest : List ℕ) → is_noise rest ≡ false → AuthenticLast ended p number rest
+last_line : (ended : Bool) (p : Played) (number : ℕ) (rest : List ℕ) → is_noise rest ≡ false → HoldsOfLast AuthenticDone ended p number rest
 last_line false p number rest quiet = tt
 last_line true p number [] quiet = tt
 last_line true p number (b ∷ bs) quiet = unless p.stop _ (when_done p.state number (b ∷ bs) (b ∷ bs) quiet)

@@ -45,7 +45,7 @@ use Rattle.fleet_world.specs.declared.locations.Location.{Location}
 use Rattle.fleet_world.specs.Steps.{Step, StepError, At_limit, Stamps_spent, most_frames, most_drones, most_stations, most_restarts, restarts_at, restarts_found, starts_again, restart_line, after_events, and_then, packets_in, node_does, calls_at, calls_found, calls, given_to, given_from, given_to_all, flow_next, flows, delivers, station_line, orders, upload_begins, orders_at, orders_found, orders_to, begins, cancels, clears, gets, asks, command_busy, params_busy, commands, lists_params, after_line, flies, location_in, locates_as}
 use Rattle.fleet_world.specs.Scenario.{ScenarioError, Bad, Too_many_lines, Not_done, Played, stopped, goes_on, judged, line_played, unless_stopped, lines_played, at_start, last_played, rest_played, played}
 use Rattle.scenario_lines.specs.FileLines.{most_lines, whole_lines, unfinished, without_cr}
-use Rattle.fleet_world.specs.Authentic.{AuthenticLine, line_read, line_done, AuthenticDone, UnlessStopped, AuthenticLines, AuthenticLast}
+use Rattle.fleet_world.specs.Authentic.{AuthenticLine, line_read, line_done, AuthenticDone, UnlessStopped, HoldsOfLines, HoldsOfLast}
 use Rattle.fleet_invariants.specs.Sound.{ahead, link_of, Sound}
 use Rattle.fleet_invariants.specs.Kept.{Known, StepKeeps, Keeps, LineFits}
 use Rattle.fleet_invariants.specs.Laws.{NoneSpent}
@@ -402,18 +402,18 @@ unless : (o : Option ScenarioError) (p next : Played) (T : Type 0) → Goes p �
 unless None p next T h each on = on each
 unless (Some stop) p next T h each on = h
 
-lines_go : (lines : List (List ℕ)) (p : Played) → Sound p.state → Goes p → (number : ℕ) → AuthenticLines p number lines → Goes (lines_played p number lines)
+lines_go : (lines : List (List ℕ)) (p : Played) → Sound p.state → Goes p → (number : ℕ) → HoldsOfLines AuthenticDone p number lines → Goes (lines_played p number lines)
 lines_go [] p g h number authentic = h
 lines_go (raw ∷ more) p g h number authentic =
     unless p.stop p (lines_played (line_played p number raw) (number + 1) more) _ h authentic (λ each.
     lines_go more (line_played p number raw) (one_line p g number raw (without_cr raw) each.0) (line_goes p g number raw (without_cr raw) each.0) (number + 1) each.1)
 
-last_goes : (p : Played) → Sound p.state → Goes p → (number : ℕ) (rest : List ℕ) → p.stop ≡ None → AuthenticLast true p number rest → Goes (last_played p number rest)
+last_goes : (p : Played) → Sound p.state → Goes p → (number : ℕ) (rest : List ℕ) → p.stop ≡ None → HoldsOfLast AuthenticDone true p number rest → Goes (last_played p number rest)
 last_goes p g h number [] e authentic = h
 last_goes p g h number (b ∷ bs) e authentic =
     line_goes p g number (b ∷ bs) (b ∷ bs) (subst (λ (o : Option ScenarioError). UnlessStopped o (AuthenticDone p.state (line_done p.state number (b ∷ bs) (b ∷ bs)))) e authentic)
 
-rest_goes : (ended : Bool) (p : Played) → Sound p.state → Goes p → (number : ℕ) (rest : List ℕ) → p.stop ≡ None → AuthenticLast ended p number rest → Goes (rest_played ended p number rest)
+rest_goes : (ended : Bool) (p : Played) → Sound p.state → Goes p → (number : ℕ) (rest : List ℕ) → p.stop ≡ None → HoldsOfLast AuthenticDone ended p number rest → Goes (rest_played ended p number rest)
 rest_goes true p g h number rest e authentic = last_goes p g h number rest e authentic
 rest_goes false p g h number rest e authentic =
     by_test Goes (nat_lt most_line_bytes (length rest)) _ p

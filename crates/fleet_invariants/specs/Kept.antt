@@ -15,7 +15,7 @@ use Rattle.mav_nodes.specs.News.{NodeEvent, Sends, Installs, Empties, Drops, End
 use Rattle.mav_nodes.specs.Links.{Outcome}
 use Rattle.mav_nodes.specs.Payloads.{plan_in, service_in, service_of}
 use Rattle.scenario_lines.specs.declared.lines.Line.{Line}
-use Rattle.scenario_lines.specs.declared.lines.Line.TheVariants.{Blank, Drone as DroneLine, Station as StationLine, Item as OneItem, Items, Empty, Begin, Cancel, Clear, Get, Command, Params, Heartbeat, Deliver, Flow, Noise, Tick, Clock, Restart, Sim, WhereIs}
+use Rattle.scenario_lines.specs.declared.lines.Line.TheVariants.{Drone as DroneLine, Station as StationLine, Item as OneItem, Items, Command, Noise}
 use Rattle.scenario_lines.specs.declared.naming.Named.{Named}
 use Rattle.scenario_lines.specs.declared.naming.Role.TheVariants.{Drone as DroneRole, Station as StationRole}
 use Rattle.plan_ranges.specs.Ranges.{Is8, Is16, Is32, ItemInRange}
@@ -99,25 +99,7 @@ Keeps s (Err error) = Unit {0}
 abbrev pub names_joined : Line → List Named
 names_joined (DroneLine sys x y) = record { role = DroneRole; name = drone_name sys } ∷ []
 names_joined (StationLine sys comp) = record { role = StationRole; name = record { sys = sys; comp = comp } } ∷ []
-names_joined Blank = []
-names_joined (OneItem item) = []
-names_joined (Items n first) = []
-names_joined Empty = []
-names_joined (Begin station drone kind) = []
-names_joined (Cancel station) = []
-names_joined (Clear station drone kind) = []
-names_joined (Get station drone kind) = []
-names_joined (Command station drone number word) = []
-names_joined (Params station drone) = []
-names_joined (Heartbeat node) = []
-names_joined (Deliver number node) = []
-names_joined (Flow k) = []
-names_joined (Noise node bytes) = []
-names_joined (Tick node) = []
-names_joined (Clock n) = []
-names_joined (Restart drone) = []
-names_joined (Sim drone n) = []
-names_joined (WhereIs drone) = []
+names_joined _ = []
 
 pub record LineKeeps (s : WorldState) (line : Line) (t : WorldState) : Type 0 where
   pub sound : Sound t
@@ -135,19 +117,5 @@ LineFits (StationLine sys comp) = Is8 sys × Is8 comp
 LineFits (OneItem item) = ItemInRange item
 LineFits (Items n first) = ItemInRange first
 LineFits (Noise node bytes) = All Is8 bytes
-LineFits Blank = Unit {0}
-LineFits Empty = Unit {0}
-LineFits (Begin station drone kind) = Unit {0}
-LineFits (Cancel station) = Unit {0}
-LineFits (Clear station drone kind) = Unit {0}
-LineFits (Get station drone kind) = Unit {0}
 LineFits (Command station drone number word) = Is16 number × Is32 word
-LineFits (Params station drone) = Unit {0}
-LineFits (Heartbeat node) = Unit {0}
-LineFits (Deliver number node) = Unit {0}
-LineFits (Flow k) = Unit {0}
-LineFits (Tick node) = Unit {0}
-LineFits (Clock n) = Unit {0}
-LineFits (Restart drone) = Unit {0}
-LineFits (Sim drone n) = Unit {0}
-LineFits (WhereIs drone) = Unit {0}
+LineFits _ = Unit {0}

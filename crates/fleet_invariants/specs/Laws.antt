@@ -26,7 +26,7 @@ use Rattle.fleet_world.specs.WorldState.{WorldState, stream_of, context_of}
 use Rattle.fleet_world.specs.Steps.{node_does, given_to, given_from, given_to_all, flows, calls, after_line, Stamps_spent}
 use Rattle.fleet_world.specs.Scenario.{Played, Not_done, played, lines_played}
 use Rattle.scenario_lines.specs.FileLines.{whole_lines, unfinished, without_cr}
-use Rattle.fleet_world.specs.Authentic.{AuthenticBytes, AuthenticLine, AuthenticLines, Authentic}
+use Rattle.fleet_world.specs.Authentic.{AuthenticDone, AuthenticBytes, AuthenticLine, HoldsOfLines, Authentic}
 use Rattle.fleet_invariants.specs.Sound.{IsSent, Sound}
 use Rattle.fleet_invariants.specs.Kept.{Known, Heard, OutcomeReads, Keeps, KeepsLine, LineFits}
 
@@ -113,7 +113,7 @@ EveryReadLineFits =
 
 abbrev pub EveryLinesSound : Type 0
 EveryLinesSound =
-    (p : Played) → Sound p.state → (number : ℕ) (lines : List (List ℕ)) → AuthenticLines p number lines → Sound (lines_played p number lines).state
+    (p : Played) → Sound p.state → (number : ℕ) (lines : List (List ℕ)) → HoldsOfLines AuthenticDone p number lines → Sound (lines_played p number lines).state
 
 abbrev pub EveryStateSound : Type 0
 EveryStateSound = (key : List ℕ) (ended : Bool) (bytes : List ℕ) → Authentic key ended bytes → Sound (played key ended bytes).state

@@ -16,7 +16,7 @@ use Rattle.fleet_world.specs.WorldState.{stream_of, drones_in}
 use Rattle.fleet_world.specs.Steps.{Step, flows, after_line}
 use Rattle.fleet_world.specs.Scenario.{ScenarioError, Played, at_start, goes_on, line_played, last_played, rest_played, unless_stopped, lines_played, played}
 use Rattle.scenario_lines.specs.FileLines.{whole_lines, unfinished}
-use Rattle.fleet_world.specs.Authentic.{UnlessStopped, AuthenticLines, Authentic}
+use Rattle.fleet_world.specs.Authentic.{AuthenticDone, UnlessStopped, HoldsOfLines, Authentic}
 use Rattle.fleet_invariants.specs.Sound.{Sound}
 use Rattle.fleet_invariants.proofs.Tests.{name_is}
 use Rattle.fleet_invariants.proofs.Plays.{sound_start, sound_lines}
@@ -29,7 +29,7 @@ unless_so : (stop : Option ScenarioError) (A B : Type 0) → (A → B) → Unles
 unless_so None A B f h = f h
 unless_so (Some stop) A B f h = tt
 
-front_authentic : (front more : List (List ℕ)) (p : Played) (number : ℕ) → AuthenticLines p number (front ++ more) → AuthenticLines p number front
+front_authentic : (front more : List (List ℕ)) (p : Played) (number : ℕ) → HoldsOfLines AuthenticDone p number (front ++ more) → HoldsOfLines AuthenticDone p number front
 front_authentic [] more p number h = tt
 front_authentic (raw ∷ front) more p number h = unless_so p.stop _ _ (λ x. (x.0, front_authentic front more (line_played p number raw) (number + 1) x.1)) h
 
@@ -95,7 +95,7 @@ module _ (key : List ℕ) (ended : Bool) (bytes : List ℕ) (authentic : Authent
   sound : Sound first.state
   sound =
       let f = front_is ended bytes l.front l.begin l.flow h.lines in
-      sound_lines (at_start key) (sound_start key) 1 l.front (front_authentic l.front f.0 (at_start key) 1 (subst (AuthenticLines (at_start key) 1) f.1 authentic.lines))
+      sound_lines (at_start key) (sound_start key) 1 l.front (front_authentic l.front f.0 (at_start key) 1 (subst (HoldsOfLines AuthenticDone (at_start key) 1) f.1 authentic.lines))
 
   -- the begin line was done
   begin_goes : begun key l ≡ goes_on first (after_line first.state (Begin u.station u.drone u.kind))

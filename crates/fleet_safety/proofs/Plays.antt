@@ -21,7 +21,7 @@ use Rattle.fleet_world.specs.WorldState.{WorldState, empty_state, context_of}
 use Rattle.fleet_world.specs.Steps.{Step, StepError, after_line}
 use Rattle.fleet_world.specs.Scenario.{Played, ScenarioError, Bad, Too_many_lines, Not_done, stopped, goes_on, judged, line_played, unless_stopped, lines_played, at_start, last_played, part_played, rest_played, played}
 use Rattle.scenario_lines.specs.FileLines.{most_lines, without_cr, whole_lines, unfinished}
-use Rattle.fleet_world.specs.Authentic.{AuthenticDone, line_read, line_done, UnlessStopped, AuthenticLines, AuthenticLast, Authentic}
+use Rattle.fleet_world.specs.Authentic.{AuthenticDone, line_read, line_done, UnlessStopped, HoldsOfLines, HoldsOfLast, Authentic}
 use Rattle.fleet_invariants.proofs.Calls.{sound_does}
 use Rattle.fleet_invariants.proofs.Heard as heard
 use Rattle.fleet_invariants.proofs.Lines.{sound_line}
@@ -119,12 +119,12 @@ module _ (every_call : EveryCallKeeps) (sent_known : SentKnown) (authentic_known
       (by_both (Plays number p actions) (nat_lt most_line_bytes (length raw)) _ _ _ _ (λ _. nothing_more key (stopped p (Bad number Long)) actions (stops key p actions (Bad number Long) h))
       (judges p actions number text (reason_against (context_of p.state) text) refl h))
 
-  lines_run : (lines : List (List ℕ)) (p : Played) (actions : List Action) (number : ℕ) → Runs key p actions → AuthenticLines p number lines → Runs key (lines_played p number lines) (actions ++ lines_actions p number lines)
+  lines_run : (lines : List (List ℕ)) (p : Played) (actions : List Action) (number : ℕ) → Runs key p actions → HoldsOfLines AuthenticDone p number lines → Runs key (lines_played p number lines) (actions ++ lines_actions p number lines)
   lines_run [] p actions number h a = nothing_more key p actions h
   lines_run (raw ∷ more) p actions number h a =
       let done : List Action = line_actions number p.state (line_done p.state number raw (without_cr raw)) in
       let rest : List Action = lines_actions (line_played p number raw) (number + 1) more in
-      unless key p.stop (AuthenticDone p.state (line_done p.state number raw (without_cr raw)) × AuthenticLines (line_played p number raw) (number + 1) more) p (lines_played (line_played p number raw) (number + 1) more) actions (done ++ rest) h a
+      unless key p.stop (AuthenticDone p.state (line_done p.state number raw (without_cr raw)) × HoldsOfLines AuthenticDone (line_played p number raw) (number + 1) more) p (lines_played (line_played p number raw) (number + 1) more) actions (done ++ rest) h a
       (λ b. subst (Runs key (lines_played (line_played p number raw) (number + 1) more)) (append_assoc actions done rest)
       (lines_run more (line_played p number raw) (actions ++ done) (number + 1) (whole_runs p actions number raw (without_cr raw) h b.0) b.1))
 
@@ -138,7 +138,7 @@ module _ (every_call : EveryCallKeeps) (sent_known : SentKnown) (authentic_known
   without None p q actions h k = k
   without (Some stop) p q actions h k = h
 
-  rest_runs : (ended : Bool) (p : Played) (actions : List Action) (number : ℕ) (rest : List ℕ) → Runs key p actions → AuthenticLast ended p number rest → Runs key (unless_stopped p.stop p (rest_played ended p number rest)) (actions ++ last_actions ended p number rest)
+  rest_runs : (ended : Bool) (p : Played) (actions : List Action) (number : ℕ) (rest : List ℕ) → Runs key p actions → HoldsOfLast AuthenticDone ended p number rest → Runs key (unless_stopped p.stop p (rest_played ended p number rest)) (actions ++ last_actions ended p number rest)
   rest_runs false p actions number rest h a = nothing_more key _ actions (without p.stop p (part_played p number rest) actions h (part_runs p actions number rest h))
   rest_runs true p actions number [] h a = nothing_more key _ actions (without p.stop p p actions h h)
   rest_runs true p actions number (b ∷ bs) h a =

@@ -10,7 +10,7 @@ use Rattle.mav_sign.specs.Signing.{Verifies}
 use Rattle.mav_sign.specs.Endpoints.{frames_of}
 use Rattle.scenario_lines.specs.declared.faults.Reason.{Reason}
 use Rattle.scenario_lines.specs.declared.lines.Line.{Line}
-use Rattle.scenario_lines.specs.declared.lines.Line.TheVariants.{Blank, Drone, Station, Item as OneItem, Items, Empty, Begin, Cancel, Clear, Get, Command, Params, Heartbeat, Deliver, Flow, Noise, Tick, Clock, Restart, Sim, WhereIs}
+use Rattle.scenario_lines.specs.declared.lines.Line.TheVariants.{Noise}
 use Rattle.scenario_lines.specs.Grammar.{line_of, most_line_bytes}
 use Rattle.scenario_lines.specs.Reasons.{reason_against}
 use Rattle.fleet_world.specs.WorldState.{WorldState, context_of}
@@ -30,26 +30,7 @@ AuthenticBytes s bytes =
 
 abbrev pub AuthenticLine : WorldState → Line → Type 0
 AuthenticLine s (Noise node bytes) = AuthenticBytes s bytes
-AuthenticLine s Blank = Unit {0}
-AuthenticLine s (Drone sys x y) = Unit {0}
-AuthenticLine s (Station sys comp) = Unit {0}
-AuthenticLine s (OneItem item) = Unit {0}
-AuthenticLine s (Items n first) = Unit {0}
-AuthenticLine s Empty = Unit {0}
-AuthenticLine s (Begin station drone kind) = Unit {0}
-AuthenticLine s (Cancel station) = Unit {0}
-AuthenticLine s (Clear station drone kind) = Unit {0}
-AuthenticLine s (Get station drone kind) = Unit {0}
-AuthenticLine s (Command station drone number word) = Unit {0}
-AuthenticLine s (Params station drone) = Unit {0}
-AuthenticLine s (Heartbeat node) = Unit {0}
-AuthenticLine s (Deliver number node) = Unit {0}
-AuthenticLine s (Flow k) = Unit {0}
-AuthenticLine s (Tick node) = Unit {0}
-AuthenticLine s (Clock n) = Unit {0}
-AuthenticLine s (Restart drone) = Unit {0}
-AuthenticLine s (Sim drone n) = Unit {0}
-AuthenticLine s (WhereIs drone) = Unit {0}
+AuthenticLine s _ = Unit {0}
 
 -- what a text says, if there is no reason against it
 abbrev pub line_read : List ℕ → Option Reason → Option Line
@@ -63,27 +44,30 @@ line_done s number raw text =
     else if nat_lt most_line_bytes (length raw) then None
     else line_read text (reason_against (context_of s) text)
 
-abbrev pub AuthenticDone : WorldState → Option Line → Type 0
-AuthenticDone s None = Unit {0}
-AuthenticDone s (Some line) = AuthenticLine s line
-
 abbrev pub UnlessStopped : Option ScenarioError → Type 0 → Type 0
 UnlessStopped None T = T
 UnlessStopped (Some stop) T = Unit {0}
 
--- each line that is done, from line `number` on
-abbrev pub AuthenticLines : Played → ℕ → List (List ℕ) → Type 0
-AuthenticLines p number [] = Unit {0}
-AuthenticLines p number (raw ∷ more) =
-    UnlessStopped p.stop (AuthenticDone p.state (line_done p.state number raw (without_cr raw)) × AuthenticLines (line_played p number raw) (number + 1) more)
+-- this holds of each line, from line `number` on, with the state before it and what is done there
+abbrev pub HoldsOfLines : (WorldState → Option Line → Type 0) → Played → ℕ → List (List ℕ) → Type 0
+HoldsOfLines P p number [] = Unit {0}
+HoldsOfLines P p number (raw ∷ more) =
+    UnlessStopped p.stop (P p.state (line_done p.state number raw (without_cr raw)) × HoldsOfLines P (line_played p number raw) (number + 1) more)
 
--- a last line without LF
-abbrev pub AuthenticLast : Bool → Played → ℕ → List ℕ → Type 0
-AuthenticLast false p number rest = Unit {0}
-AuthenticLast true p number [] = Unit {0}
-AuthenticLast true p number (b ∷ bs) = UnlessStopped p.stop (AuthenticDone p.state (line_done p.state number (b ∷ bs) (b ∷ bs)))
+-- and of a last line without LF
+abbrev pub HoldsOfLast : (WorldState → Option Line → Type 0) → Bool → Played → ℕ → List ℕ → Type 0
+HoldsOfLast P false p number rest = Unit {0}
+HoldsOfLast P true p number [] = Unit {0}
+HoldsOfLast P true p number (b ∷ bs) = UnlessStopped p.stop (P p.state (line_done p.state number (b ∷ bs) (b ∷ bs)))
 
--- the whole scenario, played under a key
-pub record Authentic (key : List ℕ) (ended : Bool) (bytes : List ℕ) : Type 0 where
-  pub lines : AuthenticLines (at_start key) 1 (whole_lines bytes)
-  pub last : AuthenticLast ended (lines_played (at_start key) 1 (whole_lines bytes)) (length (whole_lines bytes) + 1) (unfinished bytes)
+-- of the whole scenario, played under a key
+pub record HoldsOfEach (P : WorldState → Option Line → Type 0) (key : List ℕ) (ended : Bool) (bytes : List ℕ) : Type 0 where
+  pub lines : HoldsOfLines P (at_start key) 1 (whole_lines bytes)
+  pub last : HoldsOfLast P ended (lines_played (at_start key) 1 (whole_lines bytes)) (length (whole_lines bytes) + 1) (unfinished bytes)
+
+abbrev pub AuthenticDone : WorldState → Option Line → Type 0
+AuthenticDone s None = Unit {0}
+AuthenticDone s (Some line) = AuthenticLine s line
+
+abbrev pub Authentic : (key : List ℕ) (ended : Bool) (bytes : List ℕ) → Type 0
+Authentic key ended bytes = HoldsOfEach AuthenticDone key ended bytes

@@ -10,6 +10,7 @@ ghost use Rattle.fleet_world.specs.Promises.{WorldOutcome, IsStepError, Does, Fa
 use crate::calls::Call;
 use crate::{World, WorldFault};
 use fleet_report::Report;
+use mav_names::is_same_name;
 
 impl World {
     // The node at an index sent the frame of that number.
@@ -20,7 +21,7 @@ impl World {
     {
         let name = self.fleet.name_at(index);
         match self.sent.sender(number) {
-            Some(sender) => name.sys == sender.sys && name.comp == sender.comp,
+            Some(sender) => is_same_name(name, sender),
             None => false,
         }
     }

@@ -1,11 +1,11 @@
 -- What a verifier keeps of its history.
-use Rattle.std.specs.Prelude.{ℕ, ◌≡◌, ◌+◌, ◌*◌, ◌<◌, ◌==◌, nat_eq, max, is_some, if◌then◌else◌, List, length, Option, Some}
+use Rattle.std.specs.Prelude.{ℕ, ◌≡◌, ◌+◌, ◌*◌, ◌<◌, ◌==◌, nat_eq, max, is_some, if◌then◌else◌, false, List, [], ◌∷◌, ◌++◌, length, Option, Some}
 use Rattle.std.specs.Map.{lookup}
 use Rattle.mav_names.specs.declared.names.Stream.{Stream}
 use Rattle.mav_frame.specs.Packet.{Packet}
 use Rattle.mav_sign.specs.declared.admission.Admit.{Admit}
 use Rattle.mav_sign.specs.declared.admission.Admit.TheVariants.{Admitted}
-use Rattle.mav_sign.specs.History.{Entry, block_answer, answer_after, unless_below, low_of, last_of, streams_of, accepted_in, previous_in, sent_in, greatest}
+use Rattle.mav_sign.specs.History.{Entry, tried, answer_to, is_admitted, block_answer, answer_after, unless_below, low_of, last_of, streams_of, accepted_in, previous_in, sent_in, greatest}
 
 -- the persisted timestamp low bound that it was started with, the pairs of a stream's number and its last admitted timestamp, the greatest
 -- timestamp admitted, and the previous one sent
@@ -50,6 +50,17 @@ kept_answer kept stream stamp =
 -- the verdict on a frame by what is kept
 abbrev pub kept_answer_to : List ℕ → Kept → Packet → Admit
 kept_answer_to key kept packet = block_answer key (kept_answer kept) packet packet.block
+
+-- the verdict on a frame by what is kept, and so by each history that it represents
+pub record IsVerdict (key : List ℕ) (kept : Kept) (packet : Packet) (answer : Admit) : Type 0 where
+  pub by_kept : answer ≡ kept_answer_to key kept packet
+  pub by_history : (history : List Entry) → Represents kept history → answer ≡ answer_to key history packet
+
+-- a frame was tried with that verdict
+pub record HasTried (key : List ℕ) (old new : Kept) (packet : Packet) (answer : Admit) : Type 0 where
+  pub verdict : IsVerdict key old packet answer
+  pub unchanged : is_admitted answer ≡ false → new ≡ old
+  pub history : (history : List Entry) → Represents old history → Represents new (history ++ tried packet answer ∷ [])
 
 -- the next timestamp by what is kept
 abbrev pub kept_next : Kept → ℕ → ℕ

@@ -2,9 +2,9 @@
 ghost use Rattle.std.specs.Prelude.{◌≡◌, ℕ, ◌+◌, ◌*◌, ◌^◌, ◌<◌, ◌≤◌, None, false, take, length, vec_len, vec_capacity, ◌++◌, ◌∷◌, [], List, IfOk, IfSome, OnOk, OnErr};
 ghost use Rattle.x25_check.specs.Extras.{extra_of};
 ghost use Rattle.mav_messages.specs.Messages.{definition_of};
-ghost use Rattle.mav_sign.specs.History.{Entry, sent, started, answer_to, stamp_given, next_in};
+ghost use Rattle.mav_sign.specs.History.{Entry, sent, started, stamp_given, next_in};
 ghost use Rattle.mav_sign.specs.Signing.{verified};
-ghost use Rattle.mav_sign.specs.Kept.{Represents, kept_answer_to, kept_next};
+ghost use Rattle.mav_sign.specs.Kept.{Represents, IsVerdict, kept_answer_to, kept_next};
 ghost use Rattle.mav_frame.specs.declared.events.Event.{Event};
 ghost use Rattle.mav_stream.specs.Progress.{Progress};
 ghost use Rattle.mav_sign.specs.Streams.{reader_of, ReadTo, PartHeard};
@@ -116,9 +116,7 @@ impl Endpoint {
 
     /// The verdict by which `take` would report of the frame. Nothing changes. Doesn't allocate.
     pub fn test(&self, frame: &Frame) -> Admit
-        ensures kept { result ≡ kept_answer_to self.now.key self.now.stamps frame.now }
-        ensures answer { (history : List Entry) → Represents self.now.stamps history
-            → result ≡ answer_to self.now.key history frame.now }
+        ensures { IsVerdict self.now.key self.now.stamps frame.now result }
     {
         self.stamps.test(&self.key, frame)
     }
@@ -140,9 +138,7 @@ impl Endpoint {
     /// What `test` does, for a frame of which it is already known whether it verifies.
     pub fn test_judged(&self, frame: &RawFrame<'_>, verifies: bool) -> Admit
         requires { verifies ≡ verified self.now.key frame.now frame.now.block }
-        ensures kept { result ≡ kept_answer_to self.now.key self.now.stamps frame.now }
-        ensures answer { (history : List Entry) → Represents self.now.stamps history
-            → result ≡ answer_to self.now.key history frame.now }
+        ensures { IsVerdict self.now.key self.now.stamps frame.now result }
     {
         self.stamps.test_judged(&self.key, frame, verifies)
     }

@@ -1,9 +1,9 @@
 // What a verifier keeps: the timestamps that it admitted and sent.
-ghost use Rattle.std.specs.Prelude.{◌≡◌, ◌+◌, ◌<◌, ◌^◌, ◌++◌, ◌∷◌, [], List, max, false, Some, IfOk, OnErr};
+ghost use Rattle.std.specs.Prelude.{◌≡◌, ◌+◌, ◌<◌, ◌^◌, ◌++◌, ◌∷◌, [], List, max, Some, IfOk, OnErr};
 ghost use Rattle.mav_sign.specs.declared.admission.Admit.TheVariants.{Admitted};
 ghost use Rattle.mav_sign.specs.Signing.{verified};
-ghost use Rattle.mav_sign.specs.History.{Entry, tried, sent, started, answer_to, is_admitted, last_of, local_of, next_in, stamp_given};
-ghost use Rattle.mav_sign.specs.Kept.{IsStream, Represents, KeptAfter, stream_number, stamp_at, local_kept, kept_answer, kept_answer_to, kept_next};
+ghost use Rattle.mav_sign.specs.History.{Entry, sent, started, last_of, local_of, next_in, stamp_given};
+ghost use Rattle.mav_sign.specs.Kept.{IsStream, Represents, KeptAfter, IsVerdict, HasTried, stream_number, stamp_at, local_kept, kept_answer, kept_answer_to, kept_next};
 
 use crate::signing::verifies_raw;
 use crate::table::{STREAM_LIMIT, Table};
@@ -132,21 +132,9 @@ impl Stamps {
         }
     }
 
-    // Tries a timestamp whose signature is right.
-    fn admit_stamp(&mut self, stream: Stream, stamp: u64) -> Admit
-        requires { stamp < 2 ^ 48 }
-        ensures answer { result ≡ kept_answer self.old stream stamp }
-        ensures kept { KeptAfter result stream stamp self.old self.new }
-    {
-        let answer = self.answer(stream, stamp);
-        self.keep_stamp(stream, stamp, answer);
-        answer
-    }
-
     /// The verdict that `admit` would give. Nothing changes.
     pub fn test(&self, key: &Key, frame: &Frame) -> Admit
-        ensures kept { result ≡ kept_answer_to key.now self.now frame.now }
-        ensures answer { (history : List Entry) → Represents self.now history → result ≡ answer_to key.now history frame.now }
+        ensures { IsVerdict key.now self.now frame.now result }
     {
         let mut bytes = [0; 280];
         let size = encode(frame, &mut bytes);
@@ -158,8 +146,7 @@ impl Stamps {
     /// timestamp changes that, so it may be found before.
     pub fn test_judged(&self, key: &Key, frame: &RawFrame<'_>, verifies: bool) -> Admit
         requires { verifies ≡ verified key.now frame.now frame.now.block }
-        ensures kept { result ≡ kept_answer_to key.now self.now frame.now }
-        ensures answer { (history : List Entry) → Represents self.now history → result ≡ answer_to key.now history frame.now }
+        ensures { IsVerdict key.now self.now frame.now result }
     {
         let _ = key;
         let Some(block) = frame.block() else {
@@ -173,12 +160,7 @@ impl Stamps {
 
     /// Tries a frame, and keeps its timestamp if it is admitted.
     pub fn admit(&mut self, key: &Key, frame: &Frame) -> Admit
-        ensures kept { result ≡ kept_answer_to key.now self.old frame.now }
-        ensures unchanged { is_admitted result ≡ false → self.new ≡ self.old }
-        ensures answer { (history : List Entry) → Represents self.old history
-            → result ≡ answer_to key.now history frame.now }
-        ensures history { (history : List Entry) → Represents self.old history
-            → Represents self.new (history ++ tried frame.now result ∷ []) }
+        ensures { HasTried key.now self.old self.new frame.now result }
     {
         let mut bytes = [0; 280];
         let size = encode(frame, &mut bytes);
@@ -187,34 +169,21 @@ impl Stamps {
     }
 
     /// What `admit` does, for a frame of which it is already known whether it verifies.
+    #[inline]
     pub fn admit_judged(&mut self, key: &Key, frame: &RawFrame<'_>, verifies: bool) -> Admit
         requires { verifies ≡ verified key.now frame.now frame.now.block }
-        ensures kept { result ≡ kept_answer_to key.now self.old frame.now }
-        ensures unchanged { is_admitted result ≡ false → self.new ≡ self.old }
-        ensures answer { (history : List Entry) → Represents self.old history
-            → result ≡ answer_to key.now history frame.now }
-        ensures history { (history : List Entry) → Represents self.old history
-            → Represents self.new (history ++ tried frame.now result ∷ []) }
+        ensures { HasTried key.now self.old self.new frame.now result }
     {
-        let _ = key;
-        let Some(block) = frame.block() else {
-            return Admit::Unsigned;
-        };
-        if !verifies {
-            return Admit::BadSignature;
-        }
-        self.admit_stamp(stream_on(frame.from(), block.link), block.stamp)
+        let answer = self.test_judged(key, frame, verifies);
+        self.keep_verdict(key, frame, answer);
+        answer
     }
 
     /// What is left to do of `admit_judged` once `test_judged` has returned this verdict: keeps the frame's timestamp if it is
     /// admitted.
     pub fn keep_verdict(&mut self, key: &Key, frame: &RawFrame<'_>, answer: Admit)
         requires { answer ≡ kept_answer_to key.now self.old frame.now }
-        ensures unchanged { is_admitted answer ≡ false → self.new ≡ self.old }
-        ensures answer { (history : List Entry) → Represents self.old history
-            → answer ≡ answer_to key.now history frame.now }
-        ensures history { (history : List Entry) → Represents self.old history
-            → Represents self.new (history ++ tried frame.now answer ∷ []) }
+        ensures { HasTried key.now self.old self.new frame.now answer }
     {
         let _ = key;
         match frame.block() {

@@ -16,7 +16,7 @@ use Rattle.mav_stream.specs.Progress.{Progress, IsWhole}
 use Rattle.mav_stream.specs.declared.Next.TheVariants.{Frame as NextFrame, Skipped as NextSkipped}
 use Rattle.mav_stream.proofs.Steps.{next_on, whole_at}
 use Rattle.mav_stream.specs.Skips.{skipped_length}
-use Rattle.mav_stream.specs.Spans.{first_packet, span_by, span_events, held_after, span_size, IfEvent, IfFrame, IfNeed}
+use Rattle.mav_stream.specs.Spans.{first_packet, next_span, span_by, span_events, held_after, span_size, IfEvent, IfFrame, IfNeed, IsNextSpan}
 use Rattle.mav_stream.specs.declared.spans.NextSpan.TheVariants.{Frame, Skipped, Need}
 use Rattle.mav_stream.proofs.Answers.{gives_frame, gives_short, needs, has_room}
 use Rattle.mav_stream.proofs.Skipped.{each_looks, length_within, skips_on}
@@ -42,7 +42,7 @@ module _ (held : Held) (bytes : IsBytes held.bytes) where
   short_within true e = let some = (ended_some held.ended (length held.bytes) e).1 in omega arith
   short_within false e = omega arith
 
-  pub within : (look : Look) → look_of held.extras held.reads_old held.bytes ≡ look → span_size (span_by look held) ≤ length held.bytes
+  within : (look : Look) → look_of held.extras held.reads_old held.bytes ≡ look → span_size (span_by look held) ≤ length held.bytes
   within (Found p n) e = (once held.extras held.reads_old held.bytes p n bytes e).0
   within (NotHere why) e = length_within held.extras held.reads_old why held.bytes e
   within (More k) e = short_within is_short refl
@@ -63,7 +63,7 @@ module _ (held : Held) (bytes : IsBytes held.bytes) where
   short_no_frame true = tt
   short_no_frame false = tt
 
-  pub frame_size : (look : Look) → look_of held.extras held.reads_old held.bytes ≡ look → IfFrame (span_by look held) IsFrameSize
+  frame_size : (look : Look) → look_of held.extras held.reads_old held.bytes ≡ look → IfFrame (span_by look held) IsFrameSize
   frame_size (Found p n) e =
       let is = found_is held.extras held.reads_old held.bytes p n e in let found = once held.extras held.reads_old held.bytes p n bytes e in
       let fits : n ≤ length held.bytes = found.0 in
@@ -72,7 +72,7 @@ module _ (held : Held) (bytes : IsBytes held.bytes) where
   frame_size (NotHere why) e = tt
   frame_size (More k) e = short_no_frame is_short
 
-  pub some : (look : Look) → look_of held.extras held.reads_old held.bytes ≡ look → IfEvent (span_by look held) (0 < span_size (span_by look held))
+  some : (look : Look) → look_of held.extras held.reads_old held.bytes ≡ look → IfEvent (span_by look held) (0 < span_size (span_by look held))
   some (Found p n) e = frame_some (first_packet held) n (frame_size (Found p n) e).0
   some (NotHere why) e = omega arith
   some (More k) e = short_some is_short
@@ -83,7 +83,7 @@ module _ (held : Held) (bytes : IsBytes held.bytes) where
   room_at true h = tt
   room_at false h = h
 
-  pub room : (look : Look) → look_of held.extras held.reads_old held.bytes ≡ look → IfNeed (span_by look held) (length held.bytes < 280)
+  room : (look : Look) → look_of held.extras held.reads_old held.bytes ≡ look → IfNeed (span_by look held) (length held.bytes < 280)
   room (Found p n) e = tt
   room (NotHere why) e = tt
   room (More k) e = room_at is_short (has_room held.extras held.reads_old held.bytes bytes (incomplete held.extras held.reads_old held.bytes k e))
@@ -103,7 +103,7 @@ module _ (held : Held) (bytes : IsBytes held.bytes) where
     short_on k e false is = subst (λ (z : List Event). Progress extras reads_old taken z held) (sym (append-nil given)) h
 
     -- the events at the start continue it
-    pub progress : (look : Look) → look_of held.extras held.reads_old held.bytes ≡ look → Progress extras reads_old taken (given ++ span_events held (span_by look held)) (held_after held (span_by look held))
+    progress : (look : Look) → look_of held.extras held.reads_old held.bytes ≡ look → Progress extras reads_old taken (given ++ span_events held (span_by look held)) (held_after held (span_by look held))
     progress (Found p n) e =
         let now : Held = record held { bytes = drop n held.bytes } in
         let on = next_on extras reads_old taken given held h (NextFrame p) now (gives_frame held p n e (once held.extras held.reads_old held.bytes p n bytes e)) in
@@ -117,10 +117,25 @@ module _ (held : Held) (bytes : IsBytes held.bytes) where
     need_whole k e false is = whole_at extras reads_old taken given held h held (needs held k e (ended_none held.ended held.bytes is))
 
     -- and at Need it is whole
-    pub whole : (look : Look) → look_of held.extras held.reads_old held.bytes ≡ look → IfNeed (span_by look held) (IsWhole extras reads_old taken given held)
+    whole : (look : Look) → look_of held.extras held.reads_old held.bytes ≡ look → IfNeed (span_by look held) (IsWhole extras reads_old taken given held)
     whole (Found p n) e = tt
     whole (NotHere why) e = tt
     whole (More k) e = need_whole k e is_short refl
+
+  -- ---- all of it
+
+  pub next_span_is : IsNextSpan held (next_span held)
+  next_span_is =
+      let look = look_of held.extras held.reads_old held.bytes in
+      record {
+        exact = refl;
+        within = within look refl;
+        some = some look refl;
+        frame = frame_size look refl;
+        progress = λ extras reads_old taken given h. progress extras reads_old taken given h look refl;
+        whole = λ extras reads_old taken given h. whole extras reads_old taken given h look refl;
+        room = room look refl;
+      }
 
 -- ---- the frame that was found
 

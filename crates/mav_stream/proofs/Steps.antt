@@ -1,12 +1,12 @@
 -- Each call of a reader continues the parse of the bytes taken.
-use Rattle.std.proofs.Common.{◌≡◌, ℕ, Bool, true, false, List, [], ◌∷◌, ◌++◌, refl, sym, ap, ◌∙◌, subst, append-nil}
+use Rattle.std.proofs.Common.{◌≡◌, ◌-◌, ℕ, Bool, true, false, List, [], ◌∷◌, ◌++◌, length, take, min, refl, sym, ap, ◌∙◌, subst, append-nil}
 use Rattle.mav_frame.specs.Parse.{IsIncomplete, EventAt, BeginsFinal}
 use Rattle.mav_frame.specs.declared.events.Event.{Event}
 use Rattle.mav_frame.specs.declared.events.Event.TheVariants.{Frame as FrameEvent, Skipped as SkippedEvent}
 use Rattle.mav_frame.proofs.LongerParse.{more_bytes_keep, incremental_goes_on, incremental_ends, final_goes_on, final_ends, incremental_begins_final}
 use Rattle.mav_stream.specs.Held.{Held, nothing_held}
 use Rattle.mav_stream.specs.Nexts.{Gives, Needs, NextIs, given_by}
-use Rattle.mav_stream.specs.Progress.{Progress, IsWhole, WholeAtNeed}
+use Rattle.mav_stream.specs.Progress.{Progress, IsWhole, WholeAtNeed, Feeds, Ends}
 use Rattle.mav_stream.specs.declared.Next.{Next}
 use Rattle.mav_stream.specs.declared.Next.TheVariants.{Frame, Skipped, Need}
 
@@ -59,3 +59,18 @@ module _ (extras : List (ℕ × ℕ)) (reads_old : Bool) (taken : List ℕ) (giv
     whole_at_need (Frame packet) new g = tt
     whole_at_need (Skipped byte why) new g = tt
     whole_at_need Need new n = subst (λ (z : Held). IsWhole extras reads_old taken given z) (sym n.same) (whole_at new n)
+
+-- a call that takes the bytes that fit, and one that ends the input
+pub fed : (room : ℕ) (old : Held) (piece : List ℕ) (count : ℕ) (bytes : List ℕ) → count ≡ min (length piece) (room - length old.bytes)
+    → bytes ≡ old.bytes ++ take count piece → Feeds room old piece count (record old { bytes = bytes })
+fed room old piece count bytes is longer =
+    record {
+      count = is;
+      held = ap (λ (b : List ℕ). record old { bytes = b }) longer;
+      progress = λ extras reads_old taken given still h.
+          subst (λ (b : List ℕ). Progress extras reads_old (taken ++ take count piece) given (record old { bytes = b })) (sym longer)
+          (fed_on extras reads_old taken given old h (take count piece) still);
+    }
+
+pub ended : (old : Held) → Ends old (record old { ended = true })
+ended old = record { held = refl; progress = λ extras reads_old taken given h. closed_on extras reads_old taken given old h }

@@ -1,8 +1,7 @@
 // The reader of a stream whose bytes stay where their reads put them.
-ghost use Rattle.std.specs.Prelude.{◌≡◌, ◌≤◌, ℕ, Bool, List, length, true, IfOk};
-ghost use Rattle.mav_frame.specs.declared.events.Event.{Event};
-ghost use Rattle.mav_stream.specs.Held.{Held, nothing_held};
-ghost use Rattle.mav_stream.specs.Progress.{Progress};
+ghost use Rattle.std.specs.Prelude.{◌≡◌, ◌≤◌, length, IfOk};
+ghost use Rattle.mav_stream.specs.Held.{nothing_held};
+ghost use Rattle.mav_stream.specs.Progress.{Ends};
 
 use crate::NoMemory;
 use crate::scan::Scan;
@@ -59,9 +58,7 @@ impl PieceReader {
 
     /// The input has ended: what is left of it is in frames, or is skipped byte by byte.
     pub fn end(&mut self)
-        ensures held { self.new ≡ record self.old { ended = true } }
-        ensures progress { (extras : List (ℕ × ℕ)) (reads_old : Bool) (taken : List ℕ) (given : List Event)
-            → Progress extras reads_old taken given self.old → Progress extras reads_old taken given self.new }
+        ensures { Ends self.old self.new }
     {
         self.ended = true;
     }

@@ -1,9 +1,9 @@
 // The reader of a stream.
-ghost use Rattle.std.specs.Prelude.{◌≡◌, ◌-◌, ◌<◌, ◌++◌, ℕ, Bool, List, [], length, take, drop, min, slice_index, true, false};
+ghost use Rattle.std.specs.Prelude.{◌≡◌, ◌<◌, ◌++◌, ℕ, Bool, List, [], length, drop, slice_index};
 ghost use Rattle.mav_frame.specs.declared.events.Event.{Event};
-ghost use Rattle.mav_stream.specs.Held.{Held, nothing_held};
+ghost use Rattle.mav_stream.specs.Held.{nothing_held};
 ghost use Rattle.mav_stream.specs.Nexts.{NextIs, HasRoomAfter, given_by};
-ghost use Rattle.mav_stream.specs.Progress.{Progress, WholeAtNeed};
+ghost use Rattle.mav_stream.specs.Progress.{Progress, WholeAtNeed, Feeds, Ends};
 
 use crate::Next;
 use crate::window::Window;
@@ -49,18 +49,14 @@ impl Reader {
 
     /// Takes as many bytes as fit after those held, and returns how many. It isn't called after `end`.
     pub fn feed(&mut self, piece: &[u8]) -> usize
-        ensures count { result ≡ min (length piece.now) (280 - length self.old.bytes) }
-        ensures held { self.new ≡ record self.old { bytes = self.old.bytes ++ take result piece.now } }
-        // The events given are a prefix of the parse of all bytes taken.
-        ensures progress { (extras : List (ℕ × ℕ)) (reads_old : Bool) (taken : List ℕ) (given : List Event) → self.old.ended ≡ false → Progress extras reads_old taken given self.old → Progress extras reads_old (taken ++ take result piece.now) given self.new }
+        ensures { Feeds 280 self.old piece.now result self.new }
     {
         self.window.append(piece)
     }
 
     /// The input has ended: what is left of it is in frames, or is skipped byte by byte.
     pub fn end(&mut self)
-        ensures held { self.new ≡ record self.old { ended = true } }
-        ensures progress { (extras : List (ℕ × ℕ)) (reads_old : Bool) (taken : List ℕ) (given : List Event) → Progress extras reads_old taken given self.old → Progress extras reads_old taken given self.new }
+        ensures { Ends self.old self.new }
     {
         self.ended = true;
     }

@@ -1,12 +1,9 @@
 // What is at the start of some bytes of a stream.
-ghost use Rattle.std.specs.Prelude.{◌≡◌, ◌<◌, ◌≤◌, ◌++◌, ℕ, Bool, List, length, drop};
-ghost use Rattle.mav_frame.specs.Looks.{frame_size_at, is_old_at, look_by, look_of};
-ghost use Rattle.mav_frame.specs.Encoding.{encoding};
-ghost use Rattle.mav_frame.specs.declared.events.Event.{Event};
+ghost use Rattle.std.specs.Prelude.{◌≡◌, ◌<◌, ◌≤◌, ℕ, length, drop};
+ghost use Rattle.mav_frame.specs.Looks.{is_old_at, look_by, look_of};
 ghost use Rattle.mav_frame.specs.declared.looks.Look.TheVariants.{More, NotHere};
 ghost use Rattle.mav_stream.specs.Held.{Held};
-ghost use Rattle.mav_stream.specs.Progress.{Progress, IsWhole};
-ghost use Rattle.mav_stream.specs.Spans.{first_packet, held_after, next_span, span_by, span_events, span_size, IfEvent, IfFrame, IfNeed};
+ghost use Rattle.mav_stream.specs.Spans.{first_packet, next_span, span_by, IsNextSpan};
 
 use crate::skips::skipped_length;
 use crate::spans::NextSpan;
@@ -62,19 +59,7 @@ impl<'t, 'b> Scan<'t, 'b> {
     /// What is at the start of the bytes.
     #[inline]
     pub fn next_span(&self) -> NextSpan
-        ensures exact { result ≡ next_span self.now }
-        ensures within { span_size result ≤ length self.now.bytes }
-        ensures some { IfEvent result (0 < span_size result) }
-        ensures frame { IfFrame result (λ size. (size ≡ length (encoding (first_packet self.now))) × (size ≡ frame_size_at (is_old_at self.now.reads_old self.now.bytes) self.now.bytes)) }
-        // The events given and those at the start are a prefix of the parse.
-        ensures progress { (extras : List (ℕ × ℕ)) (reads_old : Bool) (taken : List ℕ) (given : List Event)
-            → Progress extras reads_old taken given self.now
-            → Progress extras reads_old taken (given ++ span_events self.now result) (held_after self.now result) }
-        // At Need all of it was given.
-        ensures whole { (extras : List (ℕ × ℕ)) (reads_old : Bool) (taken : List ℕ) (given : List Event)
-            → Progress extras reads_old taken given self.now → IfNeed result (IsWhole extras reads_old taken given self.now) }
-        // And what is left is less than the longest frame.
-        ensures room { IfNeed result (length self.now.bytes < 280) }
+        ensures { IsNextSpan self.now result }
     {
         let _held = as_bytes(self.bytes);
         self.span()

@@ -1,18 +1,15 @@
 // The scanner of a stream.
-ghost use Rattle.std.specs.Prelude.{◌≡◌, ◌-◌, ◌<◌, ◌≤◌, ◌++◌, ℕ, Bool, List, length, take, drop, min, false, true, IfOk};
-ghost use Rattle.mav_frame.specs.Looks.{frame_size_at, is_old_at};
-ghost use Rattle.mav_frame.specs.Encoding.{encoding};
-ghost use Rattle.mav_frame.specs.declared.events.Event.{Event};
-ghost use Rattle.mav_stream.specs.Held.{Held, nothing_held};
-ghost use Rattle.mav_stream.specs.Progress.{Progress, IsWhole};
-ghost use Rattle.mav_stream.specs.Spans.{first_packet, held_after, next_span, span_events, span_size, IfEvent, IfFrame, IfNeed};
+ghost use Rattle.std.specs.Prelude.{◌≡◌, ◌≤◌, length, drop, IfOk};
+ghost use Rattle.mav_stream.specs.Held.{nothing_held};
+ghost use Rattle.mav_stream.specs.Progress.{Feeds, Ends};
+ghost use Rattle.mav_stream.specs.Spans.{first_packet, next_span, IsNextSpan};
 
 use crate::NoMemory;
 use crate::scan::Scan;
 use crate::spans::NextSpan;
 use crate::table::ExtrasTable;
 use crate::window::Window;
-use mav_frame::{Frame, RawFrame, frame_at};
+use mav_frame::RawFrame;
 use std::alloc::Global;
 use std::marker::Model;
 use x25_check::Extras;
@@ -56,20 +53,14 @@ impl Scanner {
 
     /// Takes as many bytes as fit after those held, and returns how many. It isn't called after `end`.
     pub fn feed(&mut self, piece: &[u8]) -> usize
-        ensures count { result ≡ min (length piece.now) (65816 - length self.old.bytes) }
-        ensures held { self.new ≡ record self.old { bytes = self.old.bytes ++ take result piece.now } }
-        // The events given are a prefix of the parse of all bytes taken.
-        ensures progress { (extras : List (ℕ × ℕ)) (reads_old : Bool) (taken : List ℕ) (given : List Event) → self.old.ended ≡ false
-            → Progress extras reads_old taken given self.old → Progress extras reads_old (taken ++ take result piece.now) given self.new }
+        ensures { Feeds 65816 self.old piece.now result self.new }
     {
         self.window.append(piece)
     }
 
     /// The input has ended: what is left of it is in frames, or is skipped byte by byte.
     pub fn end(&mut self)
-        ensures held { self.new ≡ record self.old { ended = true } }
-        ensures progress { (extras : List (ℕ × ℕ)) (reads_old : Bool) (taken : List ℕ) (given : List Event)
-            → Progress extras reads_old taken given self.old → Progress extras reads_old taken given self.new }
+        ensures { Ends self.old self.new }
     {
         self.ended = true;
     }
@@ -85,32 +76,12 @@ impl Scanner {
     /// What is at the start of the bytes held.
     #[inline]
     pub fn next_span(&self) -> NextSpan
-        ensures exact { result ≡ next_span self.now }
-        ensures within { span_size result ≤ length self.now.bytes }
-        ensures some { IfEvent result (0 < span_size result) }
-        ensures frame { IfFrame result (λ size. (size ≡ length (encoding (first_packet self.now))) × (size ≡ frame_size_at (is_old_at self.now.reads_old self.now.bytes) self.now.bytes)) }
-        // The events given and those at the start are a prefix of the parse.
-        ensures progress { (extras : List (ℕ × ℕ)) (reads_old : Bool) (taken : List ℕ) (given : List Event)
-            → Progress extras reads_old taken given self.now
-            → Progress extras reads_old taken (given ++ span_events self.now result) (held_after self.now result) }
-        // At Need all of it was given.
-        ensures whole { (extras : List (ℕ × ℕ)) (reads_old : Bool) (taken : List ℕ) (given : List Event)
-            → Progress extras reads_old taken given self.now → IfNeed result (IsWhole extras reads_old taken given self.now) }
-        // And there is room for a large piece.
-        ensures room { IfNeed result (length self.now.bytes < 280) }
+        ensures { IsNextSpan self.now result }
     {
         self.scan().next_span()
     }
 
-    /// The frame at the start of the bytes held, if `next_span` says that one is there.
-    pub fn frame(&self) -> Frame
-        requires { frame_size_at (is_old_at self.now.reads_old self.now.bytes) self.now.bytes ≤ length self.now.bytes }
-        ensures { result ≡ first_packet self.now }
-    {
-        frame_at(self.reads_old, self.window.bytes())
-    }
-
-    /// The same as the bytes that encode it, whose length `next_span` says.
+    /// The frame at the start as the bytes that encode it, if `next_span` says that one of that length is there.
     #[inline]
     pub fn raw_frame(&self, size: usize) -> RawFrame<'_>
         requires { next_span self.now ≡ NextSpan.Frame size }

@@ -6,7 +6,7 @@ use Rattle.plan_items.specs.declared.plans.Plan.{Plan}
 use Rattle.plan_items.specs.Plans.{items_of}
 use Rattle.scenario_lines.specs.declared.faults.Reason.{Reason}
 use Rattle.scenario_lines.specs.declared.lines.Line.{Line}
-use Rattle.scenario_lines.specs.declared.lines.Line.TheVariants.{Blank, Drone, Station, Item as OneItem, Items, Empty, Begin, Cancel, Clear, Get, Command, Params, Heartbeat, Deliver, Flow, Noise, Tick, Clock as ClockLine, Restart, Sim, WhereIs}
+use Rattle.scenario_lines.specs.declared.lines.Line.TheVariants.{Item as OneItem, Items}
 use Rattle.scenario_lines.specs.Grammar.{line_of}
 use Rattle.scenario_lines.specs.ItemRows.{items_from}
 use Rattle.scenario_lines.specs.Reasons.{item_reason_against}
@@ -15,27 +15,9 @@ use Rattle.line_input.specs.Takers.{Says, lines_spec, HoldsLines}
 
 -- the items that a line adds; in a file of items no line but these two adds any
 abbrev pub items_in : Line → List Item
-items_in Blank = []
-items_in (Drone sys x y) = []
-items_in (Station sys comp) = []
 items_in (OneItem item) = item ∷ []
 items_in (Items n first) = items_from n first 0
-items_in Empty = []
-items_in (Begin station drone kind) = []
-items_in (Cancel station) = []
-items_in (Clear station drone kind) = []
-items_in (Get station drone kind) = []
-items_in (Command station drone number word) = []
-items_in (Params station drone) = []
-items_in (Heartbeat node) = []
-items_in (Deliver i node) = []
-items_in (Flow k) = []
-items_in (Noise node bytes) = []
-items_in (Tick node) = []
-items_in (ClockLine n) = []
-items_in (Restart drone) = []
-items_in (Sim drone n) = []
-items_in (WhereIs drone) = []
+items_in _ = []
 
 -- a line's items join those before, unless there is a reason against it
 abbrev pub items_said : List Item → List ℕ → Option Reason → Result (List Item) Reason

@@ -49,6 +49,7 @@ impl Router for Alone {
     ghost use Rattle.std.specs.Prelude.{⊤, true};
 
     ghost ready = { ⊤ };
+
     ghost alone = { true };
 
     fn route_ports(
@@ -68,6 +69,7 @@ impl<'a, R: Threads + Wait + Sync> Router for Threaded<'a, R> {
     ghost use Rattle.std.specs.Prelude.{false};
 
     ghost ready = { IsSync R.row };
+
     ghost alone = { false };
 
     fn route_ports(

@@ -5,7 +5,7 @@ use Rattle.std.proofs.lemmas.List.Elements.{All-nil, All-cons}
 use Rattle.std.proofs.lemmas.List.Splits.{slice_split_at}
 use Rattle.key_file.specs.KeyText.{default_key}
 use Rattle.node_reports.specs.Nodes.{Node}
-use Rattle.fleet_world.specs.Authentic.{AuthenticLines, Authentic}
+use Rattle.fleet_world.specs.Authentic.{AuthenticDone, HoldsOfLines, Authentic}
 use Rattle.fleet_world.specs.Scenario.{Played, unless_stopped, lines_played, at_start, rest_played}
 use Rattle.scenario_lines.specs.FileLines.{is_newline, but_last, last_part, whole_lines, unfinished, without_cr}
 use Rattle.fleet_invariants.specs.Laws.{is_noise}
@@ -171,7 +171,7 @@ first_idle = (tt, (tt, (tt, (tt, ((refl, refl, refl), ((refl, refl, refl), ((ref
 first_sound : Sound first_played.state
 first_sound =
     sound_lines (at_start default_key) (sound_start default_key) 1 first_lines
-    (subst (AuthenticLines (at_start default_key) 1) (whole_is first_lines first_plain) first_authentic.lines)
+    (subst (HoldsOfLines AuthenticDone (at_start default_key) 1) (whole_is first_lines first_plain) first_authentic.lines)
 
 first_calm : Calm first_played.state
 first_calm = record {

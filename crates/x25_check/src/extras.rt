@@ -106,7 +106,9 @@ impl Extras {
         ensures { IfOk result (λ copied. copied ≡ self.now) }
     {
         match &self.own {
-            Some(own) => Ok(Extras { own: Some(own.clone()?) }),
+            Some(own) => Ok(Extras {
+                own: Some(own.clone()?),
+            }),
             None => Ok(Extras::profile()),
         }
     }

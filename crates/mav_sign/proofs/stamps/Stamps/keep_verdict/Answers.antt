@@ -1,4 +1,4 @@
-use Rattle.std.proofs.Common.{◌≡◌, ℕ, Option, Some, None, sym, ap, ◌∙◌, subst}
+use Rattle.std.proofs.Common.{◌≡◌, ℕ, Option, Some, None, refl, sym, ap, ◌∙◌, subst}
 use Rattle.mav_names.specs.declared.names.Stream.{Stream}
 use Rattle.mav_frame.specs.Packet.{SignatureBlock}
 use Rattle.mav_sign.specs.declared.admission.Admit.TheVariants.{Unsigned}
@@ -31,31 +31,35 @@ keep_stamp-requires-clause-right c =
     let stream : c.stream_on.result ≡ stream_of c.args.frame.now block = c.stream_on.ensures.stream ∙ (λ i. record { sys = (c.from.ensures i).sys; comp = (c.from.ensures i).comp; link = link i }) in
     ap (λ (s : Stream). kept_answer c.args.self.now s c.block-in-Some.inside.stamp) stream ∙ (ap (kept_answer c.args.self.now (stream_of c.args.frame.now block)) stamp ∙ admitted_stamp c.args.key.now c.args.self.now c.args.frame.now block signed (sym c.requires ∙ admitted))
 
-pub returns-in-Some-clause-unchanged : goal.returns-in-Some-clause-unchanged
-returns-in-Some-clause-unchanged c =
-    λ refused. kept_same c.args.answer (stream_of c.args.frame.now c.in-Some.block) c.in-Some.block.stamp c.args.self.now c.keep_stamp.new.self refused (kept c)
+pub returns-in-Some : goal.returns-in-Some
+returns-in-Some c =
+    let old = c.args.self.now in
+    let new = c.keep_stamp.new.self in
+    let frame = c.args.frame.now in
+    let block = c.in-Some.block in
+    let signed : frame.block ≡ Some block = sym c.block.ensures ∙ c.in-Some.is in
+    record {
+      verdict = record {
+        by_kept = c.requires;
+        by_history = λ history of. c.requires ∙ verdict_same c.args.key.now old history frame block signed (bytes c) of;
+      };
+      unchanged = λ refused. kept_same c.args.answer (stream_of frame block) block.stamp old new refused (kept c);
+      history = λ history of. after_tried old new history frame block c.args.answer signed (bytes c)
+          (λ is. admitted_stamp c.args.key.now old frame block signed (sym c.requires ∙ is)) (kept c) of;
+    }
 
-pub returns-in-Some-clause-answer : goal.returns-in-Some-clause-answer
-returns-in-Some-clause-answer c =
-    λ history of. c.requires ∙ verdict_same c.args.key.now c.args.self.now history c.args.frame.now c.in-Some.block (sym c.block.ensures ∙ c.in-Some.is) (bytes c) of
-
-pub returns-in-Some-clause-history : goal.returns-in-Some-clause-history
-returns-in-Some-clause-history c =
-    λ history of.
-    let signed : c.args.frame.now.block ≡ Some c.in-Some.block = sym c.block.ensures ∙ c.in-Some.is in
-    after_tried c.args.self.now c.keep_stamp.new.self history c.args.frame.now c.in-Some.block c.args.answer signed (bytes c) (λ is. admitted_stamp c.args.key.now c.args.self.now c.args.frame.now c.in-Some.block signed (sym c.requires ∙ is)) (kept c) of
-
-pub returns-in-None-clause-answer : goal.returns-in-None-clause-answer
-returns-in-None-clause-answer c =
-    λ history of.
-    let none : c.args.frame.now.block ≡ None = sym c.block.ensures ∙ c.in-None.is in
-    c.requires
-    ∙ (ap (λ (o : Option SignatureBlock). block_answer c.args.key.now (kept_answer c.args.self.now) c.args.frame.now o) none
-    ∙ sym (ap (λ (o : Option SignatureBlock). block_answer c.args.key.now (λ stream stamp. stamp_answer stream stamp history) c.args.frame.now o) none))
-
-pub returns-in-None-clause-history : goal.returns-in-None-clause-history
-returns-in-None-clause-history c =
-    λ history of.
-    let none : c.args.frame.now.block ≡ None = sym c.block.ensures ∙ c.in-None.is in
-    let unsigned : c.args.answer ≡ Unsigned = c.requires ∙ ap (λ (o : Option SignatureBlock). block_answer c.args.key.now (kept_answer c.args.self.now) c.args.frame.now o) none in
-    after_refused c.args.self.now history c.args.frame.now c.args.answer (ap is_admitted unsigned) of
+pub returns-in-None : goal.returns-in-None
+returns-in-None c =
+    let old = c.args.self.now in
+    let frame = c.args.frame.now in
+    let key = c.args.key.now in
+    let none : frame.block ≡ None = sym c.block.ensures ∙ c.in-None.is in
+    let unsigned : c.args.answer ≡ Unsigned = c.requires ∙ ap (λ (o : Option SignatureBlock). block_answer key (kept_answer old) frame o) none in
+    record {
+      verdict = record {
+        by_kept = c.requires;
+        by_history = λ history of. unsigned ∙ sym (ap (λ (o : Option SignatureBlock). block_answer key (λ stream stamp. stamp_answer stream stamp history) frame o) none);
+      };
+      unchanged = λ refused. refl;
+      history = λ history of. after_refused old history frame c.args.answer (ap is_admitted unsigned) of;
+    }

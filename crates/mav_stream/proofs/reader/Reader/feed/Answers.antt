@@ -1,13 +1,12 @@
-use Rattle.std.proofs.Common.{◌≡◌, ℕ, ◌++◌, List, take, false, sym, subst}
+use Rattle.std.proofs.Common.{subst}
 use Rattle.mav_stream.specs.Held.{Held}
-use Rattle.mav_stream.specs.Progress.{Progress}
-use Rattle.mav_stream.proofs.Steps.{fed_on}
+use Rattle.mav_stream.specs.Progress.{Feeds}
+use Rattle.mav_stream.proofs.Steps.{fed}
 use Rattle.mav_stream.proofs.reader.Reader.feed.Goals as goal
 
-pub returns-clause-progress : goal.returns-clause-progress
-returns-clause-progress c extras reads_old taken given still h =
-    let i = c.self.inside in let bytes = take c.append.result c.args.piece.now in
+pub returns : goal.returns
+returns c =
+    let i = c.self.inside in
     let held : Held = record { extras = i.extras; reads_old = i.reads_old; bytes = i.window; ended = i.ended } in
-    let known : (held.ended ≡ false) × Progress extras reads_old taken given held =
-    subst (λ (z : Held). (z.ended ≡ false) × Progress extras reads_old taken given z) (sym c.self.view_is) (still, h) in
-    subst (λ (z : List ℕ). Progress extras reads_old (taken ++ bytes) given (record held { bytes = z })) (sym c.append.ensures.bytes) (fed_on extras reads_old taken given held known.1 bytes known.0)
+    subst (λ (old : Held). Feeds 280 old c.args.piece.now c.append.result (record held { bytes = c.append.new.self })) c.self.view_is
+    (fed 280 held c.args.piece.now c.append.result c.append.new.self c.append.ensures.count c.append.ensures.bytes)

@@ -1,13 +1,14 @@
-use Rattle.std.proofs.Common.{◌≡◌, ℕ, ◌++◌, List, take, false, sym, ap, ◌∙◌, subst}
+use Rattle.std.proofs.Common.{ℕ, ◌-◌, ◌++◌, List, length, take, min, ap, ◌∙◌, subst}
 use Rattle.mav_stream.specs.Held.{Held}
-use Rattle.mav_stream.specs.Progress.{Progress}
-use Rattle.mav_stream.proofs.Steps.{fed_on}
+use Rattle.mav_stream.specs.Progress.{Feeds}
+use Rattle.mav_stream.proofs.Steps.{fed}
 use Rattle.mav_stream.proofs.scanner.Scanner.feed.Goals as goal
 
-pub returns-clause-progress : goal.returns-clause-progress
-returns-clause-progress c extras reads_old taken given still h =
-    let i = c.self.inside in let bytes = take c.append.result c.args.piece.now in
+pub returns : goal.returns
+returns c =
+    let i = c.self.inside in
+    let piece = c.args.piece.now in
     let held : Held = record { extras = i.table; reads_old = i.reads_old; bytes = i.window.value; ended = i.ended } in
-    let known : (held.ended ≡ false) × Progress extras reads_old taken given held =
-    subst (λ (z : Held). (z.ended ≡ false) × Progress extras reads_old taken given z) (sym c.self.view_is) (still, h) in
-    subst (λ (z : List ℕ). Progress extras reads_old (taken ++ bytes) given (record held { bytes = z })) (sym (c.append.ensures.bytes ∙ ap (λ (z : List ℕ). z ++ bytes) c.deref_mut.ensures.value)) (fed_on extras reads_old taken given held known.1 bytes known.0)
+    let is = c.deref_mut.ensures.value in
+    subst (λ (old : Held). Feeds 65816 old piece c.append.result (record held { bytes = c.append.new.self })) c.self.view_is
+    (fed 65816 held piece c.append.result _ (c.append.ensures.count ∙ ap (λ (b : List ℕ). min (length piece) (65816 - length b)) is) (c.append.ensures.bytes ∙ ap (λ (b : List ℕ). b ++ take c.append.result piece) is))

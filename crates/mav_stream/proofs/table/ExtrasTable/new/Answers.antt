@@ -15,7 +15,7 @@ invariant_of-result c =
     let size : length new ≡ old.len = omega arith in
     let long : length new ≡ 65536 = size ∙ filled in
     let all = front old.len new (drop (length new) old.items) size in
-    subst (λ (low : List ℕ). (length low ≡ 65536) × ((id : ℕ) → id < 65536 → byte_of (slice_index low id) ≡ extra_of id c.args.extras)) (sym all) (long, λ id small. c.fill.ensures.entries id small ∙ ap (extra_of id) c.pairs.ensures)
+    subst (λ (low : List ℕ). (length low ≡ 65536) × ((id : ℕ) → id < 65536 → byte_of (slice_index low id) ≡ extra_of id c.args.extras)) (sym all) (long, λ id small. c.fill.ensures.entries id small ∙ ap (extra_of id) c.pairs.ensures.pairs)
 
 -- no id has an entry yet
 pub fill-requires-clause-unknown : goal.fill-requires-clause-unknown
