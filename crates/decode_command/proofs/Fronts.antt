@@ -5,7 +5,7 @@ use Rattle.mav_profile.specs.Messages.{extras_of}
 use Rattle.mav_frame.specs.declared.events.Event.{Event}
 use Rattle.mav_frame.proofs.LongerParse.{more_bytes_keep}
 use Rattle.decode_command.specs.Parsing.{final_events, incremental_events}
-use Rattle.decode_command.specs.DecodeText.{event_lines, lines_from, bytes_in, decode_text, last_line}
+use Rattle.decode_command.specs.DecodeText.{event_size, event_line, event_lines, lines_from, bytes_in, decode_text, last_line}
 use Rattle.decode_command.specs.Decodes.{Halted, Front, Unfinished}
 use Rattle.decode_command.specs.declared.decoder.Decoder.{Decoder}
 use Rattle.decode_command.proofs.Parses.{final_begins, incremental_begins}
@@ -19,7 +19,7 @@ halted_front known taken more decoder before now still h =
     let longer = more_bytes_keep extras true h.given left taken more (h.progress.incremental still) in
     let events : incremental_events extras (taken ++ more) ≡ h.given ++ incremental_events extras (left ++ more) = incremental_begins extras h.given (left ++ more) (taken ++ more) longer in
     longer_front before now (event_lines known h.given) (lines_from known (0 + bytes_in h.given) (incremental_events extras (left ++ more))) (event_lines known (incremental_events extras (taken ++ more)))
-    (ap (event_lines known) events ∙ lines_append known 0 h.given (incremental_events extras (left ++ more))) h.front
+    (ap (event_lines known) events ∙ lines_append (event_line known) event_size 0 h.given (incremental_events extras (left ++ more))) h.front
 
 -- after the end a prefix of the whole text was sent
 pub halted_unfinished : (known : Known) (taken : List ℕ) (decoder : Decoder) (before now : Option (List ℕ)) → Halted known taken decoder before now → Unfinished known taken before now
@@ -30,4 +30,4 @@ halted_unfinished known taken decoder before now h =
     let last = last_line (final_events extras taken) in
     longer_front before now (event_lines known h.given) (more ++ last) (decode_text known (final_events extras taken))
     (ap (λ (es : List Event). event_lines known es ++ last) events
-    ∙ (ap (λ (text : List ℕ). text ++ last) (lines_append known 0 h.given (final_events extras left)) ∙ append_assoc (event_lines known h.given) more last)) h.front
+    ∙ (ap (λ (text : List ℕ). text ++ last) (lines_append (event_line known) event_size 0 h.given (final_events extras left)) ∙ append_assoc (event_lines known h.given) more last)) h.front

@@ -1,5 +1,6 @@
 -- What a step of a decoder makes of the bytes taken.
 use Rattle.std.proofs.Common.{◌≡◌, ℕ, ◌+◌, ◌≤◌, true, List, [], ◌∷◌, ◌++◌, length, sym, ap, ◌∙◌, subst, arith, append_assoc, append-nil, length-append, Option}
+use Rattle.std.proofs.lemmas.List.Sums.{sum_by-append, sum_by-cons}
 use Rattle.mav_ports.specs.Puts.{Sent, SentPrefix}
 use Rattle.decode_command.specs.declared.known.Known.{Known}
 use Rattle.mav_profile.specs.Messages.{extras_of}
@@ -11,7 +12,7 @@ use Rattle.mav_stream.specs.Progress.{Progress, IsWhole}
 use Rattle.decode_command.specs.DecodeText.{event_size, frames_of, skips_of, event_line, event_lines, lines_from, bytes_in, frames_in, skips_in}
 use Rattle.decode_command.specs.Decodes.{Decoding, Drained, Halted, Gave, PutsLine, Puts, IsWithin, Stepped}
 use Rattle.decode_command.specs.declared.decoder.Decoder.{Decoder}
-use Rattle.decode_command.proofs.Lines.{lines_more, bytes_more, frames_more, skips_more}
+use Rattle.decode_command.proofs.Lines.{lines_more}
 
 -- a prefix of a text is one of a longer text
 pub longer_front : (before now : Option (List ℕ)) (text more whole : List ℕ) → whole ≡ text ++ more → SentPrefix before now text → SentPrefix before now whole
@@ -51,9 +52,9 @@ events_put known taken old new held events before now d on puts =
       given = d.given ++ events;
       same = puts.known ∙ d.same;
       progress = subst (λ (h : Held). Progress (extras_of known.dialect) true taken (d.given ++ events) h) (sym puts.reader) (on d.given d.progress);
-      offset = puts.offset ∙ (ap (λ (n : ℕ). n + bytes_in events) d.offset ∙ sym (bytes_more d.given events));
-      frames = puts.frames ∙ (ap (λ (n : ℕ). n + frames_in events) d.frames ∙ sym (frames_more d.given events));
-      skipped = puts.skipped ∙ (ap (λ (n : ℕ). n + skips_in events) d.skipped ∙ sym (skips_more d.given events));
+      offset = puts.offset ∙ (ap (λ (n : ℕ). n + bytes_in events) d.offset ∙ sym (sum_by-append event_size d.given events));
+      frames = puts.frames ∙ (ap (λ (n : ℕ). n + frames_in events) d.frames ∙ sym (sum_by-append frames_of d.given events));
+      skipped = puts.skipped ∙ (ap (λ (n : ℕ). n + skips_in events) d.skipped ∙ sym (sum_by-append skips_of d.given events));
       sent =
           let grown : Sent before now (event_lines known d.given ++ lines_from old.known old.offset events) (old.text.items ++ lines_from old.known old.offset events) = sent_held before now (event_lines known d.given) old.text.items (lines_from old.known old.offset events) d.sent in
           let lines : event_lines known d.given ++ lines_from old.known old.offset events ≡ event_lines known (d.given ++ events) = ap (λ (text : List ℕ). event_lines known d.given ++ text) more ∙ sym (lines_more known d.given events) in
@@ -67,7 +68,8 @@ some_bytes (Skipped c w) = omega arith
 
 counted_within : (events : List Event) → frames_in events + skips_in events ≤ bytes_in events
 counted_within [] = omega arith
-counted_within (event ∷ events) = omega (arith, some_bytes event, counted_within events)
+counted_within (event ∷ events) =
+    omega (arith, some_bytes event, counted_within events, sum_by-cons event_size event events, sum_by-cons frames_of event events, sum_by-cons skips_of event events)
 
 pub within_put : (old new : Decoder) (events : List Event) → IsWithin old (bytes_in events) → Puts events old new → IsWithin new 0
 within_put old new events w puts =

@@ -1,5 +1,5 @@
 -- The text of a parse.
-use Rattle.std.specs.Prelude.{ℕ, ◌+◌, if◌then◌else◌, List, [], ◌∷◌, ◌++◌, length, codes, Option, Some, None}
+use Rattle.std.specs.Prelude.{ℕ, ◌+◌, if◌then◌else◌, List, [], ◌∷◌, ◌++◌, length, codes, sum_by, Option, Some, None}
 use Rattle.std.specs.Str.{bytes_eq}
 use Rattle.std.specs.Fmt.{decimal}
 use Rattle.field_layout.specs.Definition.{Definition}
@@ -42,26 +42,26 @@ abbrev pub event_line : Known → ℕ → Event → List ℕ
 event_line known offset (Frame packet) = frame_line (definition_with packet.id known.dialect) known.key offset packet
 event_line known offset (Skipped byte why) = skip_line offset byte why
 
--- the lines of events, of which the first is at an offset
+-- the lines of a capture's events or a log's, of which the first is at an offset
+abbrev pub lines_at : {E : Type 0} → (line : ℕ → E → List ℕ) (size : E → ℕ) → ℕ → List E → List ℕ
+lines_at line size offset [] = []
+lines_at line size offset (event ∷ events) = line offset event ++ lines_at line size (offset + size event) events
+
 abbrev pub lines_from : Known → ℕ → List Event → List ℕ
-lines_from known offset [] = []
-lines_from known offset (event ∷ events) = event_line known offset event ++ lines_from known (offset + event_size event) events
+lines_from known offset events = lines_at (event_line known) event_size offset events
 
 abbrev pub event_lines : Known → List Event → List ℕ
 event_lines known events = lines_from known 0 events
 
 -- sums over events
 abbrev pub bytes_in : List Event → ℕ
-bytes_in [] = 0
-bytes_in (event ∷ events) = event_size event + bytes_in events
+bytes_in events = sum_by event_size events
 
 abbrev pub frames_in : List Event → ℕ
-frames_in [] = 0
-frames_in (event ∷ events) = frames_of event + frames_in events
+frames_in events = sum_by frames_of events
 
 abbrev pub skips_in : List Event → ℕ
-skips_in [] = 0
-skips_in (event ∷ events) = skips_of event + skips_in events
+skips_in events = sum_by skips_of events
 
 -- how many of something were found and how many bytes were skipped: `WHAT N skipped M`
 abbrev pub counts_text : List ℕ → ℕ → ℕ → List ℕ

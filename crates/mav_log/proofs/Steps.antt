@@ -1,6 +1,7 @@
 -- What the commands tell of one event more, and of all.
 use Rattle.std.proofs.Common.{◌≡◌, ℕ, ◌+◌, ◌*◌, Bool, true, false, List, [], ◌∷◌, ◌++◌, length, take, drop, map, refl, sym, ap, ◌∙◌, subst, arith, append-nil, length-append}
 use Rattle.std.proofs.Math.Seq.{take-append_seam}
+use Rattle.std.proofs.lemmas.List.Sums.{sum_by_push}
 use Rattle.std.specs.Fmt.{decimal}
 use Rattle.field_layout.specs.Definition.{Definition}
 use Rattle.mav_profile.specs.Messages.{extras_of}
@@ -13,6 +14,7 @@ use Rattle.mav_stream.specs.Held.{Held}
 use Rattle.mav_stream.specs.Progress.{Progress, IsWhole}
 use Rattle.mav_stream.specs.Spans.{skipped_for}
 use Rattle.decode_command.specs.Parsing.{parse_events}
+use Rattle.decode_command.proofs.Lines.{lines_append}
 use Rattle.decode_command.proofs.Parses.{final_is, incremental_is}
 use Rattle.log_rows.specs.LogEvents.{log_events}
 use Rattle.log_rows.specs.LogParse.{LogEvent, RowEvent, SkipEvent, LogParse}
@@ -23,7 +25,7 @@ use Rattle.mav_log.specs.LogText.{event_size, rows_of, skips_of, event_line, lin
 use Rattle.mav_log.specs.RowsMade.{row_of, rows_of_system, time_after, rows_from, micros_after}
 use Rattle.mav_log.specs.Spec.{show_telling, filter_telling, make_telling}
 use Rattle.mav_log.specs.Tellers.{Showing, HasShown, Filtering, HasKept, Making, HasMade}
-use Rattle.mav_log.specs.TellingLaws.{log_begins, shown_leads, lines_append, kept_append, made_append}
+use Rattle.mav_log.specs.TellingLaws.{log_begins, shown_leads, kept_append, made_append}
 
 -- a reader gave an event, and holds the rest
 abbrev pub GaveEvent : LogEvent → LogHeld → LogHeld → Type 0
@@ -36,32 +38,20 @@ given_whole extras ended taken given held is whole =
 
 -- ---- log show
 
-bytes_more : (given : List LogEvent) (event : LogEvent) → bytes_in (given ++ event ∷ []) ≡ bytes_in given + event_size event
-bytes_more [] event = omega arith
-bytes_more (x ∷ xs) event = omega (arith, bytes_more xs event)
-
-rows_more : (given : List LogEvent) (event : LogEvent) → rows_in (given ++ event ∷ []) ≡ rows_in given + rows_of event
-rows_more [] event = omega arith
-rows_more (x ∷ xs) event = omega (arith, rows_more xs event)
-
-skips_more : (given : List LogEvent) (event : LogEvent) → skips_in (given ++ event ∷ []) ≡ skips_in given + skips_of event
-skips_more [] event = omega arith
-skips_more (x ∷ xs) event = omega (arith, skips_more xs event)
-
 -- one event more was shown
 pub shown_on : (old new : Showing) (event : LogEvent) (ended : Bool) (taken told : List ℕ) → HasShown old ended taken told → GaveEvent event old.reader new.reader → new.known ≡ old.known → new.reader.ended ≡ old.reader.ended → new.offset ≡ old.offset + event_size event → new.rows ≡ old.rows + rows_of event → new.skipped ≡ old.skipped + skips_of event → HasShown new ended taken (told ++ event_line old.known old.offset event)
 shown_on old new event ended taken told h gave known still offset rows skipped =
     let line : lines_from old.known 0 (h.given ++ event ∷ []) ≡ told ++ event_line old.known old.offset event =
-    lines_append old.known 0 h.given (event ∷ [])
+    lines_append (event_line old.known) event_size 0 h.given (event ∷ [])
     ∙ (ap (λ (n : ℕ). lines_from old.known 0 h.given ++ (event_line old.known n event ++ [])) (let n : 0 + bytes_in h.given ≡ old.offset = omega (arith, h.offset) in n)
     ∙ (λ i. sym h.lines i ++ append-nil (event_line old.known old.offset event) i)) in
     record {
       given = h.given ++ event ∷ [];
       is_ended = still ∙ h.is_ended;
       progress = subst (λ (ds : List Definition). LogProgress (extras_of ds) taken (h.given ++ event ∷ []) new.reader) (sym known) (gave (extras_of old.known) taken h.given h.progress);
-      offset = omega (arith, offset, h.offset, bytes_more h.given event);
-      rows = omega (arith, rows, h.rows, rows_more h.given event);
-      skipped = omega (arith, skipped, h.skipped, skips_more h.given event);
+      offset = omega (arith, offset, h.offset, sum_by_push event_size h.given event);
+      rows = omega (arith, rows, h.rows, sum_by_push rows_of h.given event);
+      skipped = omega (arith, skipped, h.skipped, sum_by_push skips_of h.given event);
       lines = sym (ap (λ (ds : List Definition). lines_from ds 0 (h.given ++ event ∷ [])) known ∙ line);
     }
 

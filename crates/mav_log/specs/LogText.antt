@@ -1,11 +1,11 @@
 -- What `log show` prints of a log.
-use Rattle.std.specs.Prelude.{ℕ, ◌+◌, List, [], ◌∷◌, ◌++◌, length, codes}
+use Rattle.std.specs.Prelude.{ℕ, List, [], ◌∷◌, ◌++◌, length, codes, sum_by}
 use Rattle.std.specs.Fmt.{decimal}
 use Rattle.field_layout.specs.Definition.{Definition}
 use Rattle.mav_profile.specs.Messages.{definition_with}
 use Rattle.mav_text.specs.FrameText.{skip_line}
 use Rattle.mav_text.specs.TemplateText.{line_of}
-use Rattle.decode_command.specs.DecodeText.{counts_text}
+use Rattle.decode_command.specs.DecodeText.{counts_text, lines_at}
 use Rattle.log_rows.specs.LogParse.{LogEvent, RowEvent, SkipEvent}
 use Rattle.log_rows.specs.Rows.{row_encoding}
 use Rattle.log_rows.specs.declared.rows.Row.{Row}
@@ -34,21 +34,17 @@ event_line known offset (SkipEvent byte why) = skip_line offset byte why
 
 -- the lines of events, of which the first is at an offset
 abbrev pub lines_from : List Definition → ℕ → List LogEvent → List ℕ
-lines_from known offset [] = []
-lines_from known offset (event ∷ events) = event_line known offset event ++ lines_from known (offset + event_size event) events
+lines_from known offset events = lines_at (event_line known) event_size offset events
 
 -- sums over events
 abbrev pub bytes_in : List LogEvent → ℕ
-bytes_in [] = 0
-bytes_in (event ∷ events) = event_size event + bytes_in events
+bytes_in events = sum_by event_size events
 
 abbrev pub rows_in : List LogEvent → ℕ
-rows_in [] = 0
-rows_in (event ∷ events) = rows_of event + rows_in events
+rows_in events = sum_by rows_of events
 
 abbrev pub skips_in : List LogEvent → ℕ
-skips_in [] = 0
-skips_in (event ∷ events) = skips_of event + skips_in events
+skips_in events = sum_by skips_of events
 
 -- `rows N skipped M`
 abbrev pub counts_line : ℕ → ℕ → List ℕ

@@ -1,9 +1,10 @@
 -- What was told is a prefix of what is told of the bytes taken.
-use Rattle.std.proofs.Common.{◌≡◌, ℕ, ◌+◌, Bool, true, false, List, [], ◌∷◌, ◌++◌, refl, sym, ap, ◌∙◌, subst, arith, append_assoc}
+use Rattle.std.proofs.Common.{◌≡◌, ℕ, ◌+◌, Bool, true, false, List, [], ◌∷◌, ◌++◌, refl, sym, ap, ◌∙◌, subst, append_assoc}
 use Rattle.field_layout.specs.Definition.{Definition}
 use Rattle.mav_profile.specs.Messages.{extras_of}
 use Rattle.mav_frame.specs.declared.events.Event.{Event}
 use Rattle.decode_command.specs.Parsing.{parse_events}
+use Rattle.decode_command.proofs.Lines.{lines_append}
 use Rattle.decode_command.proofs.Parses.{final_begins, incremental_begins}
 use Rattle.log_rows.specs.LogEvents.{log_events}
 use Rattle.log_rows.specs.LogParse.{LogEvent, BeginsLog}
@@ -16,13 +17,6 @@ use Rattle.mav_log.specs.Tellers.{Showing, HasShown, Filtering, HasKept, Making,
 use Rattle.mav_log.specs.Tellings.{Leads}
 
 -- ---- the text of more events
-
-pub lines_append : (known : List Definition) (offset : ℕ) (xs ys : List LogEvent) → lines_from known offset (xs ++ ys) ≡ lines_from known offset xs ++ lines_from known (offset + bytes_in xs) ys
-lines_append known offset [] ys = ap (λ (n : ℕ). lines_from known n ys) (omega arith)
-lines_append known offset (x ∷ xs) ys =
-    let there : offset + event_size x + bytes_in xs ≡ offset + (event_size x + bytes_in xs) = omega arith in
-    ap (λ (more : List ℕ). event_line known offset x ++ more) (lines_append known (offset + event_size x) xs ys ∙ ap (λ (n : ℕ). lines_from known (offset + event_size x) xs ++ lines_from known n ys) there)
-    ∙ sym (append_assoc (event_line known offset x) (lines_from known (offset + event_size x) xs) (lines_from known (offset + (event_size x + bytes_in xs)) ys))
 
 pub kept_append : (sys : ℕ) (xs ys : List LogEvent) → rows_of_system sys (xs ++ ys) ≡ rows_of_system sys xs ++ rows_of_system sys ys
 kept_append sys [] ys = refl
@@ -45,7 +39,7 @@ shown_leads s ended taken told h =
     let more = log_events (extras_of s.known) ended s.reader.bytes in (
       lines_from s.known (0 + bytes_in h.given) more,
       ap (lines_from s.known 0) (log_begins s.known ended taken h.given s.reader h.is_ended h.progress)
-          ∙ (lines_append s.known 0 h.given more ∙ ap (λ (text : List ℕ). text ++ lines_from s.known (0 + bytes_in h.given) more) (sym h.lines)),
+          ∙ (lines_append (event_line s.known) event_size 0 h.given more ∙ ap (λ (text : List ℕ). text ++ lines_from s.known (0 + bytes_in h.given) more) (sym h.lines)),
     )
 
 pub kept_leads : (f : Filtering) (ended : Bool) (taken told : List ℕ) → HasKept f ended taken told → Leads (filter_telling f.known f.sys) ended taken told
