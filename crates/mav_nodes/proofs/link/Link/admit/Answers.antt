@@ -49,7 +49,7 @@ pub keep_verdict-requires : goal.keep_verdict-requires
 keep_verdict-requires g c =
     let first = ap (λ (v : LinkView). v.endpoint) c.self.view_is in
     let view = ap (λ (v : LinkView). v.endpoint) c.self-2.view_is in
-    c.test_judged-answer.ensures.kept ∙ ap (λ (e : EndpointState). kept_answer_to e.key e.stamps c.args.frame.now) (first ∙ (sym c.raise_for.ensures.endpoint ∙ sym view))
+    c.test_judged-answer.ensures.by_kept ∙ ap (λ (e : EndpointState). kept_answer_to e.key e.stamps c.args.frame.now) (first ∙ (sym c.raise_for.ensures.endpoint ∙ sym view))
 
 pub returns : goal.returns
 returns g c =
@@ -59,7 +59,7 @@ returns g c =
     let first = ap (λ (v : LinkView). v.endpoint) c.self.view_is in
     let view = ap (λ (v : LinkView). v.endpoint) c.self-2.view_is in
     let low = ap (λ (v : LinkView). v.low) c.self-2.view_is in
-    let answer : (link : Link) → IsLink link old → c.test_judged-answer.result ≡ answer_to link.key link.history frame = λ link is. verdict_so link frame old c.self.inside.endpoint c.test_judged-answer.result is first c.test_judged-answer.ensures.answer in
+    let answer : (link : Link) → IsLink link old → c.test_judged-answer.result ≡ answer_to link.key link.history frame = λ link is. verdict_so link frame old c.self.inside.endpoint c.test_judged-answer.result is first c.test_judged-answer.ensures.by_history in
     record {
       answer = answer;
       link = λ link is. tried_so link frame old raised c.self-2.inside.endpoint c.keep_verdict.new.self c.self-2.inside.low is view low (c.in_ok-raise_for.ensures.low ∙ ap (λ (a : Admit). record old { low = raised_if old.low a frame.block }) (answer link is)) c.keep_verdict.ensures.same c.keep_verdict.ensures.history;
