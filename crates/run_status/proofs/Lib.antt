@@ -1,2 +1,3 @@
 pub mod RunsBeforeStatus
 pub mod Ends
+mod HeldLines

@@ -2,3 +2,4 @@ pub mod Endings
 pub mod Runs
 pub mod StatusText
 pub mod Seen
+pub mod HeldLines

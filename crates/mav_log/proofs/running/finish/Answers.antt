@@ -36,7 +36,7 @@ returns-clause-done g c = λ taken before h.
     let same = c.in_ok-tell_all.ensures.same ∙ c.end.ensures.same in
     let whole = closed t taken all.tells.told c.tell_all.new.text.items c.close.new.text.items (last.closing taken) before (g.K.Sink.sent c.tell_all.new.out) all.tells.sent
     (is ∙ ap (λ (z : Telling). z.told true taken) same) (c.in_ok-close.ensures taken all.tells.told all.tells.has is) (ap (λ (z : Telling). z.closing taken) same) in
-    on_ok_both c.write_held.result c.write_held.ensures.moved c.write_held.ensures.empty (λ moved empty.
+    on_ok_both c.write_held.result c.write_held.ensures.writes.moved c.write_held.ensures.empty (λ moved empty.
     sent_all before (g.K.Sink.sent c.write_held.new.out) (t.told true taken ++ t.closing taken)
     (subst (λ (held : List ℕ). Sent before (g.K.Sink.sent c.write_held.new.out) (t.told true taken ++ t.closing taken) held) empty (moved before (t.told true taken ++ t.closing taken) whole)))
 
@@ -48,7 +48,7 @@ returns-clause-halted g c = λ taken before h.
     let same = c.in_ok-tell_all.ensures.same ∙ c.end.ensures.same in
     let whole = closed t taken all.tells.told c.tell_all.new.text.items c.close.new.text.items (last.closing taken) before (g.K.Sink.sent c.tell_all.new.out) all.tells.sent
     (is ∙ ap (λ (z : Telling). z.told true taken) same) (c.in_ok-close.ensures taken all.tells.told all.tells.has is) (ap (λ (z : Telling). z.closing taken) same) in
-    if_err c.write_held.result (c.write_held.ensures.front before (t.told true taken ++ t.closing taken) whole)
+    if_err c.write_held.result (c.write_held.ensures.writes.front before (t.told true taken ++ t.closing taken) whole)
 
 pub returns-in_err-tell_all-clause-halts : goal.returns-in_err-tell_all-clause-halts
 returns-in_err-tell_all-clause-halts g c =
@@ -62,4 +62,4 @@ returns-in_err-close-clause-halts g c =
 
 pub returns-clause-halts : goal.returns-clause-halts
 returns-clause-halts g c =
-    let wrote = c.write_held.ensures in halts_written c.write_held.result _ _ _ (c.in_ok-tell_all.ensures.halts.sound (λ e. cc)) wrote.error wrote.rose wrote.sound
+    let wrote = c.write_held.ensures.writes in halts_written c.write_held.result _ _ _ (c.in_ok-tell_all.ensures.halts.sound (λ e. cc)) wrote.error wrote.rose wrote.sound

@@ -11,7 +11,7 @@ pub returns-clause-told : goal.returns-clause-told
 returns-clause-told g c = λ taken before h.
     let bytes = taken ++ c.args.piece.now in
     let all = c.in_ok-tell_all.ensures.told false bytes before (record { told = h.told; has = c.feed.ensures.told taken h.told h.has; sent = h.sent }) in
-    on_ok c.write_held.result c.write_held.ensures.moved (λ moved. record {
+    on_ok c.write_held.result c.write_held.ensures.writes.moved (λ moved. record {
       tells = tells_written false bytes before (g.T.Teller.has_told c.tell_all.new.teller) c.tell_all.new.text.items c.write_held.new.lines.items (g.K.Sink.sent c.tell_all.new.out) (g.K.Sink.sent c.write_held.new.out) all.tells moved;
       all = all.all ∙ ap (λ (t : Telling). t.told false bytes) c.feed.ensures.same;
     })
@@ -22,7 +22,7 @@ returns-clause-halted g c = λ taken before h.
     let all = c.in_ok-tell_all.ensures.told false bytes before (record { told = h.told; has = c.feed.ensures.told taken h.told h.has; sent = h.sent }) in
     if_err c.write_held.result
     (subst (λ (text : List ℕ). SentPrefix before (g.K.Sink.sent c.write_held.new.out) text) (all.all ∙ ap (λ (t : Telling). t.told false bytes) c.feed.ensures.same)
-    (c.write_held.ensures.front before all.tells.told all.tells.sent))
+    (c.write_held.ensures.writes.front before all.tells.told all.tells.sent))
 
 pub returns-in_err-tell_all-clause-halts : goal.returns-in_err-tell_all-clause-halts
 returns-in_err-tell_all-clause-halts g c =
@@ -31,4 +31,4 @@ returns-in_err-tell_all-clause-halts g c =
 
 pub returns-clause-halts : goal.returns-clause-halts
 returns-clause-halts g c =
-    let wrote = c.write_held.ensures in halts_written c.write_held.result _ _ _ (c.in_ok-tell_all.ensures.halts.sound (λ e. cc)) wrote.error wrote.rose wrote.sound
+    let wrote = c.write_held.ensures.writes in halts_written c.write_held.result _ _ _ (c.in_ok-tell_all.ensures.halts.sound (λ e. cc)) wrote.error wrote.rose wrote.sound

@@ -49,7 +49,7 @@ returns g c =
     (subst (λ (xs : List ℕ). Sent before before text (xs ++ text)) (sym (c.in_ok-reserve.ensures.items ∙ c.new-lines.ensures.items)) (sent_start before text))) in
     record {
       wrote = wrote_last None text (g.K.Sink.faults c.args.out.now) (g.K.Sink.faults c.write_held.new.out) before (g.K.Sink.sent c.write_held.new.out) c.write_held.result c.write_held.new.lines.items
-          (on_ok c.write_held.result c.write_held.ensures.moved (λ moved. moved before text held)) c.write_held.ensures.empty (c.write_held.ensures.front before text held) c.write_held.ensures.error
-          (λ refused. subst (λ (n : ℕ). Rose n (g.K.Sink.faults c.write_held.new.out)) same (c.write_held.ensures.rose refused))
-          (on_ok c.write_held.result c.write_held.ensures.sound (λ kept. kept ∙ same));
+          (on_ok c.write_held.result c.write_held.ensures.writes.moved (λ moved. moved before text held)) c.write_held.ensures.empty (c.write_held.ensures.writes.front before text held) c.write_held.ensures.writes.error
+          (λ refused. subst (λ (n : ℕ). Rose n (g.K.Sink.faults c.write_held.new.out)) same (c.write_held.ensures.writes.rose refused))
+          (on_ok c.write_held.result c.write_held.ensures.writes.sound (λ kept. kept ∙ same));
     }

@@ -26,7 +26,7 @@ pub returns-clause-done : goal.returns-clause-done
 returns-clause-done g c =
     let ended = c.in_ok-drain.ensures.ended ∙ ap (λ (h : Held). h.ended) c.end.ensures.held in
     λ known taken before d.
-    on_ok_both c.write_held.result c.write_held.ensures.moved c.write_held.ensures.empty (λ moved empty.
+    on_ok_both c.write_held.result c.write_held.ensures.writes.moved c.write_held.ensures.empty (λ moved empty.
     finished known taken c.drain.new.self before (g.K.Sink.sent c.drain.new.out) ended
     (c.in_ok-drain.ensures.drained known taken before (decoding_fed known taken taken c.args.self.now c.end.new.self before (g.K.Sink.sent c.args.out.now) d.decoding (λ given p. c.end.ensures.progress _ _ taken given p)))
     (g.K.Sink.sent c.write_held.new.out) c.put_counts.new.text.items c.write_held.new.lines.items c.in_ok-put_counts.ensures moved empty)
@@ -38,7 +38,7 @@ returns-clause-halted g c =
     if_err c.write_held.result
     (unfinished known taken c.drain.new.self before (g.K.Sink.sent c.drain.new.out) ended
     (c.in_ok-drain.ensures.drained known taken before (decoding_fed known taken taken c.args.self.now c.end.new.self before (g.K.Sink.sent c.args.out.now) d.decoding (λ given p. c.end.ensures.progress _ _ taken given p)))
-    (g.K.Sink.sent c.write_held.new.out) c.put_counts.new.text.items c.in_ok-put_counts.ensures c.write_held.ensures.front)
+    (g.K.Sink.sent c.write_held.new.out) c.put_counts.new.text.items c.in_ok-put_counts.ensures c.write_held.ensures.writes.front)
 
 pub returns-in_err-drain-clause-done : goal.returns-in_err-drain-clause-done
 returns-in_err-drain-clause-done g c = λ known taken before d. rw (err_from_is_err_and c.from_residual.result c.from_residual.ensures.1).1 tt
@@ -58,4 +58,4 @@ returns-in_err-put_counts-clause-halts g c =
 
 pub returns-clause-halts : goal.returns-clause-halts
 returns-clause-halts g c =
-    let wrote = c.write_held.ensures in halts_written c.write_held.result _ _ _ (c.in_ok-drain.ensures.halts.sound (λ e. cc)) wrote.error wrote.rose wrote.sound
+    let wrote = c.write_held.ensures.writes in halts_written c.write_held.result _ _ _ (c.in_ok-drain.ensures.halts.sound (λ e. cc)) wrote.error wrote.rose wrote.sound

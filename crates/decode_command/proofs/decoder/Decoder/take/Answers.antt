@@ -45,7 +45,7 @@ returns-in_err-drain-clause-halted g c =
 pub returns-clause-drained : goal.returns-clause-drained
 returns-clause-drained g c = λ known taken before d.
     let l = c.loop-place in
-    on_ok c.write_held.result c.write_held.ensures.moved (λ moved.
+    on_ok c.write_held.result c.write_held.ensures.writes.moved (λ moved.
     drained_written known _ l.self (record l.self { text = c.write_held.new.lines }) before (g.K.Sink.sent l.out) (g.K.Sink.sent c.write_held.new.out)
     (piece_whole known taken c.args.piece.now l.place l.self before (g.K.Sink.sent l.out) c.loop-place-test.false (l.invariant.drained known taken before d)) moved refl)
 
@@ -54,7 +54,7 @@ returns-clause-halted g c = λ known taken before d.
     let l = c.loop-place in
     if_err c.write_held.result
     (drained_front known _ l.self before (g.K.Sink.sent l.out) (g.K.Sink.sent c.write_held.new.out) l.invariant.still
-    (piece_whole known taken c.args.piece.now l.place l.self before (g.K.Sink.sent l.out) c.loop-place-test.false (l.invariant.drained known taken before d)) c.write_held.ensures.front)
+    (piece_whole known taken c.args.piece.now l.place l.self before (g.K.Sink.sent l.out) c.loop-place-test.false (l.invariant.drained known taken before d)) c.write_held.ensures.writes.front)
 
 pub returns-in_err-drain-clause-within : goal.returns-in_err-drain-clause-within
 returns-in_err-drain-clause-within g c = rw (err_from_is_err_and c.from_residual.result c.from_residual.ensures.1).1 tt
@@ -81,4 +81,4 @@ returns-in_err-drain-clause-halts g c =
 
 pub returns-clause-halts : goal.returns-clause-halts
 returns-clause-halts g c =
-    let wrote = c.write_held.ensures in halts_written c.write_held.result _ _ _ c.loop-place.invariant.refusals wrote.error wrote.rose wrote.sound
+    let wrote = c.write_held.ensures.writes in halts_written c.write_held.result _ _ _ c.loop-place.invariant.refusals wrote.error wrote.rose wrote.sound
