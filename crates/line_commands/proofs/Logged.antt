@@ -17,7 +17,7 @@ use Rattle.run_status.specs.Runs.{CommandSpec, Steady}
 use Rattle.dialect_command.specs.Spec.{definitions_spec}
 use Rattle.dialect_command.proofs.Stays.{reading_steady}
 use Rattle.mav_log.specs.Spec.{show_telling, filter_telling, make_telling}
-use Rattle.mav_log.proofs.Stays.{telling_steady}
+use Rattle.decode_command.proofs.Stays.{telling_steady}
 use Rattle.run_status.specs.Seen.{Input, input_of, before_status_over}
 use Rattle.line_commands.specs.Logging.{log_spec, Logs}
 use Rattle.line_commands.proofs.Decoded.{unmade}

@@ -1,6 +1,5 @@
 pub mod Telling
 pub mod Steps
-pub mod Stays
 mod StatusTold
 mod Worked
 mod Starts

@@ -10,7 +10,7 @@ use Rattle.run_status.specs.StatusText.{WritesStatus}
 use Rattle.run_status.proofs.Ends.{promised}
 use Rattle.run_status.proofs.RunsBeforeStatus.{run_reported}
 use Rattle.decode_command.specs.Tellings.{Telling, telling_spec}
-use Rattle.mav_log.proofs.Stays.{telling_steady}
+use Rattle.decode_command.proofs.Stays.{telling_steady}
 
 pub status_told : (t : Telling) (spent : Type 0) (faults_before faults_after idles_before idles_after refusals_before refusals_told refusals_after : ℕ) (left_before left_after sent_before sent_told sent_after : Option (List ℕ)) (ended reported : Result (Unit {0}) RunEnd) → (spent → IsSpent left_after)
     → RunBeforeStatus (telling_spec t) (port_outcome spent faults_before faults_after idles_before idles_after refusals_before refusals_told) left_before left_after sent_before sent_told (result_err ended) → ((IsErrOf ended WriteFault → ⊥) → refusals_told ≡ refusals_before) → WritesStatus ended reported refusals_told refusals_after sent_told sent_after
