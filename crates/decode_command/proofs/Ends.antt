@@ -1,27 +1,16 @@
 -- How a run ends, before the text of its status, whatever is told of its input.
-use Rattle.std.proofs.Common.{◌≡◌, ◌<◌, ◌≤◌, ◌+◌, ◌∙◌, ◌⊎◌, inl, inr, ℕ, if◌then◌else◌, Bool, true, false, List, [], ◌++◌, length, take, refl, sym, ap, subst, arith, length-append, length-take, Option, Some, None, Result, Ok, Err, OnOk, IfErr, IsErrOf, IsTrue}
+use Rattle.std.proofs.Common.{◌≡◌, ◌<◌, ◌≤◌, ◌+◌, ◌∙◌, ◌⊎◌, inl, inr, ℕ, if◌then◌else◌, Bool, true, false, List, ◌++◌, length, take, refl, sym, ap, subst, arith, length-append, length-take, Option, Some, None, Result, Ok, Err, OnOk, IfErr, IsErrOf, IsTrue}
 use Rattle.std.proofs.Math.Seq.{take-append-add}
 use Rattle.std.proofs.lemmas.List.{take-take}
 use Rattle.std.proofs.lemmas.Bool.{lt-ltb, le-ltb}
 use Rattle.std.specs.Result.{result_err}
 use Rattle.std.specs.Io.KnownBytes.{append_known, prepend_known}
-use Rattle.mav_ports.specs.Puts.{Sent, SentPrefix}
-use Rattle.mav_ports.proofs.Known.{sent_all}
-use Rattle.mav_profile.specs.Messages.{extras_of}
-use Rattle.mav_frame.specs.declared.events.Event.{Event}
+use Rattle.mav_ports.specs.Puts.{SentPrefix}
 use Rattle.run_status.specs.declared.run_ends.RunEnd.{RunEnd}
 use Rattle.run_status.specs.declared.run_ends.RunEnd.TheVariants.{Stopped, ReadFault, WriteFault, NoMemory, TurnsSpent}
 use Rattle.run_status.specs.declared.input_errors.Bound.TheVariants.{InputBytes}
 use Rattle.run_status.specs.declared.input_errors.InputError.TheVariants.{AtLimit}
 use Rattle.run_status.specs.Runs.{PortOutcome, RunBeforeStatus}
-use Rattle.decode_command.specs.declared.known.Known.{Known}
-use Rattle.decode_command.specs.declared.decoder.Decoder.{Decoder}
-use Rattle.decode_command.specs.Parsing.{final_events, incremental_events}
-use Rattle.decode_command.specs.DecodeText.{event_lines, decode_text}
-use Rattle.decode_command.specs.Spec.{lines_at, decode_spec}
-use Rattle.decode_command.specs.Decodes.{Drained, Finished}
-use Rattle.decode_command.proofs.Parses.{final_is, incremental_is}
-use Rattle.decode_command.proofs.Results.{on_ok}
 use Rattle.decode_command.specs.Tellings.{Telling, most_input_bytes, telling_spec}
 
 module _ (t : Telling) where
@@ -130,21 +119,6 @@ pub limited : (taken buf : List ℕ) (count left : ℕ) → left ≤ count → l
 limited taken buf count left h e =
     up_to_limit taken (take count buf) left e ∙ ap (λ (bytes : List ℕ). taken ++ bytes) (take-take left count buf h)
 
--- ---- decode
-
--- all lines of the bytes taken were sent
-pub all_lines : (known : Known) (taken : List ℕ) (decoder : Decoder) (before now : Option (List ℕ)) → decoder.reader.ended ≡ false → decoder.text.items ≡ [] → Drained known taken decoder before now → now ≡ append_known before (lines_at known false taken)
-all_lines known taken decoder before now still empty d =
-    let given = d.decoding.given in
-    let events : incremental_events (extras_of known.dialect) taken ≡ given = incremental_is (extras_of known.dialect) given decoder.reader.bytes taken (d.whole.incremental still) in
-    sent_all before now (event_lines known given) (subst (λ (held : List ℕ). Sent before now (event_lines known given) held) empty d.decoding.sent)
-    ∙ ap (λ (es : List Event). append_known before (event_lines known es)) (sym events)
-
--- all was sent
-pub all_sent : (known : Known) (taken : List ℕ) (r : Result (Unit {0}) RunEnd) (before now : Option (List ℕ)) → OnOk r (Finished known taken before now) → OnOk r (now ≡ append_known before (decode_text known (final_events (extras_of known.dialect) taken)))
-all_sent known taken r before now done =
-    on_ok r done (λ f. f.sent ∙ ap (λ (es : List Event). append_known before (decode_text known es)) (sym (final_is (extras_of known.dialect) f.given taken f.final)))
-
--- a run under the same definitions
-pub same_script : (known others : Known) (o : PortOutcome) (lb la sb sa : Option (List ℕ)) (end : Option RunEnd) → known ≡ others → RunBeforeStatus (decode_spec known) o lb la sb sa end → RunBeforeStatus (decode_spec others) o lb la sb sa end
-same_script known others o lb la sb sa end same u = subst (λ (d : Known). RunBeforeStatus (decode_spec d) o lb la sb sa end) same u
+-- a run that tells the same
+pub same_run : (t u : Telling) (o : PortOutcome) (lb la sb sa : Option (List ℕ)) (end : Option RunEnd) → t ≡ u → RunBeforeStatus (telling_spec t) o lb la sb sa end → RunBeforeStatus (telling_spec u) o lb la sb sa end
+same_run t u o lb la sb sa end same run = subst (λ (z : Telling). RunBeforeStatus (telling_spec z) o lb la sb sa end) same run

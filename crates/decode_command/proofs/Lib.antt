@@ -1,12 +1,10 @@
 pub mod Results
 pub mod Halts
-pub mod Parses
 pub mod Lines
 pub mod Steps
-pub mod Passes
-pub mod Fronts
-pub mod Pieces
+pub mod Loads
+pub mod Telling
 pub mod Ends
-pub mod Starts
+mod Starts
 pub mod Stays
 pub mod Worked

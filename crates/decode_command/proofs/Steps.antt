@@ -1,119 +1,102 @@
--- What a step of a decoder makes of the bytes taken.
-use Rattle.std.proofs.Common.{◌≡◌, ℕ, ◌+◌, ◌≤◌, true, List, [], ◌∷◌, ◌++◌, length, sym, ap, ◌∙◌, subst, arith, append_assoc, append-nil, length-append, Option}
-use Rattle.std.proofs.lemmas.List.Sums.{sum_by-append, sum_by-cons}
-use Rattle.mav_ports.specs.Puts.{Sent, SentPrefix}
-use Rattle.decode_command.specs.declared.known.Known.{Known}
+-- What `decode` tells of more events, and of all.
+use Rattle.std.proofs.Common.{◌≡◌, ℕ, ◌+◌, Bool, true, false, List, [], ◌∷◌, ◌++◌, length, take, drop, map, sym, ap, ◌∙◌, subst, arith, append-nil, Result, Ok, Err, OnOk, OnErr}
+use Rattle.std.proofs.lemmas.List.Sums.{sum_by-append}
 use Rattle.mav_profile.specs.Messages.{extras_of}
-use Rattle.mav_frame.specs.Encoding.{encoding}
 use Rattle.mav_frame.specs.declared.events.Event.{Event}
-use Rattle.mav_frame.specs.declared.events.Event.TheVariants.{Frame, Skipped}
+use Rattle.mav_frame.specs.declared.events.Event.TheVariants.{Frame as FrameEvent}
+use Rattle.mav_frame.specs.declared.looks.Why.{Why}
 use Rattle.mav_stream.specs.Held.{Held}
 use Rattle.mav_stream.specs.Progress.{Progress, IsWhole}
-use Rattle.decode_command.specs.DecodeText.{event_size, frames_of, skips_of, event_line, event_lines, lines_from, bytes_in, frames_in, skips_in}
-use Rattle.decode_command.specs.Decodes.{Decoding, Drained, Halted, Gave, PutsLine, Puts, IsWithin, Stepped}
-use Rattle.decode_command.specs.declared.decoder.Decoder.{Decoder}
-use Rattle.decode_command.proofs.Lines.{lines_more}
+use Rattle.mav_stream.specs.Spans.{first_packet, skipped_for, IsNextSpan}
+use Rattle.mav_stream.specs.declared.spans.NextSpan.{NextSpan}
+use Rattle.mav_stream.specs.declared.spans.NextSpan.TheVariants.{Frame, Skipped}
+use Rattle.mav_text.specs.FrameText.{skip_lines}
+use Rattle.decode_command.specs.declared.known.Known.{Known}
+use Rattle.decode_command.specs.Parsing.{parse_events}
+use Rattle.decode_command.specs.Parses.{final_is, incremental_is}
+use Rattle.decode_command.specs.DecodeText.{event_size, frames_of, skips_of, event_line, event_lines, lines_from, bytes_in, frames_in, skips_in, counts_line}
+use Rattle.decode_command.specs.Decodes.{GaveEvents, Decoding, HasDecoded, HasDecodedAll, decoding_load}
+use Rattle.decode_command.specs.Spec.{decode_telling}
+use Rattle.decode_command.specs.Tellings.{TellsSpan}
+use Rattle.decode_command.proofs.Lines.{lines_more, run_length, run_lines, run_bytes, run_frames, run_skips}
+use Rattle.decode_command.proofs.Loads.{fewer_held, decoded_less}
+use Rattle.decode_command.proofs.Telling.{untold}
 
--- a prefix of a text is one of a longer text
-pub longer_front : (before now : Option (List ℕ)) (text more whole : List ℕ) → whole ≡ text ++ more → SentPrefix before now text → SentPrefix before now whole
-longer_front before now text more whole e (rest, s) = (
-  rest ++ more,
-  record {
-    part = s.part;
-    whole = sym (append_assoc s.part rest more) ∙ (ap (λ (t : List ℕ). t ++ more) s.whole ∙ sym e);
-    appended = s.appended;
-  },
-)
+-- the whole parse
+pub frames_whole : (extras : List (ℕ × ℕ)) (ended : Bool) (taken : List ℕ) (given : List Event) (held : Held) → held.ended ≡ ended → IsWhole extras true taken given held → given ≡ parse_events extras ended taken
+frames_whole extras true taken given held is whole = sym (final_is extras given taken (whole.final is))
+frames_whole extras false taken given held is whole = sym (incremental_is extras given held.bytes taken (whole.incremental is))
 
--- one more line is held
-pub sent_held : (before now : Option (List ℕ)) (lines held more : List ℕ) → Sent before now lines held → Sent before now (lines ++ more) (held ++ more)
-sent_held before now lines held more s = record {
-  part = s.part;
-  whole = sym (append_assoc s.part held more) ∙ ap (λ (text : List ℕ). text ++ more) s.whole;
-  appended = s.appended;
-}
-
--- the line of one event
-pub one_line : (event : Event) (old new : Decoder) → PutsLine event old new → Puts (event ∷ []) old new
-one_line event old new p = record {
-  known = p.known;
-  reader = p.reader;
-  text = p.text ∙ ap (λ (line : List ℕ). old.text.items ++ line) (sym (append-nil (event_line old.known old.offset event)));
-  offset = omega (arith, p.offset);
-  frames = omega (arith, p.frames);
-  skipped = omega (arith, p.skipped);
-}
-
--- the reader gave more events, and their lines are held
-pub events_put : (known : Known) (taken : List ℕ) (old new : Decoder) (held : Held) (events : List Event) (before now : Option (List ℕ)) → Decoding known taken (record old { reader = held }) before now → Gave known taken events held old.reader → Puts events old new → Decoding known taken new before now
-events_put known taken old new held events before now d on puts =
-    let more : lines_from old.known old.offset events ≡ lines_from known (bytes_in d.given) events = (λ i. lines_from (d.same i) (d.offset i) events) in
+-- the lines of events more were told
+pub decoded_on : (old new : Decoding) (events : List Event) (ended : Bool) (taken told more : List ℕ) → HasDecoded old ended taken told → GaveEvents events old.reader new.reader → new.known ≡ old.known → new.reader.ended ≡ old.reader.ended
+    → new.offset ≡ old.offset + bytes_in events → new.frames ≡ old.frames + frames_in events → new.skipped ≡ old.skipped + skips_in events → more ≡ lines_from old.known old.offset events → HasDecoded new ended taken (told ++ more)
+decoded_on old new events ended taken told more h gave known still offset frames skipped is =
+    let lines : event_lines old.known (h.given ++ events) ≡ told ++ more =
+    lines_more old.known h.given events ∙ (λ i. sym h.lines i ++ (ap (λ (n : ℕ). lines_from old.known n events) (sym h.offset) ∙ sym is) i) in
     record {
-      given = d.given ++ events;
-      same = puts.known ∙ d.same;
-      progress = subst (λ (h : Held). Progress (extras_of known.dialect) true taken (d.given ++ events) h) (sym puts.reader) (on d.given d.progress);
-      offset = puts.offset ∙ (ap (λ (n : ℕ). n + bytes_in events) d.offset ∙ sym (sum_by-append event_size d.given events));
-      frames = puts.frames ∙ (ap (λ (n : ℕ). n + frames_in events) d.frames ∙ sym (sum_by-append frames_of d.given events));
-      skipped = puts.skipped ∙ (ap (λ (n : ℕ). n + skips_in events) d.skipped ∙ sym (sum_by-append skips_of d.given events));
-      sent =
-          let grown : Sent before now (event_lines known d.given ++ lines_from old.known old.offset events) (old.text.items ++ lines_from old.known old.offset events) = sent_held before now (event_lines known d.given) old.text.items (lines_from old.known old.offset events) d.sent in
-          let lines : event_lines known d.given ++ lines_from old.known old.offset events ≡ event_lines known (d.given ++ events) = ap (λ (text : List ℕ). event_lines known d.given ++ text) more ∙ sym (lines_more known d.given events) in
-          subst (λ (text : List ℕ). Sent before now (event_lines known (d.given ++ events)) text) (sym puts.text)
-          (subst (λ (text : List ℕ). Sent before now text (old.text.items ++ lines_from old.known old.offset events)) lines grown);
+      given = h.given ++ events;
+      is_ended = still ∙ h.is_ended;
+      progress = subst (λ (k : Known). Progress (extras_of k.dialect) true taken (h.given ++ events) new.reader) (sym known) (gave (extras_of old.known.dialect) true taken h.given h.progress);
+      offset = omega (arith, offset, h.offset, sum_by-append event_size h.given events);
+      frames = omega (arith, frames, h.frames, sum_by-append frames_of h.given events);
+      skipped = omega (arith, skipped, h.skipped, sum_by-append skips_of h.given events);
+      lines = sym (ap (λ (k : Known). event_lines k (h.given ++ events)) known ∙ lines);
     }
 
-some_bytes : (event : Event) → frames_of event + skips_of event ≤ event_size event
-some_bytes (Frame p) = let l = length-append (encoding p) [] in omega arith
-some_bytes (Skipped c w) = omega arith
+-- what `decode` does with a span
+abbrev pub TellsDecoded : {E : Type 0} → NextSpan → Decoding → Decoding → List ℕ → List ℕ → Result (Unit {0}) E → Type 0
+TellsDecoded span old new text longer r = TellsSpan (λ (d : Decoding). decode_telling d.known) HasDecoded (λ (d : Decoding). length d.reader.bytes) decoding_load span old new text longer r
 
-counted_within : (events : List Event) → frames_in events + skips_in events ≤ bytes_in events
-counted_within [] = omega arith
-counted_within (event ∷ events) =
-    omega (arith, some_bytes event, counted_within events, sum_by-cons event_size event events, sum_by-cons frames_of event events, sum_by-cons skips_of event events)
-
-pub within_put : (old new : Decoder) (events : List Event) → IsWithin old (bytes_in events) → Puts events old new → IsWithin new 0
-within_put old new events w puts =
-    let same : length new.reader.bytes ≡ length old.reader.bytes = ap (λ (h : Held). length h.bytes) puts.reader in
+-- a frame's
+pub frame_told : {E : Type 0} (old new : Decoding) (size : ℕ) (text longer : List ℕ) (r : Result (Unit {0}) E) → IsNextSpan old.reader (Frame size) → OnOk r (longer ≡ text ++ event_line old.known old.offset (FrameEvent (first_packet old.reader))) → OnErr r (new ≡ old)
+    → OnOk r (new ≡ record old { reader = record old.reader { bytes = drop size old.reader.bytes }; offset = old.offset + size; frames = old.frames + 1 }) → TellsDecoded (Frame size) old new text longer r
+frame_told old new size text longer (Ok done) at added same is =
+    let line : List ℕ = event_line old.known old.offset (FrameEvent (first_packet old.reader)) in
+    let events : List Event = FrameEvent (first_packet old.reader) ∷ [] in
+    let gone = ap (λ (d : Decoding). d.reader.bytes) is in
     record {
-      version = ap (λ (h : Held). h.reads_old) puts.reader ∙ w.version;
-      bytes = omega (arith, w.bytes, puts.offset, same);
-      counts = omega (arith, w.counts, puts.offset, puts.frames, puts.skipped, counted_within events);
+      same = ap (λ (d : Decoding). decode_telling d.known) is;
+      load = decoded_less old new size gone at.within (ap (λ (d : Decoding). d.offset) is) (omega (arith, ap (λ (d : Decoding). d.frames) is, ap (λ (d : Decoding). d.skipped) is, at.some));
+      told = λ ended taken told h. (
+        line,
+        added,
+        decoded_on old new events ended taken told line h
+            (subst (λ (z : Held). GaveEvents events old.reader z) (sym (ap (λ (d : Decoding). d.reader) is)) at.progress)
+            (ap (λ (d : Decoding). d.known) is) (ap (λ (d : Decoding). d.reader.ended) is)
+            (omega (arith, ap (λ (d : Decoding). d.offset) is, at.frame.0))
+            (omega (arith, ap (λ (d : Decoding). d.frames) is)) (omega (arith, ap (λ (d : Decoding). d.skipped) is)) (sym (append-nil line)),
+      );
+      fewer = fewer_held old.reader.bytes new.reader.bytes size gone at.some at.within;
     }
+frame_told old new size text longer (Err fault) at added same is = untold _ HasDecoded _ decoding_load (Frame size) old new text longer fault same
 
--- the lines were added, and enough lines were written
-pub stepped : (events : List Event) (old new : Decoder) (middle after : Option (List ℕ)) (sent : Decoder) → IsWithin old (bytes_in events) → Puts events old new
-    → ((before : Option (List ℕ)) (whole : List ℕ) → Sent before middle whole new.text.items → Sent before after whole sent.text.items)
-    → sent ≡ record new { text = sent.text } → Stepped events old sent middle after
-stepped events old new middle after sent w puts moved is =
-    subst (λ (d : Decoder). Stepped events old d middle after) (sym is)
-    (record {
-      within = let put = within_put old new events w puts in record { version = put.version; bytes = put.bytes; counts = put.counts };
-      reader = puts.reader;
-      offset = puts.offset;
-      decoding = λ known taken before held d gave.
-          let put = events_put known taken old new held events before middle d gave puts in
-          record { given = put.given; same = put.same; progress = put.progress; offset = put.offset; frames = put.frames; skipped = put.skipped; sent = moved before (event_lines known put.given) put.sent };
-    })
+-- that of bytes that are skipped
+pub skips_told : {E : Type 0} (old new : Decoding) (why : Why) (count : ℕ) (text longer : List ℕ) (r : Result (Unit {0}) E) → IsNextSpan old.reader (Skipped why count) → OnOk r (longer ≡ text ++ skip_lines old.offset (take count old.reader.bytes) why) → OnErr r (new ≡ old)
+    → OnOk r (new ≡ record old { reader = record old.reader { bytes = drop count old.reader.bytes }; offset = old.offset + count; skipped = old.skipped + count }) → TellsDecoded (Skipped why count) old new text longer r
+skips_told old new why count text longer (Ok done) at added same is =
+    let run = take count old.reader.bytes in
+    let events : List Event = map (skipped_for why) run in
+    let long = run_length count old.reader.bytes at.within in
+    let gone = ap (λ (d : Decoding). d.reader.bytes) is in
+    record {
+      same = ap (λ (d : Decoding). decode_telling d.known) is;
+      load = decoded_less old new count gone at.within (ap (λ (d : Decoding). d.offset) is) (omega (arith, ap (λ (d : Decoding). d.frames) is, ap (λ (d : Decoding). d.skipped) is));
+      told = λ ended taken told h. (
+        skip_lines old.offset run why,
+        added,
+        decoded_on old new events ended taken told (skip_lines old.offset run why) h
+            (subst (λ (z : Held). GaveEvents events old.reader z) (sym (ap (λ (d : Decoding). d.reader) is)) at.progress)
+            (ap (λ (d : Decoding). d.known) is) (ap (λ (d : Decoding). d.reader.ended) is)
+            (omega (arith, ap (λ (d : Decoding). d.offset) is, long, run_bytes why run))
+            (omega (arith, ap (λ (d : Decoding). d.frames) is, run_frames why run)) (omega (arith, ap (λ (d : Decoding). d.skipped) is, long, run_skips why run)) (run_lines old.known why old.offset run),
+      );
+      fewer = fewer_held old.reader.bytes new.reader.bytes count gone at.some at.within;
+    }
+skips_told old new why count text longer (Err fault) at added same is = untold _ HasDecoded _ decoding_load (Skipped why count) old new text longer fault same
 
--- nothing was added: the lines of the events so far were sent, but for those that are held
-pub unput_halted : (known : Known) (taken : List ℕ) (old new : Decoder) (before now : Option (List ℕ)) → new.reader ≡ old.reader → Decoding known taken old before now → Halted known taken new before now
-unput_halted known taken old new before now same d = record {
-  given = d.given;
-  progress = subst (λ (h : Held). Progress (extras_of known.dialect) true taken d.given h) (sym same) d.progress;
-  front = (old.text.items, d.sent);
-}
+-- all were
+pub decoded_whole : (d : Decoding) (ended : Bool) (taken told : List ℕ) (h : HasDecoded d ended taken told) → IsWhole (extras_of d.known.dialect) true taken h.given d.reader → HasDecodedAll d ended taken told
+decoded_whole d ended taken told h whole = record { has = h; all = frames_whole (extras_of d.known.dialect) ended taken h.given d.reader h.is_ended whole }
 
--- if the reader needs more bytes, the events are the whole parse
-pub drained_at_need : (known : Known) (taken : List ℕ) (decoder : Decoder) (held : Held) (before now : Option (List ℕ)) → Decoding known taken decoder before now → held ≡ decoder.reader → ((given : List Event) → Progress (extras_of known.dialect) true taken given decoder.reader → IsWhole (extras_of known.dialect) true taken given held) → Drained known taken (record decoder { reader = held }) before now
-drained_at_need known taken decoder held before now d same whole = record {
-  decoding = record {
-    given = d.given;
-    same = d.same;
-    progress = subst (λ (h : Held). Progress (extras_of known.dialect) true taken d.given h) (sym same) d.progress;
-    offset = d.offset;
-    frames = d.frames;
-    skipped = d.skipped;
-    sent = d.sent;
-  };
-  whole = whole d.given d.progress;
-}
+pub counts_of_all : (d : Decoding) (taken told : List ℕ) → HasDecodedAll d true taken told → counts_line d.frames d.skipped ≡ (decode_telling d.known).closing taken
+counts_of_all d taken told h = λ i. counts_line ((h.has.frames ∙ ap frames_in h.all) i) ((h.has.skipped ∙ ap skips_in h.all) i)

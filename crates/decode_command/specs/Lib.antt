@@ -1,8 +1,10 @@
 pub mod Parsing
 pub mod ParseLaws
+pub mod Parses
 pub mod DecodeText
 pub mod Tellings
 pub mod Spec
 pub mod Halts
 pub mod Decodes
+pub mod TellingLaws
 pub mod Examples

@@ -1,9 +1,10 @@
 //! The command `decode`: every frame of a stream as a line of text, and every byte that is in none. Frames of MAVLink 2
 //! and of MAVLink 1 are read.
 //!
-//! [`decode_by`] knows the messages of a dialect. With a key a signed frame is reported as good or bad. The input is
-//! read in pieces, and the lines of a piece are written before more is read, in constant memory. `specs/Spec.antt` says what stops a run and what it writes. The text of a halt isn't written
-//! here.
+//! A [`Teller`] makes a text of the bytes of an input as they come; [`run_teller`] reads the input in pieces of 64 KiB
+//! and writes what is told of a piece before more is read, in constant memory. [`decode_by`] runs the teller of `decode`,
+//! which knows the messages of a dialect, and with a key reports a signed frame as good or bad. `specs/Spec.antt` says
+//! what stops a run and what it writes. The text of a halt isn't written here.
 #![tactic(auto)]
 
 mod commands;
@@ -12,7 +13,12 @@ mod decoder;
 mod known;
 pub mod laws;
 mod prepared;
+mod running;
+mod tellers;
 
 pub use commands::decode_by;
 pub use counts::put_counts;
+pub use decoder::scanner_of;
 pub use known::Known;
+pub use running::run_teller;
+pub use tellers::Teller;

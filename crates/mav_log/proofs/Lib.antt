@@ -1,4 +1,3 @@
-pub mod Telling
 pub mod Steps
 mod StatusTold
 mod Worked

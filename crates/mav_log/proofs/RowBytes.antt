@@ -54,3 +54,9 @@ pub row_made : (now inside : Making) (size : ℕ) (reader : Held) → inside ≡
 row_made now inside size reader same gone =
     ap (λ (z : Held). let m : Making = record inside { reader = z; rows = inside.rows + 1 } in m) gone
     ∙ ap (λ (m : Making). let n : Making = record m { reader = record m.reader { bytes = drop size m.reader.bytes }; rows = m.rows + 1 } in n) same
+
+pub frame_gone : (now inside : Making) (count : ℕ) (reader : Held) → inside ≡ now → reader ≡ record inside.reader { bytes = drop count inside.reader.bytes }
+    → ◌≡◌ {A = Making} (record inside { reader = reader }) (record now { reader = record now.reader { bytes = drop count now.reader.bytes } })
+frame_gone now inside count reader same gone =
+    ap (λ (z : Held). let m : Making = record inside { reader = z } in m) gone
+    ∙ ap (λ (m : Making). let n : Making = record m { reader = record m.reader { bytes = drop count m.reader.bytes } } in n) same

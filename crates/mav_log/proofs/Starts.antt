@@ -1,20 +1,12 @@
 -- What a command holds before the first byte.
-use Rattle.std.proofs.Common.{◌≡◌, ◌<◌, ◌+◌, ◌*◌, ℕ, true, false, List, [], length, refl, sym, subst, arith, lit≤, Option}
+use Rattle.std.proofs.Common.{◌≡◌, ◌<◌, ◌+◌, ◌*◌, ℕ, true, false, List, [], length, refl, sym, subst, arith, lit≤}
 use Rattle.field_layout.specs.Definition.{Definition}
 use Rattle.mav_profile.specs.Messages.{extras_of}
 use Rattle.mav_stream.specs.Held.{nothing_held}
 use Rattle.mav_stream.proofs.Steps.{begun}
-use Rattle.run_status.specs.declared.run_ends.RunEnd.{RunEnd}
-use Rattle.run_status.specs.Runs.{PortOutcome, RunBeforeStatus}
 use Rattle.log_rows.specs.Progress.{no_bytes_held}
 use Rattle.log_rows.proofs.LogSteps.{log_begun}
-use Rattle.mav_log.specs.Spec.{show_telling}
-use Rattle.decode_command.specs.Tellings.{Telling, telling_spec}
 use Rattle.mav_log.specs.Tellers.{Showing, HasShown, shown_load, Filtering, HasKept, Making, HasMade}
-
--- a run that tells the same
-pub same_run : (t u : Telling) (o : PortOutcome) (lb la sb sa : Option (List ℕ)) (end : Option RunEnd) → t ≡ u → RunBeforeStatus (telling_spec t) o lb la sb sa end → RunBeforeStatus (telling_spec u) o lb la sb sa end
-same_run t u o lb la sb sa end same run = subst (λ (z : Telling). RunBeforeStatus (telling_spec z) o lb la sb sa end) same run
 
 module _ (known : List Definition) where
   -- log show
@@ -31,9 +23,6 @@ module _ (known : List Definition) where
 
   pub show_load : (s : Showing) → s ≡ show_start → shown_load s ≡ 0
   show_load s is = subst (λ (z : Showing). shown_load z ≡ 0) (sym is) refl
-
-  pub show_nothing : (s : Showing) → (show_telling s.known).told false [] ≡ []
-  show_nothing s = refl
 
   -- log filter
   module _ (sys : ℕ) where

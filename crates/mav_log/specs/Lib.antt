@@ -1,4 +1,3 @@
-pub mod Tellings
 pub mod LogText
 pub mod RowsMade
 pub mod Spec

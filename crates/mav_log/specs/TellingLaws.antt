@@ -4,8 +4,7 @@ use Rattle.field_layout.specs.Definition.{Definition}
 use Rattle.mav_profile.specs.Messages.{extras_of}
 use Rattle.mav_frame.specs.declared.events.Event.{Event}
 use Rattle.decode_command.specs.Parsing.{parse_events}
-use Rattle.decode_command.proofs.Lines.{lines_append}
-use Rattle.decode_command.proofs.Parses.{final_begins, incremental_begins}
+use Rattle.decode_command.specs.Parses.{final_begins, incremental_begins}
 use Rattle.log_rows.specs.LogEvents.{log_events}
 use Rattle.log_rows.specs.LogParse.{LogEvent, BeginsLog}
 use Rattle.log_rows.specs.Progress.{LogHeld, LogProgress}
@@ -13,8 +12,9 @@ use Rattle.log_rows.proofs.Parses.{begins_by_function}
 use Rattle.mav_log.specs.LogText.{event_size, event_line, lines_from, bytes_in}
 use Rattle.mav_log.specs.RowsMade.{row_of, rows_of_system, made_of, time_after, rows_from, micros_after}
 use Rattle.mav_log.specs.Spec.{show_telling, filter_telling, make_telling}
-use Rattle.mav_log.specs.Tellers.{Showing, HasShown, Filtering, HasKept, Making, HasMade}
-use Rattle.mav_log.specs.Tellings.{Leads}
+use Rattle.mav_log.specs.Tellers.{Showing, HasShown, HasShownAll, Filtering, HasKept, Making, HasMade}
+use Rattle.decode_command.specs.TellingLaws.{lines_append}
+use Rattle.decode_command.specs.Tellings.{Leads}
 
 -- ---- the text of more events
 
@@ -41,6 +41,9 @@ shown_leads s ended taken told h =
       ap (lines_from s.known 0) (log_begins s.known ended taken h.given s.reader h.is_ended h.progress)
           ∙ (lines_append (event_line s.known) event_size 0 h.given more ∙ ap (λ (text : List ℕ). text ++ lines_from s.known (0 + bytes_in h.given) more) (sym h.lines)),
     )
+
+abbrev pub shown_all : (s : Showing) (ended : Bool) (taken told : List ℕ) → HasShownAll s ended taken told → told ≡ (show_telling s.known).told ended taken
+shown_all s ended taken told h = h.has.lines ∙ ap (lines_from s.known 0) h.all
 
 pub kept_leads : (f : Filtering) (ended : Bool) (taken told : List ℕ) → HasKept f ended taken told → Leads (filter_telling f.known f.sys) ended taken told
 kept_leads f ended taken told h =

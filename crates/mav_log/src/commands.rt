@@ -6,8 +6,8 @@ ghost use Rattle.mav_log.specs.Spec.{show_spec, filter_spec, make_spec};
 
 use crate::filter_teller::Filter;
 use crate::make_teller::Make;
-use crate::running::run_teller;
 use crate::show_teller::Show;
+use decode_command::run_teller;
 use dialect::Dialect;
 use mav_ports::{Sink, Source};
 use run_status::RunEnd;

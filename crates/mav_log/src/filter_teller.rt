@@ -8,12 +8,12 @@ ghost use Rattle.log_rows.specs.Rows.{first_row};
 ghost use Rattle.mav_log.specs.RowsMade.{row_of};
 ghost use Rattle.mav_log.specs.Tellers.{IsRowOf};
 
-use crate::scanner::LogScanner;
-use crate::tellers::{Teller, discard};
+use crate::scanner::{LogScanner, discard};
+use decode_command::Teller;
 use dialect::Dialect;
-use log_rows::RowSpan;
-use mav_frame::OLD_STX;
+use mav_frame::{OLD_STX, Why};
 use mav_ports::NoMemory;
+use mav_stream::NextSpan;
 use std::alloc::Global;
 use std::marker::Model;
 
@@ -81,8 +81,8 @@ impl Filter {
 }
 
 impl Teller for Filter {
-    ghost use Rattle.std.specs.Prelude.{length};
-    ghost use Rattle.mav_log.specs.Tellers.{HasKept};
+    ghost use Rattle.std.specs.Prelude.{◌≡◌, length};
+    ghost use Rattle.mav_log.specs.Tellers.{IsNextOfLog, HasKept};
     ghost use Rattle.mav_log.specs.Spec.{filter_telling};
     ghost use Rattle.mav_log.specs.TellingLaws.{kept_leads};
 
@@ -90,11 +90,17 @@ impl Teller for Filter {
 
     ghost has_told = { HasKept };
 
+    ghost has_told_all = { λ f ended taken told. told ≡ (filter_telling f.known f.sys).told ended taken };
+
+    ghost begins = { λ f. IsNextOfLog f.reader };
+
     ghost held = { λ f. length f.reader.bytes };
 
     ghost load = { λ f. 0 };
 
     ghost leads = { kept_leads };
+
+    ghost all_told = { λ f ended taken told is. is };
 
     fn feed(&mut self, piece: &[u8]) {
         self.reader.feed(piece);
@@ -104,18 +110,24 @@ impl Teller for Filter {
         self.reader.end();
     }
 
-    fn tell(&mut self, text: &mut Vec<u8>) -> Result<bool, NoMemory> {
-        match self.reader.next_span() {
-            RowSpan::Row(size) => {
-                self.keep_row(size, text)?;
-                Ok(true)
-            }
-            RowSpan::Skipped(_) => {
-                self.reader.consume(1);
-                Ok(true)
-            }
-            RowSpan::Need => Ok(false),
-        }
+    #[inline]
+    fn next_span(&self) -> NextSpan {
+        self.reader.next_span()
+    }
+
+    #[inline]
+    fn tell_event(&mut self, size: usize, text: &mut Vec<u8>) -> Result<(), NoMemory> {
+        self.keep_row(size, text)
+    }
+
+    fn tell_skips(
+        &mut self,
+        _why: Why,
+        _count: usize,
+        _text: &mut Vec<u8>,
+    ) -> Result<(), NoMemory> {
+        self.reader.consume(1);
+        Ok(())
     }
 
     fn close(&self, _text: &mut Vec<u8>) -> Result<(), NoMemory> {

@@ -1,21 +1,19 @@
 //! The commands over telemetry logs: `log show` prints the rows of a log, `log filter` writes those of one system, and
 //! `log make` writes the frames of a stream as rows.
 //!
-//! Each is a `Teller`, which makes a text of the bytes of an input as they come; one run reads the input in pieces of
-//! 64 KiB and writes what is told of a piece before more is read, in constant memory. `specs/Spec.antt` says what stops
-//! a run and what it writes. [`run_show`], [`run_filter`] and [`run_make`] leave the text of a halt to their caller;
-//! [`show`], [`filter`] and [`make`](fn@make) write it too, and return the status. Rows, their parse and the reader of
-//! small pieces come from `log_rows`, and a log that is played as a link from `log_replay`.
+//! Each is a `Teller`, and runs as that of `decode` does: what is told of a piece of the input is written before more is
+//! read, in constant memory. `specs/Spec.antt` says what stops a run and what it writes. [`run_show`], [`run_filter`] and
+//! [`run_make`] leave the text of a halt to their caller; [`show`], [`filter`] and [`make`](fn@make) write it too, and
+//! return the status. Rows, their parse and the reader of small pieces come from `log_rows`, and a log that is played as
+//! a link from `log_replay`.
 #![tactic(auto)]
 
 mod commands;
 mod filter_teller;
 mod make_teller;
-mod running;
 mod scanner;
 mod show_teller;
 mod statuses;
-mod tellers;
 
 pub use commands::{run_filter, run_make, run_show};
 pub use log_replay::Replay;

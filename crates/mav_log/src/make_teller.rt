@@ -6,8 +6,10 @@ ghost use Rattle.mav_stream.specs.Spans.{first_packet};
 ghost use Rattle.mav_stream.specs.Held.{nothing_held};
 ghost use Rattle.log_rows.specs.Rows.{row_encoding};
 
-use crate::tellers::{Teller, discard};
+use crate::scanner::discard;
+use decode_command::{Teller, scanner_of};
 use dialect::Dialect;
+use mav_frame::Why;
 use mav_ports::NoMemory;
 use mav_stream::{NextSpan, Scanner};
 use std::alloc::Global;
@@ -34,13 +36,6 @@ impl Model for Make {
     ghost view = { λ m. record { known = m.known; start = m.start; reader = m.reader; rows = m.rows } };
 
     ghost invariant = { λ m. m.start ≤ 4000000000000000 };
-}
-
-// A reader of frames of both versions that have these messages.
-fn scanner_of(alloc: Global, known: &Dialect) -> Result<Scanner, NoMemory>
-    ensures { IfOk result (λ scanner. scanner ≡ nothing_held (extras_of known.now) true) }
-{
-    Scanner::new(alloc, known.extras().copy()?, true)
 }
 
 impl Make {
@@ -84,7 +79,8 @@ impl Make {
 }
 
 impl Teller for Make {
-    ghost use Rattle.std.specs.Prelude.{◌+◌, ◌*◌, length};
+    ghost use Rattle.std.specs.Prelude.{◌≡◌, ◌+◌, ◌*◌, length};
+    ghost use Rattle.mav_stream.specs.Spans.{IsNextSpan};
     ghost use Rattle.mav_log.specs.Tellers.{HasMade};
     ghost use Rattle.mav_log.specs.Spec.{make_telling};
     ghost use Rattle.mav_log.specs.TellingLaws.{made_leads};
@@ -93,11 +89,17 @@ impl Teller for Make {
 
     ghost has_told = { HasMade };
 
+    ghost has_told_all = { λ m ended taken told. told ≡ (make_telling m.known m.start).told ended taken };
+
+    ghost begins = { λ m. IsNextSpan m.reader };
+
     ghost held = { λ m. length m.reader.bytes };
 
     ghost load = { λ m. m.rows + 3 * length m.reader.bytes };
 
     ghost leads = { made_leads };
+
+    ghost all_told = { λ m ended taken told is. is };
 
     fn feed(&mut self, piece: &[u8]) {
         self.reader.feed(piece);
@@ -107,18 +109,19 @@ impl Teller for Make {
         self.reader.end();
     }
 
-    fn tell(&mut self, text: &mut Vec<u8>) -> Result<bool, NoMemory> {
-        match self.reader.next_span() {
-            NextSpan::Frame(size) => {
-                self.make_row(size, text)?;
-                Ok(true)
-            }
-            NextSpan::Skipped(_, count) => {
-                self.reader.consume(count);
-                Ok(true)
-            }
-            NextSpan::Need => Ok(false),
-        }
+    #[inline]
+    fn next_span(&self) -> NextSpan {
+        self.reader.next_span()
+    }
+
+    #[inline]
+    fn tell_event(&mut self, size: usize, text: &mut Vec<u8>) -> Result<(), NoMemory> {
+        self.make_row(size, text)
+    }
+
+    fn tell_skips(&mut self, _why: Why, count: usize, _text: &mut Vec<u8>) -> Result<(), NoMemory> {
+        self.reader.consume(count);
+        Ok(())
     }
 
     fn close(&self, _text: &mut Vec<u8>) -> Result<(), NoMemory> {

@@ -1,15 +1,13 @@
 // A log that is read in large pieces.
-ghost use Rattle.std.specs.Prelude.{◌≡◌, ◌+◌, ◌<◌, ◌≤◌, ◌++◌, ℕ, List, length, drop, true, IfOk};
+ghost use Rattle.std.specs.Prelude.{◌≡◌, ◌+◌, ◌≤◌, ◌++◌, length, drop, true, IfOk};
 ghost use Rattle.mav_profile.specs.Messages.{extras_of};
-ghost use Rattle.log_rows.specs.LogParse.{LogEvent};
-ghost use Rattle.log_rows.specs.Progress.{LogProgress, IsWholeLog, no_bytes_held};
-ghost use Rattle.log_rows.specs.Spans.{span_events, span_size, held_behind, IfNeed, IfSome, IfRow};
-ghost use Rattle.mav_log.specs.Tellers.{IsRowOf};
+ghost use Rattle.log_rows.specs.Progress.{no_bytes_held};
+ghost use Rattle.mav_log.specs.Tellers.{IsNextOfLog};
 
 use dialect::Dialect;
 use log_rows::{RowSpan, row_span};
 use mav_ports::NoMemory;
-use mav_stream::Scanner;
+use mav_stream::{NextSpan, Scanner};
 use std::alloc::Global;
 use std::marker::Model;
 use x25_check::Extras;
@@ -30,6 +28,9 @@ impl Model for LogScanner {
 
     ghost view = { λ s. record { extras = s.extras; bytes = s.window.bytes; ended = s.ended } };
 }
+
+// Drops definitions in a function that owns nothing else.
+pub(crate) fn discard(_known: Dialect) {}
 
 impl LogScanner {
     pub(crate) fn new(alloc: Global, extras: Extras) -> Result<LogScanner, NoMemory>
@@ -74,24 +75,17 @@ impl LogScanner {
         self.window.bytes()
     }
 
-    /// What is at the start of the bytes held.
+    /// What is at the start of the bytes held: the frame of a row with its time, a byte that is in no row, or nothing
+    /// before more bytes come.
     #[inline]
-    pub(crate) fn next_span(&self) -> RowSpan
-        ensures within { span_size result ≤ length self.now.bytes }
-        ensures some { IfSome result (0 < span_size result) }
-        // The row is there, and these are its bytes.
-        ensures row { IfRow result (IsRowOf self.now.bytes) }
-        // The events given and that at the start are a prefix of the parse.
-        ensures progress { (table : List (ℕ × ℕ)) (taken : List ℕ) (given : List LogEvent)
-            → LogProgress table taken given self.now
-            → LogProgress table taken (given ++ span_events self.now.bytes result) (held_behind self.now result) }
-        // At Need all of it was given.
-        ensures whole { (table : List (ℕ × ℕ)) (taken : List ℕ) (given : List LogEvent)
-            → LogProgress table taken given self.now → IfNeed result (IsWholeLog table taken given self.now) }
-        // And there is room for a piece.
-        ensures room { IfNeed result (length self.now.bytes < 288) }
+    pub(crate) fn next_span(&self) -> NextSpan
+        ensures { IsNextOfLog self.now result }
     {
-        row_span(&self.extras, self.ended, self.window.bytes())
+        match row_span(&self.extras, self.ended, self.window.bytes()) {
+            RowSpan::Row(size) => NextSpan::Frame(size),
+            RowSpan::Skipped(why) => NextSpan::Skipped(why, 1),
+            RowSpan::Need => NextSpan::Need,
+        }
     }
 
     /// Removes bytes from the start, once their events were seen.

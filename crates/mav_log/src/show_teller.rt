@@ -7,13 +7,12 @@ ghost use Rattle.log_rows.specs.Rows.{first_row, micros_at};
 ghost use Rattle.log_rows.specs.Progress.{no_bytes_held};
 ghost use Rattle.mav_log.specs.LogText.{row_line};
 
-use crate::scanner::LogScanner;
-use crate::tellers::{Teller, discard};
-use decode_command::put_counts;
+use crate::scanner::{LogScanner, discard};
+use decode_command::{Teller, put_counts};
 use dialect::Dialect;
-use log_rows::RowSpan;
 use mav_frame::Why;
 use mav_ports::NoMemory;
+use mav_stream::NextSpan;
 use mav_text::{Chunk, LineTemplates, put_decimal, put_skip};
 use std::alloc::Global;
 use std::marker::Model;
@@ -143,19 +142,25 @@ impl Show {
 }
 
 impl Teller for Show {
-    ghost use Rattle.mav_log.specs.Tellers.{HasShown, shown_load};
+    ghost use Rattle.mav_log.specs.Tellers.{IsNextOfLog, HasShown, HasShownAll, shown_load};
     ghost use Rattle.mav_log.specs.Spec.{show_telling};
-    ghost use Rattle.mav_log.specs.TellingLaws.{shown_leads};
+    ghost use Rattle.mav_log.specs.TellingLaws.{shown_leads, shown_all};
 
     ghost telling = { λ s. show_telling s.known };
 
     ghost has_told = { HasShown };
+
+    ghost has_told_all = { HasShownAll };
+
+    ghost begins = { λ s. IsNextOfLog s.reader };
 
     ghost held = { λ s. length s.reader.bytes };
 
     ghost load = { shown_load };
 
     ghost leads = { shown_leads };
+
+    ghost all_told = { shown_all };
 
     fn feed(&mut self, piece: &[u8]) {
         self.reader.feed(piece);
@@ -165,18 +170,18 @@ impl Teller for Show {
         self.reader.end();
     }
 
-    fn tell(&mut self, text: &mut Vec<u8>) -> Result<bool, NoMemory> {
-        match self.reader.next_span() {
-            RowSpan::Row(size) => {
-                self.show_row(size, text)?;
-                Ok(true)
-            }
-            RowSpan::Skipped(why) => {
-                self.show_skip(why, text)?;
-                Ok(true)
-            }
-            RowSpan::Need => Ok(false),
-        }
+    #[inline]
+    fn next_span(&self) -> NextSpan {
+        self.reader.next_span()
+    }
+
+    #[inline]
+    fn tell_event(&mut self, size: usize, text: &mut Vec<u8>) -> Result<(), NoMemory> {
+        self.show_row(size, text)
+    }
+
+    fn tell_skips(&mut self, why: Why, _count: usize, text: &mut Vec<u8>) -> Result<(), NoMemory> {
+        self.show_skip(why, text)
     }
 
     fn close(&self, text: &mut Vec<u8>) -> Result<(), NoMemory> {

@@ -1,4 +1,4 @@
-use Rattle.decode_command.proofs.Parses.{incremental_is}
+use Rattle.decode_command.specs.Parses.{incremental_is}
 use Rattle.decode_command.proofs.laws.incremental_events_are_the_parse.Goals as goal
 
 pub returns : goal.returns

@@ -2,9 +2,10 @@ use Rattle.std.proofs.Common.{refl, ap}
 use Rattle.std.proofs.lemmas.Result.{err_from_is_err_and}
 use Rattle.std.specs.Result.{result_err}
 use Rattle.run_status.proofs.RunsBeforeStatus.{before_status_nothing}
+use Rattle.decode_command.proofs.Ends.{same_run}
 use Rattle.mav_log.specs.Spec.{filter_telling, filter_spec}
 use Rattle.mav_log.specs.Tellers.{Filtering}
-use Rattle.mav_log.proofs.Starts.{same_run, filter_new, filter_room}
+use Rattle.mav_log.proofs.Starts.{filter_new, filter_room}
 use Rattle.mav_log.proofs.commands.run_filter.Goals as goal
 
 pub returns-in_err-filter-clause-untold : goal.returns-in_err-filter-clause-untold

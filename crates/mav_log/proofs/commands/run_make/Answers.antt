@@ -2,9 +2,10 @@ use Rattle.std.proofs.Common.{refl, ap}
 use Rattle.std.proofs.lemmas.Result.{err_from_is_err_and}
 use Rattle.std.specs.Result.{result_err}
 use Rattle.run_status.proofs.RunsBeforeStatus.{before_status_nothing}
+use Rattle.decode_command.proofs.Ends.{same_run}
 use Rattle.mav_log.specs.Spec.{make_telling, make_spec}
 use Rattle.mav_log.specs.Tellers.{Making}
-use Rattle.mav_log.proofs.Starts.{same_run, make_new, make_room, make_load}
+use Rattle.mav_log.proofs.Starts.{make_new, make_room, make_load}
 use Rattle.mav_log.proofs.commands.run_make.Goals as goal
 
 pub returns-in_err-make-clause-untold : goal.returns-in_err-make-clause-untold

@@ -2,9 +2,10 @@ use Rattle.std.proofs.Common.{refl, ap}
 use Rattle.std.proofs.lemmas.Result.{err_from_is_err_and}
 use Rattle.std.specs.Result.{result_err}
 use Rattle.run_status.proofs.RunsBeforeStatus.{before_status_nothing}
+use Rattle.decode_command.proofs.Ends.{same_run}
 use Rattle.mav_log.specs.Spec.{show_telling, show_spec}
 use Rattle.mav_log.specs.Tellers.{Showing}
-use Rattle.mav_log.proofs.Starts.{same_run, show_new, show_room, show_load}
+use Rattle.mav_log.proofs.Starts.{show_new, show_room, show_load}
 use Rattle.mav_log.proofs.commands.run_show.Goals as goal
 
 pub returns-in_err-show-clause-untold : goal.returns-in_err-show-clause-untold
