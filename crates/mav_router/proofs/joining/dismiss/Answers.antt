@@ -1,4 +1,4 @@
-use Rattle.std.proofs.Common.{◌≡◌, ◌∙◌, ◌+◌, ◌++◌, List, map, length, ap, arith, length-append}
+use Rattle.std.proofs.Common.{◌≡◌, ◌∙◌, ◌+◌, ◌++◌, map, length, ap, arith, length-append}
 use Rattle.mav_router.specs.declared.crew.PortJob.{PortJob}
 use Rattle.mav_router.proofs.Moving.{image_moved, all_images_moved}
 use Rattle.mav_router.proofs.joining.dismiss.Goals as goal

@@ -1,4 +1,4 @@
-use Rattle.std.proofs.Common.{◌≡◌, ◌<◌, ◌≤◌, length, arith}
+use Rattle.std.proofs.Common.{arith}
 use Rattle.std.proofs.lemmas.List.{length-map}
 use Rattle.mav_router.specs.Found.{Judged}
 use Rattle.mav_router.proofs.Admissions.{admits_nothing, page_keeps, page_after}
