@@ -1,11 +1,10 @@
 -- What a port's run is at its start and its end.
-use Rattle.std.proofs.Common.{◌⊎◌, inl, inr, ◌≡◌, ◌∙◌, ◌<◌, ◌≤◌, ℕ, zero, suc, ◌+◌, arith, length-append, length-take, Bool, false, true, List, [], ◌∷◌, ◌++◌, length, take, drop, get_or, Option, Some, None, Ok, Err, IfOk, IfErr, refl, ap, sym, subst, slice_get, slice_index, ◌-◌, append_assoc}
+use Rattle.std.proofs.Common.{◌⊎◌, inl, inr, ◌≡◌, ◌∙◌, ◌<◌, ◌≤◌, ℕ, zero, suc, ◌+◌, arith, length-append, length-take, Bool, false, true, List, [], ◌∷◌, ◌++◌, length, take, drop, get_or, Option, Some, None, Err, refl, ap, sym, subst, slice_get, slice_index, ◌-◌, append_assoc}
 use Rattle.std.proofs.lemmas.Option.{get_or_from_slice_get, slice_get_cases, slice_get_past}
 use Rattle.std.proofs.lemmas.List.{append-nil}
 use Rattle.std.specs.Io.KnownBytes.{prepend_known}
 use Rattle.mav_ports.proofs.Known.{append_known_nil}
 use Rattle.mav_frame.specs.Packet.{Packet}
-use Rattle.std.specs.declared.result.Result.{Result}
 use Rattle.std.specs.List.{filter_map, flat_map}
 use Rattle.mav_frame.specs.Parse.{IsIncomplete, event_bytes}
 use Rattle.mav_frame.specs.Encoding.{encoding}
@@ -25,9 +24,10 @@ use Rattle.mav_links.specs.Links.{LinkState}
 use Rattle.mav_router.specs.declared.entries.Entry.{Entry}
 use Rattle.mav_router.specs.declared.lane.Lane.{Lane}
 use Rattle.mav_router.specs.declared.ends.PortEnd.{PortEnd}
+use Rattle.mav_router.specs.declared.ends.RouteFault.{RouteFault}
 use Rattle.mav_router.specs.Journal.{Rules, SwitchState, frame_to, frames_to, given_to, bytes_of}
 use Rattle.mav_router.specs.Runs.{AllRead, Output, PortSoFar, RunSoFar, Reading, IsNew, IsFresh, AllFresh, HadTurns, AllTurned, IsDrained, FaultsBy, skips_of}
-use Rattle.mav_router.specs.Routed.{HasStopped}
+use Rattle.mav_router.specs.Routed.{HasEnded, HasStopped}
 use Rattle.mav_router.proofs.Halts.{stops_as}
 use Rattle.mav_router.specs.Ends.{PortRun, TurnedBy, ParsedBy, WrittenBy, FaultsAtEnd, IsOpenParse, IsClosedParse, how_by, end_by}
 
@@ -263,22 +263,17 @@ nothing_routed {A} state rules links = record {
     }
 
 -- there was no memory before that
-pub unrouted : {A : Type 0} (one : Bool) (state : A → LinkState) (rules : Rules) (links after : List A) (why : SwitchFault) (journal : List Entry) → why ≡ NoMemory → journal ≡ [] → after ≡ links → HasStopped one state rules links after why journal
-unrouted {A} one state rules links after why journal is none same =
-    subst (λ (f : SwitchFault). HasStopped one state rules links after f journal) (sym is)
-    (subst (λ (j : List Entry). HasStopped one state rules links after NoMemory j) (sym none)
-    (subst (λ (l : List A). HasStopped one state rules links l NoMemory []) (sym same)
-    (record { legal = tt; stopped = stops_as one state rules NoMemory [] links links (nothing_routed state rules links) })))
+pub unrouted : {A : Type 0} (one : Bool) (state : A → LinkState) (rules : Rules) (most : ℕ) (links after : List A) (fault : RouteFault) → fault.why ≡ NoMemory → fault.journal ≡ [] → after ≡ links → HasEnded (Err fault) one state rules most links after
+unrouted {A} one state rules most links after fault is none same = record {
+  links = ap length same;
+  routed = tt;
+  stopped =
+      subst (λ (f : SwitchFault). HasStopped one state rules links after f fault.journal) (sym is)
+      (subst (λ (j : List Entry). HasStopped one state rules links after NoMemory j) (sym none)
+      (subst (λ (l : List A). HasStopped one state rules links l NoMemory []) (sym same)
+      (record { legal = tt; stopped = stops_as one state rules NoMemory [] links links (nothing_routed state rules links) })));
+}
 
 -- a lane that is new had no turn
 pub new_turned : (extras : List (ℕ × ℕ)) (old : Bool) (lane : Lane) → IsNew extras old lane → HadTurns lane 0
 new_turned extras old lane new = record { most = omega (arith, new.turns); live = λ live fine. new.turns }
-
--- what holds of a value holds of another fact of it
-pub if_ok : {A E : Type 0} {P Q : A → Type 0} (r : Result A E) → ((a : A) → P a → Q a) → IfOk r P → IfOk r Q
-if_ok (Ok a) f p = f a p
-if_ok (Err e) f p = p
-
-pub if_err : {A E : Type 0} {P Q : E → Type 0} (r : Result A E) → ((e : E) → P e → Q e) → IfErr r P → IfErr r Q
-if_err (Ok a) f p = p
-if_err (Err e) f p = f e p

@@ -3,12 +3,15 @@ use Rattle.std.proofs.Common.{All, false, ◌⊎◌, ◌≡◌, ◌∙◌, ◌<�
 use Rattle.std.proofs.lemmas.List.{length-map, length-replicate}
 use Rattle.std.proofs.lemmas.Option.{get_or_from_slice_get}
 use Rattle.std.proofs.lemmas.Simd.{map-map}
+use Rattle.std.specs.declared.result.Result.{Result}
 use mathlib.Core.List.{IsPrefix}
 use Rattle.turnstile.specs.Merging.{Continues}
 use Rattle.turnstile.specs.Participants.{Lock, Participant, CanEnter, opened}
 use Rattle.mav_links.specs.Links.{LinkState}
 use Rattle.mav_router.specs.declared.crew.PortJob.{PortJob}
 use Rattle.mav_router.specs.declared.ends.PortEnd.{PortEnd}
+use Rattle.mav_router.specs.declared.ends.RouteEnd.{RouteEnd}
+use Rattle.mav_router.specs.declared.ends.RouteFault.{RouteFault}
 use Rattle.mav_router.specs.declared.entries.Entry.{Entry}
 use Rattle.mav_router.specs.declared.entries.SwitchFault.{SwitchFault}
 use Rattle.mav_router.specs.declared.entries.SwitchFault.TheVariants.{NoMemory}
@@ -26,7 +29,7 @@ use Rattle.mav_router.specs.Journal.{Rules, SwitchState, IsJournal, frames_from}
 use Rattle.mav_router.specs.Parts.{IsReady, PartSoFar, PartEnds}
 use Rattle.mav_router.specs.Runs.{HadTurns, IsFresh, AllFresh, AllTurned}
 use Rattle.mav_router.specs.Threads.{IsStocked, IsPlaced, HasServed, HasClosed, HasWrittenLeft}
-use Rattle.mav_router.specs.Routed.{HasRouted, HasStopped}
+use Rattle.mav_router.specs.Routed.{HasEnded, HasRouted, HasStopped}
 use Rattle.mav_router.proofs.Joined.{own_frames, part_ready, part_starts, part_done, parts_halted}
 use Rattle.mav_router.proofs.Journals.{element}
 use Rattle.mav_router.proofs.Moving.{all_from, mapped_at, mapped_from, image_is, replicated}
@@ -105,14 +108,7 @@ jobs_served {A} state lock rules turns before lanes seats old new sides last sea
     (subst (λ (l : Lock SwitchEvent). HasRun c.part.side.halt state l b.rules.now b.turns b.part c.part) s.0 (ran k b c is_b is_c))))
     sides_are last_are
 
--- how many they are, and that no seat is between two steps
-pub count_of_sides : {A : Type 0} (state : A → LinkState) (lock : Lock SwitchEvent) (rules : Rules) (turns : ℕ) (before : List A) (sides : List (Side A)) (seats : List (Participant SwitchEvent)) → HasServed state lock rules turns before sides seats → length sides ≡ length before
-count_of_sides {A} state lock rules turns before sides seats s = sym (ap length s.of_sides) ∙ (length-map s.parts (λ (p : Part A). p.side) ∙ s.count)
-
-pub count_of_seats : {A : Type 0} (state : A → LinkState) (lock : Lock SwitchEvent) (rules : Rules) (turns : ℕ) (before : List A) (sides : List (Side A)) (seats : List (Participant SwitchEvent)) → HasServed state lock rules turns before sides seats → length seats ≡ length before
-count_of_seats {A} state lock rules turns before sides seats s = sym (ap length s.of_seats) ∙ (length-map s.parts (λ (p : Part A). p.seat) ∙ s.count)
-
--- as many as there were ports
+-- as many as there were ports, and no seat is between two steps
 pub sides_long : {A : Type 0} (state : A → LinkState) (lock : Lock SwitchEvent) (rules : Rules) (turns : ℕ) (before : List A) (sides : List (Side A)) (seats : List (Participant SwitchEvent)) → HasServed state lock rules turns before sides seats → length sides ≡ length before
 sides_long {A} state lock rules turns before sides seats s = sym (ap length s.of_sides) ∙ (length-map s.parts (λ (p : Part A). p.side) ∙ s.count)
 
@@ -161,6 +157,9 @@ taken_within {A} state rules turns journal before sides c k side is =
     let own = own_frames c.lock rules s.parts journal s.ready (begins_of state rules turns journal before sides c) (whole_of state rules turns journal before sides c) k at.0 at.1 in
     subst (λ (x : Side A). x.taken ≤ length journal) at.2 (within_longer at.0.side.taken (entries_in at.0.seat.seen) journal (s.ready k at.0 at.1).1.taken own.1)
 
+pub closed_long : {A : Type 0} (state : A → LinkState) (rules : Rules) (turns : ℕ) (journal : List Entry) (before : List A) (sides : List (Side A)) → HasClosed state rules turns journal before sides → length sides ≡ length before
+closed_long {A} state rules turns journal before sides c = sides_long state c.lock rules turns before sides c.seats c.served
+
 pub routed : {A : Type 0} (state : A → LinkState) (rules : Rules) (turns : ℕ) (journal : List Entry) (before after : List A) (old new : List (Side A)) (ends : List PortEnd) → turns ≤ 1000000000 → length journal ≤ 1000000 → IsJournal rules [] journal → ((k : ℕ) (side : Side A) → slice_get old k ≡ Some side → side.halt ≡ Done) → length new ≡ length old → ((k : ℕ) (b c : Side A) → slice_get old k ≡ Some b → slice_get new k ≡ Some c → HasWrittenLeft state journal (k + 1) b c) → ends ≡ map (λ (s : Side A). end_by s.lane turns) new → after ≡ map (λ (s : Side A). s.link) new → HasClosed state rules turns journal before old → HasRouted state rules turns before after journal ends
 routed {A} state rules turns journal before after old new ends few small legal halts long written ends_are after_are c =
     let s = c.served in
@@ -197,22 +196,17 @@ stopped {A} state rules turns why journal before after sides small legal fault a
     }
 
 -- the end of a run by the rules that its threads went by
-pub ends_routed : {A : Type 0} (state : A → LinkState) (lock : Lock SwitchEvent) (rules : Rules) (turns : ℕ) (before after : List A) (sides : List (Side A)) (seats : List (Participant SwitchEvent)) (switch : SwitchState) (opening : List SwitchEvent) (journal : List Entry) (ends : List PortEnd) → 0 < length before → HasServed state lock rules turns before sides seats → All (Continues (history_of switch.rules switch.journal)) seats → opening ≡ history_of rules [] → length (history_of switch.rules switch.journal) ≡ length opening + sum_by (λ (s : Participant SwitchEvent). length s.own) seats → ((b : List A) → HasClosed state switch.rules turns switch.journal b sides → HasRouted state switch.rules turns b after journal ends) → HasRouted state rules turns before after journal ends
-ends_routed {A} state lock rules turns before after sides seats switch opening journal ends some s begins opened_as whole goes =
-    subst (λ (r : Rules). HasRouted state r turns before after journal ends) (rules_kept state lock rules turns before sides seats switch some s begins)
-    (goes before (closed state lock rules turns before sides seats switch opening some s begins opened_as whole))
-
-pub ends_stopped : {A : Type 0} (state : A → LinkState) (lock : Lock SwitchEvent) (rules : Rules) (turns : ℕ) (before after : List A) (sides : List (Side A)) (seats : List (Participant SwitchEvent)) (switch : SwitchState) (opening : List SwitchEvent) (why : SwitchFault) (journal : List Entry) → 0 < length before → HasServed state lock rules turns before sides seats → All (Continues (history_of switch.rules switch.journal)) seats → opening ≡ history_of rules [] → length (history_of switch.rules switch.journal) ≡ length opening + sum_by (λ (s : Participant SwitchEvent). length s.own) seats → ((b : List A) → HasClosed state switch.rules turns switch.journal b sides → HasStopped false state switch.rules b after why journal) → HasStopped false state rules before after why journal
-ends_stopped {A} state lock rules turns before after sides seats switch opening why journal some s begins opened_as whole goes =
-    subst (λ (r : Rules). HasStopped false state r before after why journal) (rules_kept state lock rules turns before sides seats switch some s begins)
+pub ended : {A : Type 0} (result : Result RouteEnd RouteFault) (state : A → LinkState) (lock : Lock SwitchEvent) (rules : Rules) (turns : ℕ) (before after : List A) (sides : List (Side A)) (seats : List (Participant SwitchEvent)) (switch : SwitchState) (opening : List SwitchEvent) → 0 < length before → HasServed state lock rules turns before sides seats → All (Continues (history_of switch.rules switch.journal)) seats → opening ≡ history_of rules [] → length (history_of switch.rules switch.journal) ≡ length opening + sum_by (λ (s : Participant SwitchEvent). length s.own) seats → ((b : List A) → HasClosed state switch.rules turns switch.journal b sides → HasEnded result false state switch.rules turns b after) → HasEnded result false state rules turns before after
+ended {A} result state lock rules turns before after sides seats switch opening some s begins opened_as whole goes =
+    subst (λ (r : Rules). HasEnded result false state r turns before after) (rules_kept state lock rules turns before sides seats switch some s begins)
     (goes before (closed state lock rules turns before sides seats switch opening some s begins opened_as whole))
 
 -- the same by equal rules
 pub rules_ports : (r : Rules) (n m : ℕ) → n ≡ m → ◌≡◌ {A = Rules} (record r { ports = n }) (record r { ports = m })
 rules_ports r n m e = ap (λ (k : ℕ). record r { ports = k }) e
 
-pub stopped_as : {A : Type 0} (state : A → LinkState) (rules other : Rules) (before after : List A) (why : SwitchFault) (journal : List Entry) → other ≡ rules → HasStopped false state other before after why journal → HasStopped false state rules before after why journal
-stopped_as state rules other before after why journal e s = subst (λ (r : Rules). HasStopped false state r before after why journal) e s
+pub ended_as : {A : Type 0} (result : Result RouteEnd RouteFault) (state : A → LinkState) (rules other : Rules) (turns : ℕ) (before after : List A) → other ≡ rules → HasEnded result false state other turns before after → HasEnded result false state rules turns before after
+ended_as result state rules other turns before after e h = subst (λ (r : Rules). HasEnded result false state r turns before after) e h
 
 pub stocked_as : {A : Type 0} (rules other : Rules) (stock : Stock A) → other ≡ rules → IsStocked other stock → IsStocked rules stock
 stocked_as rules other stock e s = subst (λ (r : Rules). IsStocked r stock) e s

@@ -8,8 +8,9 @@ use Rattle.mav_sign.specs.Streams.{listed}
 use Rattle.mav_router.specs.declared.entries.Entry.{Entry}
 use Rattle.mav_router.specs.declared.entries.SwitchFault.{SwitchFault}
 use Rattle.mav_router.specs.declared.entries.SwitchFault.TheVariants.{Full, NoMemory}
-use Rattle.mav_router.specs.Journal.{Rules, frames_to, bytes_of}
-use Rattle.mav_router.specs.Runs.{Begun}
+use Rattle.mav_router.specs.declared.lane.Lane.{Lane}
+use Rattle.mav_router.specs.Journal.{Rules, SwitchState, frames_to, bytes_of}
+use Rattle.mav_router.specs.Runs.{Begun, RunSoFar}
 
 -- the fault of a switch with this journal: Full only if it has as many entries as it may have
 abbrev pub IsSwitchFault : SwitchFault → List Entry → Type 0
@@ -67,6 +68,11 @@ pub record StopsRound {A : Type 0} (state : A → LinkState) (rules : Rules) (jo
   pub from : 1 ≤ untaken.port
   pub to : untaken.port ≤ length links
   pub ports : PartRuns state rules journal (Some untaken) first links
+
+-- it stopped in a round, after what holds so far of each port
+abbrev pub RunStops : {A : Type 0} → (A → LinkState) → (old new : SwitchState) → (before after : List A) → List Lane → Type 0
+RunStops {A} state old new before after lanes =
+    (rules : Rules) (first : ℕ → LinkState) → RunSoFar state rules old first before lanes → StopsRound state rules new.journal first after
 
 -- Full comes only if a frame was found that would be one entry more than there may be
 abbrev pub CausedBy : SwitchFault → Option Untaken → ℕ → List Entry → Type 0

@@ -118,6 +118,11 @@ abbrev pub RunSoFar : {A : Type 0} → (A → LinkState) → Rules → SwitchSta
 RunSoFar {A} state rules switch first links lanes =
     (k : ℕ) (link : A) (lane : Lane) → slice_get links k ≡ Some link → slice_get lanes k ≡ Some lane → PortSoFar rules switch (k + 1) (first k) (state link) lane
 
+-- and still with each port, after more was read and written
+abbrev pub RunGoesOn : {A : Type 0} → (A → LinkState) → (old new : SwitchState) → (before after : List A) → (lanes later : List Lane) → Type 0
+RunGoesOn {A} state old new before after lanes later =
+    (rules : Rules) (first : ℕ → LinkState) → RunSoFar state rules old first before lanes → RunSoFar state rules new first after later
+
 -- all that the journal sends to the port was given for it, unless it failed
 abbrev pub IsDrained : SwitchState → List Lane → ℕ → Type 0
 IsDrained switch lanes k =

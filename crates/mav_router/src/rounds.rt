@@ -1,9 +1,7 @@
 // Rounds over all ports.
 ghost use Rattle.std.specs.Prelude.{◌≡◌, ◌≤◌, ◌<◌, ◌+◌, ◌^◌, ℕ, length, OnOk, OnErr, IfErr};
-ghost use Rattle.mav_links.specs.Links.{LinkState};
-ghost use Rattle.mav_router.specs.Journal.{Rules};
-ghost use Rattle.mav_router.specs.Faults.{IsSwitchFault, StopsRound};
-ghost use Rattle.mav_router.specs.Runs.{RunSoFar, IsDrained, AllTurned};
+ghost use Rattle.mav_router.specs.Faults.{IsSwitchFault, RunStops};
+ghost use Rattle.mav_router.specs.Runs.{RunGoesOn, IsDrained, AllTurned};
 
 use crate::batch::Batch;
 use crate::buffer::Buffer;
@@ -26,12 +24,8 @@ pub(crate) fn read_each<L: Link>(
     requires ports { length links.old ≤ switch.old.rules.ports }
     requires few { length links.old ≤ 8 }
     ensures rules { switch.new.rules ≡ switch.old.rules }
-    ensures so_far { OnOk result ((rules : Rules) (first : ℕ → LinkState)
-        → RunSoFar L.state rules switch.old first links.old lanes.old
-        → RunSoFar L.state rules switch.new first links.new lanes.new) }
-    ensures stopped { OnErr result ((rules : Rules) (first : ℕ → LinkState)
-        → RunSoFar L.state rules switch.old first links.old lanes.old
-        → StopsRound L.state rules switch.new.journal first links.new) }
+    ensures so_far { OnOk result (RunGoesOn L.state switch.old switch.new links.old links.new lanes.old lanes.new) }
+    ensures stopped { OnErr result (RunStops L.state switch.old switch.new links.old links.new lanes.old) }
     ensures fault { IfErr result (λ fault. IsSwitchFault fault switch.new.journal) }
     ensures turned { OnOk result ((turns : ℕ) → turns + 1 < 2 ^ 64 → AllTurned lanes.old turns → AllTurned lanes.new (turns + 1)) }
 {
@@ -55,9 +49,7 @@ pub(crate) fn write_each<L: Link>(
     requires ports { length links.old ≤ switch.old.rules.ports }
     requires few { length links.old ≤ 8 }
     ensures rules { switch.new.rules ≡ switch.old.rules }
-    ensures so_far { (rules : Rules) (first : ℕ → LinkState)
-        → RunSoFar L.state rules switch.old first links.old lanes.old
-        → RunSoFar L.state rules switch.new first links.new lanes.new }
+    ensures so_far { RunGoesOn L.state switch.old switch.new links.old links.new lanes.old lanes.new }
     ensures turned { (turns : ℕ) → AllTurned lanes.old turns → AllTurned lanes.new turns }
     ensures drained { (k : ℕ) → k < length lanes.new → IsDrained switch.new lanes.new k }
 {

@@ -1,12 +1,11 @@
 // A run of a router.
 ghost use Rattle.std.specs.Prelude.{◌≡◌, ◌≤◌, ◌<◌, ◌+◌, ℕ, List, [], length, false, true, OnOk, OnErr, IfOk, IfErr, slice_get, Some};
-ghost use Rattle.mav_links.specs.Links.{LinkState};
 ghost use Rattle.mav_router.specs.Journal.{Rules, given_to, rules_of};
 ghost use Rattle.mav_profile.specs.Messages.{extras_of};
-ghost use Rattle.mav_router.specs.Runs.{IsNew, RunSoFar, IsDrained, AllFresh, AllTurned};
-ghost use Rattle.mav_router.specs.Ends.{PortRun, end_by};
-ghost use Rattle.mav_router.specs.Faults.{IsSwitchFault, StopsRound, RouteStopped};
-ghost use Rattle.mav_router.specs.Routed.{CanRoute, HasRouted, HasStopped};
+ghost use Rattle.mav_router.specs.Runs.{IsNew, RunGoesOn, IsDrained, AllFresh, AllTurned};
+ghost use Rattle.mav_router.specs.Ends.{end_by};
+ghost use Rattle.mav_router.specs.Faults.{IsSwitchFault, RunStops};
+ghost use Rattle.mav_router.specs.Routed.{CanRoute, HasEnded, PortsEnded};
 
 use crate::lane::Lane;
 use crate::parts::Room;
@@ -56,12 +55,8 @@ fn run_rounds<L: Link>(
     requires drained { (k : ℕ) → IsDrained switch.old lanes.old k }
     requires turned { AllTurned lanes.old 0 }
     ensures rules { switch.new.rules ≡ switch.old.rules }
-    ensures so_far { OnOk result ((rules : Rules) (first : ℕ → LinkState)
-        → RunSoFar L.state rules switch.old first links.old lanes.old
-        → RunSoFar L.state rules switch.new first links.new lanes.new) }
-    ensures stopped { OnErr result ((rules : Rules) (first : ℕ → LinkState)
-        → RunSoFar L.state rules switch.old first links.old lanes.old
-        → StopsRound L.state rules switch.new.journal first links.new) }
+    ensures so_far { OnOk result (RunGoesOn L.state switch.old switch.new links.old links.new lanes.old lanes.new) }
+    ensures stopped { OnErr result (RunStops L.state switch.old switch.new links.old links.new lanes.old) }
     ensures fault { IfErr result (λ fault. IsSwitchFault fault switch.new.journal) }
     ensures drained { OnOk result ((k : ℕ) → k < length lanes.new → IsDrained switch.new lanes.new k) }
     ensures turned { OnOk result (AllTurned lanes.new turns) }
@@ -164,13 +159,8 @@ fn route_lanes<L: Link>(
     requires turned { AllTurned lanes.old 0 }
     requires turns { turns ≤ 1_000_000_000 }
     ensures rules { switch.new.rules ≡ switch.old.rules }
-    ensures length { IfOk result (λ ends. length ends.items ≡ length links.old) }
-    ensures each { IfOk result (λ ends. (rules : Rules) → AllFresh rules lanes.old
-        → (k : ℕ) (b c : _) (e : PortEnd) → slice_get links.old k ≡ Some b
-        → slice_get links.new k ≡ Some c → slice_get ends.items k ≡ Some e
-        → PortRun rules switch.new.journal turns (k + 1) (L.state b) (L.state c) e) }
-    ensures stopped { IfErr result (λ fault. (rules : Rules) → AllFresh rules lanes.old
-        → RouteStopped L.state rules fault switch.new.journal links.old links.new) }
+    ensures ended { (rules : Rules) → AllFresh rules lanes.old
+        → PortsEnded result L.state rules turns links.old links.new switch.new.journal }
 {
     if let Err(fault) = run_rounds(switch, lanes, links, room, turns) {
         return Err(fault);
@@ -199,13 +189,8 @@ fn route_in<L: Link>(
     requires given { (port : ℕ) → given_to switch.old port ≡ [] }
     requires turns { plan.turns ≤ 1_000_000_000 }
     ensures rules { switch.new.rules ≡ switch.old.rules }
-    ensures length { IfOk result (λ ends. length ends.items ≡ length links.old) }
-    ensures each { IfOk result (λ ends. (key : List ℕ) (ports : ℕ)
-        → (k : ℕ) (b c : _) (e : PortEnd) → slice_get links.old k ≡ Some b
-        → slice_get links.new k ≡ Some c → slice_get ends.items k ≡ Some e
-        → PortRun (rules_of key known.now plan.plain ports) switch.new.journal plan.turns (k + 1) (L.state b) (L.state c) e) }
-    ensures stopped { IfErr result (λ fault. (key : List ℕ) (ports : ℕ)
-        → RouteStopped L.state (rules_of key known.now plan.plain ports) fault switch.new.journal links.old links.new) }
+    ensures ended { (key : List ℕ) (ports : ℕ)
+        → PortsEnded result L.state (rules_of key known.now plan.plain ports) plan.turns links.old links.new switch.new.journal }
 {
     let Ok(mut lanes) = new_lanes(alloc, known, plan.plain, links.len()) else {
         return Err(SwitchFault::NoMemory);
@@ -233,8 +218,8 @@ pub fn route_links<L: Link>(
     plan: RoutePlan,
 ) -> Result<RouteEnd, RouteFault>
     requires { CanRoute (length links.old) plan.turns }
-    ensures routed { IfOk result (λ end. HasRouted L.state (rules_of key.now known.now plan.plain (length links.old)) plan.turns links.old links.new end.journal end.ports.items) }
-    ensures stopped { IfErr result (λ fault. HasStopped true L.state (rules_of key.now known.now plan.plain (length links.old)) links.old links.new fault.why fault.journal) }
+    ensures { HasEnded result true L.state (rules_of key.now known.now plan.plain (length links.old))
+        plan.turns links.old links.new }
 {
     let Ok(mut room) = Room::new(alloc) else {
         return Err(no_memory(alloc));
@@ -265,9 +250,8 @@ pub fn route_one(
     plan: RoutePlan,
 ) -> Result<RouteEnd, RouteFault>
     requires { CanRoute (length ports.old.items) plan.turns }
-    ensures links { length ports.new.items ≡ length ports.old.items }
-    ensures routed { IfOk result (λ end. HasRouted state (rules_of key.now known.now plan.plain (length ports.old.items)) plan.turns ports.old.items ports.new.items end.journal end.ports.items) }
-    ensures stopped { IfErr result (λ fault. HasStopped true state (rules_of key.now known.now plan.plain (length ports.old.items)) ports.old.items ports.new.items fault.why fault.journal) }
+    ensures { HasEnded result true state (rules_of key.now known.now plan.plain (length ports.old.items))
+        plan.turns ports.old.items ports.new.items }
 {
     route_links(alloc, key, known, ports.as_mut_slice(), plan)
 }

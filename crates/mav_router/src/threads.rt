@@ -1,10 +1,10 @@
 // A run of a router with a thread for each port.
-ghost use Rattle.std.specs.Prelude.{◌≡◌, ◌≤◌, ◌<◌, ◌+◌, ℕ, List, [], length, replicate, false, IfOk, IfErr, OnOk, OnErr, slice_get, Some, vec_len, vec_capacity};
+ghost use Rattle.std.specs.Prelude.{◌≡◌, ◌≤◌, ◌<◌, ◌+◌, ℕ, List, [], length, replicate, false, OnOk, OnErr, slice_get, Some, vec_len, vec_capacity};
 ghost use Rattle.turnstile.specs.Participants.{opened};
 ghost use Rattle.mav_router.specs.History.{history_of};
 ghost use Rattle.mav_router.specs.Threads.{IsStocked, HasServed, HasClosed};
 ghost use Rattle.mav_router.specs.Journal.{rules_of};
-ghost use Rattle.mav_router.specs.Routed.{CanRoute, HasRouted, HasStopped};
+ghost use Rattle.mav_router.specs.Routed.{CanRoute, HasEnded};
 
 use crate::closing::{first_fault, put_ends, write_each_left};
 use crate::crew::BoxedLink;
@@ -64,11 +64,8 @@ fn finish<L: Link>(
     requires end_room { vec_len sides.old ≤ vec_capacity ends }
     requires room { vec_len sides.old ≤ vec_capacity ports.old }
     requires turns { turns ≤ 1_000_000_000 }
-    ensures links { length ports.new.items ≡ length sides.old.items }
-    ensures routed { IfOk result (λ end. (before : List _) → HasClosed L.state switch.entry.rules turns switch.entry.journal before sides.old.items
-        → HasRouted L.state switch.entry.rules turns before ports.new.items end.journal end.ports.items) }
-    ensures stopped { IfErr result (λ fault. (before : List _) → HasClosed L.state switch.entry.rules turns switch.entry.journal before sides.old.items
-        → HasStopped false L.state switch.entry.rules before ports.new.items fault.why fault.journal) }
+    ensures { (before : List _) → HasClosed L.state switch.entry.rules turns switch.entry.journal before sides.old.items
+        → HasEnded result false L.state switch.entry.rules turns before ports.new.items }
 {
     match first_fault(sides.as_slice()) {
         Some(why) => {
@@ -115,9 +112,7 @@ fn route_seated<'a, R: Threads + Wait + Sync>(
     requires new { vec_len ends ≡ 0 }
     requires room { rules.now.ports ≤ vec_capacity ends }
     requires turns { turns ≤ 1_000_000_000 }
-    ensures links { length ports.new.items ≡ length ports.old.items }
-    ensures routed { IfOk result (λ end. HasRouted state rules.now turns ports.old.items ports.new.items end.journal end.ports.items) }
-    ensures stopped { IfErr result (λ fault. HasStopped false state rules.now ports.old.items ports.new.items fault.why fault.journal) }
+    ensures { HasEnded result false state rules.now turns ports.old.items ports.new.items }
 {
     let signals = Signals::new(ports.len() as u64);
     let mut seats = seats;
@@ -145,9 +140,8 @@ fn route_stocked<R: Threads + Wait + Sync>(
     requires stocked { IsStocked (rules_of key.now known.now plan.plain (length ports.old.items)) stock.old }
     requires new { vec_len ends ≡ 0 }
     requires room { length ports.old.items ≤ vec_capacity ends }
-    ensures links { length ports.new.items ≡ length ports.old.items }
-    ensures routed { IfOk result (λ end. HasRouted state (rules_of key.now known.now plan.plain (length ports.old.items)) plan.turns ports.old.items ports.new.items end.journal end.ports.items) }
-    ensures stopped { IfErr result (λ fault. HasStopped false state (rules_of key.now known.now plan.plain (length ports.old.items)) ports.old.items ports.new.items fault.why fault.journal) }
+    ensures { HasEnded result false state (rules_of key.now known.now plan.plain (length ports.old.items))
+        plan.turns ports.old.items ports.new.items }
 {
     let count = ports.len() as u8;
     let Ok(switch) = Switch::new(alloc, *key, known, count, plan.plain) else {
@@ -177,9 +171,8 @@ pub(crate) fn route_threads<R: Threads + Wait + Sync>(
     plan: RoutePlan,
 ) -> Result<RouteEnd, RouteFault>
     requires { CanRoute (length ports.old.items) plan.turns }
-    ensures links { length ports.new.items ≡ length ports.old.items }
-    ensures routed { IfOk result (λ end. HasRouted state (rules_of key.now known.now plan.plain (length ports.old.items)) plan.turns ports.old.items ports.new.items end.journal end.ports.items) }
-    ensures stopped { IfErr result (λ fault. HasStopped false state (rules_of key.now known.now plan.plain (length ports.old.items)) ports.old.items ports.new.items fault.why fault.journal) }
+    ensures { HasEnded result false state (rules_of key.now known.now plan.plain (length ports.old.items))
+        plan.turns ports.old.items ports.new.items }
 {
     let count = ports.len();
     let Ok(ends) = Vec::with_capacity(alloc, count) else {

@@ -1,7 +1,7 @@
 // A run of a router on one thread or on many.
-ghost use Rattle.std.specs.Prelude.{◌≡◌, length, IfOk, IfErr};
+ghost use Rattle.std.specs.Prelude.{length};
 ghost use Rattle.mav_router.specs.Journal.{rules_of};
-ghost use Rattle.mav_router.specs.Routed.{CanRoute, HasRouted, HasStopped};
+ghost use Rattle.mav_router.specs.Routed.{CanRoute, HasEnded};
 
 use crate::threads::route_threads;
 use crate::{PortEnd, RouteEnd, RouteFault, RoutePlan, route_one};
@@ -24,9 +24,8 @@ pub fn route_all<R: Threads + Wait + Sync>(
     plan: RoutePlan,
 ) -> Result<RouteEnd, RouteFault>
     requires { CanRoute (length ports.old.items) plan.turns }
-    ensures links { length ports.new.items ≡ length ports.old.items }
-    ensures routed { IfOk result (λ end. HasRouted state (rules_of key.now known.now plan.plain (length ports.old.items)) plan.turns ports.old.items ports.new.items end.journal end.ports.items) }
-    ensures stopped { IfErr result (λ fault. HasStopped plan.one state (rules_of key.now known.now plan.plain (length ports.old.items)) ports.old.items ports.new.items fault.why fault.journal) }
+    ensures { HasEnded result plan.one state (rules_of key.now known.now plan.plain (length ports.old.items))
+        plan.turns ports.old.items ports.new.items }
 {
     if plan.one {
         route_one(alloc, key, known, ports, plan)

@@ -1,7 +1,7 @@
 // How a router runs: on the caller's thread alone, or with threads.
-ghost use Rattle.std.specs.Prelude.{◌≡◌, length, IfOk, IfErr, Bool, true, if◌then◌else◌};
+ghost use Rattle.std.specs.Prelude.{length, Bool, true, if◌then◌else◌};
 ghost use Rattle.mav_router.specs.Journal.{rules_of};
-ghost use Rattle.mav_router.specs.Routed.{CanRoute, HasRouted, HasStopped};
+ghost use Rattle.mav_router.specs.Routed.{CanRoute, HasEnded};
 
 use dialect::Dialect;
 use mav_links::Link;
@@ -30,9 +30,8 @@ pub trait Router {
     ) -> Result<RouteEnd, RouteFault>
         requires ready { ready }
         requires can { CanRoute (length ports.old.items) plan.turns }
-        ensures links { length ports.new.items ≡ length ports.old.items }
-        ensures routed { IfOk result (λ end. HasRouted state (rules_of key.now known.now plan.plain (length ports.old.items)) plan.turns ports.old.items ports.new.items end.journal end.ports.items) }
-        ensures stopped { IfErr result (λ fault. HasStopped (if alone then true else plan.one) state (rules_of key.now known.now plan.plain (length ports.old.items)) ports.old.items ports.new.items fault.why fault.journal) };
+        ensures { HasEnded result (if alone then true else plan.one) state (rules_of key.now known.now plan.plain (length ports.old.items))
+            plan.turns ports.old.items ports.new.items };
 }
 
 /// On the caller's thread, whatever the plan says.

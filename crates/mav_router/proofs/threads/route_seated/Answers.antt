@@ -1,11 +1,11 @@
-use Rattle.std.proofs.Common.{◌∙◌, ◌<◌, length, ap, arith, false}
-use Rattle.mav_router.proofs.PortEnds.{if_ok, if_err, unrouted}
-use Rattle.mav_router.proofs.Served.{closed, ends_routed, ends_stopped, seats_long, seats_outside, sides_long, taken_within}
+use Rattle.std.proofs.Common.{◌<◌, length, arith, false}
+use Rattle.mav_router.proofs.PortEnds.{unrouted}
+use Rattle.mav_router.proofs.Served.{closed, ended, seats_long, seats_outside, sides_long, taken_within}
 use Rattle.mav_router.proofs.threads.route_seated.Goals as goal
 
-pub returns-in-Err-clause-stopped : goal.returns-in-Err-clause-stopped
-returns-in-Err-clause-stopped g c =
-    unrouted false _ c.args.rules.now c.args.ports.now.items c.serve_ports.new.ports.items c.no_memory.result.why c.no_memory.result.journal c.no_memory.ensures.why c.no_memory.ensures.journal c.in-Err.ensures.kept
+pub returns-in-Err : goal.returns-in-Err
+returns-in-Err g c =
+    unrouted false _ c.args.rules.now c.args.turns c.args.ports.now.items c.serve_ports.new.ports.items c.no_memory.result c.no_memory.ensures.why c.no_memory.ensures.journal c.in-Err.ensures.kept
 
 pub close-requires-clause-outside : goal.close-requires-clause-outside
 close-requires-clause-outside g c = seats_outside _ c.args.turn c.args.rules.now c.args.turns c.args.ports.now.items c.serve_ports.new.stock.sides.items c.serve_ports.new.seats.items c.in_default.ensures.served
@@ -16,30 +16,13 @@ finish-requires-clause-within g c κs =
     taken_within _ c.close.result.rules c.args.turns c.close.result.journal c.args.ports.now.items c.serve_ports.new.stock.sides.items
     (closed _ c.args.turn c.args.rules.now c.args.turns c.args.ports.now.items c.serve_ports.new.stock.sides.items c.serve_ports.new.seats.items c.close.result c.args.turn.opening some c.in_default.ensures.served c.close.ensures.begins c.requires.opening c.close.ensures.whole)
 
-pub returns-clause-routed : goal.returns-clause-routed
-returns-clause-routed g c =
+pub returns : goal.returns
+returns g c =
     let some : 0 < length c.args.ports.now.items = omega (arith, c.requires.from, c.requires.ports) in
-    if_ok c.finish.result
-    (λ end goes.
-    ends_routed _ c.args.turn c.args.rules.now c.args.turns c.args.ports.now.items c.finish.new.ports.items c.serve_ports.new.stock.sides.items c.serve_ports.new.seats.items c.close.result c.args.turn.opening end.journal end.ports.items some c.in_default.ensures.served c.close.ensures.begins c.requires.opening c.close.ensures.whole goes)
-    c.finish.ensures.routed
-
-pub returns-clause-stopped : goal.returns-clause-stopped
-returns-clause-stopped g c =
-    let some : 0 < length c.args.ports.now.items = omega (arith, c.requires.from, c.requires.ports) in
-    if_err c.finish.result
-    (λ fault goes.
-    ends_stopped _ c.args.turn c.args.rules.now c.args.turns c.args.ports.now.items c.finish.new.ports.items c.serve_ports.new.stock.sides.items c.serve_ports.new.seats.items c.close.result c.args.turn.opening fault.why fault.journal some c.in_default.ensures.served c.close.ensures.begins c.requires.opening c.close.ensures.whole goes)
-    c.finish.ensures.stopped
+    ended c.finish.result _ c.args.turn c.args.rules.now c.args.turns c.args.ports.now.items c.finish.new.ports.items c.serve_ports.new.stock.sides.items c.serve_ports.new.seats.items c.close.result c.args.turn.opening some c.in_default.ensures.served c.close.ensures.begins c.requires.opening c.close.ensures.whole c.finish.ensures
 
 pub serve_ports-requires-clause-ports : goal.serve_ports-requires-clause-ports
 serve_ports-requires-clause-ports g c κs lives = c.requires.ports
-
-pub returns-in-Err-clause-links : goal.returns-in-Err-clause-links
-returns-in-Err-clause-links g c = ap length c.in-Err.ensures.kept
-
-pub returns-in-Err-clause-routed : goal.returns-in-Err-clause-routed
-returns-in-Err-clause-routed g c = tt
 
 pub close-requires-clause-all : goal.close-requires-clause-all
 close-requires-clause-all g c =
@@ -58,6 +41,3 @@ pub finish-requires-clause-end_room : goal.finish-requires-clause-end_room
 finish-requires-clause-end_room g c κs =
     let long = sides_long _ c.args.turn c.args.rules.now c.args.turns c.args.ports.now.items c.serve_ports.new.stock.sides.items c.serve_ports.new.seats.items c.in_default.ensures.served in
     omega (arith, long, c.serve_ports.new.stock.sides.ok.0, c.requires.room, c.requires.ports)
-
-pub returns-clause-links : goal.returns-clause-links
-returns-clause-links g c = c.finish.ensures.links ∙ sides_long _ c.args.turn c.args.rules.now c.args.turns c.args.ports.now.items c.serve_ports.new.stock.sides.items c.serve_ports.new.seats.items c.in_default.ensures.served

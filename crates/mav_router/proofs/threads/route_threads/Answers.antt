@@ -4,13 +4,13 @@ use Rattle.mav_router.proofs.PortEnds.{unrouted}
 use Rattle.mav_router.proofs.Served.{rules_ports, stocked_as}
 use Rattle.mav_router.proofs.threads.route_threads.Goals as goal
 
-pub returns-in_default-clause-stopped : goal.returns-in_default-clause-stopped
-returns-in_default-clause-stopped g c = unrouted false _ _ c.args.ports.now.items c.args.ports.now.items c.no_memory.result.why c.no_memory.result.journal c.no_memory.ensures.why c.no_memory.ensures.journal refl
+pub returns-in_default : goal.returns-in_default
+returns-in_default g c = unrouted false _ _ _ c.args.ports.now.items c.args.ports.now.items c.no_memory.result c.no_memory.ensures.why c.no_memory.ensures.journal refl
 
-pub returns-in_default-new_stock-clause-stopped : goal.returns-in_default-new_stock-clause-stopped
-returns-in_default-new_stock-clause-stopped g c =
+pub returns-in_default-new_stock : goal.returns-in_default-new_stock
+returns-in_default-new_stock g c =
     let none = c.no_memory-in_default-new_stock in
-    unrouted false _ _ c.args.ports.now.items c.args.ports.now.items none.result.why none.result.journal none.ensures.why none.ensures.journal refl
+    unrouted false _ _ _ c.args.ports.now.items c.args.ports.now.items none.result none.ensures.why none.ensures.journal refl
 
 pub route_stocked-requires-clause-stocked : goal.route_stocked-requires-clause-stocked
 route_stocked-requires-clause-stocked g c κs within =
