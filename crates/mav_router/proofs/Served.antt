@@ -8,6 +8,7 @@ use mathlib.Core.List.{IsPrefix}
 use Rattle.turnstile.specs.Merging.{Continues}
 use Rattle.turnstile.specs.Participants.{Lock, Participant, CanEnter, opened}
 use Rattle.mav_links.specs.Links.{LinkState}
+use Rattle.mav_router.specs.declared.crew.Crew.{Crew}
 use Rattle.mav_router.specs.declared.crew.PortJob.{PortJob}
 use Rattle.mav_router.specs.declared.ends.PortEnd.{PortEnd}
 use Rattle.mav_router.specs.declared.ends.RouteEnd.{RouteEnd}
@@ -81,31 +82,24 @@ served {A} {J} state lock rules turns of before lanes seats old new sides last s
     within : (k : ℕ) (c : J) → slice_get new k ≡ Some c → k < length old
     within k c is = let l = index_within new k c is in omega (arith, long, l)
 
--- the same of jobs, which share the lock, the rules and the number of turns
-abbrev pub AllShare : {A : Type 0} → Lock SwitchEvent → Rules → ℕ → List (PortJob A) → Type 0
-AllShare {A} lock rules turns jobs = (k : ℕ) (job : PortJob A) → slice_get jobs k ≡ Some job → (job.turn.now ≡ lock) × (job.rules.now ≡ rules) × (job.turns ≡ turns)
+-- the same of jobs, which share all but their parts
+abbrev pub AllShare : {A : Type 0} → Crew → List (PortJob A) → Type 0
+AllShare {A} crew jobs = (k : ℕ) (job : PortJob A) → slice_get jobs k ≡ Some job → job.crew ≡ crew
 
 abbrev pub AllPlaced : {A : Type 0} → List (PortJob A) → Type 0
 AllPlaced {A} jobs = (k : ℕ) (job : PortJob A) → slice_get jobs k ≡ Some job → IsPlaced k job.part
 
-pub jobs_ready : {A : Type 0} (lock : Lock SwitchEvent) (rules : Rules) (turns : ℕ) (jobs : List (PortJob A)) (lanes : List Lane) (seats : List (Participant SwitchEvent)) → rules.ports ≤ 8 → seats ≡ replicate rules.ports (opened lock.id (history_of rules [])) → map (λ (j : PortJob A). j.part.seat) jobs ≡ seats → map (λ (j : PortJob A). j.part.side.lane) jobs ≡ lanes → AllTurned lanes 0 → AllPlaced jobs → AllShare lock rules turns jobs → All (λ (j : PortJob A). IsReady j.turn.now j.rules.now j.part × HadTurns j.part.side.lane 0) jobs
-jobs_ready {A} lock rules turns jobs lanes seats few new seats_are lanes_are turned placed shared =
-    all_from (λ (j : PortJob A). IsReady j.turn.now j.rules.now j.part × HadTurns j.part.side.lane 0) jobs
+pub jobs_ready : {A : Type 0} (crew : Crew) (jobs : List (PortJob A)) (lanes : List Lane) (seats : List (Participant SwitchEvent)) → crew.rules.now.ports ≤ 8 → seats ≡ replicate crew.rules.now.ports (opened crew.turn.now.id (history_of crew.rules.now [])) → map (λ (j : PortJob A). j.part.seat) jobs ≡ seats → map (λ (j : PortJob A). j.part.side.lane) jobs ≡ lanes → AllTurned lanes 0 → AllPlaced jobs → AllShare crew jobs → All (λ (j : PortJob A). IsReady j.crew.turn.now j.crew.rules.now j.part × HadTurns j.part.side.lane 0) jobs
+jobs_ready {A} crew jobs lanes seats few new seats_are lanes_are turned placed shared =
+    all_from (λ (j : PortJob A). IsReady j.crew.turn.now j.crew.rules.now j.part × HadTurns j.part.side.lane 0) jobs
     (λ k job is.
-    let s = shared k job is in
-    let r = job_ready lock rules (λ (j : PortJob A). j.part) jobs lanes seats few new seats_are lanes_are turned placed k job is in (
-      subst (λ (l : Lock SwitchEvent). IsReady l job.rules.now job.part) (sym s.0) (subst (λ (x : Rules). IsReady lock x job.part) (sym s.1) r.0),
-      r.1,
-    ))
+    let r = job_ready crew.turn.now crew.rules.now (λ (j : PortJob A). j.part) jobs lanes seats few new seats_are lanes_are turned placed k job is in
+    (subst (λ (c : Crew). IsReady c.turn.now c.rules.now job.part) (sym (shared k job is)) r.0, r.1))
 
-pub jobs_served : {A : Type 0} (state : A → LinkState) (lock : Lock SwitchEvent) (rules : Rules) (turns : ℕ) (before : List A) (lanes : List Lane) (seats : List (Participant SwitchEvent)) (old new : List (PortJob A)) (sides : List (Side A)) (last : List (Participant SwitchEvent)) → seats ≡ replicate rules.ports (opened lock.id (history_of rules [])) → map (λ (j : PortJob A). j.part.side.link) old ≡ before → map (λ (j : PortJob A). j.part.side.lane) old ≡ lanes → map (λ (j : PortJob A). j.part.seat) old ≡ seats → AllFresh rules lanes → AllPlaced old → AllShare lock rules turns old → length new ≡ length old → ((k : ℕ) (b c : PortJob A) → slice_get old k ≡ Some b → slice_get new k ≡ Some c → HasRun c.part.side.halt state b.turn.now b.rules.now b.turns b.part c.part) → sides ≡ map (λ (j : PortJob A). j.part.side) new → last ≡ map (λ (j : PortJob A). j.part.seat) new → HasServed state lock rules turns before sides last
-jobs_served {A} state lock rules turns before lanes seats old new sides last seats_new links_are lanes_are seats_are fresh placed shared long ran sides_are last_are =
-    served state lock rules turns (λ (j : PortJob A). j.part) before lanes seats old new sides last seats_new links_are lanes_are seats_are fresh placed long
-    (λ k b c is_b is_c.
-    let s = shared k b is_b in
-    subst (λ (m : ℕ). HasRun c.part.side.halt state lock rules m b.part c.part) s.2
-    (subst (λ (x : Rules). HasRun c.part.side.halt state lock x b.turns b.part c.part) s.1
-    (subst (λ (l : Lock SwitchEvent). HasRun c.part.side.halt state l b.rules.now b.turns b.part c.part) s.0 (ran k b c is_b is_c))))
+pub jobs_served : {A : Type 0} (state : A → LinkState) (crew : Crew) (before : List A) (lanes : List Lane) (seats : List (Participant SwitchEvent)) (old new : List (PortJob A)) (sides : List (Side A)) (last : List (Participant SwitchEvent)) → seats ≡ replicate crew.rules.now.ports (opened crew.turn.now.id (history_of crew.rules.now [])) → map (λ (j : PortJob A). j.part.side.link) old ≡ before → map (λ (j : PortJob A). j.part.side.lane) old ≡ lanes → map (λ (j : PortJob A). j.part.seat) old ≡ seats → AllFresh crew.rules.now lanes → AllPlaced old → AllShare crew old → length new ≡ length old → ((k : ℕ) (b c : PortJob A) → slice_get old k ≡ Some b → slice_get new k ≡ Some c → HasRun c.part.side.halt state b.crew.turn.now b.crew.rules.now b.crew.turns b.part c.part) → sides ≡ map (λ (j : PortJob A). j.part.side) new → last ≡ map (λ (j : PortJob A). j.part.seat) new → HasServed state crew.turn.now crew.rules.now crew.turns before sides last
+jobs_served {A} state crew before lanes seats old new sides last seats_new links_are lanes_are seats_are fresh placed shared long ran sides_are last_are =
+    served state crew.turn.now crew.rules.now crew.turns (λ (j : PortJob A). j.part) before lanes seats old new sides last seats_new links_are lanes_are seats_are fresh placed long
+    (λ k b c is_b is_c. subst (λ (w : Crew). HasRun c.part.side.halt state w.turn.now w.rules.now w.turns b.part c.part) (shared k b is_b) (ran k b c is_b is_c))
     sides_are last_are
 
 -- as many as there were ports, and no seat is between two steps

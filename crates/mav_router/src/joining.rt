@@ -2,17 +2,16 @@
 ghost use Rattle.std.specs.Prelude.{◌≡◌, ◌≤◌, ◌+◌, ℕ, List, map, vec_len, vec_capacity, slice_get, Some, IfOk};
 ghost use Rattle.mav_router.specs.Threads.{IsStocked, IsPlaced};
 
-use crate::crew::PortJob;
+use crate::crew::{Crew, PortJob};
 use crate::lane::Lane;
 use crate::moves::{put_last, take_first};
 use crate::parts::{Halt, Part, Room, Side};
 use crate::routing::new_lanes;
-use crate::signals::Signals;
-use crate::{NoMemory, RouterRules, Switch};
+use crate::{NoMemory, Switch};
 use dialect::Dialect;
 use link_table::Ways;
 use std::alloc::Global;
-use turnstile::{Turn, TurnSeat};
+use turnstile::TurnSeat;
 
 /// What threads are made of beside links and seats, and room for what is left of them.
 #[derive(Drop)]
@@ -52,10 +51,7 @@ pub(crate) fn new_stock<L>(
 
 /// Makes the job of each port.
 pub(crate) fn muster<'a, 't, L: Drop>(
-    turn: &'t Turn<Switch<'a>>,
-    rules: &'t RouterRules<'a>,
-    signals: &'t Signals,
-    turns: u64,
+    crew: &Crew<'a, 't>,
     stock: &mut Stock<L>,
     seats: &mut Vec<TurnSeat<Switch<'a>>>,
     ports: &mut Vec<L>,
@@ -71,7 +67,7 @@ pub(crate) fn muster<'a, 't, L: Drop>(
     ensures lanes { map (λ job. job.part.side.lane) jobs.new.items ≡ stock.old.lanes.items }
     ensures seats { map (λ job. job.part.seat) jobs.new.items ≡ seats.old.items }
     ensures placed { (k : ℕ) (job : _) → slice_get jobs.new.items k ≡ Some job → IsPlaced k job.part }
-    ensures shared { (k : ℕ) (job : _) → slice_get jobs.new.items k ≡ Some job → (job.turn.now ≡ turn.now) × (job.rules.now ≡ rules.now) × (job.turns ≡ turns) }
+    ensures shared { (k : ℕ) (job : _) → slice_get jobs.new.items k ≡ Some job → job.crew ≡ crew.now }
     ensures sides { stock.new.sides ≡ stock.old.sides }
     ensures no_ports { (vec_len ports.new ≡ 0) × (vec_capacity ports.new ≡ vec_capacity ports.old) }
     ensures no_seats { (vec_len seats.new ≡ 0) × (vec_capacity seats.new ≡ vec_capacity seats.old) }
@@ -89,16 +85,7 @@ pub(crate) fn muster<'a, 't, L: Drop>(
             seat: take_first(seats),
             side,
         };
-        put_last(
-            jobs,
-            PortJob {
-                turn,
-                rules,
-                signals,
-                turns,
-                part,
-            },
-        );
+        put_last(jobs, PortJob { crew: *crew, part });
     }
 }
 

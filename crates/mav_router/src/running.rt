@@ -9,19 +9,19 @@ ghost use Rattle.mav_router.specs.Parts.{IsSeated, IsReady, KeepsOn, PartSoFar, 
 ghost use Rattle.mav_router.specs.Crews.{HasRun};
 
 use crate::buffer::Buffer;
+use crate::crew::Crew;
 use crate::found::FoundFrames;
 use crate::lane::PIECE;
 use crate::lanes::read_lane;
 use crate::parts::{Halt, Part};
 use crate::routing::is_live;
-use crate::signals::Signals;
 use crate::turns::{admit_found, share_waiting};
 use crate::writing::write_pages;
-use crate::{RouterRules, Switch, SwitchFault};
+use crate::{Switch, SwitchFault};
 use mav_links::Link;
 use mav_stream::PieceReader;
 use std::sync::Wait;
-use turnstile::{Turn, TurnSeat};
+use turnstile::TurnSeat;
 
 // While reads give whole pieces, what waits for the port is written after each fourth one.
 const MOST_PUT_OFF: u32 = 3;
@@ -30,8 +30,7 @@ const MOST_PUT_OFF: u32 = 3;
 // held and those of a read after them. What is left is held.
 fn hear_in_turn<'a, R: Wait>(
     rt: &R,
-    turn: &Turn<Switch<'a>>,
-    rules: &RouterRules<'_>,
+    crew: &Crew<'a, '_>,
     seat: &mut TurnSeat<Switch<'a>>,
     reader: &mut PieceReader,
     skipped: &mut u64,
@@ -40,42 +39,41 @@ fn hear_in_turn<'a, R: Wait>(
     size: usize,
     found: &mut FoundFrames,
 ) -> Result<(), SwitchFault>
-    requires seated { IsSeated turn.now rules.now port seat.old }
+    requires seated { IsSeated crew.now.turn.now crew.now.rules.now port seat.old }
     requires from { 1 ≤ port }
-    requires to { port ≤ rules.now.ports }
+    requires to { port ≤ crew.now.rules.now.ports }
     requires within { size ≤ 4376 }
-    ensures seated { IsSeated turn.now rules.now port seat.new }
+    ensures seated { IsSeated crew.now.turn.now crew.now.rules.now port seat.new }
     ensures begins { IsPrefix (entries_in seat.old.seen) (entries_in seat.new.seen) }
     ensures ended { reader.new.ended ≡ reader.old.ended }
     ensures read { OnOk result ((all : List ℕ)
-        → Reading rules.now port all (record reader.old { bytes = take size buf.old }) skipped.old (entries_in seat.old.own)
-        → AllRead rules.now port all reader.new skipped.new (entries_in seat.new.own)) }
+        → Reading crew.now.rules.now port all (record reader.old { bytes = take size buf.old }) skipped.old (entries_in seat.old.own)
+        → AllRead crew.now.rules.now port all reader.new skipped.new (entries_in seat.new.own)) }
     ensures stopped { OnErr result ((all : List ℕ)
-        → Reading rules.now port all (record reader.old { bytes = take size buf.old }) skipped.old (entries_in seat.old.own)
-        → StopsReading reader.old.ended rules.now port all (entries_in seat.new.own)) }
+        → Reading crew.now.rules.now port all (record reader.old { bytes = take size buf.old }) skipped.old (entries_in seat.old.own)
+        → StopsReading reader.old.ended crew.now.rules.now port all (entries_in seat.new.own)) }
     ensures fault { IfErr result (λ fault. IsSwitchFault fault (entries_in seat.new.seen)) }
 {
-    if let Err(_) = found.find(rules, reader, skipped, buf, size) {
+    if let Err(_) = found.find(crew.rules, reader, skipped, buf, size) {
         return Err(SwitchFault::NoMemory);
     }
     found.settle();
-    admit_found(rt, turn, rules, seat, port, found)
+    admit_found(rt, crew, seat, port, found)
 }
 
 // Reads a port that is still read once, and has the switch admit the frames that are found.
 fn read_part<'a, R: Wait, L: Link>(
     rt: &R,
-    turn: &Turn<Switch<'a>>,
-    rules: &RouterRules<'_>,
+    crew: &Crew<'a, '_>,
     part: &mut Part<'a, L>,
 ) -> Result<(), SwitchFault>
-    requires ready { IsReady turn.now rules.now part.old }
+    requires ready { IsReady crew.now.turn.now crew.now.rules.now part.old }
     requires live { part.old.side.lane.ended ≡ false }
     requires fine { part.old.side.lane.failed ≡ false }
-    ensures ready { IsReady turn.now rules.now part.new }
+    ensures ready { IsReady crew.now.turn.now crew.now.rules.now part.new }
     ensures port { part.new.port ≡ part.old.port }
-    ensures so_far { OnOk result ((first : LinkState) → PartSoFar L.state rules.now first part.old → PartSoFar L.state rules.now first part.new) }
-    ensures stopped { OnErr result ((first : LinkState) → PartSoFar L.state rules.now first part.old → PartStopped L.state rules.now first part.new) }
+    ensures so_far { OnOk result ((first : LinkState) → PartSoFar L.state crew.now.rules.now first part.old → PartSoFar L.state crew.now.rules.now first part.new) }
+    ensures stopped { OnErr result ((first : LinkState) → PartSoFar L.state crew.now.rules.now first part.old → PartStopped L.state crew.now.rules.now first part.new) }
     ensures fault { IfErr result (λ fault. IsSwitchFault fault (entries_in part.new.seat.seen)) }
     ensures turned { (turns : ℕ) → turns + 1 < 2 ^ 64 → HadTurns part.old.side.lane turns → HadTurns part.new.side.lane (turns + 1) }
 {
@@ -85,8 +83,7 @@ fn read_part<'a, R: Wait, L: Link>(
     };
     hear_in_turn(
         rt,
-        turn,
-        rules,
+        crew,
         &mut part.seat,
         &mut side.lane.scanner,
         &mut side.lane.skipped,
@@ -98,20 +95,14 @@ fn read_part<'a, R: Wait, L: Link>(
 }
 
 // Writes what waits for a port, of as many pages as are shared in one turn, and returns whether these were all.
-fn write_some<'a, R: Wait, L: Link>(
-    rt: &R,
-    turn: &Turn<Switch<'a>>,
-    rules: &RouterRules<'_>,
-    part: &mut Part<'a, L>,
-) -> bool
-    requires ready { IsReady turn.now rules.now part.old }
-    ensures { KeepsOn L.state turn.now rules.now part.old part.new }
+fn write_some<'a, R: Wait, L: Link>(rt: &R, crew: &Crew<'a, '_>, part: &mut Part<'a, L>) -> bool
+    requires ready { IsReady crew.now.turn.now crew.now.rules.now part.old }
+    ensures { KeepsOn L.state crew.now.turn.now crew.now.rules.now part.old part.new }
 {
     let side = &mut part.side;
     let all = share_waiting(
         rt,
-        turn,
-        rules,
+        crew,
         &mut part.seat,
         part.port,
         side.taken,
@@ -129,20 +120,15 @@ fn write_some<'a, R: Wait, L: Link>(
 }
 
 // Writes until nothing waits for the port, unless it failed or fails.
-fn write_part<'a, R: Wait, L: Link>(
-    rt: &R,
-    turn: &Turn<Switch<'a>>,
-    rules: &RouterRules<'_>,
-    part: &mut Part<'a, L>,
-)
-    requires ready { IsReady turn.now rules.now part.old }
-    ensures { KeepsOn L.state turn.now rules.now part.old part.new }
+fn write_part<'a, R: Wait, L: Link>(rt: &R, crew: &Crew<'a, '_>, part: &mut Part<'a, L>)
+    requires ready { IsReady crew.now.turn.now crew.now.rules.now part.old }
+    ensures { KeepsOn L.state crew.now.turn.now crew.now.rules.now part.old part.new }
 {
     for _ in rt.forever() {
         if part.side.lane.failed {
             return;
         }
-        if write_some(rt, turn, rules, part) {
+        if write_some(rt, crew, part) {
             return;
         }
     }
@@ -158,116 +144,88 @@ fn is_whole_piece(before: u64, after: u64) -> bool {
 // `before` is the count of bytes before the read. Returns how many writes in a row are put off now.
 fn write_or_put_off<'a, R: Wait, L: Link>(
     rt: &R,
-    turn: &Turn<Switch<'a>>,
-    rules: &RouterRules<'_>,
+    crew: &Crew<'a, '_>,
     part: &mut Part<'a, L>,
     before: u64,
     put_off: u32,
 ) -> u32
-    requires ready { IsReady turn.now rules.now part.old }
-    ensures { KeepsOn L.state turn.now rules.now part.old part.new }
+    requires ready { IsReady crew.now.turn.now crew.now.rules.now part.old }
+    ensures { KeepsOn L.state crew.now.turn.now crew.now.rules.now part.old part.new }
 {
     if put_off < MOST_PUT_OFF && is_whole_piece(before, part.side.lane.read) {
         return put_off + 1;
     }
-    write_part(rt, turn, rules, part);
+    write_part(rt, crew, part);
     0
 }
 
 // Reads a port at most so many times, and writes what waits for it.
-fn read_turns<'a, R: Wait, L: Link>(
-    rt: &R,
-    turn: &Turn<Switch<'a>>,
-    rules: &RouterRules<'_>,
-    signals: &Signals,
-    part: &mut Part<'a, L>,
-    turns: u64,
-) -> Halt
-    requires ready { IsReady turn.now rules.now part.old }
+fn read_turns<'a, R: Wait, L: Link>(rt: &R, crew: &Crew<'a, '_>, part: &mut Part<'a, L>) -> Halt
+    requires ready { IsReady crew.now.turn.now crew.now.rules.now part.old }
     requires turned { HadTurns part.old.side.lane 0 }
-    ensures { HasRun result L.state turn.now rules.now turns part.old part.new }
+    ensures { HasRun result L.state crew.now.turn.now crew.now.rules.now crew.now.turns part.old part.new }
 {
     let mut put_off = 0;
-    for turned in 0..turns {
+    for turned in 0..crew.turns {
         let _ = turned;
         if !is_live(&part.side.lane) {
             return Halt::Done;
         }
-        if signals.is_stopped() {
+        if crew.signals.is_stopped() {
             return Halt::Stopped;
         }
         let before = part.side.lane.read;
-        if let Err(fault) = read_part(rt, turn, rules, part) {
-            signals.stop();
+        if let Err(fault) = read_part(rt, crew, part) {
+            crew.signals.stop();
             return Halt::Fault(fault);
         }
-        put_off = write_or_put_off(rt, turn, rules, part, before, put_off);
+        put_off = write_or_put_off(rt, crew, part, before, put_off);
     }
     Halt::Done
 }
 
 // Goes on writing what the others send to the port, until no thread reads any more or one of them had a fault.
-fn write_on<'a, R: Wait, L: Link>(
-    rt: &R,
-    turn: &Turn<Switch<'a>>,
-    rules: &RouterRules<'_>,
-    signals: &Signals,
-    part: &mut Part<'a, L>,
-)
-    requires ready { IsReady turn.now rules.now part.old }
-    ensures { KeepsOn L.state turn.now rules.now part.old part.new }
+fn write_on<'a, R: Wait, L: Link>(rt: &R, crew: &Crew<'a, '_>, part: &mut Part<'a, L>)
+    requires ready { IsReady crew.now.turn.now crew.now.rules.now part.old }
+    ensures { KeepsOn L.state crew.now.turn.now crew.now.rules.now part.old part.new }
 {
     let mut looks = 0;
     for _ in rt.forever() {
-        let is_last = signals.is_over(looks);
-        if signals.is_stopped() || part.side.lane.failed {
+        let is_last = crew.signals.is_over(looks);
+        if crew.signals.is_stopped() || part.side.lane.failed {
             return;
         }
-        write_part(rt, turn, rules, part);
+        write_part(rt, crew, part);
         if is_last {
             return;
         }
-        signals.pause(rt);
+        crew.signals.pause(rt);
         looks = looks.saturating_add(1);
     }
     unreachable!()
 }
 
 // Reads and writes, and then only writes.
-fn serve<'a, R: Wait, L: Link>(
-    rt: &R,
-    turn: &Turn<Switch<'a>>,
-    rules: &RouterRules<'_>,
-    signals: &Signals,
-    part: &mut Part<'a, L>,
-    turns: u64,
-) -> Halt
-    requires ready { IsReady turn.now rules.now part.old }
+fn serve<'a, R: Wait, L: Link>(rt: &R, crew: &Crew<'a, '_>, part: &mut Part<'a, L>) -> Halt
+    requires ready { IsReady crew.now.turn.now crew.now.rules.now part.old }
     requires turned { HadTurns part.old.side.lane 0 }
-    ensures { HasRun result L.state turn.now rules.now turns part.old part.new }
+    ensures { HasRun result L.state crew.now.turn.now crew.now.rules.now crew.now.turns part.old part.new }
 {
-    signals.begin_reading();
-    let halt = read_turns(rt, turn, rules, signals, part, turns);
-    signals.end_reading();
+    crew.signals.begin_reading();
+    let halt = read_turns(rt, crew, part);
+    crew.signals.end_reading();
     let Halt::Done = halt else {
         return halt;
     };
-    write_on(rt, turn, rules, signals, part);
+    write_on(rt, crew, part);
     Halt::Done
 }
 
 /// Runs the thread of a port, and keeps how it ended.
-pub(crate) fn run_part<'a, R: Wait, L: Link>(
-    rt: &R,
-    turn: &Turn<Switch<'a>>,
-    rules: &RouterRules<'_>,
-    signals: &Signals,
-    part: &mut Part<'a, L>,
-    turns: u64,
-)
-    requires ready { IsReady turn.now rules.now part.old }
+pub(crate) fn run_part<'a, R: Wait, L: Link>(rt: &R, crew: &Crew<'a, '_>, part: &mut Part<'a, L>)
+    requires ready { IsReady crew.now.turn.now crew.now.rules.now part.old }
     requires turned { HadTurns part.old.side.lane 0 }
-    ensures { HasRun part.new.side.halt L.state turn.now rules.now turns part.old part.new }
+    ensures { HasRun part.new.side.halt L.state crew.now.turn.now crew.now.rules.now crew.now.turns part.old part.new }
 {
-    part.side.halt = serve(rt, turn, rules, signals, part, turns);
+    part.side.halt = serve(rt, crew, part);
 }

@@ -7,7 +7,7 @@ ghost use Rattle.mav_router.specs.Journal.{rules_of};
 ghost use Rattle.mav_router.specs.Routed.{CanRoute, HasEnded};
 
 use crate::closing::{first_fault, put_ends, write_each_left};
-use crate::crew::BoxedLink;
+use crate::crew::{BoxedLink, Crew};
 use crate::jobs::run_all;
 use crate::joining::{Stock, dismiss, give_links, muster, new_stock};
 use crate::parts::Side;
@@ -26,25 +26,22 @@ use turnstile::{Turn, TurnSeat};
 fn serve_ports<'a, 't, R: Threads + Wait + Sync>(
     rt: &R,
     alloc: Global,
-    turn: &'t Turn<Switch<'a>>,
-    rules: &'t RouterRules<'a>,
-    signals: &'t Signals,
-    turns: u64,
+    crew: &Crew<'a, 't>,
     stock: &mut Stock<BoxedLink>,
     seats: &mut Vec<TurnSeat<Switch<'a>>>,
     ports: &mut Vec<BoxedLink>,
 ) -> Result<(), NoMemory>
-    requires stocked { IsStocked rules.now stock.old }
-    requires ports { rules.now.ports ≡ length ports.old.items }
-    requires to { rules.now.ports ≤ 8 }
-    requires seats { seats.old.items ≡ replicate rules.now.ports (opened turn.now.id (history_of rules.now [])) }
-    ensures served { OnOk result (HasServed state turn.now rules.now turns ports.old.items stock.new.sides.items seats.new.items) }
+    requires stocked { IsStocked crew.now.rules.now stock.old }
+    requires ports { crew.now.rules.now.ports ≡ length ports.old.items }
+    requires to { crew.now.rules.now.ports ≤ 8 }
+    requires seats { seats.old.items ≡ replicate crew.now.rules.now.ports (opened crew.now.turn.now.id (history_of crew.now.rules.now [])) }
+    ensures served { OnOk result (HasServed state crew.now.turn.now crew.now.rules.now crew.now.turns ports.old.items stock.new.sides.items seats.new.items) }
     ensures moved { OnOk result (vec_len ports.new ≡ 0) }
     ensures room { OnOk result (vec_capacity ports.new ≡ vec_capacity ports.old) }
     ensures kept { OnErr result (ports.new.items ≡ ports.old.items) }
 {
     let mut jobs = Vec::with_capacity(alloc, ports.len())?;
-    muster(turn, rules, signals, turns, stock, seats, ports, &mut jobs);
+    muster(crew, stock, seats, ports, &mut jobs);
     run_all(rt, &mut jobs);
     dismiss(jobs, &mut stock.sides, seats);
     Ok(())
@@ -116,9 +113,13 @@ fn route_seated<'a, R: Threads + Wait + Sync>(
 {
     let signals = Signals::new(ports.len() as u64);
     let mut seats = seats;
-    if let Err(_) = serve_ports(
-        rt, alloc, &turn, rules, &signals, turns, stock, &mut seats, ports,
-    ) {
+    let crew = Crew {
+        turn: &turn,
+        rules,
+        signals: &signals,
+        turns,
+    };
+    if let Err(_) = serve_ports(rt, alloc, &crew, stock, &mut seats, ports) {
         discard(turn, seats);
         return Err(no_memory(alloc));
     }

@@ -7,34 +7,33 @@ ghost use Rattle.mav_router.specs.History.{entries_in};
 ghost use Rattle.mav_router.specs.Parts.{IsSeated};
 ghost use Rattle.mav_router.specs.Faults.{IsSwitchFault};
 
+use crate::crew::Crew;
 use crate::found::FoundFrames;
 use crate::shared::SharedPages;
-use crate::{RouterRules, Switch, SwitchFault};
+use crate::{Switch, SwitchFault};
 use std::sync::Wait;
-use turnstile::{Turn, TurnSeat};
+use turnstile::TurnSeat;
 
 /// Has the switch admit in a turn the frames that were found at the port.
 pub(crate) fn admit_found<'a, R: Wait>(
     rt: &R,
-    turn: &Turn<Switch<'a>>,
-    rules: &RouterRules<'_>,
+    crew: &Crew<'a, '_>,
     seat: &mut TurnSeat<Switch<'a>>,
     port: u8,
     found: &mut FoundFrames,
 ) -> Result<(), SwitchFault>
-    requires seated { IsSeated turn.now rules.now port seat.old }
+    requires seated { IsSeated crew.now.turn.now crew.now.rules.now port seat.old }
     requires from { 1 ≤ port }
-    requires to { port ≤ rules.now.ports }
-    requires judged { All (IsJudged rules.now) found.old }
-    ensures seated { IsSeated turn.now rules.now port seat.new }
+    requires to { port ≤ crew.now.rules.now.ports }
+    requires judged { All (IsJudged crew.now.rules.now) found.old }
+    ensures seated { IsSeated crew.now.turn.now crew.now.rules.now port seat.new }
     ensures begins { IsPrefix (entries_in seat.old.seen) (entries_in seat.new.seen) }
     ensures takes { Takes result port (entries_in seat.old.own) (entries_in seat.new.own) (packets_of found.old) }
     ensures fault { IfErr result (λ fault. IsSwitchFault fault (entries_in seat.new.seen)) }
 {
-    let _ = rules;
-    let mut held = turn.enter(rt, seat);
+    let mut held = crew.turn.enter(rt, seat);
     let admitted = held.value().admit_found(port, found);
-    turn.leave(seat, held);
+    crew.turn.leave(seat, held);
     admitted
 }
 
@@ -42,24 +41,22 @@ pub(crate) fn admit_found<'a, R: Wait>(
 /// whether no more are sealed.
 pub(crate) fn share_waiting<'a, R: Wait>(
     rt: &R,
-    turn: &Turn<Switch<'a>>,
-    rules: &RouterRules<'_>,
+    crew: &Crew<'a, '_>,
     seat: &mut TurnSeat<Switch<'a>>,
     port: u8,
     taken: usize,
     shared: &mut SharedPages,
 ) -> bool
-    requires seated { IsSeated turn.now rules.now port seat.old }
+    requires seated { IsSeated crew.now.turn.now crew.now.rules.now port seat.old }
     requires within { taken ≤ length (entries_in seat.old.seen) }
-    ensures seated { IsSeated turn.now rules.now port seat.new }
+    ensures seated { IsSeated crew.now.turn.now crew.now.rules.now port seat.new }
     ensures begins { IsPrefix (entries_in seat.old.seen) (entries_in seat.new.seen) }
     ensures own { seat.new.own ≡ seat.old.own }
     ensures window { IsWindow (entries_in seat.new.seen) taken shared.new }
 {
-    let _ = rules;
     let _ = port;
-    let mut held = turn.enter(rt, seat);
+    let mut held = crew.turn.enter(rt, seat);
     let all = held.value().journal().share(taken, shared);
-    turn.leave(seat, held);
+    crew.turn.leave(seat, held);
     all
 }

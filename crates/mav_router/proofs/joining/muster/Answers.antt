@@ -37,7 +37,7 @@ loop-at-preserved g c =
           each_pushed (λ (n : ℕ) (j : PortJob g.row.L.Denot). IsPlaced n j.part) l.jobs.items _ i.placed (record { port = omega (arith, i.jobs_long, l.jobs.ok.0); taken = refl }) k job
           (subst (λ (xs : List (PortJob g.row.L.Denot)). slice_get xs k ≡ Some job) items is);
       shared = λ k job is.
-          each_pushed (λ (n : ℕ) (j : PortJob g.row.L.Denot). (j.turn.now ≡ c.args.turn.now) × (j.rules.now ≡ c.args.rules.now) × (j.turns ≡ c.args.turns)) l.jobs.items _ i.shared (refl, refl, refl) k job
+          each_pushed (λ (n : ℕ) (j : PortJob g.row.L.Denot). j.crew ≡ c.args.crew.now) l.jobs.items _ i.shared refl k job
           (subst (λ (xs : List (PortJob g.row.L.Denot)). slice_get xs k ≡ Some job) items is);
       sides = i.sides;
       ports_room = ports.ensures.room ∙ i.ports_room;

@@ -15,7 +15,7 @@ invariant-loop-at g l = record {
   lanes : map (λ (job : PortJob g.row.L.Denot). job.part.side.lane) l.jobs.items ++ l.stock.lanes.items ≡ l.initial.stock.lanes.items;
   seats : map (λ (job : PortJob g.row.L.Denot). job.part.seat) l.jobs.items ++ l.seats.items ≡ l.initial.seats.items;
   placed : (k : ℕ) (job : PortJob g.row.L.Denot) → slice_get l.jobs.items k ≡ Some job → IsPlaced k job.part;
-  shared : (k : ℕ) (job : PortJob g.row.L.Denot) → slice_get l.jobs.items k ≡ Some job → (job.turn.now ≡ l.turn) × (job.rules.now ≡ l.rules) × (job.turns ≡ l.turns);
+  shared : (k : ℕ) (job : PortJob g.row.L.Denot) → slice_get l.jobs.items k ≡ Some job → job.crew ≡ l.crew;
   sides : l.stock.sides ≡ l.initial.stock.sides;
   ports_room : vec_capacity l.ports ≡ vec_capacity l.initial.ports;
   seats_room : vec_capacity l.seats ≡ vec_capacity l.initial.seats;

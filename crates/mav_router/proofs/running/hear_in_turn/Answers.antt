@@ -10,7 +10,7 @@ returns-clause-read g c =
     let after = entries_in c.admit_found.new.seat.own in
     let takes = c.admit_found.ensures.takes in
     on_ok c.admit_found.result (λ all bytes first.
-    c.in_default.ensures.finds.reads c.args.rules.now port bytes before after first (took_all port before after c.settle.new.self c.find.new.self takes.count c.settle.ensures all takes.took)) takes.all
+    c.in_default.ensures.finds.reads c.args.crew.now.rules.now port bytes before after first (took_all port before after c.settle.new.self c.find.new.self takes.count c.settle.ensures all takes.took)) takes.all
 
 pub returns-clause-stopped : goal.returns-clause-stopped
 returns-clause-stopped g c =
@@ -20,4 +20,4 @@ returns-clause-stopped g c =
     let takes = c.admit_found.ensures.takes in
     on_err c.admit_found.result (λ some bytes first.
     let own = settled_took port before after c.settle.new.self c.find.new.self takes.count c.settle.ensures some takes.took in
-    c.in_default.ensures.finds.stops c.args.rules.now port bytes before after takes.count first own.0 own.1) takes.some
+    c.in_default.ensures.finds.stops c.args.crew.now.rules.now port bytes before after takes.count first own.0 own.1) takes.some

@@ -12,7 +12,7 @@ returns-clause-so_far g c = on_ok c.hear_in_turn.result (λ heard first p.
     let now = g.L.Link.state c.read_lane.new.link in
     let seen = entries_in part.seat.seen in
     let frames = frames_to part.port (take part.side.taken seen) in
-    let u = c.in-Some.ensures.some c.args.rules.now (entries_in part.seat.own) part.port first p.input in
+    let u = c.in-Some.ensures.some c.args.crew.now.rules.now (entries_in part.seat.own) part.port first p.input in
     record {
       input = u.heard (entries_in h.new.seat.own) h.new.reader h.new.skipped h.ensures.ended (heard u.bytes u.reading);
       output = output_longer part.port part.side.taken seen (entries_in h.new.seat.seen) first now _ c.requires.ready.taken h.ensures.begins
@@ -26,7 +26,7 @@ returns-clause-stopped g c = on_err c.hear_in_turn.result (λ heard first p.
     let now = g.L.Link.state c.read_lane.new.link in
     let seen = entries_in part.seat.seen in
     let frames = frames_to part.port (take part.side.taken seen) in
-    let u = c.in-Some.ensures.some c.args.rules.now (entries_in part.seat.own) part.port first p.input in
+    let u = c.in-Some.ensures.some c.args.crew.now.rules.now (entries_in part.seat.own) part.port first p.input in
     record {
       input = u.stops (entries_in h.new.seat.own) (heard u.bytes u.reading);
       output = output_longer part.port part.side.taken seen (entries_in h.new.seat.seen) first now _ c.requires.ready.taken h.ensures.begins

@@ -1,4 +1,4 @@
-use Rattle.std.proofs.Common.{◌∙◌, ◌+◌, arith}
+use Rattle.std.proofs.Common.{◌∙◌, ◌+◌, rules}
 use Rattle.mav_router.proofs.running.read_turns.Goals as goal
 
 pub loop-turned-preserved : goal.loop-turned-preserved
@@ -10,7 +10,7 @@ loop-turned-preserved g c =
       ready = w.ready;
       port = w.port ∙ (r.port ∙ i.port);
       so_far = λ first p. w.so_far first (c.in_default.ensures.so_far first (i.so_far first p));
-      turned = w.turned (c.loop-turned.turned + 1) (r.turned c.loop-turned.turned (omega (arith, c.loop-turned-test.true, c.ranges.turns.fits)) i.turned);
+      turned = w.turned (c.loop-turned.turned + 1) (r.turned c.loop-turned.turned (search rules) i.turned);
     }
 
 pub returns-in-Err : goal.returns-in-Err

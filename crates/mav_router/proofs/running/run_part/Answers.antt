@@ -6,5 +6,5 @@ pub returns : goal.returns
 returns g c = record {
   ready = search rules;
   port = c.serve-part.ensures.port;
-  ends = λ first p. ends_kept c.serve-part.result c.serve-part.result g.L.Link.state c.args.rules.now c.args.turns first c.serve-part.new.part (c.serve-part.ensures.ends first p);
+  ends = λ first p. ends_kept c.serve-part.result c.serve-part.result g.L.Link.state c.args.crew.now.rules.now c.args.crew.now.turns first c.serve-part.new.part (c.serve-part.ensures.ends first p);
 }

@@ -7,5 +7,5 @@ returns g c =
     record {
       ready = c.write_on.ensures.ready;
       port = c.write_on.ensures.port ∙ e.port;
-      ends = λ first p. (c.write_on.ensures.so_far first (e.ends first p).0, c.write_on.ensures.turned c.args.turns (e.ends first p).1);
+      ends = λ first p. (c.write_on.ensures.so_far first (e.ends first p).0, c.write_on.ensures.turned c.args.crew.now.turns (e.ends first p).1);
     }

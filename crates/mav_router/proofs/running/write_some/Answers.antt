@@ -23,8 +23,8 @@ returns g c =
       port = refl;
       so_far = λ first so_far.
           record {
-            input = subst (λ (own : List SwitchEvent). Input c.args.rules.now (entries_in own) port first (g.L.Link.state w.new.link) w.new.lane) (sym turn.ensures.own)
-                (w.ensures.keeps.input c.args.rules.now (entries_in part.seat.own) port first so_far.input);
+            input = subst (λ (own : List SwitchEvent). Input c.args.crew.now.rules.now (entries_in own) port first (g.L.Link.state w.new.link) w.new.lane) (sym turn.ensures.own)
+                (w.ensures.keeps.input c.args.crew.now.rules.now (entries_in part.seat.own) port first so_far.input);
             output = writes.output first (output_longer port taken old seen first (g.L.Link.state part.side.link) part.side.lane ready.taken begins so_far.output);
           };
       turned = w.ensures.keeps.turned;

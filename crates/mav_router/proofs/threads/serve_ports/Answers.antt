@@ -14,9 +14,9 @@ run_all-requires-send-J g c κs within =
 pub run_all-requires-clause-ready : goal.run_all-requires-clause-ready
 run_all-requires-clause-ready g c κs within =
     let m = c.muster.ensures in
-    jobs_ready c.args.turn.now c.args.rules.now c.args.turns c.muster.new.jobs.items c.args.stock.now.lanes.items c.args.seats.now.items c.requires.to c.requires.seats m.seats m.lanes c.requires.stocked.turned m.placed m.shared
+    jobs_ready c.args.crew.now c.muster.new.jobs.items c.args.stock.now.lanes.items c.args.seats.now.items c.requires.to c.requires.seats m.seats m.lanes c.requires.stocked.turned m.placed m.shared
 
 pub returns-clause-served : goal.returns-clause-served
 returns-clause-served g c =
     let m = c.muster.ensures in
-    jobs_served _ c.args.turn.now c.args.rules.now c.args.turns c.args.ports.now.items c.args.stock.now.lanes.items c.args.seats.now.items c.muster.new.jobs.items c.run_all.new.jobs.items c.dismiss.new.sides.items c.dismiss.new.seats.items c.requires.seats m.links m.lanes m.seats c.requires.stocked.fresh m.placed m.shared c.run_all.ensures.length c.run_all.ensures.each c.dismiss.ensures.sides c.dismiss.ensures.seats
+    jobs_served _ c.args.crew.now c.args.ports.now.items c.args.stock.now.lanes.items c.args.seats.now.items c.muster.new.jobs.items c.run_all.new.jobs.items c.dismiss.new.sides.items c.dismiss.new.seats.items c.requires.seats m.links m.lanes m.seats c.requires.stocked.fresh m.placed m.shared c.run_all.ensures.length c.run_all.ensures.each c.dismiss.ensures.sides c.dismiss.ensures.seats

@@ -13,14 +13,14 @@ use Rattle.mav_router.proofs.turns.admit_found.Goals as goal
 
 -- the seat after the turn
 after_turn : (g : given.Over) (c : goal.After-leave g)
-    → Turned c.args.turn.now c.args.rules.now c.args.port (c.args.seat.now.own ++ map Admitted c.admit_found-admitted.ensures.admits.kept.more) c.admit_found-admitted.new.self.journal c.args.seat.now c.leave.new.seat
+    → Turned c.args.crew.now.turn.now c.args.crew.now.rules.now c.args.port (c.args.seat.now.own ++ map Admitted c.admit_found-admitted.ensures.admits.kept.more) c.admit_found-admitted.new.self.journal c.args.seat.now c.leave.new.seat
 after_turn g c =
     let seat = c.args.seat.now in
     let v = c.value.result.now in
     let n = c.admit_found-admitted.new.self in
     let prefix = subst (λ (s : SwitchState). IsPrefix seat.seen (history_of s.rules s.journal)) (sym c.value.ensures.value) c.enter-held.ensures.begins in
     let enters = c.enter-held.ensures.entered ∙ ap (λ (s : SwitchState). entered seat (history_of s.rules s.journal)) (sym c.value.ensures.value) in
-    added c.args.turn.now c.args.rules.now c.args.port seat c.enter-held.new.seat c.leave.new.seat v n _ c.requires.seated prefix enters c.leave.ensures.left c.leave.ensures.own c.admit_found-admitted.ensures.same.0 c.admit_found-admitted.ensures.admits.kept
+    added c.args.crew.now.turn.now c.args.crew.now.rules.now c.args.port seat c.enter-held.new.seat c.leave.new.seat v n _ c.requires.seated prefix enters c.leave.ensures.left c.leave.ensures.own c.admit_found-admitted.ensures.same.0 c.admit_found-admitted.ensures.admits.kept
 
 pub leave-requires-clause-appended : goal.leave-requires-clause-appended
 leave-requires-clause-appended g c =

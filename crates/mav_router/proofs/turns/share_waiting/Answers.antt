@@ -10,13 +10,13 @@ use Rattle.mav_router.proofs.turns.share_waiting.Given as given
 use Rattle.mav_router.proofs.turns.share_waiting.Goals as goal
 
 -- the seat after the turn
-after_turn : (g : given.Over) (c : goal.After-leave g) → Turned c.args.turn.now c.args.rules.now c.args.port c.args.seat.now.own c.value.result.now.journal c.args.seat.now c.leave.new.seat
+after_turn : (g : given.Over) (c : goal.After-leave g) → Turned c.args.crew.now.turn.now c.args.crew.now.rules.now c.args.port c.args.seat.now.own c.value.result.now.journal c.args.seat.now c.leave.new.seat
 after_turn g c =
     let seat = c.args.seat.now in
     let v = c.value.result.now in
     let prefix = subst (λ (s : SwitchState). IsPrefix seat.seen (history_of s.rules s.journal)) (sym c.value.ensures.value) c.enter-held.ensures.begins in
     let enters = c.enter-held.ensures.entered ∙ ap (λ (s : SwitchState). entered seat (history_of s.rules s.journal)) (sym c.value.ensures.value) in
-    looked c.args.turn.now c.args.rules.now c.args.port seat c.enter-held.new.seat c.leave.new.seat v v c.requires.seated prefix enters c.leave.ensures.left c.leave.ensures.own refl refl
+    looked c.args.crew.now.turn.now c.args.crew.now.rules.now c.args.port seat c.enter-held.new.seat c.leave.new.seat v v c.requires.seated prefix enters c.leave.ensures.left c.leave.ensures.own refl refl
 
 pub returns-clause-seated : goal.returns-clause-seated
 returns-clause-seated g c = (after_turn g c).seated
