@@ -1,18 +1,23 @@
 -- How frames are found at a port, before the switch takes them.
-use Rattle.std.proofs.Common.{◌≡◌, ◌∙◌, ◌<◌, ◌≢◌, ℕ, ◌==◌, arith, zero, suc, ◌+◌, Bool, true, All, get_or, List, [], ◌∷◌, ◌++◌, length, map, take, Option, refl, ap, sym, subst, append_assoc, append-nil, length-append}
+use Rattle.std.proofs.Common.{◌≡◌, ◌∙◌, ◌<◌, ◌≢◌, ℕ, ◌==◌, arith, zero, suc, ◌+◌, Bool, true, All, get_or, List, [], ◌∷◌, ◌++◌, length, map, take, Option, refl, ap, sym, append_assoc, append-nil, length-append}
 use Rattle.std.proofs.lemmas.Grind.{common_steps}
 use Rattle.std.proofs.lemmas.List.{map-append, take_all}
 use Rattle.std.proofs.lemmas.List.Elements.{All-append, All-cons}
+use Rattle.std.specs.declared.result.Result.{Result}
 use mathlib.Core.Logic.{dite}
 use native.Mathlib.Decide.{ℕ_discrete}
 use Rattle.mav_frame.specs.Packet.{Packet}
+use Rattle.mav_links.specs.Links.{LinkState}
 use Rattle.mav_stream.specs.Held.{Held}
 use Rattle.mav_router.specs.declared.entries.Entry.{Entry}
+use Rattle.mav_router.specs.declared.lane.Lane.{Lane}
 use Rattle.mav_router.specs.Journal.{Rules, SwitchState, Grows, entry_after, frames_from, given_to}
-use Rattle.mav_router.specs.Runs.{Reading}
-use Rattle.mav_router.specs.Faults.{StopsReading}
-use Rattle.mav_router.specs.Found.{IsJudged, Judged, Keeps, packets_of}
-use Rattle.mav_router.proofs.Readings.{from_own, grows_then}
+use Rattle.mav_router.specs.Runs.{Reading, Input}
+use Rattle.mav_router.specs.Faults.{StopsReading, StopsInput}
+use Rattle.mav_router.specs.Finds.{FindsAll}
+use Rattle.mav_router.specs.Found.{Admits, IsJudged, Judged, Keeps, Takes, packets_of}
+use Rattle.mav_router.specs.Unheard.{Unheard}
+use Rattle.mav_router.proofs.Readings.{from_own}
 use Rattle.mav_router.proofs.Seats.{kept_other, kept_own, passes_both, with_first}
 
 -- entries of a port with these frames
@@ -87,34 +92,35 @@ next_is (frame ∷ frames) (suc at) d less = ap (λ (l : List Packet). frame.fra
 pub next_packet : (frames : List Judged) (at : ℕ) (d : Judged) → at < length frames → take (at + 1) (packets_of frames) ≡ take at (packets_of frames) ++ (get_or frames at d).frame ∷ []
 next_packet frames at d less = let e : at + 1 ≡ suc at = omega arith in ap (λ (n : ℕ). take n (packets_of frames)) e ∙ next_is frames at d less
 
--- the switch took all that was found
-pub took_all : (port : ℕ) (before after : List Entry) (items found : List Judged) (count : ℕ) → items ≡ found → count ≡ length (packets_of items) → frames_from port after ≡ frames_from port before ++ take count (packets_of items) → frames_from port after ≡ frames_from port before ++ packets_of found
-took_all port before after items found count same all e =
-    let whole : take count (packets_of items) ≡ packets_of items = take_all count (packets_of items) (omega (arith, all)) in
-    e ∙ (ap (λ (l : List Packet). frames_from port before ++ l) whole ∙ ap (λ (l : List Judged). frames_from port before ++ packets_of l) same)
+-- a switch's entries of a port grow by those that it kept
+pub grows_by : (port : ℕ) (old new : SwitchState) (frames : List Packet) → new.rules ≡ old.rules → Keeps port old.journal new.journal frames → ((other : ℕ) → given_to new other ≡ given_to old other) → Grows port old new
+grows_by port old new frames same k given = record {
+  rules = same;
+  others = λ other apart. kept_other port other old.journal new.journal frames apart k;
+  given = given;
+}
 
--- only the port's frames are more after it
-pub grows_kept : (port : ℕ) (old middle new : SwitchState) (frames : List Packet) → Grows port old middle → new.rules ≡ middle.rules → Keeps port middle.journal new.journal frames → ((other : ℕ) → given_to new other ≡ given_to middle other) → Grows port old new
-grows_kept port old middle new frames so_far same k given =
-    grows_then port old middle new so_far (record {
-      rules = same;
-      others = λ other apart. kept_other port other middle.journal new.journal frames apart k;
-      given = given;
-    })
-
--- the frames of a port, after as many of those found as there were
-pub took_kept : (port : ℕ) (before after : List Entry) (items found : List Judged) (count : ℕ) → items ≡ found → count ≡ length (packets_of items) → Keeps port before after (take count (packets_of items)) → frames_from port after ≡ frames_from port before ++ packets_of found
-took_kept port before after items found count same all k = took_all port before after items found count same all (kept_own port before after (take count (packets_of items)) k)
+-- and so do the frames of the port
+pub takes_by : {A E : Type 0} (result : Result A E) (port : ℕ) (before after : List Entry) (frames : List Packet) → Admits result port before after frames → Takes result port before after frames
+takes_by result port before after frames a = record {
+  count = a.count;
+  took = kept_own port before after (take a.count frames) a.kept;
+  all = a.all;
+  some = a.some;
+}
 
 -- there is no memory for the next frame
 pub unkept : (ended : Bool) (rules : Rules) (port : ℕ) (bytes : List ℕ) (held : Held) (skips : ℕ) (journal : List Entry) (frames : List Packet) → ((before after : List Entry) → Reading rules port bytes held skips before → frames_from port after ≡ frames_from port before → StopsReading ended rules port bytes after) → Finds ended rules port bytes held skips journal frames → StopsReading ended rules port bytes journal
 unkept ended rules port bytes held skips journal [] untaken so_far = untaken journal journal (so_far.reads journal (sym (append-nil (frames_from port journal)))) refl
 unkept ended rules port bytes held skips journal (frame ∷ frames) untaken so_far = so_far.stops 0 journal (omega arith) (sym (append-nil (frames_from port journal)))
 
--- fewer were taken than there were, and these are the frames of the port's entries
-pub settled_took : (port : ℕ) (before after : List Entry) (items found : List Judged) (count : ℕ) → items ≡ found → count < length (packets_of items) → frames_from port after ≡ frames_from port before ++ take count (packets_of items) → (count < length (packets_of found)) × (frames_from port after ≡ frames_from port before ++ take count (packets_of found))
-settled_took port before after items found count same less took =
-    (subst (λ (l : List Judged). count < length (packets_of l)) same less, took ∙ ap (λ (l : List Judged). frames_from port before ++ take count (packets_of l)) same)
+-- the switch took all frames that were found in what was read at a port
+pub heard : {A E : Type 0} (result : Result A E) (rules : Rules) (port : ℕ) (journal after : List Entry) (unread : List ℕ) (first now : LinkState) (lane : Lane) (left : Held) (later : ℕ) (frames : List Packet) → Unheard rules journal port unread first now lane → FindsAll (record lane.scanner { bytes = unread }) lane.skipped left later frames → left.ended ≡ lane.scanner.ended → (t : Takes result port journal after frames) → t.count ≡ length frames → Input rules after port first now (record lane { scanner = left; skipped = later })
+heard result rules port journal after unread first now lane left later frames u finds ended t all =
+    let whole : take t.count frames ≡ frames = take_all t.count frames (omega (arith, all)) in
+    u.heard after left later ended (finds.reads rules port u.bytes journal after u.reading (t.took ∙ ap (λ (l : List Packet). frames_from port journal ++ l) whole))
 
-pub settled_own : (port : ℕ) (before after : List Entry) (items found : List Judged) (count : ℕ) → items ≡ found → count < length (packets_of items) → Keeps port before after (take count (packets_of items)) → (count < length (packets_of found)) × (frames_from port after ≡ frames_from port before ++ take count (packets_of found))
-settled_own port before after items found count same less k = settled_took port before after items found count same less (kept_own port before after (take count (packets_of items)) k)
+-- or only some of them
+pub unheard : {A E : Type 0} (result : Result A E) (rules : Rules) (port : ℕ) (journal after : List Entry) (unread : List ℕ) (first now : LinkState) (lane : Lane) (left : Held) (later : ℕ) (frames : List Packet) → Unheard rules journal port unread first now lane → FindsAll (record lane.scanner { bytes = unread }) lane.skipped left later frames → (t : Takes result port journal after frames) → t.count < length frames → StopsInput rules after port first now
+unheard result rules port journal after unread first now lane left later frames u finds t some =
+    u.stops after (finds.stops rules port u.bytes journal after t.count u.reading some t.took)

@@ -156,10 +156,6 @@ on_ok (Err e) f p = p
 pub scanner_ended : (rules : Rules) (port : ℕ) (bytes : List ℕ) (held new : Held) (skips : ℕ) (journal : List Entry) → (r : Reading rules port bytes held skips journal) → PortProgress rules port bytes r.events new → Reading rules port bytes new skips journal
 scanner_ended rules port bytes held new skips journal r progress = record { events = r.events; progress = progress; entries = r.entries; skipped = r.skipped }
 
-pub on_err_anyway : {A E P : Type 0} (r : Result A E) → P → OnErr r P
-on_err_anyway (Ok x) p = tt
-on_err_anyway (Err e) p = p
-
 pub on_err : {A E P Q : Type 0} (r : Result A E) → (P → Q) → OnErr r P → OnErr r Q
 on_err (Ok a) f p = p
 on_err (Err e) f p = f p

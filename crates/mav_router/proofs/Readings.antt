@@ -14,20 +14,10 @@ use Rattle.mav_stream.specs.Held.{Held}
 use Rattle.mav_stream.proofs.Steps.{fed_on}
 use Rattle.mav_sign.specs.Endpoints.{frames_of, frame_in}
 use Rattle.mav_router.specs.declared.entries.Entry.{Entry}
-use Rattle.mav_router.specs.Journal.{Rules, SwitchState, Grows, frames_from}
+use Rattle.mav_router.specs.Journal.{Rules, frames_from}
 use Rattle.mav_router.specs.Runs.{PortProgress, PortWhole, Reading, AllRead, BeginsParse, capped, skips_of, skip_in}
 use Rattle.mav_router.specs.Faults.{StopsReading}
 use Rattle.mav_router.proofs.Journals.{filter_map_push}
-
-pub grows_not : (port : ℕ) (switch : SwitchState) → Grows port switch switch
-grows_not port switch = record { rules = refl; others = λ other apart. refl; given = λ other. refl }
-
-pub grows_then : (port : ℕ) (old middle new : SwitchState) → Grows port old middle → Grows port middle new → Grows port old new
-grows_then port old middle new a b = record {
-  rules = b.rules ∙ a.rules;
-  others = λ other apart. b.others other apart ∙ a.others other apart;
-  given = λ other. b.given other ∙ a.given other;
-}
 
 pub from_own : (port : ℕ) (packet : Packet) → (if port == port then Some packet else None) ≡ Some packet
 from_own port packet = let e : (port == port) ≡ true = grind (arith, common_steps) in ap (λ (b : Bool). if b then Some packet else None) e

@@ -295,11 +295,15 @@ impl FoundFrames {
             self.next = items;
             return Ok(());
         }
-        self.hold(buf, size, items)
+        if let Err(fault) = self.hold(buf, size, items) {
+            return Err(fault);
+        }
+        self.settle();
+        Ok(())
     }
 
-    /// Gives back what memory isn't needed, and allocates that of the page's heads, if there is any.
-    pub(crate) fn settle(&mut self)
+    // Gives back what memory isn't needed, and allocates that of the page's heads, if there is any.
+    fn settle(&mut self)
         ensures { self.new ≡ self.old }
     {
         if self.are_copied {

@@ -10,7 +10,6 @@ ghost use Rattle.mav_router.specs.Unheard.{Unheard};
 
 use crate::buffer::Buffer;
 use crate::found::FoundFrames;
-use crate::hearing::hear;
 use crate::lane::Lane;
 use crate::{Switch, SwitchFault};
 use mav_links::Link;
@@ -84,13 +83,9 @@ pub(crate) fn read_port<L: Link>(
     let Some(count) = read_lane(lane, link, buf) else {
         return Ok(());
     };
-    hear(
-        switch,
-        &mut lane.scanner,
-        &mut lane.skipped,
-        port,
-        buf,
-        count,
-        found,
-    )
+    let rules = switch.rules();
+    if let Err(_) = found.find(rules, &mut lane.scanner, &mut lane.skipped, buf, count) {
+        return Err(SwitchFault::NoMemory);
+    }
+    switch.admit_found(port, found)
 }

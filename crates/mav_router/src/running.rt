@@ -1,65 +1,25 @@
 // The thread of a port.
-ghost use Rattle.std.specs.Prelude.{◌≡◌, ◌≤◌, ◌<◌, ◌+◌, ◌^◌, ℕ, List, take, false, OnOk, OnErr, IfErr};
-ghost use mathlib.Core.List.{IsPrefix};
+ghost use Rattle.std.specs.Prelude.{◌≡◌, ◌<◌, ◌+◌, ◌^◌, ℕ, false, OnOk, OnErr, IfErr};
 ghost use Rattle.mav_links.specs.Links.{LinkState};
-ghost use Rattle.mav_router.specs.Runs.{Reading, AllRead, HadTurns};
-ghost use Rattle.mav_router.specs.Faults.{IsSwitchFault, StopsReading};
+ghost use Rattle.mav_router.specs.Runs.{HadTurns};
+ghost use Rattle.mav_router.specs.Faults.{IsSwitchFault};
 ghost use Rattle.mav_router.specs.History.{entries_in};
-ghost use Rattle.mav_router.specs.Parts.{IsSeated, IsReady, KeepsOn, PartSoFar, PartStopped};
+ghost use Rattle.mav_router.specs.Parts.{IsReady, KeepsOn, PartSoFar, PartStopped};
 ghost use Rattle.mav_router.specs.Crews.{HasRun};
 
-use crate::buffer::Buffer;
+use crate::SwitchFault;
 use crate::crew::Crew;
-use crate::found::FoundFrames;
 use crate::lane::PIECE;
 use crate::lanes::read_lane;
 use crate::parts::{Halt, Part};
 use crate::routing::is_live;
 use crate::turns::{admit_found, share_waiting};
 use crate::writing::write_pages;
-use crate::{Switch, SwitchFault};
 use mav_links::Link;
-use mav_stream::PieceReader;
 use std::sync::Wait;
-use turnstile::TurnSeat;
 
 // While reads give whole pieces, what waits for the port is written after each fourth one.
 const MOST_PUT_OFF: u32 = 3;
-
-// Has the switch admit in a turn the frames that are found in so many first bytes of a buffer: those that the port's reader
-// held and those of a read after them. What is left is held.
-fn hear_in_turn<'a, R: Wait>(
-    rt: &R,
-    crew: &Crew<'a, '_>,
-    seat: &mut TurnSeat<Switch<'a>>,
-    reader: &mut PieceReader,
-    skipped: &mut u64,
-    port: u8,
-    buf: &mut Buffer,
-    size: usize,
-    found: &mut FoundFrames,
-) -> Result<(), SwitchFault>
-    requires seated { IsSeated crew.now.turn.now crew.now.rules.now port seat.old }
-    requires from { 1 ≤ port }
-    requires to { port ≤ crew.now.rules.now.ports }
-    requires within { size ≤ 4376 }
-    ensures seated { IsSeated crew.now.turn.now crew.now.rules.now port seat.new }
-    ensures begins { IsPrefix (entries_in seat.old.seen) (entries_in seat.new.seen) }
-    ensures ended { reader.new.ended ≡ reader.old.ended }
-    ensures read { OnOk result ((all : List ℕ)
-        → Reading crew.now.rules.now port all (record reader.old { bytes = take size buf.old }) skipped.old (entries_in seat.old.own)
-        → AllRead crew.now.rules.now port all reader.new skipped.new (entries_in seat.new.own)) }
-    ensures stopped { OnErr result ((all : List ℕ)
-        → Reading crew.now.rules.now port all (record reader.old { bytes = take size buf.old }) skipped.old (entries_in seat.old.own)
-        → StopsReading reader.old.ended crew.now.rules.now port all (entries_in seat.new.own)) }
-    ensures fault { IfErr result (λ fault. IsSwitchFault fault (entries_in seat.new.seen)) }
-{
-    if let Err(_) = found.find(crew.rules, reader, skipped, buf, size) {
-        return Err(SwitchFault::NoMemory);
-    }
-    found.settle();
-    admit_found(rt, crew, seat, port, found)
-}
 
 // Reads a port that is still read once, and has the switch admit the frames that are found.
 fn read_part<'a, R: Wait, L: Link>(
@@ -81,17 +41,16 @@ fn read_part<'a, R: Wait, L: Link>(
     let Some(count) = read_lane(&mut side.lane, &mut side.link, &mut side.room.buffer) else {
         return Ok(());
     };
-    hear_in_turn(
-        rt,
-        crew,
-        &mut part.seat,
+    if let Err(_) = side.room.found.find(
+        crew.rules,
         &mut side.lane.scanner,
         &mut side.lane.skipped,
-        part.port,
         &mut side.room.buffer,
         count,
-        &mut side.room.found,
-    )
+    ) {
+        return Err(SwitchFault::NoMemory);
+    }
+    admit_found(rt, crew, &mut part.seat, part.port, &mut side.room.found)
 }
 
 // Writes what waits for a port, of as many pages as are shared in one turn, and returns whether these were all.
