@@ -1,6 +1,7 @@
 -- One more call.
-use Rattle.std.proofs.Common.{◌≡◌, inl, inr, ℕ, List, [], ◌∷◌, ◌++◌, Bool, true, Option, Some, None, refl, sym, ap, ◌∙◌, subst, append_assoc}
-use Rattle.std.specs.Prelude.{map}
+use Rattle.std.proofs.Common.{◌≡◌, inl, inr, ℕ, List, [], ◌∷◌, ◌++◌, Bool, true, Option, Some, None, Result, Ok, Err, refl, sym, ap, ◌∙◌, subst, append_assoc}
+use Rattle.std.specs.Prelude.{map, IfErr, MatchResult}
+use Rattle.std.specs.Result.{result_err}
 use Rattle.std.specs.List.{flat_map}
 use Rattle.std.proofs.lemmas.List.{append-nil}
 use Rattle.std.proofs.lemmas.List.Elements.{All-append, All-nil}
@@ -232,6 +233,11 @@ call_stopped {S} {stores} {before} {old} {now} {start} {made} {call} {was} {live
   spent = λ spent. absurd (not_spent why telling spent);
 }
 
+-- a call's news were written, or the run stopped there
+pub told_by : {S A : Type 0} {stores : Stores S} {before old now : S} {start : Node} {made : List LiveCall} {was live : LiveNode} {t u : Teller} {first : Outside} {l m : LinkState} {x y : Option (List ℕ)} {z w : Option ℕ} {news : List News} {values : List Param} (call : LiveCall) (r : Result A RunEnd) (Told : A → Type 0) (Cut : RunEnd → Type 0) (p q : ℕ) → Called stores before old now start made call was live t u first l m x y z w news values (result_err r) → IfErr r IsTellingEnd → FaultsBy (result_err r) l.faults m.faults p q → ((a : A) → Output stores before now start (made ++ call ∷ []) live u first (outside m y w) → Told a) → ((end : RunEnd) → IsTellingEnd end → CallsStopped stores before now end start made (call ∷ []) first (outside m y w) → Cut end) → MatchResult r Told Cut
+told_by call (Ok a) Told Cut p q c is faults told cut = told a (call_told c refl faults.0)
+told_by call (Err end) Told Cut p q c is faults told cut = cut end is (call_stopped c end refl is)
+
 -- only want of a timestamp ends a run so
 pub spent_by : (fault : NodeFault) (outcome : Outcome Node) (failed : Type 0) → CallFails fault outcome failed → end_by fault ≡ Stopped StampsSpent → outcome ≡ None
 spent_by NoStamp outcome failed h e = h
@@ -294,9 +300,6 @@ due_kept failed Tick at = inl (All-nil (λ kept. kept ≡ true))
 due_kept failed Heartbeat at = inl (All-nil (λ kept. kept ≡ true))
 due_kept failed Sim at = inl (All-nil (λ kept. kept ≡ true))
 
-pub port_same : (end : Option RunEnd) (port_before port_after out_before out_after : ℕ) → end ≡ None → FaultsBy end port_before port_after out_before out_after → port_after ≡ port_before
-port_same end port_before port_after out_before out_after e h = (subst (λ (w : Option RunEnd). FaultsBy w port_before port_after out_before out_after) e h).0
-
 -- how a run ends at a fault of its node, or while news are written
 pub telling_ends : (end : RunEnd) → IsTellingEnd end → IsRunEnd end
 telling_ends end (inl e) = subst IsRunEnd (sym e) tt
@@ -312,10 +315,6 @@ pub fault_counts : (fault : NodeFault) (port out : ℕ) → FaultsBy (Some (end_
 fault_counts NoStamp port out = (refl, refl)
 fault_counts Store port out = (refl, refl)
 fault_counts NoNodeMemory port out = refl
-
--- a call after one that was done
-pub faults_then : (end : Option RunEnd) (p q r x y z : ℕ) → FaultsBy None p q x y → FaultsBy end q r y z → FaultsBy end p r x z
-faults_then end p q r x y z first next = subst (λ (n : ℕ). FaultsBy end n r x z) first.0 (subst (λ (n : ℕ). FaultsBy end q r n z) first.1 next)
 
 -- a clock was asked
 abbrev pub output_later : {S : Type 0} {stores : Stores S} {before now : S} {start : Node} {made : List LiveCall} {live : LiveNode} {t : Teller} {first : Outside} {l : LinkState} {x : Option (List ℕ)} (z w : Option ℕ) → w ≡ z → Output stores before now start made live t first (outside l x z) → Output stores before now start made live t first (outside l x w)

@@ -143,7 +143,7 @@ pub record CallStopped {S : Type 0} (stores : Stores S) (before now : S) (end : 
   pub timed : IsTime first.time at
   pub stopped : CallsStopped stores before now end start made (call at ∷ []) first last
 
--- all calls of a wait were made, and the last two of them; or they were made in part
+-- all calls of a wait were made, or some of them
 pub record WaitDone {S : Type 0} (stores : Stores S) (before now : S) (start : Node) (made : List LiveCall) (live : LiveNode) (teller : Teller) (first last : Outside) : Type 0 where
   pub tick : ℕ
   pub beat : ℕ
@@ -151,24 +151,12 @@ pub record WaitDone {S : Type 0} (stores : Stores S) (before now : S) (start : N
   pub timed : AreTimed first.time (Ticks tick ∷ Beats beat ∷ Flies sim ∷ [])
   pub output : Output stores before now start (made ++ Ticks tick ∷ Beats beat ∷ Flies sim ∷ []) live teller first last
 
-pub record BeatDone {S : Type 0} (stores : Stores S) (before now : S) (start : Node) (made : List LiveCall) (live : LiveNode) (teller : Teller) (first last : Outside) : Type 0 where
-  pub beat : ℕ
-  pub sim : ℕ
-  pub timed : AreTimed first.time (Beats beat ∷ Flies sim ∷ [])
-  pub output : Output stores before now start (made ++ Beats beat ∷ Flies sim ∷ []) live teller first last
-
 pub record WaitStopped {S : Type 0} (stores : Stores S) (before now : S) (end : RunEnd) (start : Node) (made : List LiveCall) (first last : Outside) : Type 0 where
   pub tick : ℕ
   pub beat : ℕ
   pub sim : ℕ
   pub timed : AreTimed first.time (Ticks tick ∷ Beats beat ∷ Flies sim ∷ [])
   pub stopped : CallsStopped stores before now end start made (Ticks tick ∷ Beats beat ∷ Flies sim ∷ []) first last
-
-pub record BeatStopped {S : Type 0} (stores : Stores S) (before now : S) (end : RunEnd) (start : Node) (made : List LiveCall) (first last : Outside) : Type 0 where
-  pub beat : ℕ
-  pub sim : ℕ
-  pub timed : AreTimed first.time (Beats beat ∷ Flies sim ∷ [])
-  pub stopped : CallsStopped stores before now end start made (Beats beat ∷ Flies sim ∷ []) first last
 
 -- a turn was taken, or the port has ended
 pub record TurnTaken {S : Type 0} (stores : Stores S) (before now : S) (start : Node) (opening : List LiveCall) (turns : List Turn) (live : LiveNode) (teller : Teller) (first last : Outside) : Type 0 where

@@ -31,6 +31,12 @@ pub record Outside : Type 0 where
 abbrev pub outside : LinkState → Option (List ℕ) → Option ℕ → Outside
 outside link text time = record { link = link; text = text; time = time }
 
+-- how a part of a run ends: only for one of these reasons, with the counts of faults that this says, and the clock's one time stays
+pub record Ends {A : Type 0} (MayEnd : RunEnd → Type 0) (result : Result A RunEnd) (first last : Outside) (out_before out_after : ℕ) : Type 0 where
+  pub end : IfErr result MayEnd
+  pub faults : FaultsBy (result_err result) first.link.faults last.link.faults out_before out_after
+  pub stays : last.time ≡ first.time
+
 -- a run on a link between two moments: what it did, how it may end, and which counts of faults rose
 pub record LinkRun (Did : Option RunEnd → (first last : Outside) → Type 0) (MayEnd : RunEnd → Type 0) (result : Result (Unit {0}) RunEnd) (first last : Outside) (out_before out_after : ℕ) : Type 0 where
   pub runs : Did (result_err result) first last

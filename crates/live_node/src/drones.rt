@@ -1,11 +1,11 @@
 // A drone on a link.
-ghost use Rattle.std.specs.Prelude.{◌≡◌, List, [], IfOk, IfErr};
+ghost use Rattle.std.specs.Prelude.{◌≡◌, List, [], MatchResult};
 ghost use Rattle.std.specs.Result.{result_err};
 ghost use Rattle.mav_nodes.specs.Nodes.{DroneSide};
 ghost use Rattle.node_reports.specs.Nodes.{Node, Drone as StateDrone};
 ghost use Rattle.live_node.specs.Calls.{LiveCall};
-ghost use Rattle.live_node.specs.Ports.{FaultsBy, IsRunEnd};
-ghost use Rattle.live_node.specs.Runs.{Outside, LinkRun, outside, stores_of};
+ghost use Rattle.live_node.specs.Ports.{IsRunEnd};
+ghost use Rattle.live_node.specs.Runs.{Outside, Ends, LinkRun, outside, stores_of};
 ghost use Rattle.live_node.specs.Progress.{Between, TurnsStopped, TurnsRan, Opened};
 ghost use Rattle.live_node.specs.Drones.{DroneLived, DroneRuns, NewDroneRuns, IsDroneEnd, start_end};
 
@@ -49,13 +49,11 @@ fn run_turns<L: Link, K: Sink, C: Clock, S: Keeper>(
     clock: &mut C,
     keeper: &mut S,
 ) -> Result<bool, RunEnd>
-    ensures done { IfOk result (λ goes_on. (before : S) (start : Node) (opening : List LiveCall) (first : Outside) → Between (stores_of S.faults S.is_infallible S.contents) before keeper.old start opening [] [] live.old teller.old first (outside (L.state link.old) (K.sent out.old) (C.always clock.old))
-        → TurnsRan goes_on (stores_of S.faults S.is_infallible S.contents) before keeper.new start opening turns live.new teller.new first (outside (L.state link.new) (K.sent out.new) (C.always clock.new))) }
-    ensures stopped { IfErr result (λ end. (before : S) (start : Node) (opening : List LiveCall) (first : Outside) → Between (stores_of S.faults S.is_infallible S.contents) before keeper.old start opening [] [] live.old teller.old first (outside (L.state link.old) (K.sent out.old) (C.always clock.old))
-        → TurnsStopped (stores_of S.faults S.is_infallible S.contents) before keeper.new end start opening first (outside (L.state link.new) (K.sent out.new) (C.always clock.new))) }
-    ensures stays { C.always clock.new ≡ C.always clock.old }
-    ensures end { IfErr result IsRunEnd }
-    ensures faults { FaultsBy (result_err result) (L.state link.old).faults (L.state link.new).faults (K.faults out.old) (K.faults out.new) }
+    ensures did { (before : S) (start : Node) (opening : List LiveCall) (first : Outside) → Between (stores_of S.faults S.is_infallible S.contents) before keeper.old start opening [] [] live.old teller.old first (outside (L.state link.old) (K.sent out.old) (C.always clock.old))
+        → MatchResult result
+        (λ goes_on. TurnsRan goes_on (stores_of S.faults S.is_infallible S.contents) before keeper.new start opening turns live.new teller.new first (outside (L.state link.new) (K.sent out.new) (C.always clock.new)))
+        (λ end. TurnsStopped (stores_of S.faults S.is_infallible S.contents) before keeper.new end start opening first (outside (L.state link.new) (K.sent out.new) (C.always clock.new))) }
+    ensures ends { Ends IsRunEnd result (outside (L.state link.old) (K.sent out.old) (C.always clock.old)) (outside (L.state link.new) (K.sent out.new) (C.always clock.new)) (K.faults out.old) (K.faults out.new) }
 {
     let mut buf = [0u8; PIECE_BYTES];
     'turns: for _at in 0..turns {
@@ -80,8 +78,7 @@ fn run_live<L: Link, K: Sink, C: Clock, S: Keeper>(
 ) -> Result<(), RunEnd>
     ensures ran { (before : S) (start : DroneSide) → Opened (stores_of S.faults S.is_infallible S.contents) before keeper.old (StateDrone start) live.old teller.old (outside (L.state link.old) (K.sent out.old) (C.always clock.old))
         → DroneLived (stores_of S.faults S.is_infallible S.contents) before keeper.new start (result_err result) (outside (L.state link.old) (K.sent out.old) (C.always clock.old)) (outside (L.state link.new) (K.sent out.new) (C.always clock.new)) }
-    ensures end { IfErr result (IsDroneEnd turns) }
-    ensures faults { FaultsBy (result_err result) (L.state link.old).faults (L.state link.new).faults (K.faults out.old) (K.faults out.new) }
+    ensures ends { Ends (IsDroneEnd turns) result (outside (L.state link.old) (K.sent out.old) (C.always clock.old)) (outside (L.state link.new) (K.sent out.new) (C.always clock.new)) (K.faults out.old) (K.faults out.new) }
 {
     match call(live, teller, Due::Heartbeat, link, out, clock, keeper) {
         Ok(()) => {}

@@ -1,5 +1,5 @@
 // A station on a link.
-ghost use Rattle.std.specs.Prelude.{◌≡◌, ◌⊎◌, ℕ, List, [], None, IfOk, IfErr, OnOk};
+ghost use Rattle.std.specs.Prelude.{◌≡◌, ◌⊎◌, ℕ, List, [], None, IfErr, OnOk, MatchResult};
 ghost use Rattle.std.specs.declared.option.Option.{Option};
 ghost use Rattle.std.specs.Result.{result_err};
 ghost use Rattle.mav_links.specs.Links.{LinkState};
@@ -9,7 +9,7 @@ ghost use Rattle.live_node.specs.Nodes.{end_of};
 ghost use Rattle.live_node.specs.Calls.{LiveCall};
 ghost use Rattle.live_node.specs.Turns.{Turn};
 ghost use Rattle.live_node.specs.Ports.{PrintedBy, PrintFaults, FaultsBy, SameRead, IsRunEnd};
-ghost use Rattle.live_node.specs.Runs.{Outside, LinkRun, outside, stores_of};
+ghost use Rattle.live_node.specs.Runs.{Outside, Ends, LinkRun, outside, stores_of};
 ghost use Rattle.live_node.specs.Progress.{Output, Between, PortEnded, Opened};
 ghost use Rattle.live_node.specs.Waiting.{OrderDone, OrderStopped, Watched, WatchStopped, Outlasted, OutlastStopped, WaitedFor};
 ghost use Rattle.live_node.specs.Stations.{StationLived, StationRuns, IsOrderEnd, IsWaitedEnd, IsStationEnd, Awaited, Gives, verdict, judged};
@@ -48,15 +48,13 @@ fn obey<L: Link, K: Sink, C: Clock, S: Keeper>(
     clock: &mut C,
     keeper: &S,
 ) -> Result<(), RunEnd>
-    ensures done { OnOk result ((before : S) (start : Node) (made : List LiveCall) (first : Outside) → (o : Output (stores_of S.faults S.is_infallible S.contents) before keeper.now start made live.old teller.old first (outside (L.state link.old) (K.sent out.old) (C.always clock.old)))
-        → OrderDone (stores_of S.faults S.is_infallible S.contents) before keeper.now start made o.node order live.new teller.new first (outside (L.state link.new) (K.sent out.new) (C.always clock.new))) }
-    ensures stopped { IfErr result (λ end. (before : S) (start : Node) (made : List LiveCall) (first : Outside) → (o : Output (stores_of S.faults S.is_infallible S.contents) before keeper.now start made live.old teller.old first (outside (L.state link.old) (K.sent out.old) (C.always clock.old)))
-        → OrderStopped (stores_of S.faults S.is_infallible S.contents) before keeper.now end start made o.node order first (outside (L.state link.new) (K.sent out.new) (C.always clock.new))) }
+    ensures did { (before : S) (start : Node) (made : List LiveCall) (first : Outside) → (o : Output (stores_of S.faults S.is_infallible S.contents) before keeper.now start made live.old teller.old first (outside (L.state link.old) (K.sent out.old) (C.always clock.old)))
+        → MatchResult result
+        (λ _. OrderDone (stores_of S.faults S.is_infallible S.contents) before keeper.now start made o.node order live.new teller.new first (outside (L.state link.new) (K.sent out.new) (C.always clock.new)))
+        (λ end. OrderStopped (stores_of S.faults S.is_infallible S.contents) before keeper.now end start made o.node order first (outside (L.state link.new) (K.sent out.new) (C.always clock.new))) }
     ensures unread { SameRead (L.state link.old) (L.state link.new) }
     ensures reader { OnOk result (reader_of (end_of live.new).endpoint ≡ reader_of (end_of live.old).endpoint) }
-    ensures stays { C.always clock.new ≡ C.always clock.old }
-    ensures end { IfErr result IsOrderEnd }
-    ensures faults { FaultsBy (result_err result) (L.state link.old).faults (L.state link.new).faults (K.faults out.old) (K.faults out.new) }
+    ensures ends { Ends IsOrderEnd result (outside (L.state link.old) (K.sent out.old) (C.always clock.old)) (outside (L.state link.new) (K.sent out.new) (C.always clock.new)) (K.faults out.old) (K.faults out.new) }
 {
     let now = clock.now();
     match live.order(teller.alloc, order, now) {
@@ -75,13 +73,11 @@ fn watch<L: Link, K: Sink, C: Clock, S: Keeper>(
     clock: &mut C,
     keeper: &mut S,
 ) -> Result<bool, RunEnd>
-    ensures done { IfOk result (λ goes_on. (before : S) (start : Node) (opening : List LiveCall) (first : Outside) → Between (stores_of S.faults S.is_infallible S.contents) before keeper.old start opening [] [] live.old teller.old first (outside (L.state link.old) (K.sent out.old) (C.always clock.old))
-        → Watched goes_on (stores_of S.faults S.is_infallible S.contents) before keeper.new plan start opening live.new teller.new first (outside (L.state link.new) (K.sent out.new) (C.always clock.new))) }
-    ensures stopped { IfErr result (λ end. (before : S) (start : Node) (opening : List LiveCall) (first : Outside) → Between (stores_of S.faults S.is_infallible S.contents) before keeper.old start opening [] [] live.old teller.old first (outside (L.state link.old) (K.sent out.old) (C.always clock.old))
-        → WatchStopped (stores_of S.faults S.is_infallible S.contents) before keeper.new end plan start opening first (outside (L.state link.new) (K.sent out.new) (C.always clock.new))) }
-    ensures stays { C.always clock.new ≡ C.always clock.old }
-    ensures end { IfErr result IsRunEnd }
-    ensures faults { FaultsBy (result_err result) (L.state link.old).faults (L.state link.new).faults (K.faults out.old) (K.faults out.new) }
+    ensures did { (before : S) (start : Node) (opening : List LiveCall) (first : Outside) → Between (stores_of S.faults S.is_infallible S.contents) before keeper.old start opening [] [] live.old teller.old first (outside (L.state link.old) (K.sent out.old) (C.always clock.old))
+        → MatchResult result
+        (λ goes_on. Watched goes_on (stores_of S.faults S.is_infallible S.contents) before keeper.new plan start opening live.new teller.new first (outside (L.state link.new) (K.sent out.new) (C.always clock.new)))
+        (λ end. WatchStopped (stores_of S.faults S.is_infallible S.contents) before keeper.new end plan start opening first (outside (L.state link.new) (K.sent out.new) (C.always clock.new))) }
+    ensures ends { Ends IsRunEnd result (outside (L.state link.old) (K.sent out.old) (C.always clock.old)) (outside (L.state link.new) (K.sent out.new) (C.always clock.new)) (K.faults out.old) (K.faults out.new) }
 {
     let mut buf = [0u8; PIECE_BYTES];
     'turns: for _at in 0..plan.turns {
@@ -107,12 +103,11 @@ fn outlast<L: Link, K: Sink, C: Clock, S: Keeper>(
     clock: &mut C,
     keeper: &mut S,
 ) -> Result<(), RunEnd>
-    ensures done { OnOk result ((before : S) (start : Node) (opening : List LiveCall) (turns : List Turn) (first : Outside) → PortEnded (stores_of S.faults S.is_infallible S.contents) before keeper.old start opening turns [] live.old teller.old first (outside (L.state link.old) (K.sent out.old) (C.always clock.old)) → Awaited most start opening turns []
-        → Outlasted (stores_of S.faults S.is_infallible S.contents) before keeper.new most start opening turns live.new teller.new first (outside (L.state link.new) (K.sent out.new) (C.always clock.new))) }
-    ensures stopped { IfErr result (λ end. (before : S) (start : Node) (opening : List LiveCall) (turns : List Turn) (first : Outside) → PortEnded (stores_of S.faults S.is_infallible S.contents) before keeper.old start opening turns [] live.old teller.old first (outside (L.state link.old) (K.sent out.old) (C.always clock.old)) → Awaited most start opening turns []
-        → OutlastStopped (stores_of S.faults S.is_infallible S.contents) before keeper.new end most start opening turns first (outside (L.state link.new) (K.sent out.new) (C.always clock.new))) }
-    ensures end { IfErr result IsRunEnd }
-    ensures faults { FaultsBy (result_err result) (L.state link.old).faults (L.state link.new).faults (K.faults out.old) (K.faults out.new) }
+    ensures did { (before : S) (start : Node) (opening : List LiveCall) (turns : List Turn) (first : Outside) → PortEnded (stores_of S.faults S.is_infallible S.contents) before keeper.old start opening turns [] live.old teller.old first (outside (L.state link.old) (K.sent out.old) (C.always clock.old)) → Awaited most start opening turns []
+        → MatchResult result
+        (λ _. Outlasted (stores_of S.faults S.is_infallible S.contents) before keeper.new most start opening turns live.new teller.new first (outside (L.state link.new) (K.sent out.new) (C.always clock.new)))
+        (λ end. OutlastStopped (stores_of S.faults S.is_infallible S.contents) before keeper.new end most start opening turns first (outside (L.state link.new) (K.sent out.new) (C.always clock.new))) }
+    ensures ends { Ends IsRunEnd result (outside (L.state link.old) (K.sent out.old) (C.always clock.old)) (outside (L.state link.new) (K.sent out.new) (C.always clock.new)) (K.faults out.old) (K.faults out.new) }
 {
     'ticks: for _at in 0..most {
         if teller.is_over(most) {
@@ -148,8 +143,7 @@ fn wait_for<L: Link, K: Sink, C: Clock, S: Keeper>(
 ) -> Result<Label, RunEnd>
     ensures waited { (before : S) (start : Node) (opening : List LiveCall) (first : Outside) → Between (stores_of S.faults S.is_infallible S.contents) before keeper.old start opening [] [] live.old teller.old first (outside (L.state link.old) (K.sent out.old) (C.always clock.old))
         → WaitedFor (stores_of S.faults S.is_infallible S.contents) before keeper.new plan start opening result first (outside (L.state link.new) (K.sent out.new) (C.always clock.new)) }
-    ensures end { IfErr result IsWaitedEnd }
-    ensures faults { FaultsBy (result_err result) (L.state link.old).faults (L.state link.new).faults (K.faults out.old) (K.faults out.new) }
+    ensures ends { Ends IsWaitedEnd result (outside (L.state link.old) (K.sent out.old) (C.always clock.old)) (outside (L.state link.new) (K.sent out.new) (C.always clock.new)) (K.faults out.old) (K.faults out.new) }
 {
     match watch(live, teller, plan, link, out, clock, keeper) {
         Ok(true) => judge(teller, plan),
@@ -174,8 +168,7 @@ fn run_live<L: Link, K: Sink, C: Clock, S: Keeper>(
 ) -> Result<Label, RunEnd>
     ensures ran { (before : S) (start : Node) → Opened (stores_of S.faults S.is_infallible S.contents) before keeper.old start live.old teller.old (outside (L.state link.old) (K.sent out.old) (C.always clock.old))
         → StationLived (stores_of S.faults S.is_infallible S.contents) before keeper.new plan order start result (outside (L.state link.old) (K.sent out.old) (C.always clock.old)) (outside (L.state link.new) (K.sent out.new) (C.always clock.new)) }
-    ensures end { IfErr result (λ end. (end ≡ RunEnd.Live LiveEnd.StoreFault) ⊎ IsStationEnd end) }
-    ensures faults { FaultsBy (result_err result) (L.state link.old).faults (L.state link.new).faults (K.faults out.old) (K.faults out.new) }
+    ensures ends { Ends (λ end. (end ≡ RunEnd.Live LiveEnd.StoreFault) ⊎ IsStationEnd end) result (outside (L.state link.old) (K.sent out.old) (C.always clock.old)) (outside (L.state link.new) (K.sent out.new) (C.always clock.new)) (K.faults out.old) (K.faults out.new) }
 {
     match call(live, teller, Due::Heartbeat, link, out, clock, keeper) {
         Ok(()) => {}

@@ -1,15 +1,14 @@
 // The turns of a live node.
-ghost use Rattle.std.specs.Prelude.{◌≡◌, ◌<◌, ◌++◌, [], ℕ, List, length, OnOk, IfOk, IfErr};
-ghost use Rattle.std.specs.Result.{result_err};
+ghost use Rattle.std.specs.Prelude.{◌≡◌, ◌<◌, ◌++◌, [], ℕ, List, length, MatchResult};
 ghost use Rattle.mav_frame.specs.declared.events.Event.{Event};
 ghost use Rattle.mav_sign.specs.Streams.{reader_of};
 ghost use Rattle.node_reports.specs.Nodes.{Node};
 ghost use Rattle.live_node.specs.Nodes.{HasHeard, end_of};
 ghost use Rattle.live_node.specs.Calls.{LiveCall};
-ghost use Rattle.live_node.specs.Ports.{FaultsBy, SameRead, IsRunEnd};
-ghost use Rattle.live_node.specs.Runs.{Outside, outside, stores_of};
+ghost use Rattle.live_node.specs.Ports.{SameRead, IsRunEnd};
+ghost use Rattle.live_node.specs.Runs.{Outside, Ends, outside, stores_of};
 ghost use Rattle.live_node.specs.Turns.{Turn};
-ghost use Rattle.live_node.specs.Progress.{Output, CallDone, CallStopped, WaitDone, WaitStopped, BeatDone, BeatStopped, HeardPiece, PieceStopped, Between, Turned, TurnStops, due_call};
+ghost use Rattle.live_node.specs.Progress.{Output, CallDone, CallStopped, WaitDone, WaitStopped, HeardPiece, PieceStopped, Between, Turned, TurnStops, due_call};
 
 use crate::ends::end_by;
 use crate::nodes::{Due, LiveNode};
@@ -32,15 +31,13 @@ pub(crate) fn call<L: Link, K: Sink, C: Clock, S: Keeper>(
     clock: &mut C,
     keeper: &mut S,
 ) -> Result<(), RunEnd>
-    ensures done { OnOk result ((before : S) (start : Node) (made : List LiveCall) (first : Outside) → Output (stores_of S.faults S.is_infallible S.contents) before keeper.old start made live.old teller.old first (outside (L.state link.old) (K.sent out.old) (C.always clock.old))
-        → CallDone (stores_of S.faults S.is_infallible S.contents) before keeper.new start made (due_call due) live.new teller.new first (outside (L.state link.new) (K.sent out.new) (C.always clock.new))) }
-    ensures stopped { IfErr result (λ end. (before : S) (start : Node) (made : List LiveCall) (first : Outside) → Output (stores_of S.faults S.is_infallible S.contents) before keeper.old start made live.old teller.old first (outside (L.state link.old) (K.sent out.old) (C.always clock.old))
-        → CallStopped (stores_of S.faults S.is_infallible S.contents) before keeper.new end start made (due_call due) first (outside (L.state link.new) (K.sent out.new) (C.always clock.new))) }
+    ensures did { (before : S) (start : Node) (made : List LiveCall) (first : Outside) → Output (stores_of S.faults S.is_infallible S.contents) before keeper.old start made live.old teller.old first (outside (L.state link.old) (K.sent out.old) (C.always clock.old))
+        → MatchResult result
+        (λ _. CallDone (stores_of S.faults S.is_infallible S.contents) before keeper.new start made (due_call due) live.new teller.new first (outside (L.state link.new) (K.sent out.new) (C.always clock.new)))
+        (λ end. CallStopped (stores_of S.faults S.is_infallible S.contents) before keeper.new end start made (due_call due) first (outside (L.state link.new) (K.sent out.new) (C.always clock.new))) }
     ensures unread { SameRead (L.state link.old) (L.state link.new) }
     ensures reader { reader_of (end_of live.new).endpoint ≡ reader_of (end_of live.old).endpoint }
-    ensures stays { C.always clock.new ≡ C.always clock.old }
-    ensures end { IfErr result IsRunEnd }
-    ensures faults { FaultsBy (result_err result) (L.state link.old).faults (L.state link.new).faults (K.faults out.old) (K.faults out.new) }
+    ensures ends { Ends IsRunEnd result (outside (L.state link.old) (K.sent out.old) (C.always clock.old)) (outside (L.state link.new) (K.sent out.new) (C.always clock.new)) (K.faults out.old) (K.faults out.new) }
 {
     let now = clock.now();
     match live.call(teller.alloc, due, now, keeper) {
@@ -61,44 +58,17 @@ pub(crate) fn wait<L: Link, K: Sink, C: Clock, S: Keeper>(
     clock: &mut C,
     keeper: &mut S,
 ) -> Result<(), RunEnd>
-    ensures done { OnOk result ((before : S) (start : Node) (made : List LiveCall) (first : Outside) → Output (stores_of S.faults S.is_infallible S.contents) before keeper.old start made live.old teller.old first (outside (L.state link.old) (K.sent out.old) (C.always clock.old))
-        → WaitDone (stores_of S.faults S.is_infallible S.contents) before keeper.new start made live.new teller.new first (outside (L.state link.new) (K.sent out.new) (C.always clock.new))) }
-    ensures stopped { IfErr result (λ end. (before : S) (start : Node) (made : List LiveCall) (first : Outside) → Output (stores_of S.faults S.is_infallible S.contents) before keeper.old start made live.old teller.old first (outside (L.state link.old) (K.sent out.old) (C.always clock.old))
-        → WaitStopped (stores_of S.faults S.is_infallible S.contents) before keeper.new end start made first (outside (L.state link.new) (K.sent out.new) (C.always clock.new))) }
+    ensures did { (before : S) (start : Node) (made : List LiveCall) (first : Outside) → Output (stores_of S.faults S.is_infallible S.contents) before keeper.old start made live.old teller.old first (outside (L.state link.old) (K.sent out.old) (C.always clock.old))
+        → MatchResult result
+        (λ _. WaitDone (stores_of S.faults S.is_infallible S.contents) before keeper.new start made live.new teller.new first (outside (L.state link.new) (K.sent out.new) (C.always clock.new)))
+        (λ end. WaitStopped (stores_of S.faults S.is_infallible S.contents) before keeper.new end start made first (outside (L.state link.new) (K.sent out.new) (C.always clock.new))) }
     ensures unread { SameRead (L.state link.old) (L.state link.new) }
     ensures reader { reader_of (end_of live.new).endpoint ≡ reader_of (end_of live.old).endpoint }
-    ensures stays { C.always clock.new ≡ C.always clock.old }
-    ensures end { IfErr result IsRunEnd }
-    ensures faults { FaultsBy (result_err result) (L.state link.old).faults (L.state link.new).faults (K.faults out.old) (K.faults out.new) }
+    ensures ends { Ends IsRunEnd result (outside (L.state link.old) (K.sent out.old) (C.always clock.old)) (outside (L.state link.new) (K.sent out.new) (C.always clock.new)) (K.faults out.old) (K.faults out.new) }
 {
-    match call(live, teller, Due::Tick, link, out, clock, keeper) {
-        Ok(()) => beat_and_fly(live, teller, link, out, clock, keeper),
-        Err(end) => Err(end),
-    }
-}
-
-fn beat_and_fly<L: Link, K: Sink, C: Clock, S: Keeper>(
-    live: &mut LiveNode,
-    teller: &mut Teller,
-    link: &mut L,
-    out: &mut K,
-    clock: &mut C,
-    keeper: &mut S,
-) -> Result<(), RunEnd>
-    ensures done { OnOk result ((before : S) (start : Node) (made : List LiveCall) (first : Outside) → Output (stores_of S.faults S.is_infallible S.contents) before keeper.old start made live.old teller.old first (outside (L.state link.old) (K.sent out.old) (C.always clock.old))
-        → BeatDone (stores_of S.faults S.is_infallible S.contents) before keeper.new start made live.new teller.new first (outside (L.state link.new) (K.sent out.new) (C.always clock.new))) }
-    ensures stopped { IfErr result (λ end. (before : S) (start : Node) (made : List LiveCall) (first : Outside) → Output (stores_of S.faults S.is_infallible S.contents) before keeper.old start made live.old teller.old first (outside (L.state link.old) (K.sent out.old) (C.always clock.old))
-        → BeatStopped (stores_of S.faults S.is_infallible S.contents) before keeper.new end start made first (outside (L.state link.new) (K.sent out.new) (C.always clock.new))) }
-    ensures unread { SameRead (L.state link.old) (L.state link.new) }
-    ensures reader { reader_of (end_of live.new).endpoint ≡ reader_of (end_of live.old).endpoint }
-    ensures stays { C.always clock.new ≡ C.always clock.old }
-    ensures end { IfErr result IsRunEnd }
-    ensures faults { FaultsBy (result_err result) (L.state link.old).faults (L.state link.new).faults (K.faults out.old) (K.faults out.new) }
-{
-    match call(live, teller, Due::Heartbeat, link, out, clock, keeper) {
-        Ok(()) => call(live, teller, Due::Sim, link, out, clock, keeper),
-        Err(end) => Err(end),
-    }
+    call(live, teller, Due::Tick, link, out, clock, keeper)?;
+    call(live, teller, Due::Heartbeat, link, out, clock, keeper)?;
+    call(live, teller, Due::Sim, link, out, clock, keeper)
 }
 
 // A piece was read.
@@ -111,14 +81,12 @@ fn hear<L: Link, K: Sink, C: Clock, S: Keeper>(
     clock: &mut C,
     keeper: &mut S,
 ) -> Result<(), RunEnd>
-    ensures done { OnOk result ((before : S) (start : Node) (made : List LiveCall) (first : Outside) (extras : List (ℕ × ℕ)) (taken : List ℕ) (given : List Event) → Output (stores_of S.faults S.is_infallible S.contents) before keeper.old start made live.old teller.old first (outside (L.state link.old) (K.sent out.old) (C.always clock.old)) → (end_of live.old).endpoint.extras ≡ extras → HasHeard taken given live.old
-        → HeardPiece (stores_of S.faults S.is_infallible S.contents) before keeper.new extras start made (taken ++ piece.now) given live.new teller.new first (outside (L.state link.new) (K.sent out.new) (C.always clock.new))) }
-    ensures stopped { IfErr result (λ end. (before : S) (start : Node) (made : List LiveCall) (first : Outside) (extras : List (ℕ × ℕ)) (taken : List ℕ) (given : List Event) → Output (stores_of S.faults S.is_infallible S.contents) before keeper.old start made live.old teller.old first (outside (L.state link.old) (K.sent out.old) (C.always clock.old)) → (end_of live.old).endpoint.extras ≡ extras → HasHeard taken given live.old
-        → PieceStopped (stores_of S.faults S.is_infallible S.contents) before keeper.new end extras taken given piece.now start made first (outside (L.state link.new) (K.sent out.new) (C.always clock.new))) }
+    ensures did { (before : S) (start : Node) (made : List LiveCall) (first : Outside) (extras : List (ℕ × ℕ)) (taken : List ℕ) (given : List Event) → Output (stores_of S.faults S.is_infallible S.contents) before keeper.old start made live.old teller.old first (outside (L.state link.old) (K.sent out.old) (C.always clock.old)) → (end_of live.old).endpoint.extras ≡ extras → HasHeard taken given live.old
+        → MatchResult result
+        (λ _. HeardPiece (stores_of S.faults S.is_infallible S.contents) before keeper.new extras start made (taken ++ piece.now) given live.new teller.new first (outside (L.state link.new) (K.sent out.new) (C.always clock.new)))
+        (λ end. PieceStopped (stores_of S.faults S.is_infallible S.contents) before keeper.new end extras taken given piece.now start made first (outside (L.state link.new) (K.sent out.new) (C.always clock.new))) }
     ensures unread { SameRead (L.state link.old) (L.state link.new) }
-    ensures stays { C.always clock.new ≡ C.always clock.old }
-    ensures end { IfErr result IsRunEnd }
-    ensures faults { FaultsBy (result_err result) (L.state link.old).faults (L.state link.new).faults (K.faults out.old) (K.faults out.new) }
+    ensures ends { Ends IsRunEnd result (outside (L.state link.old) (K.sent out.old) (C.always clock.old)) (outside (L.state link.new) (K.sent out.new) (C.always clock.new)) (K.faults out.old) (K.faults out.new) }
 {
     let now = clock.now();
     match live.part(piece, now, keeper) {
@@ -138,13 +106,11 @@ pub(crate) fn turn<L: Link, K: Sink, C: Clock, S: Keeper>(
     keeper: &mut S,
 ) -> Result<bool, RunEnd>
     requires { 0 < length buf.old }
-    ensures done { IfOk result (λ goes_on. (before : S) (start : Node) (opening : List LiveCall) (turns : List Turn) (first : Outside) → Between (stores_of S.faults S.is_infallible S.contents) before keeper.old start opening turns [] live.old teller.old first (outside (L.state link.old) (K.sent out.old) (C.always clock.old))
-        → Turned goes_on (stores_of S.faults S.is_infallible S.contents) before keeper.new start opening turns live.new teller.new first (outside (L.state link.new) (K.sent out.new) (C.always clock.new))) }
-    ensures stopped { IfErr result (λ end. (before : S) (start : Node) (opening : List LiveCall) (turns : List Turn) (first : Outside) → Between (stores_of S.faults S.is_infallible S.contents) before keeper.old start opening turns [] live.old teller.old first (outside (L.state link.old) (K.sent out.old) (C.always clock.old))
-        → TurnStops (stores_of S.faults S.is_infallible S.contents) before keeper.new end start opening turns first (outside (L.state link.new) (K.sent out.new) (C.always clock.new))) }
-    ensures stays { C.always clock.new ≡ C.always clock.old }
-    ensures end { IfErr result IsRunEnd }
-    ensures faults { FaultsBy (result_err result) (L.state link.old).faults (L.state link.new).faults (K.faults out.old) (K.faults out.new) }
+    ensures did { (before : S) (start : Node) (opening : List LiveCall) (turns : List Turn) (first : Outside) → Between (stores_of S.faults S.is_infallible S.contents) before keeper.old start opening turns [] live.old teller.old first (outside (L.state link.old) (K.sent out.old) (C.always clock.old))
+        → MatchResult result
+        (λ goes_on. Turned goes_on (stores_of S.faults S.is_infallible S.contents) before keeper.new start opening turns live.new teller.new first (outside (L.state link.new) (K.sent out.new) (C.always clock.new)))
+        (λ end. TurnStops (stores_of S.faults S.is_infallible S.contents) before keeper.new end start opening turns first (outside (L.state link.new) (K.sent out.new) (C.always clock.new))) }
+    ensures ends { Ends IsRunEnd result (outside (L.state link.old) (K.sent out.old) (C.always clock.old)) (outside (L.state link.new) (K.sent out.new) (C.always clock.new)) (K.faults out.old) (K.faults out.new) }
 {
     match link.read(buf) {
         Got::Bytes(count) => match hear(live, teller, &buf[..count], link, out, clock, keeper) {

@@ -13,8 +13,8 @@ returns-in-Ok g c =
         starts = b.starts;
         lived = c.run_live-ended.ensures.ran c.args.keeper.now b.node (opened _ _ _ _ _ _ _ _ _ _ b e.serves e.stays e.stream (c.new-teller.ensures.name ∙ c.drone_name.ensures) c.new-teller.ensures.sent c.new-teller.ensures.ending c.new-teller.ensures.ticks);
       });
-      end = c.run_live-ended.ensures.end;
-      faults = c.run_live-ended.ensures.faults;
+      end = c.run_live-ended.ensures.ends.end;
+      faults = c.run_live-ended.ensures.ends.faults;
     }
 
 pub returns-in-Err : goal.returns-in-Err

@@ -1,9 +1,9 @@
-use Rattle.std.proofs.Common.{List, [], None}
+use Rattle.std.proofs.Common.{List, [], Ok}
 use Rattle.node_reports.specs.Nodes.{Node}
 use Rattle.live_node.specs.Calls.{LiveCall}
 use Rattle.live_node.specs.Turns.{Turn}
-use Rattle.live_node.specs.Ports.{FaultsBy}
-use Rattle.live_node.specs.Runs.{Outside, outside, stores_of}
+use Rattle.live_node.specs.Ports.{IsRunEnd}
+use Rattle.live_node.specs.Runs.{Outside, Ends, outside, stores_of}
 use Rattle.live_node.specs.Progress.{PortEnded}
 use Rattle.live_node.specs.Stations.{Awaited}
 use Rattle.live_node.proofs.Watching.{OutlastTaken}
@@ -13,5 +13,5 @@ abbrev pub invariant-ticks : goal.invariant-ticks
 invariant-ticks g l = record {
   taken : (before : g.row.S.Denot) (start : Node) (opening : List LiveCall) (turns : List Turn) (first : Outside) → PortEnded (stores_of g.S.Keeper.faults g.S.Keeper.is_infallible g.S.Keeper.contents) before l.initial.keeper start opening turns [] l.initial.live l.initial.teller first (outside (g.L.Link.state l.initial.link) (g.K.Sink.sent l.initial.out) (g.C.Clock.always l.initial.clock)) → Awaited l.most start opening turns []
       → OutlastTaken (stores_of g.S.Keeper.faults g.S.Keeper.is_infallible g.S.Keeper.contents) before l.keeper l.most start opening turns l._at l.live l.teller first (outside (g.L.Link.state l.link) (g.K.Sink.sent l.out) (g.C.Clock.always l.clock));
-  faults : FaultsBy None (g.L.Link.state l.initial.link).faults (g.L.Link.state l.link).faults (g.K.Sink.faults l.initial.out) (g.K.Sink.faults l.out);
+  ends : Ends {A = Unit {0}} IsRunEnd (Ok tt) (outside (g.L.Link.state l.initial.link) (g.K.Sink.sent l.initial.out) (g.C.Clock.always l.initial.clock)) (outside (g.L.Link.state l.link) (g.K.Sink.sent l.out) (g.C.Clock.always l.clock)) (g.K.Sink.faults l.initial.out) (g.K.Sink.faults l.out);
 }

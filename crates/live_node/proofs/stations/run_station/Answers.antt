@@ -17,8 +17,8 @@ returns g c =
     record {
       runs = inl (ran_station c.args.key c.args.plan c.args.order boot c.new-2.result.items c.new-3.result.items c.new-keeper.result c.run_live-ended.new.keeper c.run_live-ended.result _ _ _ _ _ _ _ c.new-2.ensures.items c.new-3.ensures.items c.new-keeper.ensures.start c.now-boot.ensures.stays c.now-boot.ensures.answer ran
           (c.give.ensures.gives _ _));
-      end = c.give.ensures.end (station_ends c.new-2.result.items c.new-3.result.items c.new-keeper.result c.run_live-ended.new.keeper c.args.plan c.args.order _ c.run_live-ended.result _ _ c.new-2.ensures.items c.new-3.ensures.items c.new-keeper.ensures.start ran c.run_live-ended.ensures.end);
-      faults = c.give.ensures.faults _ _ _ c.run_live-ended.ensures.faults;
+      end = c.give.ensures.end (station_ends c.new-2.result.items c.new-3.result.items c.new-keeper.result c.run_live-ended.new.keeper c.args.plan c.args.order _ c.run_live-ended.result _ _ c.new-2.ensures.items c.new-3.ensures.items c.new-keeper.ensures.start ran c.run_live-ended.ensures.ends.end);
+      faults = c.give.ensures.faults _ _ _ c.run_live-ended.ensures.ends.faults;
     }
 
 pub returns-in_err-new : goal.returns-in_err-new

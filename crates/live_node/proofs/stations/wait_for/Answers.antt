@@ -3,22 +3,22 @@ use Rattle.live_node.proofs.stations.wait_for.Goals as goal
 
 pub returns-in-Ok-true-clause-waited : goal.returns-in-Ok-true-clause-waited
 returns-in-Ok-true-clause-waited g c =
-    let watched = rw c.in-Ok-true.field-0-test at c.in-Ok-true.ensures.done in
+    let watched = rw c.in-Ok-true.field-0-test at c.in-Ok-true.ensures.did in
     rw c.judge.ensures (λ before start opening first b. waited_turns (watched before start opening first b))
 
 pub returns-in-Ok-clause-waited : goal.returns-in-Ok-clause-waited
 returns-in-Ok-clause-waited g c =
-    let watched = rw c.in-Ok-false.field-0-test at c.in-Ok-false.ensures.done in
+    let watched = rw c.in-Ok-false.field-0-test at c.in-Ok-false.ensures.did in
     rw c.judge-in-Ok.ensures (λ before start opening first b.
     let w = watched before start opening first b in
-    waited_rests (c.in-Ok.ensures.done before start opening w.turns first w.ended w.awaited))
+    waited_rests (c.in-Ok.ensures.did before start opening w.turns first w.ended w.awaited))
 
 pub returns-in-Err-outlast-clause-waited : goal.returns-in-Err-outlast-clause-waited
 returns-in-Err-outlast-clause-waited g c =
-    let watched = rw c.in-Ok-false.field-0-test at c.in-Ok-false.ensures.done in
+    let watched = rw c.in-Ok-false.field-0-test at c.in-Ok-false.ensures.did in
     λ before start opening first b.
     let w = watched before start opening first b in
-    outlast_cut c.in-Err-outlast.ensures.end (c.in-Err-outlast.ensures.stopped before start opening w.turns first w.ended w.awaited)
+    outlast_cut c.in-Err-outlast.ensures.ends.end (c.in-Err-outlast.ensures.did before start opening w.turns first w.ended w.awaited)
 
 pub returns-in-Err-clause-waited : goal.returns-in-Err-clause-waited
-returns-in-Err-clause-waited g c = λ before start opening first b. watch_cut c.in-Err.ensures.end (c.in-Err.ensures.stopped before start opening first b)
+returns-in-Err-clause-waited g c = λ before start opening first b. watch_cut c.in-Err.ensures.ends.end (c.in-Err.ensures.did before start opening first b)
