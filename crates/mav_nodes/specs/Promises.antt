@@ -1,9 +1,10 @@
 -- What calls promise of a node: its state after them, and the news that they append.
-use Rattle.std.specs.Prelude.{ℕ, ◌≡◌, List, [], ◌++◌, map, true, false, Option, Some, None}
+use Rattle.std.specs.Prelude.{ℕ, ◌≡◌, List, [], ◌++◌, map, true, false, Option, Some, None, IfNone}
 use Rattle.mav_frame.specs.Packet.{Packet, SignatureBlock}
 use Rattle.mav_sign.specs.declared.admission.Admit.{Admit}
 use Rattle.mav_sign.specs.declared.admission.Admit.TheVariants.{Admitted}
 use Rattle.mav_sign.specs.History.{answer_to, stream_of}
+use Rattle.mav_sign.specs.Streams.{reader_of}
 use Rattle.mav_nodes.specs.declared.news.News.{News}
 use Rattle.mav_nodes.specs.declared.link.Tried.{Tried}
 use Rattle.mav_nodes.specs.declared.link.Tried.TheVariants.{Plan, Service, Other, Dropped}
@@ -12,6 +13,7 @@ use Rattle.mav_messages.specs.declared.messages.Message.{Message}
 use Rattle.mav_nodes.specs.Payloads.{plan_in, service_in}
 use Rattle.mav_nodes.specs.News.{shown, events_of}
 use Rattle.mav_nodes.specs.Links.{Link, LinkView, IsLink, Outcome}
+use Rattle.mav_nodes.specs.Stores.{Serves}
 use Rattle.plan_upload.specs.Station.{StationState}
 use Rattle.mav_nodes.specs.Services.{StationServices}
 use Rattle.mav_nodes.specs.Nodes.{DroneSide, StationSide, DroneView, IsDrone, StationView, IsStation, IsAccepted, station_obeys, order_refusal, order_plan, order_fault, command_refusal, params_refusal, file_refusal}
@@ -43,6 +45,13 @@ abbrev pub FailsKeeping : {I A B : Type 0} → NodeFault → (A → Type 0) → 
 FailsKeeping {I} {A} StampsSpent Is does kept failed = (a : A) → Is a → SpentKeeping kept (λ keeps. does keeps a)
 FailsKeeping Store Is does kept failed = failed
 FailsKeeping NoMemory Is does kept failed = Unit {0}
+
+-- what a call of a link that ends so does beside: if it doesn't fail, its store has what is to be stored; nothing is read; and what
+-- any call does to a store
+pub record LinkKeeps {Store : Type 0} (fault : Option NodeFault) (Held Holds : Type 0) (old new : LinkView) (faults : Store → ℕ) (is_infallible : Store → Type 0) (before now : Store) : Type 0 where
+  pub stored : IfNone fault (Held → Holds)
+  pub reader : reader_of new.endpoint ≡ reader_of old.endpoint
+  pub serves : Serves faults is_infallible before now
 
 -- the same of a link
 abbrev pub LinkDid : Outcome Link → LinkView → List News → List News → Type 0

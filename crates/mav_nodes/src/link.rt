@@ -1,5 +1,6 @@
 // A node's end of its links.
 ghost use Rattle.std.specs.Prelude.{◌≡◌, ◌≤◌, ◌<◌, ◌^◌, ◌++◌, ℕ, List, [], Option, map, Some, None, length, take, IfOk, IfErr, OnOk, IfSome};
+ghost use Rattle.std.specs.Result.{result_err};
 ghost use Rattle.mav_profile.specs.Messages.{extras_of};
 ghost use Rattle.mav_profile.specs.Profile.{profile_definitions};
 ghost use Rattle.field_layout.specs.Payload.{Represents};
@@ -19,7 +20,7 @@ ghost use Rattle.mav_nodes.specs.Links.{Link as LinkState, IsEnd, IsLink, new_li
 ghost use Rattle.mav_nodes.specs.News.{NodeEvent, shown};
 ghost use Rattle.mav_nodes.specs.Steps.{answers};
 ghost use Rattle.mav_nodes.specs.Cores.{said_of_plans, said_of_outcome, says};
-ghost use Rattle.mav_nodes.specs.Promises.{Did, LinkDid, IsAnswer, IsTried, Fails};
+ghost use Rattle.mav_nodes.specs.Promises.{Did, LinkDid, LinkKeeps, IsAnswer, IsTried, Fails};
 ghost use Rattle.mav_nodes.specs.Streams.{HasRead};
 
 use crate::news::tell_sent;
@@ -292,9 +293,7 @@ impl Link {
         requires { verifies ≡ verified self.old.endpoint.key frame.now frame.now.block }
         ensures answer { IfOk result (λ answer. (link : LinkState) → IsLink link self.old → answer ≡ answer_to link.key link.history frame.now) }
         ensures link { OnOk result ((link : LinkState) → IsLink link self.old → IsLink (tries frame.now link) self.new) }
-        ensures stored { OnOk result (Holds (K.contents keeper.old) (C.stored core.now) self.old.low → Holds (K.contents keeper.new) (C.stored core.now) self.new.low) }
-        ensures reader { reader_of self.new.endpoint ≡ reader_of self.old.endpoint }
-        ensures serves { Serves K.faults K.is_infallible keeper.old keeper.new }
+        ensures keeps { LinkKeeps (result_err result) (Holds (K.contents keeper.old) (C.stored core.now) self.old.low) (Holds (K.contents keeper.new) (C.stored core.now) self.new.low) self.old self.new K.faults K.is_infallible keeper.old keeper.new }
         ensures fault { IfErr result (λ fault. HasFailedAt fault K.faults K.is_infallible keeper.old keeper.new) }
     {
         let answer = self.endpoint.test_judged(frame, verifies);
@@ -316,9 +315,7 @@ impl Link {
         requires { verifies ≡ verified self.old.endpoint.key frame.now frame.now.block }
         ensures tried { IfOk result (λ tried. (link : LinkState) → IsLink link self.old → IsTried link frame.now tried) }
         ensures link { OnOk result ((link : LinkState) → IsLink link self.old → IsLink (tries frame.now link) self.new) }
-        ensures stored { OnOk result (Holds (K.contents keeper.old) (C.stored core.now) self.old.low → Holds (K.contents keeper.new) (C.stored core.now) self.new.low) }
-        ensures reader { reader_of self.new.endpoint ≡ reader_of self.old.endpoint }
-        ensures serves { Serves K.faults K.is_infallible keeper.old keeper.new }
+        ensures keeps { LinkKeeps (result_err result) (Holds (K.contents keeper.old) (C.stored core.now) self.old.low) (Holds (K.contents keeper.new) (C.stored core.now) self.new.low) self.old self.new K.faults K.is_infallible keeper.old keeper.new }
         ensures fault { IfErr result (λ fault. HasFailedAt fault K.faults K.is_infallible keeper.old keeper.new) }
     {
         let answer = self.admit(frame, verifies, core, keeper)?;
@@ -336,9 +333,7 @@ impl Link {
     ) -> Result<(), NodeFault>
         ensures sent { OnOk result ((link : LinkState) → IsLink link self.old
             → LinkDid (sends clock message.now link) self.new news.old.items news.new.items) }
-        ensures stored { OnOk result (HoldsNearly (K.contents keeper.old) (C.stored core.now) self.old.low → Holds (K.contents keeper.new) (C.stored core.now) self.new.low) }
-        ensures reader { reader_of self.new.endpoint ≡ reader_of self.old.endpoint }
-        ensures serves { Serves K.faults K.is_infallible keeper.old keeper.new }
+        ensures keeps { LinkKeeps (result_err result) (HoldsNearly (K.contents keeper.old) (C.stored core.now) self.old.low) (Holds (K.contents keeper.new) (C.stored core.now) self.new.low) self.old self.new K.faults K.is_infallible keeper.old keeper.new }
         ensures fault { IfErr result (λ fault. Fails fault (λ (link : LinkState). IsLink link self.old) (λ (link : LinkState). sends clock message.now link)
             (HasFailed K.faults K.is_infallible keeper.old keeper.new)) }
     {
@@ -377,9 +372,7 @@ impl Link {
     ) -> Result<(), NodeFault>
         ensures sent { OnOk result ((link : LinkState) → IsLink link self.old
             → LinkDid (answers clock answer link) self.new news.old.items news.new.items) }
-        ensures stored { OnOk result (StoredBefore answer (K.contents keeper.old) (C.stored core.now) self.old.low → Holds (K.contents keeper.new) (C.stored core.now) self.new.low) }
-        ensures reader { reader_of self.new.endpoint ≡ reader_of self.old.endpoint }
-        ensures serves { Serves K.faults K.is_infallible keeper.old keeper.new }
+        ensures keeps { LinkKeeps (result_err result) (StoredBefore answer (K.contents keeper.old) (C.stored core.now) self.old.low) (Holds (K.contents keeper.new) (C.stored core.now) self.new.low) self.old self.new K.faults K.is_infallible keeper.old keeper.new }
         ensures fault { IfErr result (λ fault. Fails fault (λ (link : LinkState). IsLink link self.old) (λ (link : LinkState). answers clock answer link)
             (HasFailed K.faults K.is_infallible keeper.old keeper.new)) }
     {
@@ -403,9 +396,7 @@ impl Link {
     ) -> Result<(), NodeFault>
         ensures sent { OnOk result ((link : LinkState) → IsLink link self.old
             → LinkDid (sends_all clock messages.now link) self.new news.old.items news.new.items) }
-        ensures stored { OnOk result (Holds (K.contents keeper.old) (C.stored core.now) self.old.low → Holds (K.contents keeper.new) (C.stored core.now) self.new.low) }
-        ensures reader { reader_of self.new.endpoint ≡ reader_of self.old.endpoint }
-        ensures serves { Serves K.faults K.is_infallible keeper.old keeper.new }
+        ensures keeps { LinkKeeps (result_err result) (Holds (K.contents keeper.old) (C.stored core.now) self.old.low) (Holds (K.contents keeper.new) (C.stored core.now) self.new.low) self.old self.new K.faults K.is_infallible keeper.old keeper.new }
         ensures fault { IfErr result (λ fault. Fails fault (λ (link : LinkState). IsLink link self.old) (λ (link : LinkState). sends_all clock messages.now link)
             (HasFailed K.faults K.is_infallible keeper.old keeper.new)) }
     {
@@ -429,9 +420,7 @@ impl Link {
         ensures said { OnOk result ((link : LinkState) (first last : List NodeEvent) → IsLink link self.old
             → said_of_plans step.plans ≡ map shown first → said_of_outcome step.outcome ≡ map shown last
             → LinkDid (says clock first step.answer last link) self.new news.old.items news.new.items) }
-        ensures stored { OnOk result (StoredBefore step.answer (K.contents keeper.old) (C.stored core.now) self.old.low → Holds (K.contents keeper.new) (C.stored core.now) self.new.low) }
-        ensures reader { reader_of self.new.endpoint ≡ reader_of self.old.endpoint }
-        ensures serves { Serves K.faults K.is_infallible keeper.old keeper.new }
+        ensures keeps { LinkKeeps (result_err result) (StoredBefore step.answer (K.contents keeper.old) (C.stored core.now) self.old.low) (Holds (K.contents keeper.new) (C.stored core.now) self.new.low) self.old self.new K.faults K.is_infallible keeper.old keeper.new }
         ensures fault { IfErr result (λ fault. (first last : List NodeEvent)
             → Fails fault (λ (link : LinkState). IsLink link self.old) (λ (link : LinkState). says clock first step.answer last link)
             (HasFailed K.faults K.is_infallible keeper.old keeper.new)) }

@@ -10,8 +10,7 @@ use Rattle.mav_nodes.specs.Promises.{IsTried, Fails}
 use Rattle.mav_nodes.proofs.Cores.{if_ok, if_err, hears_plan, hears_service, hears_other, hears_dropped}
 use Rattle.std.proofs.lemmas.Result.{err_from_is_err_and}
 use Rattle.mav_nodes.specs.declared.faults.NodeFault.{NodeFault}
-use Rattle.mav_nodes.proofs.Ends.{on_ok}
-use Rattle.mav_nodes.proofs.StoreCalls.{then_failed, serves_both}
+use Rattle.mav_nodes.proofs.StoreCalls.{then_failed, keeps_then, keeps_on}
 use Rattle.mav_nodes.proofs.Keeping.{kept_so, store_fails, frame_fails, served_fails}
 use Rattle.mav_nodes.proofs.node.hear.Goals as goal
 
@@ -32,7 +31,7 @@ returns-in-Plan-clause-fault g c =
     let message = c.in-Plan.message in
     if_err c.take.result (λ fault. frame_fails (λ (kept : Bool) (node : Side g.row.C.Denot g.row.V.Denot). steps_noted g.V.Services.noted c.args.clock node.link node.services (g.C.Core.taken kept node.core from message)) (λ (kept : Bool) (node : Side g.row.C.Denot g.row.V.Denot). hears (rules_of g.C.Core.taken g.V.Services.noted g.V.Services.served kept) c.args.clock frame node)
     (λ node. IsNode node c.args.link.now c.args.core.now c.args.services.now) (λ node. IsNode node c.hear.new.self c.args.core.now c.args.services.now) (HasFailed faults sure c.hear.new.keeper c.take.new.keeper) (HasFailed faults sure c.args.keeper.now c.take.new.keeper) fault
-    (then_failed faults sure c.args.keeper.now c.hear.new.keeper c.take.new.keeper c.hear.ensures.serves)
+    (then_failed faults sure c.args.keeper.now c.hear.new.keeper c.take.new.keeper c.hear.ensures.keeps.serves)
     (λ node is. (record node { link = tries frame node.link }, record { link = c.in_ok-from.ensures.link node.link is.link; core = is.core; served = is.served }, λ kept. hears_plan (rules_of g.C.Core.taken g.V.Services.noted g.V.Services.served kept) c.args.clock node frame from message (subst (IsTried node.link c.args.frame.now) c.in-Plan.is (c.in_ok-from.ensures.tried node.link is.link))))) c.take.ensures.fault
 
 pub returns-in-Other-clause-done : goal.returns-in-Other-clause-done
@@ -62,8 +61,8 @@ returns-in_ok-serve-in-Service-clause-done g c =
     let same = hears_service (rules_of g.C.Core.taken g.V.Services.noted g.V.Services.served true) c.args.clock node frame c.in-Service.from c.in-Service.message (subst (IsTried node.link c.args.frame.now) c.in-Service.is (c.in_ok-from.ensures.tried node.link is.link)) in
     subst (λ (o : Outcome (Side g.row.C.Denot g.row.V.Denot)). NodeDid o c.serve.new.link c.args.core.now c.serve.new.services before c.serve.new.news.items) (sym same) (c.in_ok-serve-in-Service.ensures.done next (record { link = c.in_ok-from.ensures.link node.link is.link; core = is.core; served = is.served }))
 
-pub returns-in_err-serve-in-Service-clause-fault : goal.returns-in_err-serve-in-Service-clause-fault
-returns-in_err-serve-in-Service-clause-fault g c =
+pub returns-in_err-serve-in-Service : goal.returns-in_err-serve-in-Service
+returns-in_err-serve-in-Service g c =
     let p = err_from_is_err_and c.from_residual-in_err-serve-in-Service.result c.from_residual-in_err-serve-in-Service.ensures.1 in
     let faults = g.K.Keeper.faults in
     let sure = g.K.Keeper.is_infallible in
@@ -73,11 +72,16 @@ returns-in_err-serve-in-Service-clause-fault g c =
     let then = c.hear.new.keeper in
     let now = c.serve.new.keeper in
     let one : Side g.row.C.Denot g.row.V.Denot → Outcome (Side g.row.C.Denot g.row.V.Denot) = λ node. serves c.args.clock node.link node.core (g.V.Services.served node.core node.services from message) in
-    rw p.1 (served_fails one (λ (kept : Bool) (node : Side g.row.C.Denot g.row.V.Denot). hears (rules_of g.C.Core.taken g.V.Services.noted g.V.Services.served kept) c.args.clock frame node)
-    (λ node. IsNode node c.args.link.now c.args.core.now c.args.services.now) (λ node. IsNode node c.hear.new.self c.args.core.now c.args.services.now) (HasFailed faults sure then now) (HasFailed faults sure c.args.keeper.now now) p.0
-    (then_failed faults sure c.args.keeper.now then now c.hear.ensures.serves)
-    (λ node is. (record node { link = tries frame node.link }, record { link = c.in_ok-from.ensures.link node.link is.link; core = is.core; served = is.served }, hears_service (rules_of g.C.Core.taken g.V.Services.noted g.V.Services.served true) c.args.clock node frame from message (subst (IsTried node.link c.args.frame.now) c.in-Service.is (c.in_ok-from.ensures.tried node.link is.link))))
-    (subst (λ (f : NodeFault). Fails f (λ (node : Side g.row.C.Denot g.row.V.Denot). IsNode node c.hear.new.self c.args.core.now c.args.services.now) one (HasFailed faults sure then now)) (sym p.2) c.in_err-serve-in-Service.ensures.fault))
+    rw p.1 (record {
+      done = tt;
+      unkept = tt;
+      keeps = rw p.2 (keeps_then c.in_ok-from.ensures.keeps (λ h. h) c.in_err-serve-in-Service.ensures.keeps);
+      fault = served_fails one (λ (kept : Bool) (node : Side g.row.C.Denot g.row.V.Denot). hears (rules_of g.C.Core.taken g.V.Services.noted g.V.Services.served kept) c.args.clock frame node)
+          (λ node. IsNode node c.args.link.now c.args.core.now c.args.services.now) (λ node. IsNode node c.hear.new.self c.args.core.now c.args.services.now) (HasFailed faults sure then now) (HasFailed faults sure c.args.keeper.now now) p.0
+          (then_failed faults sure c.args.keeper.now then now c.hear.ensures.keeps.serves)
+          (λ node is. (record node { link = tries frame node.link }, record { link = c.in_ok-from.ensures.link node.link is.link; core = is.core; served = is.served }, hears_service (rules_of g.C.Core.taken g.V.Services.noted g.V.Services.served true) c.args.clock node frame from message (subst (IsTried node.link c.args.frame.now) c.in-Service.is (c.in_ok-from.ensures.tried node.link is.link))))
+          (subst (λ (f : NodeFault). Fails f (λ (node : Side g.row.C.Denot g.row.V.Denot). IsNode node c.hear.new.self c.args.core.now c.args.services.now) one (HasFailed faults sure then now)) (sym p.2) c.in_err-serve-in-Service.ensures.fault);
+    })
 
 pub returns-in_err-from : goal.returns-in_err-from
 returns-in_err-from g c =
@@ -89,60 +93,22 @@ returns-in_err-from g c =
     rw (p.1, p.2) (record {
       done = tt;
       unkept = tt;
-      stored = tt;
-      reader = c.hear.ensures.reader;
-      serves = c.hear.ensures.serves;
+      keeps = c.in_err-from.ensures.keeps;
       fault = store_fails _ (λ (node : Side g.row.C.Denot g.row.V.Denot). IsNode node c.args.link.now c.args.core.now c.args.services.now) (λ (kept : Bool) (node : Side g.row.C.Denot g.row.V.Denot). hears (rules_of g.C.Core.taken g.V.Services.noted g.V.Services.served kept) c.args.clock c.args.frame.now node) (λ (kept : Bool). IsKept kept (HasFailed faults sure old now)) faults sure old now (HasFailed faults sure old now) (λ failed. failed) c.in_err-from.ensures.fault;
     })
 
 pub returns-in-Plan-clause-unkept : goal.returns-in-Plan-clause-unkept
 returns-in-Plan-clause-unkept g c =
-    if_ok c.take.result (λ kept is. kept_so kept (then_failed g.K.Keeper.faults g.K.Keeper.is_infallible c.args.keeper.now c.hear.new.keeper c.take.new.keeper c.hear.ensures.serves) is) c.take.ensures.unkept
+    if_ok c.take.result (λ kept is. kept_so kept (then_failed g.K.Keeper.faults g.K.Keeper.is_infallible c.args.keeper.now c.hear.new.keeper c.take.new.keeper c.hear.ensures.keeps.serves) is) c.take.ensures.unkept
 
-pub returns-in-Plan-clause-stored : goal.returns-in-Plan-clause-stored
-returns-in-Plan-clause-stored g c = on_ok c.take.result (λ held h. held (c.in_ok-from.ensures.stored h)) c.take.ensures.stored
-
-pub returns-in-Plan-clause-reader : goal.returns-in-Plan-clause-reader
-returns-in-Plan-clause-reader g c = c.take.ensures.reader ∙ c.hear.ensures.reader
-
-pub returns-in-Plan-clause-serves : goal.returns-in-Plan-clause-serves
-returns-in-Plan-clause-serves g c =
-    serves_both g.K.Keeper.faults g.K.Keeper.is_infallible c.args.keeper.now c.hear.new.keeper c.take.new.keeper c.hear.ensures.serves c.take.ensures.serves
+pub returns-in-Plan-clause-keeps : goal.returns-in-Plan-clause-keeps
+returns-in-Plan-clause-keeps g c = keeps_then c.in_ok-from.ensures.keeps (λ h. h) c.take.ensures.keeps
 
 pub returns-in_ok-serve-in-Service-clause-unkept : goal.returns-in_ok-serve-in-Service-clause-unkept
 returns-in_ok-serve-in-Service-clause-unkept g c = inl refl
 
-pub returns-in_ok-serve-in-Service-clause-stored : goal.returns-in_ok-serve-in-Service-clause-stored
-returns-in_ok-serve-in-Service-clause-stored g c = λ held. c.in_ok-serve-in-Service.ensures.stored (c.in_ok-from.ensures.stored held)
-
-pub returns-in_ok-serve-in-Service-clause-reader : goal.returns-in_ok-serve-in-Service-clause-reader
-returns-in_ok-serve-in-Service-clause-reader g c = c.serve.ensures.reader ∙ c.hear.ensures.reader
-
-pub returns-in_ok-serve-in-Service-clause-serves : goal.returns-in_ok-serve-in-Service-clause-serves
-returns-in_ok-serve-in-Service-clause-serves g c =
-    serves_both g.K.Keeper.faults g.K.Keeper.is_infallible c.args.keeper.now c.hear.new.keeper c.serve.new.keeper c.hear.ensures.serves c.serve.ensures.serves
-
-pub returns-in_err-serve-in-Service-clause-done : goal.returns-in_err-serve-in-Service-clause-done
-returns-in_err-serve-in-Service-clause-done g c =
-    let p = err_from_is_err_and c.from_residual-in_err-serve-in-Service.result c.from_residual-in_err-serve-in-Service.ensures.1 in
-    rw p.1 tt
-
-pub returns-in_err-serve-in-Service-clause-unkept : goal.returns-in_err-serve-in-Service-clause-unkept
-returns-in_err-serve-in-Service-clause-unkept g c =
-    let p = err_from_is_err_and c.from_residual-in_err-serve-in-Service.result c.from_residual-in_err-serve-in-Service.ensures.1 in
-    rw p.1 tt
-
-pub returns-in_err-serve-in-Service-clause-stored : goal.returns-in_err-serve-in-Service-clause-stored
-returns-in_err-serve-in-Service-clause-stored g c =
-    let p = err_from_is_err_and c.from_residual-in_err-serve-in-Service.result c.from_residual-in_err-serve-in-Service.ensures.1 in
-    rw p.1 tt
-
-pub returns-in_err-serve-in-Service-clause-reader : goal.returns-in_err-serve-in-Service-clause-reader
-returns-in_err-serve-in-Service-clause-reader g c = c.serve.ensures.reader ∙ c.hear.ensures.reader
-
-pub returns-in_err-serve-in-Service-clause-serves : goal.returns-in_err-serve-in-Service-clause-serves
-returns-in_err-serve-in-Service-clause-serves g c =
-    serves_both g.K.Keeper.faults g.K.Keeper.is_infallible c.args.keeper.now c.hear.new.keeper c.serve.new.keeper c.hear.ensures.serves c.serve.ensures.serves
+pub returns-in_ok-serve-in-Service-clause-keeps : goal.returns-in_ok-serve-in-Service-clause-keeps
+returns-in_ok-serve-in-Service-clause-keeps g c = keeps_then c.in_ok-from.ensures.keeps (λ h. h) c.in_ok-serve-in-Service.ensures.keeps
 
 pub returns-in_err-tell_dropped-in-Dropped : goal.returns-in_err-tell_dropped-in-Dropped
 returns-in_err-tell_dropped-in-Dropped g c =
@@ -150,20 +116,18 @@ returns-in_err-tell_dropped-in-Dropped g c =
     rw (p.1, p.2, c.in_err-tell_dropped-in-Dropped.ensures.fault) (record {
       done = tt;
       unkept = tt;
-      stored = tt;
-      reader = c.hear.ensures.reader;
-      serves = c.hear.ensures.serves;
+      keeps = keeps_on c.in_ok-from.ensures.keeps;
       fault = tt;
     })
 
 pub returns-in-Other-clause-unkept : goal.returns-in-Other-clause-unkept
 returns-in-Other-clause-unkept g c = inl refl
 
-pub returns-in-Other-clause-stored : goal.returns-in-Other-clause-stored
-returns-in-Other-clause-stored g c = c.in_ok-from.ensures.stored
+pub returns-in-Other-clause-keeps : goal.returns-in-Other-clause-keeps
+returns-in-Other-clause-keeps g c = c.in_ok-from.ensures.keeps
 
 pub returns-in_ok-tell_dropped-in-Dropped-clause-unkept : goal.returns-in_ok-tell_dropped-in-Dropped-clause-unkept
 returns-in_ok-tell_dropped-in-Dropped-clause-unkept g c = inl refl
 
-pub returns-in_ok-tell_dropped-in-Dropped-clause-stored : goal.returns-in_ok-tell_dropped-in-Dropped-clause-stored
-returns-in_ok-tell_dropped-in-Dropped-clause-stored g c = c.in_ok-from.ensures.stored
+pub returns-in_ok-tell_dropped-in-Dropped-clause-keeps : goal.returns-in_ok-tell_dropped-in-Dropped-clause-keeps
+returns-in_ok-tell_dropped-in-Dropped-clause-keeps g c = c.in_ok-from.ensures.keeps

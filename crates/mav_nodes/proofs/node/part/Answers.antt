@@ -39,13 +39,13 @@ reading-preserved g c =
     let few : size ≤ length piece - place = omega (arith, c.read-size.ensures.count, part_length piece place) in
     record {
       within = omega (arith, few, r.invariant.within);
-      serves = serves_both faults sure old then now r.invariant.serves c.hear.ensures.serves;
-      stored = λ held. c.in_ok-hear.ensures.stored (subst (λ low. Holds (g.K.Keeper.contents then) (g.C.Core.stored r.core) low) (sym c.read-size.ensures.low) (r.invariant.stored held));
+      serves = serves_both faults sure old then now r.invariant.serves c.hear.ensures.keeps.serves;
+      stored = λ held. c.in_ok-hear.ensures.keeps.stored (subst (λ low. Holds (g.K.Keeper.contents then) (g.C.Core.stored r.core) low) (sym c.read-size.ensures.low) (r.invariant.stored held));
       heard = λ node taken given is read.
           let so = r.invariant.heard node taken given is read in
           let to = read_at taken piece place size (given ++ so.events) r.link mid c.read-size.result.1 _ few c.in-Some.is (c.read-size.ensures.read (taken ++ take place piece) (given ++ so.events) so.read) in
-          part_on (rules_of g.C.Core.taken g.V.Services.noted g.V.Services.served) c.args.clock c.args.link.now.endpoint.extras node (taken ++ take place piece) (taken ++ take (place + size) piece) given (HasFailed faults sure old then) r.link mid r.core r.services r.news.items so c.hear.new.link c.hear.new.core c.hear.new.services (HasFailed faults sure old now) c.hear.new.news.items frame kept to c.hear.ensures.reader
-          (λ failed. failed_then faults sure old then now failed c.hear.ensures.serves)
+          part_on (rules_of g.C.Core.taken g.V.Services.noted g.V.Services.served) c.args.clock c.args.link.now.endpoint.extras node (taken ++ take place piece) (taken ++ take (place + size) piece) given (HasFailed faults sure old then) r.link mid r.core r.services r.news.items so c.hear.new.link c.hear.new.core c.hear.new.services (HasFailed faults sure old now) c.hear.new.news.items frame kept to c.hear.ensures.keeps.reader
+          (λ failed. failed_then faults sure old then now failed c.hear.ensures.keeps.serves)
           (kept_so kept (then_failed faults sure old then now r.invariant.serves) c.in_ok-hear.ensures.unkept)
           (subst (λ (p : Packet). NodeDid (hears (rules_of g.C.Core.taken g.V.Services.noted g.V.Services.served kept) c.args.clock p so.heard.node) c.hear.new.link c.hear.new.core c.hear.new.services r.news.items c.hear.new.news.items) (c.raw-raw.ensures ∙ c.of-bytes.ensures) (c.in_ok-hear.ensures.done so.heard.node (node_read so.heard.node r.link mid r.core r.services c.read-size.ensures.link so.heard.is)));
     }
@@ -98,7 +98,7 @@ returns-in_err-hear-clause-fault g c =
     let to = read_at taken piece place size (given ++ so.events) r.link mid c.read-size.result.1 _ few c.in-Some.is (c.read-size.ensures.read (taken ++ take place piece) (given ++ so.events) so.read) in
     let rest = drop (place + size) piece in
     let more = subst (λ (bytes : List ℕ). GrowsBy c.args.link.now.endpoint.extras bytes given events) (cut_at taken piece (place + size)) grows in
-    (so.heard.node, node_read so.heard.node r.link mid r.core r.services c.read-size.ensures.link so.heard.is, part_to_none rules c.args.clock c.args.link.now.endpoint.extras node (taken ++ take place piece) (taken ++ take (place + size) piece) given (HasFailed faults sure old then) r.link mid r.core r.services r.news.items so F G rest frame events to more (λ failed. failed_then faults sure old then now failed c.hear.ensures.serves) f))
+    (so.heard.node, node_read so.heard.node r.link mid r.core r.services c.read-size.ensures.link so.heard.is, part_to_none rules c.args.clock c.args.link.now.endpoint.extras node (taken ++ take place piece) (taken ++ take (place + size) piece) given (HasFailed faults sure old then) r.link mid r.core r.services r.news.items so F G rest frame events to more (λ failed. failed_then faults sure old then now failed c.hear.ensures.keeps.serves) f))
     (subst (λ (packet : Packet). FailsKeeping p.0 (λ (node : Side g.row.C.Denot g.row.V.Denot). IsNode node mid r.core r.services) (λ (kept : Bool) (node : Side g.row.C.Denot g.row.V.Denot). hears (rules_of g.C.Core.taken g.V.Services.noted g.V.Services.served kept) c.args.clock packet node) (λ kept. IsKept kept F) F) (c.raw-raw.ensures ∙ c.of-bytes.ensures)
     (subst (λ (fault : NodeFault). FailsKeeping fault (λ (node : Side g.row.C.Denot g.row.V.Denot). IsNode node mid r.core r.services) (λ (kept : Bool) (node : Side g.row.C.Denot g.row.V.Denot). hears (rules_of g.C.Core.taken g.V.Services.noted g.V.Services.served kept) c.args.clock c.raw-raw.result node) (λ kept. IsKept kept F) F) (sym p.2) c.in_err-hear.ensures.fault)))
 
@@ -106,4 +106,4 @@ pub reading-smaller : goal.reading-smaller
 reading-smaller g c =
     let r = c.reading in
     let piece = c.args.piece.now in
-    fewer_left piece r.place c.read-size.result.0 r.link c.read-size.new.self c.hear.new.link c.read-size.result.1 c.in-Some.frame (omega (arith, c.read-size.ensures.count, part_length piece r.place)) r.invariant.within c.in-Some.is c.read-size.ensures.read c.hear.ensures.reader
+    fewer_left piece r.place c.read-size.result.0 r.link c.read-size.new.self c.hear.new.link c.read-size.result.1 c.in-Some.frame (omega (arith, c.read-size.ensures.count, part_length piece r.place)) r.invariant.within c.in-Some.is c.read-size.ensures.read c.hear.ensures.keeps.reader

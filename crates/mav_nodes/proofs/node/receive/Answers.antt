@@ -5,7 +5,7 @@ use Rattle.mav_nodes.specs.Stores.{IsKept, HasFailed}
 use Rattle.mav_nodes.specs.Steps.{Side, hears, receives_keeping}
 use Rattle.mav_nodes.specs.Cores.{IsNode, rules_of}
 use Rattle.mav_nodes.specs.Promises.{FailsKeeping}
-use Rattle.mav_nodes.proofs.StoreCalls.{serves_same, serves_both, failed_then, then_failed}
+use Rattle.mav_nodes.proofs.StoreCalls.{serves_same, failed_then, then_failed, keeps_then}
 use Rattle.mav_nodes.proofs.Keeping.{kept_so, receive_fails}
 use Rattle.mav_nodes.proofs.Leads.{leads_at_first, leads_past, leads_on, leads_to_none, leads_whole, front_here, part_bytes, part_length}
 use Rattle.mav_nodes.proofs.node.receive.Goals.{in-Some+in_ok-hear-in-Some, in-None}
@@ -26,7 +26,7 @@ returns-in_err-hear-in-Some-clause-fault g c =
     let small : (i : ℕ) → _ = λ i. (c.type_inv.datagram i).fits in
     let F = HasFailed faults sure then now in
     let G = HasFailed faults sure old now in
-    let f = then_failed faults sure old then now c.loop-place.invariant.serves in
+    let f = then_failed faults sure old then now c.loop-place.invariant.keeps.serves in
     let total : Side g.row.C.Denot g.row.V.Denot → List Bool → _ = λ node keeps. receives_keeping (rules_of g.C.Core.taken g.V.Services.noted g.V.Services.served) c.args.clock keeps bytes node in
     rw p.1 (receive_fails (λ (kept : Bool) (node : Side g.row.C.Denot g.row.V.Denot). hears (rules_of g.C.Core.taken g.V.Services.noted g.V.Services.served kept) c.args.clock frame node) (λ (keeps : List Bool) (node : Side g.row.C.Denot g.row.V.Denot). receives_keeping (rules_of g.C.Core.taken g.V.Services.noted g.V.Services.served) c.args.clock keeps bytes node)
     (λ node. IsNode node c.args.link.now c.args.core.now c.args.services.now) (λ node. IsNode node c.loop-place.link c.loop-place.core c.loop-place.services) F G p.0 f
@@ -34,7 +34,7 @@ returns-in_err-hear-in-Some-clause-fault g c =
     let l = c.loop-place.invariant.leads node is in
     let same = c.extras.ensures ∙ l.is.link.end.extras in
     let at = front_here c.extras.result.now l.node.link.extras bytes place size c.front_at-front.result.0 (Some frame) same c.in-Some.is c.front_at-front.ensures.front in
-    (l.node, l.is, leads_to_none (rules_of g.C.Core.taken g.V.Services.noted g.V.Services.served) c.args.clock (total node) (drop place bytes) (drop (place + size) bytes) (λ n. IsNode n c.loop-place.link c.loop-place.core c.loop-place.services) (HasFailed faults sure old then) F G c.loop-place.news.items frame l (part_bytes bytes place small) (part_bytes bytes (place + size) small) at (λ failed. failed_then faults sure old then now failed c.hear.ensures.serves) f))
+    (l.node, l.is, leads_to_none (rules_of g.C.Core.taken g.V.Services.noted g.V.Services.served) c.args.clock (total node) (drop place bytes) (drop (place + size) bytes) (λ n. IsNode n c.loop-place.link c.loop-place.core c.loop-place.services) (HasFailed faults sure old then) F G c.loop-place.news.items frame l (part_bytes bytes place small) (part_bytes bytes (place + size) small) at (λ failed. failed_then faults sure old then now failed c.hear.ensures.keeps.serves) f))
     (subst (λ (fault : NodeFault). FailsKeeping fault (λ (node : Side g.row.C.Denot g.row.V.Denot). IsNode node c.loop-place.link c.loop-place.core c.loop-place.services) (λ (kept : Bool) (node : Side g.row.C.Denot g.row.V.Denot). hears (rules_of g.C.Core.taken g.V.Services.noted g.V.Services.served kept) c.args.clock frame node) (λ kept. IsKept kept F) F) (sym p.2) c.in_err-hear-in-Some.ensures.fault))
 
 pub loop-place-preserved : goal.loop-place-preserved
@@ -53,24 +53,20 @@ loop-place-preserved g c =
           let now = w.hear.new.keeper in
           rw (w.link-is, w.core-is, w.services-is, w.keeper-is, w.news-is) (record {
             within = within;
-            serves = serves_both faults sure old then now c.loop-place.invariant.serves w.hear.ensures.serves;
-            stored = λ held. w.in_ok-hear-in-Some.ensures.stored (c.loop-place.invariant.stored held);
-            reader = w.hear.ensures.reader ∙ c.loop-place.invariant.reader;
+            keeps = keeps_then c.loop-place.invariant.keeps (λ h. h) w.in_ok-hear-in-Some.ensures.keeps;
             leads = λ node is.
                 let l = c.loop-place.invariant.leads node is in
                 let same = c.extras.ensures ∙ l.is.link.end.extras in
                 let at = front_here c.extras.result.now l.node.link.extras bytes place size c.front_at-front.result.0 (Some w.in-Some.frame) same w.in-Some.is c.front_at-front.ensures.front in
                 leads_on (rules_of g.C.Core.taken g.V.Services.noted g.V.Services.served) c.args.clock (λ (keeps : List Bool). receives_keeping (rules_of g.C.Core.taken g.V.Services.noted g.V.Services.served) c.args.clock keeps bytes node) (drop place bytes) (drop (place + size) bytes) (λ n. IsNode n c.loop-place.link c.loop-place.core c.loop-place.services) (λ n. IsNode n w.hear.new.link w.hear.new.core w.hear.new.services) (HasFailed faults sure old then) (HasFailed faults sure old now) c.loop-place.news.items w.hear.new.news.items w.in-Some.frame w.in_ok-hear-in-Some.field-0 l (part_bytes bytes place small) (part_bytes bytes (place + size) small) at
-                (λ failed. failed_then faults sure old then now failed w.hear.ensures.serves)
-                (kept_so w.in_ok-hear-in-Some.field-0 (then_failed faults sure old then now c.loop-place.invariant.serves) w.in_ok-hear-in-Some.ensures.unkept)
+                (λ failed. failed_then faults sure old then now failed w.hear.ensures.keeps.serves)
+                (kept_so w.in_ok-hear-in-Some.field-0 (then_failed faults sure old then now c.loop-place.invariant.keeps.serves) w.in_ok-hear-in-Some.ensures.unkept)
                 (w.in_ok-hear-in-Some.ensures.done l.node l.is);
           })
       | in-None w ↦
           rw (w.link-is, w.core-is, w.services-is, w.keeper-is, w.news-is) (record {
             within = within;
-            serves = c.loop-place.invariant.serves;
-            stored = c.loop-place.invariant.stored;
-            reader = c.loop-place.invariant.reader;
+            keeps = c.loop-place.invariant.keeps;
             leads = λ node is.
                 let l = c.loop-place.invariant.leads node is in
                 let same = c.extras.ensures ∙ l.is.link.end.extras in
@@ -82,9 +78,7 @@ loop-place-preserved g c =
 pub loop-place-init : goal.loop-place-init
 loop-place-init g c = record {
   within = omega arith;
-  serves = serves_same g.K.Keeper.faults g.K.Keeper.is_infallible c.args.keeper.now;
-  stored = λ held. held;
-  reader = refl;
+  keeps = record { stored = λ held. held; reader = refl; serves = serves_same g.K.Keeper.faults g.K.Keeper.is_infallible c.args.keeper.now };
   leads = λ node is. leads_at_first (rules_of g.C.Core.taken g.V.Services.noted g.V.Services.served) c.args.clock node c.args.datagram.now (λ n. IsNode n c.args.link.now c.args.core.now c.args.services.now) (HasFailed g.K.Keeper.faults g.K.Keeper.is_infallible c.args.keeper.now c.args.keeper.now) c.new-news.result.items c.new-news.ensures.items is;
 }
 

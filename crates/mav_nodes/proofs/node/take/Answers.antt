@@ -31,9 +31,7 @@ returns-in_err-kept g c =
     rw (p.1, p.2) (record {
       done = tt;
       unkept = tt;
-      stored = tt;
-      reader = refl;
-      serves = c.save_step.ensures.serves;
+      keeps = record { stored = tt; reader = refl; serves = c.save_step.ensures.serves };
       fault = store_fails _ (λ (node : Side g.row.C.Denot g.row.V.Denot). IsNode node c.args.link.now c.args.core.now c.args.services.now) (λ (kept : Bool) (node : Side g.row.C.Denot g.row.V.Denot). steps_noted g.V.Services.noted c.args.clock node.link node.services (g.C.Core.taken kept node.core c.args.from c.args.message.now)) (λ (kept : Bool). IsKept kept (HasFailed faults sure old now)) faults sure old now (HasFailed faults sure old now) (λ failed. failed) c.in_err-kept.ensures.fault;
     })
 
@@ -48,7 +46,7 @@ returns-in_err-say-clause-fault g c =
     let then = c.save_step.new.keeper in
     let now = c.say.new.keeper in
     rw p.1 (step_fails c.args.clock (λ kept core. g.C.Core.taken kept core c.args.from c.args.message.now) g.V.Services.noted kept c.args.link.now c.args.core.now c.take-step.new.self c.args.services.now step (HasFailed faults sure then now) (HasFailed faults sure old now) p.0 c.take-step.ensures
-    (kept_so kept (λ failed. failed_then faults sure old then now failed c.say.ensures.serves) c.in_ok-kept.ensures.unkept)
+    (kept_so kept (λ failed. failed_then faults sure old then now failed c.say.ensures.keeps.serves) c.in_ok-kept.ensures.unkept)
     (then_failed faults sure old then now c.save_step.ensures.serves)
     (λ first last. subst (λ (f : NodeFault). Fails f (λ (link : Link). IsLink link c.args.link.now) (λ (link : Link). says c.args.clock first step.answer last link) (HasFailed faults sure then now)) (sym p.2) (c.in_err-say.ensures.fault first last)))
 
@@ -64,16 +62,21 @@ returns-clause-done g c =
 
 pub returns-clause-unkept : goal.returns-clause-unkept
 returns-clause-unkept g c =
-    kept_so c.in_ok-kept.kept (λ failed. failed_then g.K.Keeper.faults g.K.Keeper.is_infallible c.args.keeper.now c.save_step.new.keeper c.say.new.keeper failed c.say.ensures.serves) c.in_ok-kept.ensures.unkept
+    kept_so c.in_ok-kept.kept (λ failed. failed_then g.K.Keeper.faults g.K.Keeper.is_infallible c.args.keeper.now c.save_step.new.keeper c.say.new.keeper failed c.say.ensures.keeps.serves) c.in_ok-kept.ensures.unkept
 
-pub returns-clause-stored : goal.returns-clause-stored
-returns-clause-stored g c = λ held.
+pub returns-clause-keeps : goal.returns-clause-keeps
+returns-clause-keeps g c =
+    let faults = g.K.Keeper.faults in
+    let sure = g.K.Keeper.is_infallible in
+    let contents = g.K.Keeper.contents c.save_step.new.keeper in
     let step = c.take-step.result in
     let did = g.C.Core.taken c.in_ok-kept.kept c.args.core.now c.args.from c.args.message.now in
-    let before = subst (Holds (g.K.Keeper.contents c.args.keeper.now) (g.C.Core.stored c.args.core.now)) (sym c.low.ensures.low) held in
-    c.in_ok-say.ensures.stored (subst (λ (low : Option ℕ). StoredBefore step.answer (g.K.Keeper.contents c.save_step.new.keeper) (g.C.Core.stored c.take-step.new.self) low) c.low.ensures.low
-    (stored_before (g.K.Keeper.contents c.save_step.new.keeper) g.C.Core.stored c.take-step.new.self did.core step.answer did.answer c.low.result c.take-step.ensures.core c.take-step.ensures.answer (λ none. c.in_ok-kept.ensures.silent none before) (c.in_ok-kept.ensures.nearly before)))
-
-pub returns-clause-serves : goal.returns-clause-serves
-returns-clause-serves g c =
-    serves_both g.K.Keeper.faults g.K.Keeper.is_infallible c.args.keeper.now c.save_step.new.keeper c.say.new.keeper c.save_step.ensures.serves c.say.ensures.serves
+    let said = c.in_ok-say.ensures.keeps in
+    record {
+      stored = λ held.
+          let before = subst (Holds (g.K.Keeper.contents c.args.keeper.now) (g.C.Core.stored c.args.core.now)) (sym c.low.ensures.low) held in
+          said.stored (subst (λ (low : Option ℕ). StoredBefore step.answer contents (g.C.Core.stored c.take-step.new.self) low) c.low.ensures.low
+          (stored_before contents g.C.Core.stored c.take-step.new.self did.core step.answer did.answer c.low.result c.take-step.ensures.core c.take-step.ensures.answer (λ none. c.in_ok-kept.ensures.silent none before) (c.in_ok-kept.ensures.nearly before)));
+      reader = said.reader;
+      serves = serves_both faults sure c.args.keeper.now c.save_step.new.keeper c.say.new.keeper c.save_step.ensures.serves said.serves;
+    }

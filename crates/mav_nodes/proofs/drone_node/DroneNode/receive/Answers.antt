@@ -9,6 +9,7 @@ use Rattle.mav_nodes.specs.Cores.{IsNode}
 use Rattle.mav_nodes.proofs.Cores.{if_ok, if_err}
 use Rattle.mav_nodes.proofs.Keeping.{keeps_all}
 use Rattle.mav_nodes.proofs.Ends.{drone_node, drone_did, drone_did_keeping, sure_did, sure_fails, fails_keeping_so, on_ok}
+use Rattle.mav_nodes.proofs.StoreCalls.{kept_ok}
 use Rattle.mav_nodes.proofs.drone_node.DroneNode.receive.Goals as goal
 
 pub returns-clause-done : goal.returns-clause-done
@@ -20,14 +21,14 @@ returns-clause-done g c =
 
 pub returns-clause-stored : goal.returns-clause-stored
 returns-clause-stored g c =
-    on_ok c.receive.result (λ keeps held. keeps (subst (StoreHolds (g.K.Keeper.contents c.args.keeper.now)) (sym c.self.view_is) held)) c.receive.ensures.stored
+    on_ok c.receive.result (λ keeps held. keeps (subst (StoreHolds (g.K.Keeper.contents c.args.keeper.now)) (sym c.self.view_is) held)) (kept_ok c.receive.result c.receive.ensures.keeps)
 
 pub returns-clause-reader : goal.returns-clause-reader
 returns-clause-reader g c =
-    c.receive.ensures.reader ∙ ap (λ (v : DroneView). reader_of v.link.endpoint) c.self.view_is
+    c.receive.ensures.keeps.reader ∙ ap (λ (v : DroneView). reader_of v.link.endpoint) c.self.view_is
 
 pub returns-clause-serves : goal.returns-clause-serves
-returns-clause-serves g c = c.receive.ensures.serves
+returns-clause-serves g c = c.receive.ensures.keeps.serves
 
 pub returns-clause-fault : goal.returns-clause-fault
 returns-clause-fault g c =

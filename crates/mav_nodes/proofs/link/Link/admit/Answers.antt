@@ -43,7 +43,12 @@ tried_so link frame old raised inside after low is view view_low bound same hist
 pub returns-in_err-raise_for : goal.returns-in_err-raise_for
 returns-in_err-raise_for g c =
     let p = err_from_is_err_and c.from_residual.result c.from_residual.ensures.1 in
-    rw (p.1, p.2) (record { answer = tt; link = tt; stored = tt; reader = ap reader_of c.raise_for.ensures.endpoint; serves = c.raise_for.ensures.serves; fault = c.in_err-raise_for.ensures.fault })
+    rw (p.1, p.2) (record {
+      answer = tt;
+      link = tt;
+      keeps = record { stored = tt; reader = ap reader_of c.raise_for.ensures.endpoint; serves = c.raise_for.ensures.serves };
+      fault = c.in_err-raise_for.ensures.fault;
+    })
 
 pub keep_verdict-requires : goal.keep_verdict-requires
 keep_verdict-requires g c =
@@ -63,8 +68,10 @@ returns g c =
     record {
       answer = answer;
       link = λ link is. tried_so link frame old raised c.self-2.inside.endpoint c.keep_verdict.new.self c.self-2.inside.low is view low (c.in_ok-raise_for.ensures.low ∙ ap (λ (a : Admit). record old { low = raised_if old.low a frame.block }) (answer link is)) c.keep_verdict.ensures.same c.keep_verdict.ensures.history;
-      stored = λ held. subst (Holds (g.K.Keeper.contents c.raise_for.new.keeper) (g.C.Core.stored c.args.core.now)) (sym low) (c.in_ok-raise_for.ensures.stored held);
-      reader = ap reader_of c.keep_verdict.ensures.same ∙ (ap reader_of view ∙ ap reader_of c.raise_for.ensures.endpoint);
-      serves = c.raise_for.ensures.serves;
+      keeps = record {
+        stored = λ held. subst (Holds (g.K.Keeper.contents c.raise_for.new.keeper) (g.C.Core.stored c.args.core.now)) (sym low) (c.in_ok-raise_for.ensures.stored held);
+        reader = ap reader_of c.keep_verdict.ensures.same ∙ (ap reader_of view ∙ ap reader_of c.raise_for.ensures.endpoint);
+        serves = c.raise_for.ensures.serves;
+      };
       fault = tt;
     }

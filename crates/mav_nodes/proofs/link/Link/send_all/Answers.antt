@@ -1,4 +1,4 @@
-use Rattle.std.proofs.Common.{◌+◌, drop, get_or, refl, sym, ◌∙◌, subst, arith}
+use Rattle.std.proofs.Common.{◌+◌, drop, get_or, refl, sym, subst, arith}
 use Rattle.std.proofs.lemmas.List.{drop_more, drop_all}
 use Rattle.std.proofs.lemmas.Result.{err_from_is_err_and}
 use Rattle.mav_messages.specs.declared.messages.Message.{Message}
@@ -7,7 +7,7 @@ use Rattle.mav_nodes.specs.declared.faults.NodeFault.{NodeFault}
 use Rattle.mav_nodes.specs.Links.{Link as LinkState, IsLink, sends, sends_all}
 use Rattle.mav_nodes.specs.Stores.{HasFailed}
 use Rattle.mav_nodes.specs.Promises.{Fails}
-use Rattle.mav_nodes.proofs.StoreCalls.{serves_same, serves_both, then_failed}
+use Rattle.mav_nodes.proofs.StoreCalls.{serves_same, then_failed, keeps_then}
 use Rattle.mav_nodes.proofs.SendsAll.{SentSoFar, held_nearly, at_first, one_more, all_sent, none_sent}
 use Rattle.mav_nodes.proofs.link.Link.send_all.Goals as goal
 
@@ -18,9 +18,7 @@ no_message = Heartbeat (record { ty = 0; autopilot = 0; base_mode = 0; custom_mo
 pub loop-index-init : goal.loop-index-init
 loop-index-init g c = record {
   within = omega arith;
-  serves = serves_same g.K.Keeper.faults g.K.Keeper.is_infallible c.args.keeper.now;
-  stored = λ held. held;
-  reader = refl;
+  keeps = record { stored = λ held. held; reader = refl; serves = serves_same g.K.Keeper.faults g.K.Keeper.is_infallible c.args.keeper.now };
   sent = λ link is. at_first c.args.clock c.args.messages.now link c.args.self.now c.args.news.now.items is;
 }
 
@@ -32,35 +30,20 @@ loop-index-preserved g c =
     let index = c.loop-index.index in
     record {
       within = omega (arith, c.loop-index-test.true);
-      serves = serves_both faults sure c.args.keeper.now c.loop-index.keeper c.send.new.keeper c.loop-index.invariant.serves c.send.ensures.serves;
-      stored = λ held. c.in_ok-send.ensures.stored (held_nearly (g.K.Keeper.contents c.loop-index.keeper) (g.C.Core.stored c.args.core.now) c.loop-index.self.low (c.loop-index.invariant.stored held));
-      reader = c.send.ensures.reader ∙ c.loop-index.invariant.reader;
+      keeps = keeps_then c.loop-index.invariant.keeps (held_nearly (g.K.Keeper.contents c.loop-index.keeper) (g.C.Core.stored c.args.core.now) c.loop-index.self.low) c.in_ok-send.ensures.keeps;
       sent = λ link is. one_more c.args.clock (sends_all c.args.clock messages link) _ (drop (index + 1) messages) c.loop-index.self c.send.new.self c.args.news.now.items c.loop-index.news.items c.send.new.news.items
           (subst (λ left. SentSoFar c.args.clock (sends_all c.args.clock messages link) left c.loop-index.self c.args.news.now.items c.loop-index.news.items) (drop_more messages index no_message c.loop-index-test.true) (c.loop-index.invariant.sent link is)) c.in_ok-send.ensures.sent;
     }
-
-pub returns-in_err-send-clause-serves : goal.returns-in_err-send-clause-serves
-returns-in_err-send-clause-serves g c =
-    serves_both g.K.Keeper.faults g.K.Keeper.is_infallible c.args.keeper.now c.loop-index.keeper c.send.new.keeper c.loop-index.invariant.serves c.send.ensures.serves
 
 pub returns-clause-sent : goal.returns-clause-sent
 returns-clause-sent g c =
     λ link is. all_sent c.args.clock (sends_all c.args.clock c.args.messages.now link) (drop c.loop-index.index c.args.messages.now) c.loop-index.self c.args.news.now.items c.loop-index.news.items (drop_all c.loop-index.index c.args.messages.now (omega (arith, c.loop-index-test.false))) (c.loop-index.invariant.sent link is)
 
-pub returns-clause-stored : goal.returns-clause-stored
-returns-clause-stored g c = c.loop-index.invariant.stored
+pub returns-clause-keeps : goal.returns-clause-keeps
+returns-clause-keeps g c = c.loop-index.invariant.keeps
 
-pub returns-clause-serves : goal.returns-clause-serves
-returns-clause-serves g c = c.loop-index.invariant.serves
-
-pub returns-clause-reader : goal.returns-clause-reader
-returns-clause-reader g c = c.loop-index.invariant.reader
-
-pub returns-in_err-send-clause-reader : goal.returns-in_err-send-clause-reader
-returns-in_err-send-clause-reader g c = c.send.ensures.reader ∙ c.loop-index.invariant.reader
-
-pub returns-in_err-send-clause-fault : goal.returns-in_err-send-clause-fault
-returns-in_err-send-clause-fault g c =
+pub returns-in_err-send : goal.returns-in_err-send
+returns-in_err-send g c =
     let p = err_from_is_err_and c.from_residual.result c.from_residual.ensures.1 in
     let faults = g.K.Keeper.faults in
     let sure = g.K.Keeper.is_infallible in
@@ -68,7 +51,11 @@ returns-in_err-send-clause-fault g c =
     let now = c.send.new.keeper in
     let messages = c.args.messages.now in
     let index = c.loop-index.index in
-    rw p.1 (none_sent c.args.clock messages (get_or messages index no_message) (drop (index + 1) messages) c.args.self.now c.loop-index.self c.args.news.now.items c.loop-index.news.items (HasFailed faults sure then now) (HasFailed faults sure c.args.keeper.now now) p.0
-    (then_failed faults sure c.args.keeper.now then now c.loop-index.invariant.serves)
-    (λ link is. subst (λ left. SentSoFar c.args.clock (sends_all c.args.clock messages link) left c.loop-index.self c.args.news.now.items c.loop-index.news.items) (drop_more messages index no_message c.loop-index-test.true) (c.loop-index.invariant.sent link is))
-    (subst (λ (f : NodeFault). Fails f (λ (link : LinkState). IsLink link c.loop-index.self) (λ (link : LinkState). sends c.args.clock (get_or messages index no_message) link) (HasFailed faults sure then now)) (sym p.2) c.in_err-send.ensures.fault))
+    rw p.1 (record {
+      sent = tt;
+      keeps = rw p.2 (keeps_then c.loop-index.invariant.keeps (held_nearly (g.K.Keeper.contents then) (g.C.Core.stored c.args.core.now) c.loop-index.self.low) c.in_err-send.ensures.keeps);
+      fault = none_sent c.args.clock messages (get_or messages index no_message) (drop (index + 1) messages) c.args.self.now c.loop-index.self c.args.news.now.items c.loop-index.news.items (HasFailed faults sure then now) (HasFailed faults sure c.args.keeper.now now) p.0
+          (then_failed faults sure c.args.keeper.now then now c.loop-index.invariant.keeps.serves)
+          (λ link is. subst (λ left. SentSoFar c.args.clock (sends_all c.args.clock messages link) left c.loop-index.self c.args.news.now.items c.loop-index.news.items) (drop_more messages index no_message c.loop-index-test.true) (c.loop-index.invariant.sent link is))
+          (subst (λ (f : NodeFault). Fails f (λ (link : LinkState). IsLink link c.loop-index.self) (λ (link : LinkState). sends c.args.clock (get_or messages index no_message) link) (HasFailed faults sure then now)) (sym p.2) c.in_err-send.ensures.fault);
+    })
