@@ -33,7 +33,7 @@ use Rattle.live_node.specs.declared.tellers.Teller.{Teller}
 use Rattle.live_node.specs.Nodes.{IsLive, IsKeptBy}
 use Rattle.live_node.specs.Calls.{LiveCall, call_does, calls_do, keeps_in, IsTime, ticks_with, ticks_over}
 use Rattle.live_node.specs.Texts.{frames_text, lines_of, count_over, ending_over}
-use Rattle.live_node.specs.Ports.{SentBy, PrintedBy, FaultsBy, IsRunEnd, end_by, IsTellingEnd}
+use Rattle.live_node.specs.Ports.{SentBy, PrintedBy, FaultsBy, end_by, IsTellingEnd}
 use Rattle.live_node.specs.Parts.{CallFails}
 use Rattle.live_node.specs.Runs.{Outside, outside, Stores, Kept, Written}
 use Rattle.live_node.specs.Progress.{Said, Output, CallsStopped, due_call, counted}
@@ -299,22 +299,6 @@ pub due_kept : (failed : Type 0) (due : Due) (at : ℕ) → AllKept failed (keep
 due_kept failed Tick at = inl (All-nil (λ kept. kept ≡ true))
 due_kept failed Heartbeat at = inl (All-nil (λ kept. kept ≡ true))
 due_kept failed Sim at = inl (All-nil (λ kept. kept ≡ true))
-
--- how a run ends at a fault of its node, or while news are written
-pub telling_ends : (end : RunEnd) → IsTellingEnd end → IsRunEnd end
-telling_ends end (inl e) = subst IsRunEnd (sym e) tt
-telling_ends end (inr (inl e)) = subst IsRunEnd (sym e) tt
-telling_ends end (inr (inr e)) = subst IsRunEnd (sym e) tt
-
-pub fault_ends : (fault : NodeFault) → IsRunEnd (end_by fault)
-fault_ends NoStamp = tt
-fault_ends Store = tt
-fault_ends NoNodeMemory = tt
-
-pub fault_counts : (fault : NodeFault) (port out : ℕ) → FaultsBy (Some (end_by fault)) port port out out
-fault_counts NoStamp port out = (refl, refl)
-fault_counts Store port out = (refl, refl)
-fault_counts NoNodeMemory port out = refl
 
 -- a clock was asked
 abbrev pub output_later : {S : Type 0} {stores : Stores S} {before now : S} {start : Node} {made : List LiveCall} {live : LiveNode} {t : Teller} {first : Outside} {l : LinkState} {x : Option (List ℕ)} (z w : Option ℕ) → w ≡ z → Output stores before now start made live t first (outside l x z) → Output stores before now start made live t first (outside l x w)

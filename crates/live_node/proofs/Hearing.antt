@@ -118,10 +118,3 @@ station_rests call old self news same is none node live = by_node node (subst (I
     by_node : (node : Node) → IsLive node (LiveStation old) → Did (call node) (λ after. IsLive after (LiveStation old)) [] news
     by_node (Drone n) h = absurd h
     by_node (Station n) h = subst (λ (o : Outcome Node). Did o (λ after. IsLive after (LiveStation old)) [] news) (sym (same n)) (h, ap events_of none)
-
-pub drone_rests : (call : Node → Outcome Node) (old : DroneView) (self : LiveNode) (news : List News) → ((n : DroneSide) → call (Drone n) ≡ done (Drone n) []) → self ≡ LiveDrone old → news ≡ [] → (node : Node) → IsLive node self → Did (call node) (λ after. IsLive after (LiveDrone old)) [] news
-drone_rests call old self news same is none node live = by_node node (subst (IsLive node) is live)
-  where
-    by_node : (node : Node) → IsLive node (LiveDrone old) → Did (call node) (λ after. IsLive after (LiveDrone old)) [] news
-    by_node (Drone n) h = subst (λ (o : Outcome Node). Did o (λ after. IsLive after (LiveDrone old)) [] news) (sym (same n)) (h, ap events_of none)
-    by_node (Station n) h = absurd h

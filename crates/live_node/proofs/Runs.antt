@@ -26,7 +26,7 @@ use Rattle.live_node.specs.Runs.{Outside, Stores, HeardIn, RunAt}
 use Rattle.live_node.specs.Progress.{Output, Between, CallsStopped}
 use Rattle.live_node.proofs.Endings.{sent_by, printed_by}
 use Rattle.live_node.proofs.Lasts.{heard_all, calls_at_start}
-use Rattle.live_node.proofs.Turning.{output_read, because}
+use Rattle.live_node.proofs.Turning.{because}
 use Rattle.live_node.proofs.Waits.{output_regroup}
 
 pub no_pauses : (p : Option Pauses) → p ≡ option_map (pauses_over []) p
@@ -93,22 +93,6 @@ still_failed old new left idles pauses sent text time = record {
   sent = sent;
   text = text;
   time = time;
-}
-
--- the port had ended
-pub between_read : {S : Type 0} (stores : Stores S) (before now : S) (start : Node) (opening : List LiveCall) (turns : List Turn) (rests : List Rest) (live : LiveNode) (t : Teller) (first old new : Outside) → Still old new → new.link.faults ≡ old.link.faults → Between stores before now start opening turns rests live t first old → Between stores before now start opening turns rests live t first new
-between_read stores before now start opening turns rests live t first old new still faults b = record {
-  timed = b.timed;
-  input = record {
-    read = b.input.read;
-    all = b.input.all;
-    heard = b.input.heard;
-    same = b.input.same;
-    left = b.input.left ∙ ap (prepend_known (flat_map turn_bytes turns)) (sym still.left);
-    idles = still.idles ∙ b.input.idles;
-    pauses = still.pauses ∙ b.input.pauses;
-  };
-  output = output_read stores before now start (calls_of opening turns rests) live t first old new faults still.sent still.text still.time b.output;
 }
 
 -- ---- runs of which no call is left

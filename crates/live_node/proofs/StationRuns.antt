@@ -16,7 +16,7 @@ use Rattle.mav_nodes.specs.Stores.{Serves}
 use Rattle.mav_nodes.specs.Streams.{HasRead}
 use Rattle.node_reports.specs.Nodes.{Node, Drone, Station}
 use Rattle.node_reports.specs.Calls.{as_drone, as_station}
-use Rattle.run_status.specs.declared.input_errors.InputError.TheVariants.{Bad, AtLimit, StampsSpent}
+use Rattle.run_status.specs.declared.input_errors.InputError.TheVariants.{StampsSpent}
 use Rattle.run_status.specs.declared.live_ends.LiveEnd.TheVariants.{RefusedWith, NoAnswer, StoreFault, PortTurns, PortFault}
 use Rattle.run_status.specs.declared.run_ends.RunEnd.{RunEnd}
 use Rattle.run_status.specs.declared.run_ends.RunEnd.TheVariants.{Usage, Stopped, ReadFault, WriteFault, NoMemory, TurnsSpent, Live}
@@ -146,50 +146,6 @@ outlast_cut {S} {stores} {before} {now} {end} {plan} {start} {opening} {turns} {
 }
 
 -- ---- ends
-
-pub run_waited_end : (end : RunEnd) → IsRunEnd end → IsWaitedEnd end
-run_waited_end Usage h = absurd h
-run_waited_end (Stopped (Bad place reason)) h = absurd h
-run_waited_end (Stopped (AtLimit limit)) h = absurd h
-run_waited_end (Stopped StampsSpent) h = tt
-run_waited_end ReadFault h = absurd h
-run_waited_end WriteFault h = tt
-run_waited_end NoMemory h = tt
-run_waited_end TurnsSpent h = absurd h
-run_waited_end (Live (RefusedWith code)) h = absurd h
-run_waited_end (Live (NoAnswer ticks)) h = absurd h
-run_waited_end (Live StoreFault) h = tt
-run_waited_end (Live (PortTurns turns)) h = absurd h
-run_waited_end (Live PortFault) h = tt
-
-judged_end : (plan : StationPlan) (most passed : ℕ) (ending : Option Ending) → IfErr (judged plan (verdict most passed ending)) IsWaitedEnd
-judged_end plan most passed (Some (Done bytes)) = tt
-judged_end plan most passed (Some (Refused code)) = tt
-judged_end plan most passed (Some Unanswered) = tt
-judged_end plan most passed None = by_test (nat_lt passed most) refl
-  where
-    by_test : (few : Bool) → nat_lt passed most ≡ few → IfErr (judged plan (verdict most passed None)) IsWaitedEnd
-    by_test true e = rw e tt
-    by_test false e = rw e tt
-
-pub judge_end : (plan : StationPlan) (t : Teller) (said : Result (List ℕ) RunEnd) → said ≡ judged plan (verdict plan.ticks t.ticks t.ending) → IfErr said IsWaitedEnd
-judge_end plan t said e = subst (λ (r : Result (List ℕ) RunEnd). IfErr r IsWaitedEnd) (sym e) (judged_end plan plan.ticks t.ticks t.ending)
-
--- only a fault of the store can't end a station's run
-pub live_end : (end : RunEnd) → IsWaitedEnd end → (end ≡ Live StoreFault) ⊎ IsStationEnd end
-live_end Usage h = absurd h
-live_end (Stopped (Bad place reason)) h = absurd h
-live_end (Stopped (AtLimit limit)) h = absurd h
-live_end (Stopped StampsSpent) h = inr tt
-live_end ReadFault h = absurd h
-live_end WriteFault h = inr tt
-live_end NoMemory h = inr tt
-live_end TurnsSpent h = absurd h
-live_end (Live (RefusedWith code)) h = inr tt
-live_end (Live (NoAnswer ticks)) h = inr tt
-live_end (Live StoreFault) h = inl refl
-live_end (Live (PortTurns turns)) h = inr tt
-live_end (Live PortFault) h = inr tt
 
 waited_not_refused : (end : Option RunEnd) → (end ≡ None) ⊎ ((why : RunEnd) × (end ≡ Some why) × IsWaitedEnd why) → end ≡ Some refused_end → ⊥
 waited_not_refused end (inl e) f = cc
