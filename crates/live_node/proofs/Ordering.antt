@@ -28,6 +28,7 @@ use Rattle.live_node.specs.Ports.{IsTellingEnd, end_by}
 use Rattle.live_node.specs.Runs.{Outside, Stores}
 use Rattle.live_node.specs.Orders.{refused_end, op_end, OrderFailsAt}
 use Rattle.live_node.specs.Progress.{Output, CallsStopped}
+use Rattle.live_node.proofs.Results.{because}
 use Rattle.live_node.proofs.Calls.{written, regroup}
 use Rattle.mav_nodes.proofs.StoreCalls.{serves_same}
 
@@ -138,14 +139,11 @@ not_refused end (inr (inr e)) h = cc
 
 -- ---- a call that wasn't made
 
-pub some_end : (end why : RunEnd) → ◌≡◌ {A = Option RunEnd} (Some end) (Some why) → end ≡ why
-some_end end why e = cc
-
 abbrev pub not_followed : {S : Type 0} (stores : Stores S) (before now : S) (end : RunEnd) (start : Node) (made : List LiveCall) (call : LiveCall) (live : LiveNode) (t : Teller) (first last : Outside) → (o : Output stores before now start made live t first last) → (end ≡ Stopped StampsSpent → call_does call o.node ≡ None) → (end ≡ Live StoreFault → ⊥) → CallsStopped stores before now end start made (call ∷ []) first last
 not_followed stores before now end start made call live t first last o spent store = record {
   more = [];
   rest = call ∷ [];
   are = refl;
-  written = regroup stores before now (Some end) start made (made ++ []) first last (sym (append-nil made)) (written stores before now now (Some end) start made live t first last o (serves_same stores.faults stores.is_infallible now) (λ e. store (some_end end (Live StoreFault) e)));
+  written = regroup stores before now (Some end) start made (made ++ []) first last (sym (append-nil made)) (written stores before now now (Some end) start made live t first last o (serves_same stores.faults stores.is_infallible now) (λ e. store (because e)));
   spent = spent;
 }

@@ -5,9 +5,7 @@ use Rattle.std.specs.Io.KnownBytes.{prepend_known}
 use Rattle.mav_ports.specs.Gets.{IsSpent}
 use Rattle.mav_sign.specs.Streams.{reader_of}
 use Rattle.node_reports.specs.Nodes.{Node}
-use Rattle.run_status.specs.declared.input_errors.InputError.TheVariants.{StampsSpent}
 use Rattle.run_status.specs.declared.run_ends.RunEnd.{RunEnd}
-use Rattle.run_status.specs.declared.run_ends.RunEnd.TheVariants.{Stopped}
 use Rattle.live_node.specs.declared.nodes.LiveNode.{LiveNode}
 use Rattle.live_node.specs.declared.tellers.Teller.{Teller}
 use Rattle.live_node.specs.Nodes.{end_of}
@@ -18,7 +16,7 @@ use Rattle.live_node.specs.Runs.{Outside, Stores, HeardIn, IsSpentCall, RunsOutI
 use Rattle.live_node.specs.Progress.{WaitDone, WaitStopped, PortEnded}
 use Rattle.live_node.proofs.Lasts.{last_of_rests, calls_with_rest, rests_timed}
 use Rattle.live_node.proofs.Readers.{heard_same, extras_same}
-use Rattle.live_node.proofs.Turning.{because}
+use Rattle.live_node.proofs.Results.{because}
 use Rattle.live_node.proofs.Waits.{output_regroup}
 
 abbrev pub rest_of : {S : Type 0} {stores : Stores S} {before now : S} {start : Node} {made : List LiveCall} {live : LiveNode} {t : Teller} {first last : Outside} → WaitDone stores before now start made live t first last → Rest
@@ -67,7 +65,7 @@ rest_stopped {S} {stores} {before} {old} {now} {end} {start} {opening} {turns} {
       idles = read.idles ∙ b.input.idles;
       pauses = read.pauses ∙ b.input.pauses;
       written = s.written;
-      spent = λ e. spent rests r s.written.node s.rest (s.spent (because end (Stopped StampsSpent) e));
+      spent = λ e. spent rests r s.written.node s.rest (s.spent (because e));
     }
   where
     heard : (xs : List Rest) (x : Rest) → HeardIn (Some end) turns (xs ++ x ∷ [])

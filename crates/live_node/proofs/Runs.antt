@@ -26,7 +26,7 @@ use Rattle.live_node.specs.Runs.{Outside, Stores, HeardIn, RunAt}
 use Rattle.live_node.specs.Progress.{Output, Between, CallsStopped}
 use Rattle.live_node.proofs.Endings.{sent_by, printed_by}
 use Rattle.live_node.proofs.Lasts.{heard_all, calls_at_start}
-use Rattle.live_node.proofs.Turning.{because}
+use Rattle.live_node.proofs.Results.{because}
 use Rattle.live_node.proofs.Waits.{output_regroup}
 
 pub no_pauses : (p : Option Pauses) → p ≡ option_map (pauses_over []) p
@@ -63,7 +63,7 @@ stopped_in_opening stores before now end start opening first last read timed s =
   idles = read.idles;
   pauses = read.pauses ∙ no_pauses first.link.pauses;
   written = s.written;
-  spent = λ e. s.spent (because end (Stopped StampsSpent) e);
+  spent = λ e. s.spent (because e);
 }
 
 -- ---- reads that gave nothing

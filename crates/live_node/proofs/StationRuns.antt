@@ -36,6 +36,7 @@ use Rattle.live_node.specs.Orders.{node_refuses, refused_end}
 use Rattle.live_node.specs.Progress.{Output, Between, CallStopped, Opened}
 use Rattle.live_node.specs.Stations.{verdict, judged, Awaited, HasEnded, StationEnds, IsOrderEnd, IsWaitedEnd, IsStationEnd, StationLived, StationRan, Gives, stream_asked}
 use Rattle.live_node.specs.Waiting.{OrderStopped, WatchDone, WatchStopped, Outlasted, OutlastStopped, WaitedFor}
+use Rattle.live_node.proofs.Results.{because}
 use Rattle.live_node.proofs.Openings.{cut_off}
 use Rattle.live_node.proofs.Runs.{run_over, still_self, stopped_in_opening}
 use Rattle.live_node.proofs.Waits.{more_to_come, made_before}
@@ -149,10 +150,7 @@ outlast_cut {S} {stores} {before} {now} {end} {plan} {start} {opening} {turns} {
 
 waited_not_refused : (end : Option RunEnd) → (end ≡ None) ⊎ ((why : RunEnd) × (end ≡ Some why) × IsWaitedEnd why) → end ≡ Some refused_end → ⊥
 waited_not_refused end (inl e) f = cc
-waited_not_refused end (inr (why, e, h)) f = subst IsWaitedEnd (some_is (sym e ∙ f)) h
-  where
-    some_is : {a b : RunEnd} → ◌≡◌ {A = Option RunEnd} (Some a) (Some b) → a ≡ b
-    some_is e = cc
+waited_not_refused end (inr (why, e, h)) f = subst IsWaitedEnd (because (sym e ∙ f)) h
 
 either_end : (r : Result (List ℕ) RunEnd) → IfErr r IsWaitedEnd → (result_err r ≡ None) ⊎ ((why : RunEnd) × (result_err r ≡ Some why) × IsWaitedEnd why)
 either_end (Ok bytes) h = inl refl
@@ -179,10 +177,7 @@ beat_keeps order beat (Station n) after events e = station_beat order n _ after 
 -- ---- the whole run
 
 run_not_refused : (end : RunEnd) → IsRunEnd end → ◌≡◌ {A = Option RunEnd} (Some end) (Some refused_end) → ⊥
-run_not_refused end is e = subst IsRunEnd (some_is e) is
-  where
-    some_is : ◌≡◌ {A = Option RunEnd} (Some end) (Some refused_end) → end ≡ refused_end
-    some_is e = cc
+run_not_refused end is e = subst IsRunEnd (because e) is
 
 one_call : (more rest : List LiveCall) (call : LiveCall) → more ++ rest ≡ call ∷ [] → 2 ≤ length more → ⊥
 one_call [] rest call e h = omega (arith, h)
@@ -255,14 +250,11 @@ stopped_in_order stores before middle now end plan order start beat live t first
       ends = order_ends_so plan end [] _ is;
       awaited = tt;
       judged = record {
-        refused = λ e. let r = c.refused (some_is e) in (sym keeps ∙ r.0, ap (λ (l : List LiveCall). length (Beats beat ∷ l)) r.1);
+        refused = λ e. let r = c.refused (because e) in (sym keeps ∙ r.0, ap (λ (l : List LiveCall). length (Beats beat ∷ l)) r.1);
         accepted = λ h. sym keeps ∙ c.accepted (less c.stopped.more h);
       };
     }
   where
-    some_is : ◌≡◌ {A = Option RunEnd} (Some end) (Some refused_end) → end ≡ refused_end
-    some_is e = cc
-
     less : (more : List LiveCall) → 2 ≤ length (Beats beat ∷ more) → 1 ≤ length more
     less more h = omega (arith, h)
 

@@ -12,9 +12,7 @@ use Rattle.mav_ports.proofs.Known.{prepend_known_twice}
 use Rattle.mav_links.specs.Links.{LinkState, Pauses, pauses_after}
 use Rattle.mav_frame.specs.declared.events.Event.{Event}
 use Rattle.node_reports.specs.Nodes.{Node}
-use Rattle.run_status.specs.declared.input_errors.InputError.TheVariants.{StampsSpent}
 use Rattle.run_status.specs.declared.run_ends.RunEnd.{RunEnd}
-use Rattle.run_status.specs.declared.run_ends.RunEnd.TheVariants.{Stopped}
 use Rattle.live_node.specs.declared.nodes.LiveNode.{LiveNode}
 use Rattle.live_node.specs.declared.tellers.Teller.{Teller}
 use Rattle.live_node.specs.Nodes.{HasHeard, end_of}
@@ -23,6 +21,7 @@ use Rattle.live_node.specs.Turns.{Turn, Waits, turn_calls, turn_bytes, turn_even
 use Rattle.live_node.specs.Ports.{SameRead}
 use Rattle.live_node.specs.Runs.{Outside, Stores, IsSpentAt, IsSpentCall, RunsOutIn, LastHeard, RunAt}
 use Rattle.live_node.specs.Progress.{Input, Output, Between, TurnTaken, TurnStopped, CallsStopped, IsPiece}
+use Rattle.live_node.proofs.Results.{because}
 use Rattle.live_node.proofs.Lasts.{all_more, heard_then, last_of_more, calls_with_turn, turns_timed}
 use Rattle.live_node.proofs.Waits.{output_regroup}
 
@@ -106,9 +105,6 @@ spent_in extras (x ∷ xs) turn node rest h = record {
   spent = h;
 }
 
-pub because : (end why : RunEnd) → ◌≡◌ {A = Option RunEnd} (Some end) (Some why) → end ≡ why
-because end why e = cc
-
 -- a run stopped in a turn
 pub turn_stopped : {S : Type 0} (stores : Stores S) (before old now : S) (end : RunEnd) (start : Node) (opening : List LiveCall) (turns : List Turn) (turn : Turn) (was : LiveNode) (t : Teller) (first last then : Outside) → Between stores before old start opening turns [] was t first last → Came turn last.link then.link → IsTurnTimed first.time turn → LastHeard (Some end) turn → ReadsOn (extras_at start) (flat_map turn_bytes turns) (flat_map turn_events turns) turn → TurnStopped stores before now end (extras_at start) (flat_map turn_bytes turns) (flat_map turn_events turns) start (calls_of opening turns []) turn first then → RunAt stores before now start (Some end) opening (turns ++ turn ∷ []) [] first then
 turn_stopped stores before old now end start opening turns turn was t first last then b came timed heard reads s =
@@ -126,7 +122,7 @@ turn_stopped stores before old now end start opening turns turn was t first last
       idles = c.idles;
       pauses = c.pauses;
       written = s.written;
-      spent = λ e. spent_in (extras_at start) turns turn s.written.node s.rest (s.spent (because end (Stopped StampsSpent) e));
+      spent = λ e. spent_in (extras_at start) turns turn s.written.node s.rest (s.spent (because e));
     }
 
 -- calls of a wait that were made in part are those of its turn
