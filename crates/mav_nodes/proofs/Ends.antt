@@ -16,7 +16,7 @@ use Rattle.mav_nodes.specs.Stores.{AllKept}
 use Rattle.mav_nodes.specs.Steps.{Side, steps, serves}
 use Rattle.mav_nodes.specs.Cores.{IsNode, NodeDid, NodeDidKeeping, says}
 use Rattle.mav_nodes.specs.Nodes.{DroneSide, StationSide, DroneView, IsDrone, StationView, IsStation, IsAccepted, station_does, station_ticks, services_tick, station_obeys, order_step, order_refusal, is_service, service_step}
-use Rattle.mav_nodes.specs.Promises.{DroneDid, DroneDidKeeping, StationDid, AcceptsService, Fails, SpentKeeping, FailsKeeping}
+use Rattle.mav_nodes.specs.Promises.{DroneDid, DroneDidKeeping, StationDid, Fails, SpentKeeping, FailsKeeping}
 use Rattle.mav_nodes.proofs.Cores.{did_so}
 
 pub drone_node : (node : DroneSide) {view : DroneView} → IsDrone node view → IsNode node view.link view.drone view.services
@@ -73,18 +73,6 @@ unasked (ParamRead drone id) station other free = absurd (cc)
 unasked (ParamSet drone param) station other free = absurd (cc)
 unasked (ParamList drone) station other free = absurd (cc)
 unasked (File drone op) station other free = absurd (cc)
-
--- nor its core one to its services
-pub unordered : (order : Order) (station : StationView) → is_service order ≡ true → AcceptsService station.services order → IsAccepted station order
-unordered (Begin drone kind plan) station own free = absurd (cc)
-unordered Cancel station own free = absurd (cc)
-unordered (Clear drone kind) station own free = absurd (cc)
-unordered (Get drone kind) station own free = absurd (cc)
-unordered (Command drone number word) station own free = record { plan = refl; command = free.command; params = free.params; file = free.file }
-unordered (ParamRead drone id) station own free = record { plan = refl; command = free.command; params = free.params; file = free.file }
-unordered (ParamSet drone param) station own free = record { plan = refl; command = free.command; params = free.params; file = free.file }
-unordered (ParamList drone) station own free = record { plan = refl; command = free.command; params = free.params; file = free.file }
-unordered (File drone op) station own free = record { plan = refl; command = free.command; params = free.params; file = free.file }
 
 -- ---- a store that never fails keeps all
 

@@ -1,5 +1,5 @@
 // A ground station as a node.
-ghost use Rattle.std.specs.Prelude.{◌≡◌, ◌++◌, ℕ, List, [], length, IfOk, IfErr, OnOk, OnErr, IsFalse, IsTrue};
+ghost use Rattle.std.specs.Prelude.{◌≡◌, ◌++◌, ℕ, List, [], length, IfOk, IfErr, OnOk, OnErr, IsTrue};
 ghost use Rattle.plan_upload.specs.Station.{StationStep};
 ghost use Rattle.mav_nodes.specs.Links.{Link as LinkState, IsLink};
 ghost use Rattle.mav_nodes.specs.Services.{ServiceStep, StationServices as StationServicesState};
