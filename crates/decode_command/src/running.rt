@@ -15,8 +15,8 @@ use mav_stream::NextSpan;
 use run_status::{Bound, ENOUGH_BYTES, InputError, RunEnd, read_on, write_enough, write_held};
 use std::alloc::Global;
 
-// How much is read at once: with what a teller holds it fits 65,816 bytes.
-const PIECE_BYTES: usize = 65_528;
+// How much is read at once: with what a teller holds it fits 65,824 bytes.
+const PIECE_BYTES: usize = 65_536;
 
 const MOST_INPUT_BYTES: usize = 268_435_456;
 
@@ -99,7 +99,7 @@ fn take<T: Teller, K: Sink>(
     out: &mut K,
 ) -> Result<(), RunEnd>
     requires room { T.held teller.old < 288 }
-    requires piece { length piece.now ≤ 65528 }
+    requires piece { length piece.now ≤ 65536 }
     requires load { T.load teller.old + 3 * length piece.now ≤ 805306368 }
     ensures same { T.telling teller.new ≡ T.telling teller.old }
     ensures load { T.load teller.new ≤ T.load teller.old + 3 * length piece.now }
@@ -143,7 +143,7 @@ fn run_pieces<T: Teller, S: Source, K: Sink>(
     buf: &mut [u8],
     out: &mut K,
 ) -> Result<(), RunEnd>
-    requires buf { length buf.old ≡ 65528 }
+    requires buf { length buf.old ≡ 65536 }
     requires room { T.held teller.old < 288 }
     requires load { T.load teller.old ≡ 0 }
     requires empty { text.old.items ≡ [] }
@@ -180,7 +180,7 @@ fn text_with_room(alloc: Global) -> Result<Vec<u8>, NoMemory>
 
 // The memory for a piece.
 fn piece_buffer(alloc: Global) -> Result<Vec<u8>, NoMemory>
-    ensures { IfOk result (λ buf. length buf.items ≡ 65528) }
+    ensures { IfOk result (λ buf. length buf.items ≡ 65536) }
 {
     vec![in alloc; 0u8; PIECE_BYTES]
 }

@@ -31,7 +31,7 @@ pub trait Teller {
 
     /// Takes the next bytes, for which there is room.
     fn feed(&mut self, piece: &[u8])
-        requires { held self.old + length piece.now ≤ 65816 }
+        requires { held self.old + length piece.now ≤ 65824 }
         ensures same { telling self.new ≡ telling self.old }
         ensures load { load self.new ≤ load self.old + 3 * length piece.now }
         ensures told { (taken told : List ℕ) → has_told self.old false taken told

@@ -13,7 +13,7 @@ use std::marker::Model;
 use x25_check::Extras;
 
 /// A reader of one log, which contracts see as the bytes that it holds: those taken that are in no event yet, at most
-/// 65,816. A `Scanner` holds them, and is asked for no frame.
+/// 65,824. A `Scanner` holds them, and is asked for no frame.
 #[derive(Drop)]
 pub(crate) struct LogScanner {
     extras: Extras,
@@ -55,7 +55,7 @@ impl LogScanner {
 
     /// Takes the next bytes, for which there is room.
     pub(crate) fn feed(&mut self, piece: &[u8])
-        requires { length self.old.bytes + length piece.now ≤ 65816 }
+        requires { length self.old.bytes + length piece.now ≤ 65824 }
         ensures { self.new ≡ record self.old { bytes = self.old.bytes ++ piece.now } }
     {
         self.window.feed(piece);

@@ -14,11 +14,11 @@ use std::alloc::Global;
 use std::marker::Model;
 use x25_check::Extras;
 
-// A piece of 65,536 bytes after the start of a frame.
-const ROOM: usize = 65_816;
+// A piece of 65,536 bytes after the start of a frame, or of a row of a log.
+const ROOM: usize = 65_824;
 
 /// A reader of one stream, which contracts see as the bytes that it holds: those taken that are in no event yet, at
-/// most 65,816.
+/// most 65,824.
 #[derive(Drop)]
 pub struct Scanner {
     table: ExtrasTable,
@@ -53,7 +53,7 @@ impl Scanner {
 
     /// Takes as many bytes as fit after those held, and returns how many. It isn't called after `end`.
     pub fn feed(&mut self, piece: &[u8]) -> usize
-        ensures { Feeds 65816 self.old piece.now result self.new }
+        ensures { Feeds 65824 self.old piece.now result self.new }
     {
         self.window.append(piece)
     }

@@ -9,7 +9,7 @@ invariant-loop-count g l = record {
   load : g.T.Teller.load l.teller + 3 * l.left ≤ 805306368;
   room : g.T.Teller.held l.teller < 288;
   empty : l.text.items ≡ [];
-  buf : length l.buf ≡ 65528;
+  buf : length l.buf ≡ 65536;
   told : (taken : List ℕ) × (g.S.Source.left l.initial.main ≡ prepend_known taken (g.S.Source.left l.main)) × (length taken + l.left ≡ most_input_bytes)
       × ToldAll (g.T.Teller.telling l.initial.teller) (g.T.Teller.has_told l.teller) false taken l.text.items (g.K.Sink.sent l.initial.out) (g.K.Sink.sent l.out);
   faults : g.S.Source.faults l.main ≡ g.S.Source.faults l.initial.main;
