@@ -1,5 +1,5 @@
 -- A file that stopped stays so, whatever follows.
-use Rattle.std.proofs.Common.{◌≡◌, ◌∙◌, Bool, false, List, ◌++◌, refl, ap, Option, Some, None}
+use Rattle.std.proofs.Common.{◌≡◌, ◌∙◌, Bool, false, ◌++◌, refl, ap, Option, Some, None}
 use Rattle.run_status.specs.declared.input_errors.InputError.{InputError}
 use Rattle.run_status.specs.Runs.{Steady}
 use Rattle.line_input.specs.Takers.{Read}

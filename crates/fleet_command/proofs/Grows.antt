@@ -1,5 +1,5 @@
 -- Reports only grow, and a scenario that stopped stays unchanged.
-use Rattle.std.proofs.Common.{◌≡◌, ◌∙◌, inl, inr, ℕ, ◌+◌, ◌≤◌, Bool, true, false, List, [], ◌∷◌, ◌++◌, refl, sym, ap, arith, length, length-append, append_assoc, append-nil, Some, None, Option, Result, Ok, Err, cond, ltb, eqb}
+use Rattle.std.proofs.Common.{◌≡◌, ◌∙◌, ℕ, Bool, false, List, [], ◌∷◌, ◌++◌, refl, sym, ap, append_assoc, append-nil, Some, None, Option, Result, Ok, Err}
 use Rattle.std.specs.Io.KnownBytes.{append_known}
 use Rattle.mav_ports.specs.Puts.{SentPrefix}
 use Rattle.scenario_lines.specs.declared.faults.Reason.{Reason}
@@ -8,7 +8,7 @@ use Rattle.scenario_lines.specs.Reasons.{reason_against}
 use Rattle.fleet_report.specs.Events.{Event, event_text, events_text}
 use Rattle.fleet_world.specs.WorldState.{context_of}
 use Rattle.fleet_world.specs.Steps.{Step, StepError, after_line}
-use Rattle.fleet_world.specs.Scenario.{Played, ScenarioError, stopped, goes_on, judged, at_start, played, report_of}
+use Rattle.fleet_world.specs.Scenario.{Played, ScenarioError, goes_on, judged, at_start, played, report_of}
 use Rattle.line_input.specs.LineRules.{unless_stopped}
 use Rattle.fleet_command.specs.Plays.{scenario_rules, plays}
 use Rattle.line_input.proofs.Keeps.{reads_keep}

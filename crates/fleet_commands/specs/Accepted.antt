@@ -1,6 +1,6 @@
 -- Each accepted `command` line begins one line of its station, with one frame of confirmation 0, and nothing else begins any:
 -- so the number of a line is its place among the `command` lines that its station accepted.
-use Rattle.std.specs.Prelude.{ℕ, ◌≡◌, ◌+◌, Bool, true, false, if◌then◌else◌, List, [], ◌∷◌, length, slice_get, position, Option, Some, None, Ok, Err}
+use Rattle.std.specs.Prelude.{ℕ, ◌≡◌, ◌+◌, Bool, if◌then◌else◌, List, slice_get, position, Option, Some, None, Ok, Err}
 use Rattle.std.specs.declared.result.Result.{Result}
 use Rattle.mav_names.specs.declared.names.Name.{Name}
 use Rattle.mav_names.specs.Addresses.{same_name, node_of}
@@ -11,8 +11,6 @@ use Rattle.scenario_lines.specs.declared.lines.Line.TheVariants.{Command}
 use Rattle.node_reports.specs.Nodes.{Node, Drone, Station}
 use Rattle.fleet_world.specs.WorldState.{WorldState, is_station_named}
 use Rattle.fleet_world.specs.Steps.{Step, StepError, after_line}
-use Rattle.fleet_world.specs.Scenario.{Played, at_start, line_played, lines_played}
-use Rattle.scenario_lines.specs.FileLines.{whole_lines, unfinished, without_cr}
 use Rattle.fleet_world.specs.Authentic.{HoldsOfEach, Authentic}
 use Rattle.fleet_commands.specs.Lines.{lines_begun}
 

@@ -16,7 +16,7 @@ use Rattle.mav_sign.specs.Endpoints.{frames_of}
 use Rattle.scenario_lines.specs.declared.faults.Reason.{Reason}
 use Rattle.scenario_lines.specs.declared.faults.Reason.TheVariants.{Long}
 use Rattle.scenario_lines.specs.declared.lines.Line.{Line}
-use Rattle.scenario_lines.specs.declared.lines.Line.TheVariants.{Blank, Drone as DroneLine, Station as StationLine, Item as OneItem, Items, Empty, Begin, Cancel, Clear, Get, Command, Params, Heartbeat, Deliver, Flow, Noise, Tick, Clock, Restart, Sim, WhereIs}
+use Rattle.scenario_lines.specs.declared.lines.Line.TheVariants.{Blank, Noise}
 use Rattle.scenario_lines.specs.Words.{is_space, words_of, word_at, bytes_word}
 use Rattle.scenario_lines.specs.LineContext.{LineContext}
 use Rattle.scenario_lines.specs.Grammar.{bytes_at, line_from, line_of, is_blank, most_line_bytes}

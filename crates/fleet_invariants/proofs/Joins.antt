@@ -10,7 +10,7 @@ use Rattle.mav_nodes.specs.Links.{new_link}
 use Rattle.drone_sim.specs.declared.points.Point.{Point}
 use Rattle.drone_sim.specs.Laws.{PointInRange}
 use Rattle.mav_nodes.specs.Nodes.{new_drone, new_station}
-use Rattle.scenario_lines.specs.LineContext.{is_called, has_name}
+use Rattle.scenario_lines.specs.LineContext.{has_name}
 use Rattle.node_reports.specs.Nodes.{Node, Drone, Station, node_name}
 use Rattle.fleet_world.specs.WorldState.{WorldState, named, names_of, stream_of, drones_in, stations_in}
 use Rattle.fleet_world.specs.Steps.{most_drones, most_stations}

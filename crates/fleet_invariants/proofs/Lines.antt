@@ -22,7 +22,7 @@ use Rattle.plan_ranges.specs.Ranges.{Is8, Is16, Is32, NameInRange, ItemInRange}
 use Rattle.scenario_lines.specs.declared.faults.Reason.{Reason}
 use Rattle.scenario_lines.specs.declared.lines.Line.{Line}
 use Rattle.scenario_lines.specs.declared.lines.Line.TheVariants.{Blank, Drone as DroneLine, Station as StationLine, Item as OneItem, Items, Empty, Begin, Cancel, Clear, Get, Command, Params, Heartbeat, Deliver, Flow, Noise, Tick, Clock, Restart, Sim, WhereIs}
-use Rattle.scenario_lines.specs.LineContext.{is_in_role, has_name, has_drone}
+use Rattle.scenario_lines.specs.LineContext.{has_drone}
 use Rattle.scenario_lines.specs.Grammar.{against, first_reason}
 use Rattle.node_reports.specs.Nodes.{Node, Drone, Station, node_name}
 use Rattle.node_reports.specs.Calls.{node_receives, node_beats, node_ticks, as_station}

@@ -1,4 +1,3 @@
-use Rattle.std.proofs.Common.{sym}
 use Rattle.fleet_world.proofs.Ordering.{followed_done, followed_error, refused_done, refused_error}
 use Rattle.fleet_world.proofs.world.World.report_order.Goals as goal
 
