@@ -107,7 +107,7 @@ module _ (call : Node → Outcome Node) where
 
 accepted_follows : (n : StationSide) (v : StationView) (order : Order) → IsStation n v → IsAccepted v order → Follows n order
 accepted_follows n v order is a = record {
-  plan = ap (λ (core : StationState). order_refusal core order) (sym is.station) ∙ a.plan;
+  plan = ap (λ (core : StationState). order_refusal core order) (sym is.core) ∙ a.plan;
   command = ap (λ (services : StationServices). command_refusal services order) (sym is.services) ∙ a.command;
   params = ap (λ (services : StationServices). params_refusal services order) (sym is.services) ∙ a.params;
   file = ap (λ (services : StationServices). file_refusal services order) (sym is.services) ∙ a.file;
@@ -124,8 +124,8 @@ order_followed (Ok news) clock order name v new view is accepted did = λ n h.
     (accepted_follows n v order seen.0 accepted, as_station_did name n (station_obeys clock order n) new news.items seen.1 (station_obeying clock order n) (did n seen.0))
 
 refused_by : (clock : ℕ) (order : Order) (name : Name) (v new : StationView) (n : StationSide) (fault : OrderFault) → IsStation n v → OrderFails clock order v fault → OrderKeeps v new fault → Refuses clock n order (ViewStation name new ≡ ViewStation name v) fault
-refused_by clock order name v new n (BeginFails fault) is fails keeps = (ap (λ (core : StationState). order_refusal core order) (sym is.station) ∙ fails.0, fails.1, ap (ViewStation name) keeps)
-refused_by clock order name v new n (OpFails why) is fails keeps = (ap (λ (core : StationState). order_fault core order) (sym is.station) ∙ fails, ap (ViewStation name) keeps)
+refused_by clock order name v new n (BeginFails fault) is fails keeps = (ap (λ (core : StationState). order_refusal core order) (sym is.core) ∙ fails.0, fails.1, ap (ViewStation name) keeps)
+refused_by clock order name v new n (OpFails why) is fails keeps = (ap (λ (core : StationState). order_fault core order) (sym is.core) ∙ fails, ap (ViewStation name) keeps)
 refused_by clock order name v new n (CommandFails busy) is fails keeps = (ap (λ (services : StationServices). command_refusal services order) (sym is.services) ∙ fails, ap (ViewStation name) keeps)
 refused_by clock order name v new n (ParamFails busy) is fails keeps = (ap (λ (services : StationServices). params_refusal services order) (sym is.services) ∙ fails, ap (ViewStation name) keeps)
 refused_by clock order name v new n (FileFails fault) is fails keeps = (ap (λ (services : StationServices). file_refusal services order) (sym is.services) ∙ fails, ap (ViewStation name) keeps)

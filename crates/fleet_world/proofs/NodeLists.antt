@@ -49,7 +49,7 @@ are_nodes-push (n ∷ ns) (v ∷ vs) node view are is = (are.0, are_nodes-push n
 
 pub named_is : (node : Node) (view : ViewNode) → IsNode node view → named_in view ≡ named node
 named_is (Drone n) (ViewDrone v) is =
-    ap (λ (d : DroneState). record { role = DroneRole; name = drone_name d.sys }) is.drone.drone
+    ap (λ (d : DroneState). record { role = DroneRole; name = drone_name d.sys }) is.drone.core
     ∙ sym (ap (λ (me : Stream). record { role = DroneRole; name = node_of me }) is.me)
 named_is (Drone n) (ViewStation name v) is = absurd is
 named_is (Station n) (ViewDrone v) is = absurd is

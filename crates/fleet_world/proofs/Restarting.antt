@@ -72,7 +72,7 @@ module _ (key : List ℕ) (home : Point) (view : StoredView) (new : DroneView) (
       record {
         drone = is;
         me = refl;
-        holds = subst (λ (o : Option (List ℕ)). StoreHolds o new) (sym same) (holds_of new None (new_drone key sys home).core (Some view.store.contents) is.link.low is.drone holds);
+        holds = subst (λ (o : Option (List ℕ)). StoreHolds o new) (sym same) (holds_of new None (new_drone key sys home).core (Some view.store.contents) is.link.low is.core holds);
         infallible = infallible;
       }
   by_low sys plans drone (Some low) is_sys is_plans holds from =
@@ -82,7 +82,7 @@ module _ (key : List ℕ) (home : Point) (view : StoredView) (new : DroneView) (
         drone = is;
         me = refl;
         holds = subst (λ (o : Option (List ℕ)). StoreHolds o new) (sym same)
-            (holds_of new (Some low) (stored_drone key sys home low plans).core (Some view.store.contents) (is.link.low ∙ ap Some (at_least_none low)) is.drone image);
+            (holds_of new (Some low) (stored_drone key sys home low plans).core (Some view.store.contents) (is.link.low ∙ ap Some (at_least_none low)) is.core image);
         infallible = infallible;
       }
 
@@ -93,7 +93,7 @@ starts_new key sys home new store same infallible from =
     record {
       drone = is;
       me = refl;
-      holds = subst (λ (o : Option (List ℕ)). StoreHolds o new) (sym same) (holds_of new None (new_drone key sys home).core (Some []) is.link.low is.drone refl);
+      holds = subst (λ (o : Option (List ℕ)). StoreHolds o new) (sym same) (holds_of new None (new_drone key sys home).core (Some []) is.link.low is.core refl);
       infallible = infallible;
     }
 
@@ -101,9 +101,9 @@ starts_new key sys home new store same infallible from =
 pub starts_stored : (key : List ℕ) (view : StoredView) (new : DroneView) (store : MemStore) → ◌≡◌ {A = Option (List ℕ)} (Some store.contents) (Some view.store.contents) → store.fails ≡ [] → (node : DroneSide) → IsStoredDrone node view → StartedFrom key view.node.drone.sys view.node.services.sim.home view.store.contents new → IsStoredDrone (restarted_drone key node) (record { node = new; store = store })
 starts_stored key view new store same infallible node is from =
     by_low key node.services.sim.home view new store same infallible node.core.sys node.core.plans node.core (stored_low node.link.history) refl refl
-    (subst (λ (l : Option ℕ). Holds (Some view.store.contents) (IsStored node.core) l) is.drone.link.low (subst (λ (d : DroneState). Holds (Some view.store.contents) (IsStored d) view.node.link.low) is.drone.drone is.holds))
+    (subst (λ (l : Option ℕ). Holds (Some view.store.contents) (IsStored node.core) l) is.drone.link.low (subst (λ (d : DroneState). Holds (Some view.store.contents) (IsStored d) view.node.link.low) is.drone.core is.holds))
     (subst (λ (v : DroneServices). StartedFrom key node.core.sys v.sim.home view.store.contents new) is.drone.services
-    (subst (λ (d : DroneState). StartedFrom key d.sys view.node.services.sim.home view.store.contents new) is.drone.drone from))
+    (subst (λ (d : DroneState). StartedFrom key d.sys view.node.services.sim.home view.store.contents new) is.drone.core from))
 
 -- ---- the world
 

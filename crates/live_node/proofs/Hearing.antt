@@ -35,9 +35,9 @@ drone_heard clock piece kept old new news h (Drone n) taken given is read =
       same = p.same;
       grows = subst (λ (extras : List (ℕ × ℕ)). GrowsBy extras (taken ++ piece) given p.events) p.same (new.link.endpoint.held, p.grows);
       heard = p.read;
-      keeps = p.keeps;
-      is_kept = p.is_kept;
-      did = did_as_drone (hears_keeping drone_rules_keeping clock p.keeps (frames_of p.events) n) new [] news p.did;
+      keeps = p.did.keeps;
+      is_kept = p.did.is_kept;
+      did = did_as_drone (hears_keeping drone_rules_keeping clock p.did.keeps (frames_of p.events) n) new [] news p.did.did;
     }
 drone_heard clock piece kept old new news h (Station n) taken given is read = absurd is
 

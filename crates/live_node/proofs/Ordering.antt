@@ -98,11 +98,11 @@ core_refuses (FileOrder drone op) s fault e end = never_fails fault _ e
 
 fails : (clock : ℕ) (order : Order) (view : StationView) (fault : OrderFault) → OrderFails clock order view fault → (n : StationSide) → IsStation n view → OrderFailsAt clock order (Station n) fault
 fails clock order view (Begin f) h n is = record {
-  refused = λ e. by_core (order_refusal n.core order) f.why _ (ap (λ s. order_refusal s order) (sym is.station) ∙ h.0);
+  refused = λ e. by_core (order_refusal n.core order) f.why _ (ap (λ s. order_refusal s order) (sym is.core) ∙ h.0);
   spent = λ e. absurd (op_not_stamps f.why e);
 }
 fails clock order view (Op f) h n is = record {
-  refused = λ e. by_core (order_refusal n.core order) f _ (ap (λ s. order_refusal s order) (sym is.station) ∙ core_refuses order view.station f h e);
+  refused = λ e. by_core (order_refusal n.core order) f _ (ap (λ s. order_refusal s order) (sym is.core) ∙ core_refuses order view.station f h e);
   spent = λ e. absurd (op_not_stamps f e);
 }
 fails clock order view (Command busy) h n is = record {

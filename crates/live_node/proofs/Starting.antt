@@ -49,7 +49,7 @@ old_low key sys low plans view is = is.link.low ∙ ap Some (bound_alone low)
 restored : (key : List ℕ) (sys : ℕ) (bytes : List ℕ) (view : DroneView) (low : ℕ) (plans : Plans) → IsImageOf sys low plans bytes → IsDrone (stored_drone key sys origin low plans) view → StoreHolds (Some bytes) view
 restored key sys bytes view low plans image is =
     subst (λ (l : Option ℕ). Holds (Some bytes) (IsStored view.drone) l) (sym (old_low key sys low plans view is))
-    (subst (λ (d : DroneState). IsImageOf d.sys low d.plans bytes) (sym is.drone) image)
+    (subst (λ (d : DroneState). IsImageOf d.sys low d.plans bytes) (sym is.core) image)
 
 pub begun : (key : List ℕ) (sys : ℕ) (contents : Option (List ℕ)) (view : DroneView) → IsStarted key sys origin view → IfSome contents (λ bytes. StartedFrom key sys origin bytes view) → Begun key sys contents view
 begun key sys None view (inl is) from = record { node = new_drone key sys origin; starts = inl refl; is = is; name = refl; stored = unknown (IsStored view.drone) view.link.low }

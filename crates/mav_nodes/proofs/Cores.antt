@@ -18,10 +18,10 @@ use Rattle.mav_nodes.specs.News.{NodeEvent, Drops, Shown, shown, events_of}
 use Rattle.mav_nodes.specs.Payloads.{plan_in, service_in}
 use Rattle.mav_nodes.specs.Links.{LinkView, Link, IsLink, Done, Outcome, done, after_events, and_then, tries, sends, sends_all}
 use Rattle.mav_nodes.specs.Services.{ServiceStep}
-use Rattle.mav_nodes.specs.Steps.{Side, Rules, CoreStep, answers, with_core, steps, steps_noted, serves, takes, admits, hears}
+use Rattle.mav_nodes.specs.Steps.{Side, Rules, CoreStep, answers, with_core, steps, steps_noted, serves, takes, admits, hears, IsNode}
 use Rattle.mav_nodes.specs.declared.steps.Step.{Step}
-use Rattle.mav_nodes.specs.Cores.{IsStep, IsNode, NodeDid, ends, says}
-use Rattle.mav_nodes.specs.Promises.{Fails, Did, LinkDid, IsAnswer, IsTried}
+use Rattle.mav_nodes.specs.Cores.{IsStep, ends, says}
+use Rattle.mav_nodes.specs.Promises.{NodeDid, Fails, Did, LinkDid, IsAnswer, IsTried}
 
 pub if_ok : {A E : Type 0} {P Q : A → Type 0} (r : Result A E) → ((a : A) → P a → Q a) → IfOk r P → IfOk r Q
 if_ok (Ok a) f h = f a h
@@ -62,7 +62,7 @@ stepped {Core} {Services} clock link services seen did view given endpoint befor
   where
     with_view : (core : Core) (first last : List NodeEvent) (outcome : Outcome Link) → view ≡ core → LinkDid (after_events first (ends last outcome)) endpoint before after → Did (after_events first (with_core core services last outcome)) (λ (node : Side Core Services). IsNode node endpoint view seen) before after
     with_view core first last None e h = h
-    with_view core first last (Some d) e h = (record { link = h.0; core = e; served = same }, h.1)
+    with_view core first last (Some d) e h = (record { link = h.0; core = e; services = same }, h.1)
 
 -- services did a step, and the link sent what they reply
 pub answered_all : {Core Services : Type 0} (clock : ℕ) (link : Link) (core view : Core) (did : ServiceStep Services) (services : Services) (endpoint : LinkView) (one two three : List News) → view ≡ core → services ≡ did.services → LinkDid (sends_all clock did.answers link) endpoint one two → events_of three ≡ events_of two ++ map shown did.last → NodeDid (serves clock link core did) endpoint view services one three
@@ -72,7 +72,7 @@ answered_all {Core} {Services} clock link core view did services endpoint one tw
     with_last : (v : Services) (last : List NodeEvent) (outcome : Outcome Link) → services ≡ v → events_of three ≡ events_of two ++ map shown last → LinkDid outcome endpoint one two → Did (with_core core v last outcome) (λ (node : Side Core Services). IsNode node endpoint view services) one three
     with_last v last None is e h = h
     with_last v last (Some d) is e h =
-        (record { link = h.0; core = same; served = is }, e ∙ (ap (λ (l : List Shown). l ++ map shown last) h.1 ∙ (append_assoc (events_of one) (map shown d.events) (map shown last) ∙ ap (λ (l : List Shown). events_of one ++ l) (sym (map-append shown d.events last)))))
+        (record { link = h.0; core = same; services = is }, e ∙ (ap (λ (l : List Shown). l ++ map shown last) h.1 ∙ (append_assoc (events_of one) (map shown d.events) (map shown last) ∙ ap (λ (l : List Shown). events_of one ++ l) (sym (map-append shown d.events last)))))
 
 pub serves_none : {Core Services : Type 0} (clock : ℕ) (link : Link) (core : Core) (did : ServiceStep Services) → sends_all clock did.answers link ≡ None → serves clock link core did ≡ None
 serves_none {Core} {Services} clock link core did h = ap (with_core core did.services did.last) h
@@ -85,11 +85,6 @@ steps_none {Core} {Services} clock link services did view given is h =
     with_none : (core : Core) (first last : List NodeEvent) (outcome : Outcome Link) → after_events first (ends last outcome) ≡ None → after_events first (with_core core services last outcome) ≡ None
     with_none core first last None h = refl
     with_none core first last (Some d) h = absurd cc
-
--- the same of a node, in another view
-pub did_so : {A : Type 0} {P Q : A → Type 0} (outcome : Outcome A) (before after : List News) → ((a : A) → P a → Q a) → Did outcome P before after → Did outcome Q before after
-did_so None before after f h = h
-did_so (Some d) before after f h = (f d.node h.0, h.1)
 
 module _ {Core Services : Type 0} (rules : Rules Core Services) (clock : ℕ) where
   answered : (node : Side Core Services) (packet : Packet) (from : Stream) (message : PlanMsg) (answer : Admit) (block : Option SignatureBlock) → IsAnswer answer packet block (Plan from message) → admits rules clock node packet answer block ≡ steps_noted rules.note clock node.link node.services (rules.take node.core from message)

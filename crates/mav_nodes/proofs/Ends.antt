@@ -14,29 +14,9 @@ use Rattle.mav_nodes.specs.declared.faults.NodeFault.TheVariants.{StampsSpent, S
 use Rattle.mav_nodes.specs.Links.{Link, LinkView, IsLink, Outcome, after_events, and_then}
 use Rattle.mav_nodes.specs.Stores.{AllKept}
 use Rattle.mav_nodes.specs.Steps.{Side, steps, serves}
-use Rattle.mav_nodes.specs.Cores.{IsNode, NodeDid, NodeDidKeeping, says}
-use Rattle.mav_nodes.specs.Nodes.{DroneSide, StationSide, DroneView, IsDrone, StationView, IsStation, IsAccepted, station_does, station_ticks, services_tick, station_obeys, order_step, order_refusal, is_service, service_step}
-use Rattle.mav_nodes.specs.Promises.{DroneDid, DroneDidKeeping, StationDid, Fails, SpentKeeping, FailsKeeping}
-use Rattle.mav_nodes.proofs.Cores.{did_so}
-
-pub drone_node : (node : DroneSide) {view : DroneView} → IsDrone node view → IsNode node view.link view.drone view.services
-drone_node node is = record { link = is.link; core = is.drone; served = is.services }
-
-pub drone_did : (outcome : Outcome DroneSide) (view : DroneView) (before after : List News) → NodeDid outcome view.link view.drone view.services before after → DroneDid outcome view before after
-drone_did outcome view before after =
-    did_so outcome before after (λ node is. record { link = is.link; drone = is.core; services = is.served })
-
--- the same with a store that may not keep what is saved
-pub drone_did_keeping : (does : List Bool → Outcome DroneSide) (kept : List Bool → Type 0) (view : DroneView) (news : List News) → NodeDidKeeping does kept view.link view.drone view.services news → DroneDidKeeping does kept view news
-drone_did_keeping does kept view news d =
-    record { keeps = d.keeps; is_kept = d.is_kept; did = drone_did (does d.keeps) view [] news d.did }
-
-pub station_node : (node : StationSide) {view : StationView} → IsStation node view → IsNode node view.link view.station view.services
-station_node node is = record { link = is.link; core = is.station; served = is.services }
-
-pub station_did : (outcome : Outcome StationSide) (view : StationView) (before after : List News) → NodeDid outcome view.link view.station view.services before after → StationDid outcome view before after
-station_did outcome view before after =
-    did_so outcome before after (λ node is. record { link = is.link; station = is.core; services = is.served })
+use Rattle.mav_nodes.specs.Cores.{says}
+use Rattle.mav_nodes.specs.Nodes.{StationSide, StationView, IsStation, IsAccepted, station_does, station_ticks, services_tick, station_obeys, order_step, order_refusal, is_service, service_step}
+use Rattle.mav_nodes.specs.Promises.{NodeDid, NodeDidKeeping, StationDid, Fails, SpentKeeping, FailsKeeping}
 
 -- what a station does at an order of the mission protocol is its core's step
 pub obeys : (clock : ℕ) (order : Order) (node : StationSide) → is_service order ≡ false → station_obeys clock order node ≡ steps clock node.link node.services (station_does (order_step node.core order))
@@ -147,7 +127,7 @@ module _ (clock : ℕ) where
       both (Some d) h =
           behind_did d.events (services_tick clock d.node) new one two h.1
           (subst (λ (v : StationServices). StationDid (serves clock d.node.link d.node.core (station_waits v)) new one two) h.0.services
-          (subst (λ (core : StationState). StationDid (serves clock d.node.link core (station_waits mid.services)) new one two) h.0.station (next d.node.link h.0.link)))
+          (subst (λ (core : StationState). StationDid (serves clock d.node.link core (station_waits mid.services)) new one two) h.0.core (next d.node.link h.0.link)))
 
   pub tick_spent : (old mid : StationView) (one : List News) (fault : NodeFault) → ((node : StationSide) → IsStation node old → StationDid (core_tick node) mid [] one)
       → Fails fault (λ (link : Link). IsLink link mid.link) (λ (link : Link). serves clock link mid.station (station_waits mid.services)) ⊥ → Fails fault (λ (node : StationSide). IsStation node old) (λ (node : StationSide). station_ticks clock node) ⊥
@@ -158,6 +138,6 @@ module _ (clock : ℕ) where
       spent (Some d) e =
           ap (after_events d.events)
           (subst (λ (v : StationServices). serves clock d.node.link d.node.core (station_waits v) ≡ None) e.0.services
-          (subst (λ (core : StationState). serves clock d.node.link core (station_waits mid.services) ≡ None) e.0.station (h d.node.link e.0.link)))
+          (subst (λ (core : StationState). serves clock d.node.link core (station_waits mid.services) ≡ None) e.0.core (h d.node.link e.0.link)))
   tick_spent old mid one Store did h = h
   tick_spent old mid one NoMemory did h = tt

@@ -9,8 +9,8 @@ use Rattle.mav_nodes.specs.declared.steps.Step.{Step}
 use Rattle.mav_nodes.specs.News.{NodeEvent}
 use Rattle.mav_nodes.specs.Links.{LinkView, Link, IsLink, Outcome, after_events, and_then}
 use Rattle.mav_nodes.specs.Stores.{IsKept, AllKept, HasFailedAt, HasFailed}
-use Rattle.mav_nodes.specs.Steps.{Side, Rules, CoreStep, steps, steps_noted, hears, hears_all, hears_keeping}
-use Rattle.mav_nodes.specs.Cores.{IsStep, IsNode, says}
+use Rattle.mav_nodes.specs.Steps.{Side, Rules, CoreStep, steps, steps_noted, hears, hears_all, hears_keeping, IsNode}
+use Rattle.mav_nodes.specs.Cores.{IsStep, says}
 use Rattle.mav_nodes.specs.Promises.{Fails, SpentKeeping, FailsKeeping}
 use Rattle.mav_nodes.proofs.Cores.{steps_none}
 

@@ -15,9 +15,8 @@ use Rattle.mav_nodes.specs.declared.news.News.{News}
 use Rattle.mav_nodes.specs.News.{NodeEvent, Shown, shown, events_of}
 use Rattle.mav_nodes.specs.Links.{LinkView, Outcome, after_events, and_then}
 use Rattle.mav_nodes.specs.Stores.{IsKept, AllKept}
-use Rattle.mav_nodes.specs.Steps.{Side, Rules, hears, hears_keeping, receives_keeping}
-use Rattle.mav_nodes.specs.Cores.{IsNode, NodeDidKeeping}
-use Rattle.mav_nodes.specs.Promises.{Did, SpentKeeping}
+use Rattle.mav_nodes.specs.Steps.{Side, Rules, hears, hears_keeping, receives_keeping, IsNode}
+use Rattle.mav_nodes.specs.Promises.{NodeDidKeeping, Did, SpentKeeping}
 use Rattle.mav_nodes.proofs.Cores.{Keeps, hears_keep}
 use Rattle.mav_nodes.proofs.Keeping.{none_yet, one_more, kept_so}
 

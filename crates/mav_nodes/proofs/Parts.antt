@@ -15,15 +15,13 @@ use Rattle.mav_nodes.specs.declared.news.News.{News}
 use Rattle.mav_nodes.specs.News.{NodeEvent, Shown, shown, events_of}
 use Rattle.mav_nodes.specs.Links.{Link, LinkView, IsLink, Outcome, after_events, and_then}
 use Rattle.mav_nodes.specs.Stores.{IsKept, AllKept}
-use Rattle.mav_nodes.specs.Steps.{Side, Rules, hears, hears_all, hears_keeping}
-use Rattle.mav_nodes.specs.Cores.{IsNode, NodeDid}
+use Rattle.mav_nodes.specs.Steps.{Side, IsNode, Rules, hears, hears_all, hears_keeping}
 use Rattle.plan_upload.specs.Station.{StationState}
 use Rattle.mav_nodes.specs.Services.{StationServices}
-use Rattle.mav_nodes.specs.Nodes.{DroneSide, DroneView, drone_rules_keeping, StationSide, StationView, station_rules}
-use Rattle.mav_nodes.specs.Promises.{Did, StationDid, SpentKeeping, FailsKeeping}
-use Rattle.mav_nodes.specs.Streams.{HasRead, GrowsBy, NodePart, DronePart, StationPart, PartFails}
+use Rattle.mav_nodes.specs.Nodes.{StationSide, StationView, station_rules}
+use Rattle.mav_nodes.specs.Promises.{Did, NodeDid, StationDid, SpentKeeping, FailsKeeping}
+use Rattle.mav_nodes.specs.Streams.{HasRead, GrowsBy, NodePart, StationPart, PartFails}
 use Rattle.mav_nodes.proofs.Keeping.{none_yet, one_more, kept_so, keeps_all}
-use Rattle.mav_nodes.proofs.Ends.{drone_did, station_did}
 use Rattle.mav_nodes.proofs.Leads.{behind_none, behind_twice, part_length}
 use Rattle.mav_nodes.proofs.Growing.{frames_first, one_frame, no_frame, bytes_on, holds_taken, frame_takes}
 
@@ -54,7 +52,7 @@ fewer_left piece place size one mid new result packet few within is read same =
 
 -- a node with the link after a read
 pub node_read : {Core Services : Type 0} (node : Side Core Services) (end mid : LinkView) (view : Core) (services : Services) → ((link : Link) → IsLink link end → IsLink link mid) → IsNode node end view services → IsNode node mid view services
-node_read node end mid view services link is = record { link = link node.link is.link; core = is.core; served = is.served }
+node_read node end mid view services link is = record { link = link node.link is.link; core = is.core; services = is.services }
 
 module _ {Core Services : Type 0} (rules : Bool → Rules Core Services) (clock : ℕ) where
   -- these frames were heard, with a store that kept this: this is the node now, and the news so far report what was done
@@ -176,11 +174,13 @@ module _ {Core Services : Type 0} (rules : Bool → Rules Core Services) (clock 
           subst (λ (events : List Event). Incremental mid.endpoint.extras false events mid.endpoint.held now) (append_assoc given so.events r.events)
           (subst (λ (e : List (ℕ × ℕ)). Incremental e false ((given ++ so.events) ++ r.events) mid.endpoint.held now) (sym r.progress.same) (r.whole refl));
       read = read_next r;
-      keeps = so.heard.keeps ++ [];
-      is_kept = subst (AllKept failed) (sym (append-nil so.heard.keeps)) so.heard.is_kept;
-      did =
-          subst (λ (packets : List Packet). Did (hears_keeping rules clock (so.heard.keeps ++ []) packets start) (λ n. IsNode n mid view services) [] news) (sym (no_frame so.events r.events r.frames))
-          (did_read (hears_keeping rules clock (so.heard.keeps ++ []) (frames_of so.events) start) (heard_whole start (frames_of so.events) (λ n. IsNode n end view services) failed news so.heard));
+      did = record {
+        keeps = so.heard.keeps ++ [];
+        is_kept = subst (AllKept failed) (sym (append-nil so.heard.keeps)) so.heard.is_kept;
+        did =
+            subst (λ (packets : List Packet). Did (hears_keeping rules clock (so.heard.keeps ++ []) packets start) (λ n. IsNode n mid view services) [] news) (sym (no_frame so.events r.events r.frames))
+            (did_read (hears_keeping rules clock (so.heard.keeps ++ []) (frames_of so.events) start) (heard_whole start (frames_of so.events) (λ n. IsNode n end view services) failed news so.heard));
+      };
     }
       where
         did_read : (outcome : Outcome (Side Core Services)) → Did outcome (λ n. IsNode n end view services) [] news → Did outcome (λ n. IsNode n mid view services) [] news
@@ -207,18 +207,7 @@ part_fails_so StampsSpent Is one spent Now other also piece F G f same so h = λ
 part_fails_so Store Is one spent Now other also piece F G f same so h = f h
 part_fails_so NoMemory Is one spent Now other also piece F G f same so h = tt
 
--- ---- drones and stations
-
-pub drone_part : (clock : ℕ) (node : DroneSide) (taken : List ℕ) (given : List Event) (kept : List Bool → Type 0) (view : DroneView) (news : List News) → NodePart drone_rules_keeping clock node taken given kept view.link view.drone view.services news → DronePart clock node taken given kept view news
-drone_part clock node taken given kept view news p = record {
-  events = p.events;
-  same = p.same;
-  grows = p.grows;
-  read = p.read;
-  keeps = p.keeps;
-  is_kept = p.is_kept;
-  did = drone_did (hears_keeping drone_rules_keeping clock p.keeps (frames_of p.events) node) view [] news p.did;
-}
+-- ---- stations
 
 abbrev pub sure_rules : Bool → Rules StationState StationServices
 sure_rules kept = station_rules
@@ -230,13 +219,12 @@ station_part clock node taken given failed view news never p = record {
   same = p.same;
   grows = p.grows;
   read = p.read;
-  did = by_kept p.is_kept;
+  did = by_kept p.did.is_kept;
 }
   where
-    by_kept : AllKept failed p.keeps → StationDid (hears_all station_rules clock (frames_of p.events) node) view [] news
+    by_kept : AllKept failed p.did.keeps → StationDid (hears_all station_rules clock (frames_of p.events) node) view [] news
     by_kept (inl all) =
-        station_did (hears_all station_rules clock (frames_of p.events) node) view [] news
-        (subst (λ (o : Outcome StationSide). NodeDid o view.link view.station view.services [] news) (keeps_all sure_rules clock p.keeps (frames_of p.events) node all) p.did)
+        subst (λ (o : Outcome StationSide). StationDid o view [] news) (keeps_all sure_rules clock p.did.keeps (frames_of p.events) node all) p.did.did
     by_kept (inr h) = absurd (never h)
 
 pub station_spent : (clock : ℕ) (packets : List Packet) (node : StationSide) (failed : Type 0) → (failed → ⊥) → SpentKeeping (AllKept failed) (λ keeps. hears_keeping sure_rules clock keeps packets node) → hears_all station_rules clock packets node ≡ None

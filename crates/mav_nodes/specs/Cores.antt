@@ -1,4 +1,4 @@
--- A node over any core: what the code of a core returns of its step, and what the calls of such a node promise.
+-- A node over any core: what the code of a core, and of its services, returns of a step.
 use Rattle.std.specs.Prelude.{ℕ, ◌≡◌, ◌++◌, Bool, true, false, List, [], ◌∷◌, map, Option, Some, None}
 use Rattle.plan_items.specs.declared.kinds.PlanKind.TheVariants.{Mission, Fence, Rally}
 use Rattle.mav_names.specs.declared.names.Stream.{Stream}
@@ -6,16 +6,14 @@ use Rattle.plan_items.specs.declared.messages.PlanMsg.{PlanMsg}
 use Rattle.mav_messages.specs.declared.messages.Message.{Message}
 use Rattle.plan_upload.specs.declared.outcomes.Outcome.{Outcome as Ended}
 use Rattle.plan_upload.specs.Outcomes.{told_of}
-use Rattle.mav_nodes.specs.declared.news.News.{News}
 use Rattle.mav_nodes.specs.declared.steps.PlanNews.{PlanNews}
 use Rattle.mav_nodes.specs.declared.steps.PlanNews.TheVariants.{Same, Installed, Emptied}
 use Rattle.mav_nodes.specs.declared.steps.Step.{Step}
 use Rattle.mav_nodes.specs.declared.services.Served.{Served}
 use Rattle.mav_nodes.specs.News.{NodeEvent, Shown, Shows_installed, Shows_emptied, Shows_ended, shown, events_of}
 use Rattle.mav_nodes.specs.Services.{ServiceStep}
-use Rattle.mav_nodes.specs.Links.{Link, LinkView, IsLink, Outcome, done, after_events}
-use Rattle.mav_nodes.specs.Steps.{Side, Rules, CoreStep, answers}
-use Rattle.mav_nodes.specs.Promises.{Did}
+use Rattle.mav_nodes.specs.Links.{Link, Outcome, done, after_events}
+use Rattle.mav_nodes.specs.Steps.{Rules, CoreStep, answers}
 
 -- what is reported of a drone's plans
 abbrev pub said_of_plans : PlanNews → List Shown
@@ -59,18 +57,3 @@ pub record IsServed {Services : Type 0} (step : ServiceStep Services) (view : Se
   pub services : view ≡ step.services
   pub answers : given.answers.items ≡ step.answers
   pub last : events_of given.last.items ≡ map shown step.last
-
--- a node with a core and services at that end of the links
-pub record IsNode {Core Services : Type 0} (node : Side Core Services) (end : LinkView) (view : Core) (services : Services) : Type 0 where
-  pub link : IsLink node.link end
-  pub core : view ≡ node.core
-  pub served : services ≡ node.services
-
-abbrev pub NodeDid : {Core Services : Type 0} → Outcome (Side Core Services) → LinkView → Core → Services → List News → List News → Type 0
-NodeDid outcome end view services before after = Did outcome (λ node. IsNode node end view services) before after
-
--- the same with a store that may not keep what is saved
-pub record NodeDidKeeping {I Core Services : Type 0} (does : I → Outcome (Side Core Services)) (kept : I → Type 0) (end : LinkView) (view : Core) (services : Services) (news : List News) : Type 0 where
-  pub keeps : I
-  pub is_kept : kept keeps
-  pub did : NodeDid (does keeps) end view services [] news

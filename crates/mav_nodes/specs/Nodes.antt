@@ -34,8 +34,8 @@ use Rattle.mav_nodes.specs.FileServices.{begins, file_order}
 use Rattle.drone_sim.specs.declared.points.Point.{Point}
 use Rattle.drone_sim.specs.Sim.{armed}
 use Rattle.mav_nodes.specs.Services.{ServiceStep, DroneServices, StationServices, new_drone_services, new_station_services, drone_serves, drone_notes, drone_flies, station_serves, station_waits, command_of, asks_command, asks_params, asks_file, rests}
-use Rattle.mav_nodes.specs.Links.{LinkView, IsLink, Outcome, and_then, new_link, sends}
-use Rattle.mav_nodes.specs.Steps.{Side, Rules, CoreStep, with_core, steps, serves, receives, receives_keeping}
+use Rattle.mav_nodes.specs.Links.{LinkView, Outcome, and_then, new_link, sends}
+use Rattle.mav_nodes.specs.Steps.{Side, IsNode, Rules, CoreStep, with_core, steps, serves, receives, receives_keeping}
 
 -- ---- a drone
 
@@ -120,10 +120,8 @@ pub record DroneView : Type 0 where
   pub drone : DroneState
   pub services : DroneServices
 
-pub record IsDrone (node : DroneSide) (view : DroneView) : Type 0 where
-  pub link : IsLink node.link view.link
-  pub drone : view.drone ≡ node.core
-  pub services : view.services ≡ node.services
+abbrev pub IsDrone : DroneSide → DroneView → Type 0
+IsDrone node view = IsNode node view.link view.drone view.services
 
 -- ---- a station
 
@@ -218,10 +216,8 @@ pub record StationView : Type 0 where
   pub station : StationState
   pub services : StationServices
 
-pub record IsStation (node : StationSide) (view : StationView) : Type 0 where
-  pub link : IsLink node.link view.link
-  pub station : view.station ≡ node.core
-  pub services : view.services ≡ node.services
+abbrev pub IsStation : StationSide → StationView → Type 0
+IsStation node view = IsNode node view.link view.station view.services
 
 -- an order of the mission protocol: what its core does
 abbrev pub order_step : StationState → Order → StationStep

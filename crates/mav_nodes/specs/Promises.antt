@@ -14,9 +14,10 @@ use Rattle.mav_nodes.specs.Payloads.{plan_in, service_in}
 use Rattle.mav_nodes.specs.News.{shown, events_of}
 use Rattle.mav_nodes.specs.Links.{Link, LinkView, IsLink, Outcome}
 use Rattle.mav_nodes.specs.Stores.{Serves}
+use Rattle.mav_nodes.specs.Steps.{Side, IsNode}
 use Rattle.plan_upload.specs.Station.{StationState}
 use Rattle.mav_nodes.specs.Services.{StationServices}
-use Rattle.mav_nodes.specs.Nodes.{DroneSide, StationSide, DroneView, IsDrone, StationView, IsStation, IsAccepted, station_obeys, order_refusal, order_plan, order_fault, command_refusal, params_refusal, file_refusal}
+use Rattle.mav_nodes.specs.Nodes.{DroneSide, StationSide, DroneView, StationView, IsStation, IsAccepted, station_obeys, order_refusal, order_plan, order_fault, command_refusal, params_refusal, file_refusal}
 use Rattle.mav_nodes.specs.declared.orders.Order.{Order}
 use Rattle.mav_nodes.specs.declared.faults.OrderFault.{OrderFault}
 use Rattle.mav_nodes.specs.declared.faults.OrderFault.TheVariants.{Begin, Op, Command, Param, File, Node}
@@ -75,18 +76,24 @@ IsAnswer answer packet block tried = tried ≡ Dropped answer
 abbrev pub IsTried : Link → Packet → Tried → Type 0
 IsTried link packet tried = IsAnswer (answer_to link.key link.history packet) packet packet.block tried
 
--- the same of a drone and of a station
+-- the same of a node, of a drone and of a station
+abbrev pub NodeDid : {Core Services : Type 0} → Outcome (Side Core Services) → LinkView → Core → Services → List News → List News → Type 0
+NodeDid outcome end core services before after = Did outcome (λ node. IsNode node end core services) before after
+
 abbrev pub DroneDid : Outcome DroneSide → DroneView → List News → List News → Type 0
-DroneDid outcome view before after = Did outcome (λ node. IsDrone node view) before after
+DroneDid outcome view before after = NodeDid outcome view.link view.drone view.services before after
 
 abbrev pub StationDid : Outcome StationSide → StationView → List News → List News → Type 0
-StationDid outcome view before after = Did outcome (λ node. IsStation node view) before after
+StationDid outcome view before after = NodeDid outcome view.link view.station view.services before after
 
--- the same of a drone with a store that may not keep what is saved
-pub record DroneDidKeeping {I : Type 0} (does : I → Outcome DroneSide) (kept : I → Type 0) (view : DroneView) (news : List News) : Type 0 where
+-- the same with a store that may not keep what is saved
+pub record NodeDidKeeping {I Core Services : Type 0} (does : I → Outcome (Side Core Services)) (kept : I → Type 0) (end : LinkView) (core : Core) (services : Services) (news : List News) : Type 0 where
   pub keeps : I
   pub is_kept : kept keeps
-  pub did : DroneDid (does keeps) view [] news
+  pub did : NodeDid (does keeps) end core services [] news
+
+abbrev pub DroneDidKeeping : {I : Type 0} → (I → Outcome DroneSide) → (I → Type 0) → DroneView → List News → Type 0
+DroneDidKeeping {I} does kept view news = NodeDidKeeping {I = I} does kept view.link view.drone view.services news
 
 -- an order was refused, for the first cause; an upload's plan is returned
 abbrev pub IsPlanRefusal : StationState → Order → OrderFault → Type 0

@@ -1,6 +1,6 @@
 -- What a node does at frames, whatever its core and its services are: each is tried, the core takes the plan message of an
 -- admitted one, the services any other message that is theirs, and what is replied is sent before the next frame is tried.
-use Rattle.std.specs.Prelude.{false, true, Bool, ℕ, List, [], ◌∷◌, ◌++◌, Option, Some, None}
+use Rattle.std.specs.Prelude.{◌≡◌, false, true, Bool, ℕ, List, [], ◌∷◌, ◌++◌, Option, Some, None}
 use Rattle.mav_names.specs.declared.names.Stream.{Stream}
 use Rattle.plan_items.specs.declared.messages.PlanMsg.{PlanMsg}
 use Rattle.mav_frame.specs.Packet.{Packet, SignatureBlock}
@@ -14,13 +14,19 @@ use Rattle.mav_sign.specs.Endpoints.{frames_of}
 use Rattle.mav_nodes.specs.News.{NodeEvent, Drops}
 use Rattle.mav_nodes.specs.Services.{ServiceStep}
 use Rattle.mav_nodes.specs.Payloads.{plan_in, service_in}
-use Rattle.mav_nodes.specs.Links.{Link, Outcome, done, after_events, and_then, tries, sends, sends_all}
+use Rattle.mav_nodes.specs.Links.{Link, LinkView, IsLink, Outcome, done, after_events, and_then, tries, sends, sends_all}
 
 -- a node: its end of the links, its core, and its services
 pub record Side (Core Services : Type 0) : Type 0 where
   pub link : Link
   pub core : Core
   pub services : Services
+
+-- contracts see this end of the links, this core and these services of it
+pub record IsNode {Core Services : Type 0} (node : Side Core Services) (end : LinkView) (core_seen : Core) (seen : Services) : Type 0 where
+  pub link : IsLink node.link end
+  pub core : core_seen ≡ node.core
+  pub services : seen ≡ node.services
 
 -- a core's step: the core after it, its events before and after what it sends
 pub record CoreStep (Core : Type 0) : Type 0 where

@@ -12,9 +12,8 @@ use Rattle.mav_nodes.specs.declared.faults.NodeFault.{NodeFault}
 use Rattle.mav_nodes.specs.declared.faults.NodeFault.TheVariants.{StampsSpent, Store, NoMemory}
 use Rattle.mav_nodes.specs.Links.{LinkView}
 use Rattle.mav_nodes.specs.Steps.{Side, Rules, hears_all, hears_keeping}
-use Rattle.mav_nodes.specs.Cores.{NodeDid}
 use Rattle.mav_nodes.specs.Nodes.{DroneSide, DroneView, IsDrone, drone_rules_keeping, StationSide, StationView, IsStation, station_rules}
-use Rattle.mav_nodes.specs.Promises.{DroneDid, StationDid, SpentKeeping}
+use Rattle.mav_nodes.specs.Promises.{StationDid, NodeDidKeeping, SpentKeeping}
 
 -- a node has taken these bytes of a stream, and heard the frames of these events
 abbrev pub HasRead : List ℕ → List Event → LinkView → Type 0
@@ -24,33 +23,27 @@ HasRead taken given view = Progress view.endpoint.extras false taken given (read
 abbrev pub GrowsBy : List (ℕ × ℕ) → List ℕ → List Event → List Event → Type 0
 GrowsBy extras taken given events = (left : List ℕ) × Incremental extras false (given ++ events) left taken
 
--- a node over any core heard a piece, up to these bytes of its stream; its store may not keep what is saved
-pub record NodePart {Core Services : Type 0} (rules : Bool → Rules Core Services) (clock : ℕ) (node : Side Core Services) (taken : List ℕ) (given : List Event) (kept : List Bool → Type 0) (end : LinkView) (view : Core) (services : Services) (news : List News) : Type 0 where
+-- a node has heard a piece, up to these bytes of its stream: this was done at the frames by which the parse grew
+pub record HearsPart {Core Services : Type 0} (node : Side Core Services) (taken : List ℕ) (given : List Event) (end : LinkView) (does : List Packet → Type 0) : Type 0 where
   pub events : List Event
   pub same : end.endpoint.extras ≡ node.link.extras
   pub grows : Incremental end.endpoint.extras false (given ++ events) end.endpoint.held taken
   pub read : HasRead taken (given ++ events) end
-  pub keeps : List Bool
-  pub is_kept : kept keeps
-  pub did : NodeDid (hears_keeping rules clock keeps (frames_of events) node) end view services [] news
+  pub did : does (frames_of events)
 
--- a drone heard a piece, up to these bytes of its stream; its store may not keep what is saved
-pub record DronePart (clock : ℕ) (node : DroneSide) (taken : List ℕ) (given : List Event) (kept : List Bool → Type 0) (view : DroneView) (news : List News) : Type 0 where
-  pub events : List Event
-  pub same : view.link.endpoint.extras ≡ node.link.extras
-  pub grows : Incremental view.link.endpoint.extras false (given ++ events) view.link.endpoint.held taken
-  pub read : HasRead taken (given ++ events) view.link
-  pub keeps : List Bool
-  pub is_kept : kept keeps
-  pub did : DroneDid (hears_keeping drone_rules_keeping clock keeps (frames_of events) node) view [] news
+-- over any core, with a store that may not keep what is saved
+abbrev pub NodePart : {Core Services : Type 0} → (Bool → Rules Core Services) → ℕ → Side Core Services → List ℕ → List Event → (List Bool → Type 0) → LinkView → Core → Services → List News → Type 0
+NodePart rules clock node taken given kept end core services news =
+    HearsPart node taken given end (λ packets. NodeDidKeeping (λ (keeps : List Bool). hears_keeping rules clock keeps packets node) kept end core services news)
 
--- the same of a station
-pub record StationPart (clock : ℕ) (node : StationSide) (taken : List ℕ) (given : List Event) (view : StationView) (news : List News) : Type 0 where
-  pub events : List Event
-  pub same : view.link.endpoint.extras ≡ node.link.extras
-  pub grows : Incremental view.link.endpoint.extras false (given ++ events) view.link.endpoint.held taken
-  pub read : HasRead taken (given ++ events) view.link
-  pub did : StationDid (hears_all station_rules clock (frames_of events) node) view [] news
+abbrev pub DronePart : ℕ → DroneSide → List ℕ → List Event → (List Bool → Type 0) → DroneView → List News → Type 0
+DronePart clock node taken given kept view news =
+    NodePart drone_rules_keeping clock node taken given kept view.link view.drone view.services news
+
+-- a station stores nothing
+abbrev pub StationPart : ℕ → StationSide → List ℕ → List Event → StationView → List News → Type 0
+StationPart clock node taken given view news =
+    HearsPart node taken given view.link (λ packets. StationDid (hears_all station_rules clock packets node) view [] news)
 
 -- a node fails to hear a piece: for want of a timestamp if hearing the frames of the piece is in want of one, and by the
 -- store if a call of the store has failed

@@ -4,12 +4,12 @@ ghost use Rattle.std.specs.Result.{result_err};
 ghost use Rattle.mav_frame.specs.declared.events.Event.{Event as StreamEvent};
 ghost use Rattle.mav_frame.specs.Packet.{Packet};
 ghost use Rattle.mav_sign.specs.Signing.{verified};
-ghost use Rattle.mav_nodes.specs.Steps.{Side, steps, steps_noted, serves, hears, hears_keeping, receives_keeping};
+ghost use Rattle.mav_nodes.specs.Steps.{Side, steps, steps_noted, serves, hears, hears_keeping, receives_keeping, IsNode};
 ghost use Rattle.mav_nodes.specs.Services.{ServiceStep};
 ghost use Rattle.mav_nodes.specs.Links.{Link as LinkState, IsLink, sends};
 ghost use Rattle.mav_nodes.specs.Stores.{Holds, Serves, HasFailed, IsKept, AllKept};
-ghost use Rattle.mav_nodes.specs.Cores.{IsServed, IsNode, NodeDid, NodeDidKeeping, rules_of};
-ghost use Rattle.mav_nodes.specs.Promises.{LinkDid, LinkKeeps, Fails, SpentKeeping, FailsKeeping};
+ghost use Rattle.mav_nodes.specs.Cores.{IsServed, rules_of};
+ghost use Rattle.mav_nodes.specs.Promises.{NodeDid, NodeDidKeeping, LinkDid, LinkKeeps, Fails, SpentKeeping, FailsKeeping};
 ghost use Rattle.mav_nodes.specs.Streams.{HasRead, NodePart, PartFails};
 
 use crate::link::{Link, Tried};

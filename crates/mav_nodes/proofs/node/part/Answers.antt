@@ -4,9 +4,9 @@ use Rattle.std.proofs.lemmas.Result.{err_from_is_err_and}
 use Rattle.mav_frame.specs.Packet.{Packet}
 use Rattle.mav_nodes.specs.declared.faults.NodeFault.{NodeFault}
 use Rattle.mav_nodes.specs.Stores.{Holds, IsKept, AllKept, HasFailed}
-use Rattle.mav_nodes.specs.Steps.{Side, hears, hears_keeping}
-use Rattle.mav_nodes.specs.Cores.{IsNode, NodeDid, rules_of}
-use Rattle.mav_nodes.specs.Promises.{SpentKeeping, FailsKeeping}
+use Rattle.mav_nodes.specs.Steps.{Side, hears, hears_keeping, IsNode}
+use Rattle.mav_nodes.specs.Cores.{rules_of}
+use Rattle.mav_nodes.specs.Promises.{NodeDid, SpentKeeping, FailsKeeping}
 use Rattle.mav_nodes.specs.Streams.{NodePart, GrowsBy}
 use Rattle.mav_nodes.proofs.StoreCalls.{serves_same, serves_both, failed_then, then_failed}
 use Rattle.mav_nodes.proofs.Keeping.{kept_so}

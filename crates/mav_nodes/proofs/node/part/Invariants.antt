@@ -1,8 +1,8 @@
 use Rattle.std.proofs.Common.{ℕ, ◌+◌, ◌-◌, ◌≤◌, ◌++◌, List, length, take}
 use Rattle.mav_frame.specs.declared.events.Event.{Event}
-use Rattle.mav_nodes.specs.Steps.{Side}
+use Rattle.mav_nodes.specs.Steps.{Side, IsNode}
 use Rattle.mav_nodes.specs.Stores.{Holds, Serves, HasFailed}
-use Rattle.mav_nodes.specs.Cores.{IsNode, rules_of}
+use Rattle.mav_nodes.specs.Cores.{rules_of}
 use Rattle.mav_nodes.specs.Streams.{HasRead}
 use Rattle.mav_nodes.proofs.Parts.{PartTo}
 use Rattle.mav_nodes.proofs.node.part.Given as goal

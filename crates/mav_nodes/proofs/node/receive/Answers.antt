@@ -2,8 +2,8 @@ use Rattle.std.proofs.Common.{ℕ, ◌+◌, ◌≤◌, length, drop, length-drop
 use Rattle.std.proofs.lemmas.Result.{err_from_is_err_and}
 use Rattle.mav_nodes.specs.declared.faults.NodeFault.{NodeFault}
 use Rattle.mav_nodes.specs.Stores.{IsKept, HasFailed}
-use Rattle.mav_nodes.specs.Steps.{Side, hears, receives_keeping}
-use Rattle.mav_nodes.specs.Cores.{IsNode, rules_of}
+use Rattle.mav_nodes.specs.Steps.{Side, hears, receives_keeping, IsNode}
+use Rattle.mav_nodes.specs.Cores.{rules_of}
 use Rattle.mav_nodes.specs.Promises.{FailsKeeping}
 use Rattle.mav_nodes.proofs.StoreCalls.{serves_same, failed_then, then_failed, keeps_then}
 use Rattle.mav_nodes.proofs.Keeping.{kept_so, receive_fails}

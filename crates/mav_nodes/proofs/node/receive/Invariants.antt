@@ -1,7 +1,7 @@
 use Rattle.std.proofs.Common.{◌-◌, ◌≤◌, Bool, List, length, drop, None}
-use Rattle.mav_nodes.specs.Steps.{Side, receives_keeping}
+use Rattle.mav_nodes.specs.Steps.{Side, receives_keeping, IsNode}
 use Rattle.mav_nodes.specs.Stores.{Holds, HasFailed}
-use Rattle.mav_nodes.specs.Cores.{IsNode, rules_of}
+use Rattle.mav_nodes.specs.Cores.{rules_of}
 use Rattle.mav_nodes.specs.Promises.{LinkKeeps}
 use Rattle.mav_nodes.proofs.Leads.{Leads}
 use Rattle.mav_nodes.proofs.node.receive.Given as goal

@@ -1,11 +1,11 @@
 use Rattle.std.proofs.Common.{◌≡◌, ℕ, Bool, List, Option, Some, None, refl, sym, ap, ◌∙◌, subst}
 use Rattle.plan_items.specs.declared.messages.PlanMsg.{PlanMsg}
-use Rattle.mav_nodes.specs.Steps.{Side, steps_noted}
+use Rattle.mav_nodes.specs.Steps.{Side, steps_noted, IsNode}
 use Rattle.std.proofs.lemmas.Result.{err_from_is_err_and}
 use Rattle.mav_nodes.specs.declared.faults.NodeFault.{NodeFault}
 use Rattle.mav_nodes.specs.Links.{Link, IsLink}
 use Rattle.mav_nodes.specs.Stores.{Holds, HoldsNearly, StoredBefore, HasFailed, IsKept}
-use Rattle.mav_nodes.specs.Cores.{IsStep, IsNode, says}
+use Rattle.mav_nodes.specs.Cores.{IsStep, says}
 use Rattle.mav_nodes.specs.Promises.{Fails}
 use Rattle.mav_nodes.proofs.Cores.{stepped}
 use Rattle.mav_nodes.proofs.StoreCalls.{failed_then, then_failed, serves_both}
@@ -57,7 +57,7 @@ returns-clause-done g c =
     let step = c.take-step.result in
     let did = g.C.Core.taken kept node.core c.args.from c.args.message.now in
     let s = subst (λ (core : g.row.C.Denot). IsStep (g.C.Core.taken kept core c.args.from c.args.message.now) c.take-step.new.self step) is.core c.take-step.ensures in
-    let noted = c.note.ensures did.first s.first ∙ ap (λ (v : g.row.V.Denot). g.V.Services.noted v did.first) is.served in
+    let noted = c.note.ensures did.first s.first ∙ ap (λ (v : g.row.V.Denot). g.V.Services.noted v did.first) is.services in
     stepped c.args.clock node.link (g.V.Services.noted node.services did.first) c.note.new.self did c.take-step.new.self step c.say.new.self c.args.news.now.items c.say.new.news.items noted s (c.in_ok-say.ensures.said node.link did.first did.last is.link s.first s.last)
 
 pub returns-clause-unkept : goal.returns-clause-unkept

@@ -27,4 +27,4 @@ returns-clause-done g c =
     let after = c.say.new.news.items in
     let step = subst (λ (core : g.row.C.Denot). IsStep (waited core) c.wait-step.new.self given) is.core c.wait-step.ensures.step in
     let said = c.in_ok-say.ensures.said node.link did.first did.last is.link step.first step.last in
-    stepped c.args.clock node.link node.services c.args._services.now did c.wait-step.new.self given c.say.new.self [] after is.served step (subst (λ (before : List News). LinkDid (says c.args.clock did.first given.answer did.last node.link) c.say.new.self before after) c.new-news.ensures.items said)
+    stepped c.args.clock node.link node.services c.args._services.now did c.wait-step.new.self given c.say.new.self [] after is.services step (subst (λ (before : List News). LinkDid (says c.args.clock did.first given.answer did.last node.link) c.say.new.self before after) c.new-news.ensures.items said)

@@ -1,20 +1,17 @@
 use Rattle.std.proofs.Common.{sym, ap, subst}
-use Rattle.mav_nodes.specs.Steps.{hears_keeping}
+use Rattle.mav_nodes.specs.Steps.{hears_keeping, IsNode}
 use Rattle.mav_nodes.specs.Stores.{AllKept, HasFailed}
-use Rattle.mav_nodes.specs.Cores.{IsNode}
 use Rattle.mav_nodes.specs.Nodes.{DroneSide, DroneView, IsDrone, drone_rules_keeping}
 use Rattle.mav_nodes.specs.Promises.{SpentKeeping}
 use Rattle.mav_nodes.specs.Streams.{HasRead}
 use Rattle.mav_nodes.proofs.Cores.{if_ok, if_err}
-use Rattle.mav_nodes.proofs.Ends.{drone_node}
-use Rattle.mav_nodes.proofs.Parts.{part_fails_so, drone_part}
+use Rattle.mav_nodes.proofs.Parts.{part_fails_so}
 use Rattle.mav_nodes.proofs.drone_node.DroneNode.part.Goals as goal
 
 pub returns-clause-done : goal.returns-clause-done
 returns-clause-done g c =
     if_ok c.part.result (λ part did node taken given is read.
-    drone_part c.args.clock node _ given _ _ part.1.items
-    (did node taken given (drone_node node (subst (IsDrone node) (sym c.self.view_is) is)) (subst (λ (v : DroneView). HasRead taken given v.link) (sym c.self.view_is) read))) c.part.ensures.done
+    did node taken given (subst (IsDrone node) (sym c.self.view_is) is) (subst (λ (v : DroneView). HasRead taken given v.link) (sym c.self.view_is) read)) c.part.ensures.done
 
 pub returns-clause-fault : goal.returns-clause-fault
 returns-clause-fault g c =
@@ -23,4 +20,4 @@ returns-clause-fault g c =
     part_fails_so fault (λ (node : DroneSide). IsNode node c.self.inside.link c.self.inside.drone c.self.inside.services) c.self.inside.link
     (λ packets (node : DroneSide). SpentKeeping (AllKept failed) (λ keeps. hears_keeping drone_rules_keeping c.args.clock keeps packets node)) (λ (node : DroneSide). IsDrone node c.args.self.now) c.args.self.now.link
     (λ packets (node : DroneSide). SpentKeeping (AllKept failed) (λ keeps. hears_keeping drone_rules_keeping c.args.clock keeps packets node)) c.args.piece.now failed failed (λ f. f) (ap (λ (v : DroneView). v.link) c.self.view_is)
-    (λ node is. (node, drone_node node (subst (IsDrone node) (sym c.self.view_is) is), λ packets spent. spent)) h) c.part.ensures.fault
+    (λ node is. (node, subst (IsDrone node) (sym c.self.view_is) is, λ packets spent. spent)) h) c.part.ensures.fault

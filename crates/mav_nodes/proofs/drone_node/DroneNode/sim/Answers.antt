@@ -1,4 +1,4 @@
-use Rattle.std.proofs.Common.{◌≡◌, List, [], None, sym, subst}
+use Rattle.std.proofs.Common.{◌≡◌, List, None, sym, subst}
 use Rattle.std.proofs.lemmas.Result.{err_from_is_err_and}
 use Rattle.plan_upload.specs.Drone.{DroneState}
 use Rattle.mav_nodes.specs.declared.faults.NodeFault.{NodeFault}
@@ -7,10 +7,10 @@ use Rattle.mav_nodes.specs.Links.{IsLink, Outcome}
 use Rattle.mav_nodes.specs.Stores.{HasFailed}
 use Rattle.mav_nodes.specs.Services.{DroneServices, drone_flies}
 use Rattle.mav_nodes.specs.Steps.{serves}
-use Rattle.mav_nodes.specs.Cores.{IsServed, NodeDid}
+use Rattle.mav_nodes.specs.Cores.{IsServed}
+use Rattle.mav_nodes.specs.Promises.{NodeDid, Fails}
 use Rattle.mav_nodes.specs.Nodes.{DroneSide, IsDrone, drone_sims}
-use Rattle.mav_nodes.specs.Promises.{Fails}
-use Rattle.mav_nodes.proofs.Ends.{drone_did, fails_so}
+use Rattle.mav_nodes.proofs.Ends.{fails_so}
 use Rattle.mav_nodes.proofs.drone_node.DroneNode.sim.Goals as goal
 
 pub returns-in_err-say_served-clause-fault : goal.returns-in_err-say_served-clause-fault
@@ -26,7 +26,7 @@ returns-in_err-say_served-clause-fault g c =
       record { link = node.link; core = drone; services = services },
       inside.link,
       λ none.
-          subst (λ (core : DroneState). serves c.args.clock node.link core (drone_flies core node.services) ≡ None) inside.drone
+          subst (λ (core : DroneState). serves c.args.clock node.link core (drone_flies core node.services) ≡ None) inside.core
           (subst (λ (v : DroneServices). serves c.args.clock node.link drone (drone_flies drone v) ≡ None) inside.services none),
     ))
     (subst (λ (f : NodeFault). Fails f (λ (node : DroneSide). IsLink node.link c.self.inside.link) does failed) (sym p.2) (c.in_err-say_served.ensures.fault (drone_flies drone services) c.in_ok-served.ensures)))
@@ -36,8 +36,7 @@ returns-clause-done g c =
     λ node is.
     let inside = subst (IsDrone node) (sym c.self.view_is) is in
     let step = drone_flies node.core node.services in
-    let one = subst (λ (core : DroneState). IsServed (drone_flies core c.self.inside.services) c.fly.new.self c.in_ok-served.served) inside.drone c.in_ok-served.ensures in
+    let one = subst (λ (core : DroneState). IsServed (drone_flies core c.self.inside.services) c.fly.new.self c.in_ok-served.served) inside.core c.in_ok-served.ensures in
     let served = subst (λ (v : DroneServices). IsServed (drone_flies node.core v) c.fly.new.self c.in_ok-served.served) inside.services one in
-    let did = c.in_ok-say_served.ensures.done node step inside.link inside.drone served in
-    let clean = subst (λ (before : List News). NodeDid (serves c.args.clock node.link node.core step) c.say_served.new.link c.self.inside.drone c.fly.new.self before c.say_served.new.news.items) c.new-news.ensures.items did in
-    drone_did (drone_sims c.args.clock node) _ [] c.say_served.new.news.items clean
+    let did = c.in_ok-say_served.ensures.done node step inside.link inside.core served in
+    subst (λ (before : List News). NodeDid (serves c.args.clock node.link node.core step) c.say_served.new.link c.self.inside.drone c.fly.new.self before c.say_served.new.news.items) c.new-news.ensures.items did

@@ -13,7 +13,7 @@ returns-clause-done c =
     if_ok c.send.result (λ news sent node is.
     let inside = subst (IsStation node) (sym c.self.view_is) is in
     let beat = subst (λ (m : Message). LinkDid (sends c.args.clock m node.link) c.send.new.link [] news.items) c.station_heartbeat-message.ensures (sent node.link inside.link) in
-    core_did node.core node.services (sends c.args.clock station_heartbeat node.link) c.send.new.link (λ (n : StationSide). IsStation n (record { link = c.send.new.link; station = c.self.inside.station; services = c.self.inside.services })) [] news.items beat (λ link l. record { link = l; station = inside.station; services = inside.services })) c.send.ensures.sent
+    core_did node.core node.services (sends c.args.clock station_heartbeat node.link) c.send.new.link (λ (n : StationSide). IsStation n (record { link = c.send.new.link; station = c.self.inside.station; services = c.self.inside.services })) [] news.items beat (λ link l. record { link = l; core = inside.core; services = inside.services })) c.send.ensures.sent
 
 pub returns-clause-fault : goal.returns-clause-fault
 returns-clause-fault c =

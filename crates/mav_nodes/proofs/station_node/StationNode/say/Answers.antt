@@ -5,7 +5,7 @@ use Rattle.mav_nodes.specs.Cores.{IsServed}
 use Rattle.mav_nodes.specs.Nodes.{StationSide, StationView}
 use Rattle.mav_nodes.specs.Promises.{StationDid}
 use Rattle.mav_nodes.proofs.Cores.{if_err}
-use Rattle.mav_nodes.proofs.Ends.{station_did, fails_so, on_ok}
+use Rattle.mav_nodes.proofs.Ends.{fails_so, on_ok}
 use Rattle.mav_nodes.proofs.station_node.StationNode.say.Goals as goal
 
 pub returns-clause-done : goal.returns-clause-done
@@ -15,7 +15,7 @@ returns-clause-done c =
     let was = subst (λ (v : StationView). IsServed step v.services c.args.served) (sym c.self.view_is) served in
     let node : StationSide = record { link = link; core = c.self.inside.station; services = c.self.inside.services } in
     subst (λ (v : StationView). StationDid (serves c.args.clock link v.station step) (record { link = c.say_served.new.link; station = c.self.inside.station; services = c.self.inside.services }) c.args.news.now.items c.say_served.new.news.items) c.self.view_is
-    (station_did (serves c.args.clock link c.self.inside.station step) (record { link = c.say_served.new.link; station = c.self.inside.station; services = c.self.inside.services }) c.args.news.now.items c.say_served.new.news.items (done node step inside refl was))) c.say_served.ensures.done
+    (done node step inside refl was)) c.say_served.ensures.done
 
 pub returns-clause-fault : goal.returns-clause-fault
 returns-clause-fault c =
