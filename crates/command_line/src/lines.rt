@@ -18,7 +18,6 @@ pub struct Setting {
 }
 
 /// What the words ask for.
-#[derive(Drop)]
 pub struct Line {
     pub command: Command,
     /// The options, in the order given.
@@ -34,4 +33,37 @@ pub struct Line {
     pub system: u8,
     /// What a station is told; None for another command.
     pub task: Option<Task>,
+}
+
+// By hand, so that whoever drops a line proves one call.
+impl Drop for Line {
+    fn drop(self) {
+        let Line {
+            command: _,
+            settings: _settings,
+            words: _words,
+            ports: _ports,
+            number: _,
+            system: _,
+            task: _task,
+        } = self;
+    }
+}
+
+impl Line {
+    /// The ports that the plain words name, moved out.
+    pub fn into_ports(self) -> Vec<Port>
+        ensures { result ≡ self.ports }
+    {
+        let Line {
+            command: _,
+            settings: _settings,
+            words: _words,
+            ports,
+            number: _,
+            system: _,
+            task: _task,
+        } = self;
+        ports
+    }
 }

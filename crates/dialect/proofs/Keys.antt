@@ -1,9 +1,9 @@
 -- Lists of keys that are kept with the elements that have them.
-use Rattle.std.proofs.Common.{◌≡◌, ℕ, ◌+◌, ◌<◌, ◌≤◌, Bool, true, false, not, ◌||◌, if◌then◌else◌, cond, ltb, List, [], ◌∷◌, ◌++◌, length, get_or, take, map, slice_get, position, find, Option, Some, None, Ok, Err, OnOk, refl, sym, ap, ◌∙◌, arith}
+use Rattle.std.proofs.Common.{◌≡◌, ◌==◌, ℕ, suc, ◌+◌, ◌<◌, ◌≤◌, Bool, true, false, not, ◌||◌, if◌then◌else◌, cond, ltb, eqb, List, [], ◌∷◌, ◌++◌, length, get_or, take, map, slice_get, position, find, Option, Some, None, Ok, Err, OnOk, refl, sym, ap, ◌∙◌, arith}
 use Rattle.std.proofs.lemmas.Bool.Decides.{nat_tests}
-use Rattle.std.proofs.lemmas.List.{map-append, append-nil, length-map, take_at, take_more}
+use Rattle.std.proofs.lemmas.List.{map-append, append-nil, length-map, length-append, take_at, take_more}
 use Rattle.std.proofs.lemmas.List.Elements.{filter_map-append}
-use Rattle.std.proofs.lemmas.List.Folds.{find_at}
+use Rattle.std.proofs.lemmas.List.Folds.{find_at, position_or_len_push}
 use Rattle.std.proofs.lemmas.List.Sums.{fold_more}
 use Rattle.std.proofs.lemmas.Option.{none-some, slice_get_past}
 use Rattle.std.specs.Global.{Vec}
@@ -14,25 +14,82 @@ use Rattle.std.specs.Str.{bytes_eq}
 use Rattle.std.specs.BTreeMap.{insert_entry}
 use Rattle.std.specs.Ordering.{nat_cmp}
 use Rattle.indexmap.specs.IndexSet.{insert_key}
+use Rattle.std.specs.Option.{is_some}
 use Rattle.field_layout.specs.Definition.{Definition}
+use Rattle.dialect.specs.Grammar.{has_id}
+use Rattle.dialect.specs.Indices.{index_with}
 use Rattle.field_layout.specs.CrcExtra.{crc_extra_of}
 use Rattle.mav_profile.specs.Messages.{with_extra, extras_of}
 use Rattle.dialect.specs.Spelled.{bytes_of}
 
-module _ {X Y : Type 0} (f : X → Y) (p : Y → Bool) where
-  pub list_any-map : (xs : List X) → list_any p (map f xs) ≡ list_any (λ x. p (f x)) xs
-  list_any-map [] = refl
-  list_any-map (x ∷ xs) = ap (λ others. p (f x) || others) (list_any-map xs)
+pub list_any-map : {X Y : Type 0} (f : X → Y) (p : Y → Bool) (xs : List X) → list_any p (map f xs) ≡ list_any (λ x. p (f x)) xs
+list_any-map f p [] = refl
+list_any-map f p (x ∷ xs) = ap (λ others. p (f x) || others) (list_any-map f p xs)
 
-  position_or_len-map : (xs : List X) → position_or_len p (map f xs) ≡ position_or_len (λ x. p (f x)) xs
-  position_or_len-map [] = refl
-  position_or_len-map (x ∷ xs) = ap (λ k. cond (not (p (f x))) (1 + k) 0) (position_or_len-map xs)
+less_again : (k n : ℕ) → ltb (1 + k) (suc n) ≡ ltb k n
+less_again k n = by (ltb k n) refl
+  where
+    by : (b : Bool) → ltb k n ≡ b → ltb (1 + k) (suc n) ≡ b
+    by true h = grind (arith, nat_tests)
+    by false h = grind (arith, nat_tests)
 
-  -- the first index of a key is that of its element
-  pub position-map : (xs : List X) → position p (map f xs) ≡ position (λ x. p (f x)) xs
-  position-map xs =
-      ap (λ k. cond (ltb k (length (map f xs))) (Some k) None) (position_or_len-map xs)
-      ∙ ap (λ count. cond (ltb (position_or_len (λ x. p (f x)) xs) count) (Some (position_or_len (λ x. p (f x)) xs)) None) (length-map xs f)
+place_new : (k n : ℕ) → k ≤ n → ltb k n ≡ false → cond (ltb (cond (eqb k n) (n + 0) k) (n + 1)) (Some (cond (eqb k n) (n + 0) k)) None ≡ Some n
+place_new k n within past =
+    let same : eqb k n ≡ true = grind (arith, nat_tests) in
+    let below : ltb (n + 0) (n + 1) ≡ true = grind (arith, nat_tests) in
+    rw same (rw below (ap Some (omega arith)))
+
+place_kept : (k n : ℕ) → k ≤ n → cond (ltb (cond (eqb k n) (n + 1) k) (n + 1)) (Some (cond (eqb k n) (n + 1) k)) None ≡ cond (ltb k n) (Some k) None
+place_kept k n within = by (eqb k n) refl
+  where
+    by : (b : Bool) → eqb k n ≡ b → cond (ltb (cond b (n + 1) k) (n + 1)) (Some (cond b (n + 1) k)) None ≡ cond (ltb k n) (Some k) None
+    by true same =
+        let past : ltb (n + 1) (n + 1) ≡ false = grind (arith, nat_tests) in
+        let end : ltb k n ≡ false = grind (arith, nat_tests) in
+        rw past (rw end refl)
+    by false other =
+        let below : ltb k (n + 1) ≡ true = grind (arith, nat_tests) in
+        let there : ltb k n ≡ true = grind (arith, nat_tests) in
+        rw below (rw there refl)
+
+module _ {X : Type 0} (p : X → Bool) where
+  position_within : (xs : List X) → position_or_len p xs ≤ length xs
+  position_within [] = omega arith
+  position_within (x ∷ xs) = by (p x) (position_within xs)
+    where
+      by : (b : Bool) → position_or_len p xs ≤ length xs → cond (not b) (1 + position_or_len p xs) 0 ≤ length (x ∷ xs)
+      by true h = omega arith
+      by false h = omega (arith, h)
+
+  any_at : (xs : List X) → ltb (position_or_len p xs) (length xs) ≡ list_any p xs
+  any_at [] = refl
+  any_at (x ∷ xs) = by (p x) (any_at xs)
+    where
+      by : (b : Bool) → ltb (position_or_len p xs) (length xs) ≡ list_any p xs → ltb (cond (not b) (1 + position_or_len p xs) 0) (length (x ∷ xs)) ≡ (b || list_any p xs)
+      by true h = grind (arith, nat_tests)
+      by false h = less_again (position_or_len p xs) (length xs) ∙ h
+
+  -- there is a first index of an element that passes if one does
+  pub position-any : (xs : List X) → is_some (position p xs) ≡ list_any p xs
+  position-any xs = by (ltb (position_or_len p xs) (length xs)) ∙ any_at xs
+    where
+      by : (b : Bool) → is_some (cond b (Some (position_or_len p xs)) None) ≡ b
+      by true = refl
+      by false = refl
+
+  -- with one element more it is the same, or that of the new one if no other passes
+  pub position-push : (xs : List X) (y : X) → (p y ≡ true → list_any p xs ≡ false) → position p (xs ++ y ∷ []) ≡ cond (p y) (Some (length xs)) (position p xs)
+  position-push xs y new =
+      let first : ℕ → ℕ = λ n. cond (eqb (position_or_len p xs) n) (n + cond (p y) 0 1) (position_or_len p xs) in
+      ap (λ k. cond (ltb k (length (xs ++ y ∷ []))) (Some k) None) (position_or_len_push p xs y)
+      ∙ ap (λ count. cond (ltb (first (length xs)) count) (Some (first (length xs))) None) (length-append xs (y ∷ []))
+      ∙ by (p y) (λ passes. any_at xs ∙ new passes)
+    where
+      by : (b : Bool) → (b ≡ true → ltb (position_or_len p xs) (length xs) ≡ false)
+          → cond (ltb (cond (eqb (position_or_len p xs) (length xs)) (length xs + cond b 0 1) (position_or_len p xs)) (length xs + 1)) (Some (cond (eqb (position_or_len p xs) (length xs)) (length xs + cond b 0 1) (position_or_len p xs))) None
+          ≡ cond b (Some (length xs)) (position p xs)
+      by true none = place_new (position_or_len p xs) (length xs) (position_within xs) (none refl)
+      by false none = place_kept (position_or_len p xs) (length xs) (position_within xs)
 
 module _ {X : Type 0} (p : X → Bool) (xs : List X) where
   -- the first element that passes is at the first index of one
@@ -56,6 +113,15 @@ module _ {X : Type 0} (p : X → Bool) (xs : List X) where
       ] refl none in
       find_at p xs ∙ slice_get_past xs end past
 
+-- the index of an id once a message of another id is added
+pub index-more : (defs : List Definition) (def : Definition) (id : ℕ) → has_id defs def.id ≡ false → cond (def.id == id) (Some (length defs)) (index_with id defs) ≡ index_with id (defs ++ def ∷ [])
+index-more defs def id new =
+    let turned : (def.id == id) ≡ (id == def.id) = grind (arith, nat_tests) in
+    ap (λ b. cond b (Some (length defs)) (index_with id defs)) turned
+    ∙ sym (position-push (λ other. id == other.id) defs def (λ same.
+    let is : id ≡ def.id = grind (arith, nat_tests) in
+    ap (has_id defs) is ∙ new))
+
 -- a new name is added after the others
 pub names-insert_key : (keys : List (Vec ℕ)) (text : Vec ℕ) (name : List ℕ) (known : List (List ℕ))
     → text.items ≡ name → map bytes_of keys ≡ known → list_any (bytes_eq name) known ≡ false
@@ -68,13 +134,6 @@ names-insert_key keys text name known same view new =
     ∙ map-append bytes_of keys (text ∷ [])
     ∙ ap (λ names. names ++ text.items ∷ []) view
     ∙ ap (λ bytes. known ++ bytes ∷ []) same
-
--- a new id is added after the others
-pub ids-insert_key : {X : Type 0} (f : X → ℕ) (eq : ℕ → ℕ → Bool) (xs : List X) (x : X) → list_any (λ y. eq (f x) (f y)) xs ≡ false
-    → insert_key eq (map f xs) (f x) ≡ map f (xs ++ x ∷ [])
-ids-insert_key f eq xs x new =
-    ap (λ there. if there then map f xs else map f xs ++ f x ∷ []) (list_any-map f (eq (f x)) xs ∙ new)
-    ∙ sym (map-append f xs (x ∷ []))
 
 module _ {X Y : Type 0} (h : X → Option Y) (xs : List X) (i : ℕ) (x : X) (within : i < length xs) (at : x ≡ get_or xs i x) where
   one-more : take (i + 1) xs ≡ take i xs ++ x ∷ []

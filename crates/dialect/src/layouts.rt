@@ -7,27 +7,29 @@ ghost use Rattle.mav_profile.specs.Messages.{definition_with};
 
 use crate::NoMemory;
 use field_layout::Layout;
-use indexmap::IndexSet;
 use std::alloc::Global;
+use std::collections::HashMap;
 use std::marker::Model;
 
 /// Layouts of different ids in the order in which they were added. Contracts see the list of their definitions.
 #[derive(Drop)]
 pub(crate) struct Layouts {
-    ids: IndexSet<u32>,
+    // The index of each layout by its id.
+    indices: HashMap<u32, usize>,
     layouts: Vec<Layout>,
 }
 
 impl Model for Layouts {
-    ghost use Rattle.std.specs.Prelude.{◌≡◌, List, map};
+    ghost use Rattle.std.specs.Prelude.{◌≡◌, ◌==◌, List, ℕ};
+    ghost use Rattle.std.specs.HashMap.{get};
     ghost use Rattle.field_layout.specs.Definition.{Definition};
-    ghost use Rattle.mav_profile.specs.Messages.{id_of};
+    ghost use Rattle.dialect.specs.Indices.{index_with};
 
     ghost Value = { List Definition };
 
     ghost view = { λ l. l.layouts.items };
 
-    ghost invariant = { λ l. l.ids.keys ≡ map id_of l.layouts.items };
+    ghost invariant = { λ l. (id : ℕ) → get ◌==◌ l.indices id ≡ index_with id l.layouts.items };
 }
 
 impl Layouts {
@@ -35,15 +37,18 @@ impl Layouts {
         ensures { result ≡ [] }
     {
         Layouts {
-            ids: IndexSet::new(alloc),
+            indices: HashMap::new(alloc),
             layouts: Vec::new(alloc),
         }
     }
 
+    /// Drops them where nothing else is owned.
+    pub(crate) fn discard(self) {}
+
     pub(crate) fn has(&self, id: u32) -> bool
         ensures { result ≡ has_id self.now id }
     {
-        self.ids.contains(&id)
+        self.index_of(id).is_some()
     }
 
     /// Appends a layout of another id. If there is no memory for it nothing has changed.
@@ -53,7 +58,7 @@ impl Layouts {
         ensures unchanged { OnErr result (self.new ≡ self.old) }
     {
         self.layouts.reserve(1)?;
-        self.ids.insert(layout.def().id)?;
+        self.indices.insert(layout.def().id, self.layouts.len())?;
         self.layouts.push(layout).unwrap();
         Ok(())
     }
@@ -62,7 +67,7 @@ impl Layouts {
     pub(crate) fn index_of(&self, id: u32) -> Option<usize>
         ensures { result ≡ index_with id self.now }
     {
-        self.ids.get_index_of(&id)
+        self.indices.get(&id).copied()
     }
 
     /// The layout of an id, found by its hash.

@@ -18,7 +18,6 @@ use std::marker::Model;
 const MAX_PAYLOAD_BYTES: u128 = 255;
 
 /// How a message lies in its payload. Contracts see it as its definition, which determines all of it.
-#[derive(Drop)]
 pub struct Layout {
     def: MessageDef,
     order: Vec<usize>,
@@ -28,6 +27,22 @@ pub struct Layout {
     crc_extra: u8,
     target_system: Option<u8>,
     target_component: Option<u8>,
+}
+
+// By hand, so that whoever drops a layout proves one call.
+impl Drop for Layout {
+    fn drop(self) {
+        let Layout {
+            def: _def,
+            order: _order,
+            offsets: _offsets,
+            base_len: _,
+            full_len: _,
+            crc_extra: _,
+            target_system: _,
+            target_component: _,
+        } = self;
+    }
 }
 
 impl Model for Layout {

@@ -23,6 +23,6 @@ pub fn wanted(alloc: Global, words: &[String]) -> Result<Wanted, WantedFault>
         key: line.value(alloc, OptionName::Key)?,
         store: line.value(alloc, OptionName::Store)?,
         keepers: u8::from(line.has(OptionName::Store)),
-        ports: line.ports,
+        ports: line.into_ports(),
     })
 }

@@ -21,11 +21,21 @@ const ALL_PORTS: u8 = 255;
 
 /// Which nodes are behind which port. Each node has a byte with a bit for each port, so that a port has one table of
 /// 65,536 bits; each system has a byte too, with the bits of its nodes together.
-#[derive(Drop)]
 pub struct LinkTable {
     ports: u8,
     nodes: Vec<u8>,
     systems: Vec<u8>,
+}
+
+// By hand, so that whoever drops a table proves one call.
+impl Drop for LinkTable {
+    fn drop(self) {
+        let LinkTable {
+            ports: _,
+            nodes: _nodes,
+            systems: _systems,
+        } = self;
+    }
 }
 
 impl Model for LinkTable {

@@ -24,7 +24,6 @@ pub enum FileEnd {
 }
 
 /// What happened in a node, in order.
-#[derive(Drop)]
 pub enum News {
     /// The node sent this frame, which carries the message.
     Sent(SignedFrame, Message),
@@ -55,6 +54,29 @@ pub enum News {
     Captured(u32),
     /// What the station asked of files has ended.
     File(FileEnd),
+}
+
+// By hand, so that whoever drops a piece of news proves one call.
+impl Drop for News {
+    fn drop(self) {
+        match self {
+            News::Sent(_frame, _message) => {}
+            News::Outcome(_outcome) => {}
+            News::Param(_param) => {}
+            News::File(_end) => {}
+            News::Installed {
+                kind: _kind,
+                count: _count,
+                by: _by,
+            } => {}
+            News::Emptied { kind: _kind } => {}
+            News::Dropped(_answer) => {}
+            News::Command(_result) => {}
+            News::Params(_count) => {}
+            News::Reached(_item) => {}
+            News::Captured(_total) => {}
+        }
+    }
 }
 
 // Most calls tell one thing: the first piece of news takes room for itself alone.

@@ -26,13 +26,24 @@ pub(crate) const ENTRY_LIMIT: usize = 1_000_000;
 
 /// The entries of a router, which contracts see as their list. They stand in pages: those that were sealed never change
 /// again, so that other threads read them while the last one grows.
-#[derive(Drop)]
 pub struct Journal {
     sealed: Vec<SealedPage>,
     // For each sealed entry the number of its page.
     page_of: Vec<u32>,
     last: Page,
     alloc: Global,
+}
+
+// By hand, so that whoever drops a journal proves one call.
+impl Drop for Journal {
+    fn drop(self) {
+        let Journal {
+            sealed: _sealed,
+            page_of: _page_of,
+            last: _last,
+            alloc: _,
+        } = self;
+    }
 }
 
 impl Model for Journal {

@@ -19,12 +19,22 @@ use std::marker::Model;
 const LOW_IDS: usize = 65_536;
 
 /// A dialect whose frames are written fast, which contracts see as the list of its definitions.
-#[derive(Drop)]
 pub struct LineTemplates {
     dialect: Dialect,
     line_templates: Vec<LineTemplate>,
     /// The index of an id's template. If none stands, the message is unknown or is written by its layout.
     low: Vec<Option<u16>>,
+}
+
+// By hand, so that whoever drops them proves one call.
+impl Drop for LineTemplates {
+    fn drop(self) {
+        let LineTemplates {
+            dialect: _dialect,
+            line_templates: _line_templates,
+            low: _low,
+        } = self;
+    }
 }
 
 impl Model for LineTemplates {
