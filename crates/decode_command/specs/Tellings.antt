@@ -7,7 +7,7 @@ use Rattle.run_status.specs.Runs.{CommandSpec}
 use Rattle.mav_stream.specs.Spans.{IfEvent}
 use Rattle.mav_stream.specs.declared.spans.NextSpan.{NextSpan}
 
--- what is written of some bytes, where the Bool says whether the input ended after them, and what comes behind it then
+-- what is written of some bytes, where the Bool says whether the input ended after them, and what comes after it then
 pub record Telling : Type 0 where
   pub told : Bool → List ℕ → List ℕ
   pub closing : List ℕ → List ℕ
@@ -28,7 +28,7 @@ telling_spec t = record {
 abbrev pub Leads : Telling → Bool → List ℕ → List ℕ → Type 0
 Leads t ended taken told = (rest : List ℕ) × (t.told ended taken ≡ told ++ rest)
 
--- the text of what was at the start of the bytes held is behind the text before, and is told; less is held then
+-- the text of what was at the start of the bytes held comes after the text before, and is told; less is held then
 pub record TellsSpan {S E : Type 0} (telling : S → Telling) (has_told : S → Bool → List ℕ → List ℕ → Type 0) (held bound : S → ℕ) (span : NextSpan) (old new : S) (text longer : List ℕ) (result : Result (Unit {0}) E) : Type 0 where
   pub same : telling new ≡ telling old
   pub load : bound new ≤ bound old

@@ -27,7 +27,6 @@ pub(crate) struct PortJob<'a, 't, L> {
 }
 
 impl<'a, 't> Job for PortJob<'a, 't, BoxedLink> {
-    ghost use Rattle.std.specs.Prelude.{◌≡◌};
     ghost use Rattle.mav_router.specs.Runs.{HadTurns};
     ghost use Rattle.mav_router.specs.Parts.{IsReady};
     ghost use Rattle.mav_router.specs.Crews.{HasRun};

@@ -4,7 +4,7 @@ ghost use Rattle.mav_sign.specs.Streams.{listed};
 ghost use Rattle.mav_sign.specs.Kept.{Represents};
 ghost use Rattle.link_table.specs.Routing.{has_port};
 ghost use Rattle.link_table.specs.Table.{Represents as StandsFor};
-ghost use Rattle.mav_router.specs.Journal.{Rules, SwitchState, entry_after, admit_after, IsJournal, frames_to, frames_at, given_to};
+ghost use Rattle.mav_router.specs.Journal.{SwitchState, entry_after, admit_after, IsJournal, frames_to, frames_at, given_to};
 ghost use Rattle.mav_router.specs.Found.{Admits, IsJudged, packets_of};
 ghost use Rattle.mav_router.specs.Faults.{IsSwitchFault};
 ghost use Rattle.mav_router.specs.declared.entries.Entry.{Entry};
@@ -35,7 +35,7 @@ impl<'a> Model for Switch<'a> {
     ghost use Rattle.std.specs.Prelude.{◌≡◌, ◌≤◌, [], ℕ, length, slice_index};
     ghost use Rattle.mav_sign.specs.Kept.{Represents};
     ghost use Rattle.link_table.specs.Table.{Represents as StandsFor};
-    ghost use Rattle.mav_router.specs.Journal.{SwitchState, Rules, learned_in, tried_in, IsJournal};
+    ghost use Rattle.mav_router.specs.Journal.{SwitchState, learned_in, tried_in, IsJournal};
 
     ghost Value = { SwitchState };
 
