@@ -6,7 +6,8 @@ ghost use Rattle.line_commands.specs.Wants.{AreThere, Wants};
 
 use mav_links::Link;
 use mav_ports::{StdClock, StdSink, StdSource};
-use real_ports::{Reader, open_input, open_link, open_store, wait_of, words_of};
+use real_files::{Reader, open_input, words_of};
+use real_ports::{open_link, open_store, wait_of};
 use station_cli::{Inputs, Store, Wanted, WantedFault, run, wanted};
 use std::alloc::AllocError;
 use std::io;

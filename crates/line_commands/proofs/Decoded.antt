@@ -1,35 +1,21 @@
 -- The clauses of `decode`, from those of its parts.
-use Rattle.std.proofs.Common.{◌≡◌, inl, inr, ℕ, Bool, true, false, List, [], refl, sym, subst, arith, Option, Some, None, Result, IsErrOf}
-use Rattle.std.specs.Result.{result_err}
+use Rattle.std.proofs.Common.{◌≡◌, inl, inr, ℕ, Bool, true, false, List, refl, subst, Option, Some, None}
 use Rattle.mav_ports.specs.Gets.{IsSpent}
-use Rattle.mav_ports.proofs.Known.{prepend_known_nil}
 use Rattle.field_layout.specs.Definition.{Definition}
 use Rattle.mav_profile.specs.Profile.{profile_definitions}
-use Rattle.run_status.specs.declared.run_ends.RunEnd.{RunEnd}
-use Rattle.run_status.specs.declared.run_ends.RunEnd.TheVariants.{WriteFault, NoMemory}
-use Rattle.run_status.specs.Endings.{code_of}
+use Rattle.run_status.specs.declared.run_ends.RunEnd.TheVariants.{NoMemory}
 use Rattle.run_status.specs.Runs.{CommandSpec, Steady}
-use Rattle.run_status.specs.StatusText.{WritesStatus}
-use Rattle.run_status.proofs.RunsBeforeStatus.{before_status_nothing, run_reported}
-use Rattle.run_status.proofs.Ends.{promised}
 use Rattle.key_file.specs.KeyText.{key_or_default}
-use Rattle.key_file.specs.Spec.{key_spec, TookAtMost}
+use Rattle.key_file.specs.Spec.{key_spec}
 use Rattle.key_file.proofs.Stays.{key_steady}
 use Rattle.dialect_command.specs.Spec.{definitions_spec}
 use Rattle.dialect_command.proofs.Stays.{reading_steady}
 use Rattle.decode_command.specs.Spec.{decode_spec}
 use Rattle.decode_command.proofs.Stays.{decode_steady}
-use Rattle.run_status.specs.Seen.{Input, input_of, around, before_status_over, promised_over}
-use Rattle.line_commands.specs.Decoding.{WithKey, WithDefinitions, DecodesWith, Decodes, KeyIs, KnownIs}
-
--- the key was read, or none was named, and then the run went on
-pub after_key : (named : Bool) (runs : CommandSpec → Input → Type 0) (halted others : Type 0) (key : Input) (k : Option (List ℕ)) (next : Option (List ℕ) → Type 0) → KeyIs named key k → next k → WithKey named runs halted others key next
-after_key false runs halted others key k next is n = subst next is.0 n
-after_key true runs halted others key k next (bytes, is, holds) n = inr (bytes, holds, subst next is n)
-
--- the run halted at the key
-pub at_key : (named : Bool) (runs : CommandSpec → Input → Type 0) (halted others : Type 0) (key : Input) (next : Option (List ℕ) → Type 0) → named ≡ true → runs key_spec key → halted → TookAtMost 67 key.left_before key.left_after → others → WithKey named runs halted others key next
-at_key named runs halted others key next is r h w o = subst (λ b. WithKey b runs halted others key next) (sym is) (inl (r, h, w, o))
+use Rattle.run_status.specs.Seen.{Input, input_of, before_status_over}
+use Rattle.line_key.proofs.Named.{took_nothing}
+use Rattle.line_key.proofs.Runs.{unmade}
+use Rattle.line_commands.specs.Decoding.{WithDefinitions, DecodesWith, Decodes, KnownIs}
 
 -- the definitions were read, or they are the profile's, and then the run goes on
 pub after_definitions : (named : Bool) (runs : CommandSpec → Input → Type 0) (halted others : Type 0) (defs : Input) (ds : List Definition) (next : List Definition → Type 0) → KnownIs named defs ds → next ds → WithDefinitions named runs halted others defs next
@@ -55,26 +41,9 @@ module _ (first second : CommandSpec → Input → Type 0) (halted stopped : Typ
   decodes_reported true n key defs main ks ds ms (inl (run, h, within, unread)) = inl (on key_spec (key_steady key_or_default) key ks run, ends h, within, unread)
   decodes_reported true n key defs main ks ds ms (inr (bytes, holds, d)) = inr (bytes, holds, with_reported (Some bytes) n defs main ds ms d)
 
-pub reported_over : (rb rm ra : ℕ) (sb sm sa : Option (List ℕ)) (ended reported : Result (Unit {0}) RunEnd) → ((IsErrOf ended WriteFault → ⊥) → rm ≡ rb) → WritesStatus ended reported rm ra sm sa → (s : CommandSpec) → Steady s → (i : Input) → (i.spent → IsSpent i.left_after)
-    → before_status_over (record { refusals_before = rb; refusals_after = rm; sent_before = sb; sent_after = sm }) (result_err ended) s i
-    → promised_over (record { refusals_before = rb; refusals_after = ra; sent_before = sb; sent_after = sa }) (code_of (result_err reported)) s i
-reported_over rb rm ra sb sm sa ended reported sound writes s steady i nothing u =
-    promised s steady (around i (record { refusals_before = rb; refusals_after = ra; sent_before = sb; sent_after = sa })) i.left_before i.left_after sb sa (result_err reported) nothing
-    (run_reported s i.spent i.faults_before i.faults_after i.idles_before i.idles_after rb rm ra i.left_before i.left_after sb sm sa ended reported u sound writes)
-
 -- there was no memory before anything was read
-pub took_nothing : (left : Option (List ℕ)) → TookAtMost 67 left left
-took_nothing left = record { taken = []; took = sym (prepend_known_nil left); fits = omega arith }
-
 module _ {A : Type 0} (has_ended : A → Type 0) (faults idles : A → ℕ) (left : A → Option (List ℕ)) (key defs main : A) (refusals : ℕ) (sent : Option (List ℕ)) where
-  pub unmade : (s : CommandSpec) (a : A) → before_status_over (record { refusals_before = refusals; refusals_after = refusals; sent_before = sent; sent_after = sent }) (Some NoMemory) s (input_of has_ended faults idles left a a)
-  unmade s a = before_status_nothing s (around (input_of has_ended faults idles left a a) (record { refusals_before = refusals; refusals_after = refusals; sent_before = sent; sent_after = sent })) (left a) sent
-
-  pub unmade_as : (s : CommandSpec) (a : A) (end : RunEnd) → end ≡ NoMemory → before_status_over (record { refusals_before = refusals; refusals_after = refusals; sent_before = sent; sent_after = sent }) (Some end) s (input_of has_ended faults idles left a a)
-  unmade_as s a end is =
-      subst (λ e. before_status_over (record { refusals_before = refusals; refusals_after = refusals; sent_before = sent; sent_after = sent }) (Some e) s (input_of has_ended faults idles left a a)) (sym is) (unmade s a)
-
   pub decodes_unread : (halted : Type 0) → halted → (named_key named_defs : Bool) → Decodes named_key named_defs (before_status_over (record { refusals_before = refusals; refusals_after = refusals; sent_before = sent; sent_after = sent }) (Some NoMemory)) halted (input_of has_ended faults idles left key key) (input_of has_ended faults idles left defs defs) (input_of has_ended faults idles left main main)
-  decodes_unread halted h false false = unmade (decode_spec (record { dialect = profile_definitions; key = None })) main
-  decodes_unread halted h false true = inl (unmade definitions_spec defs, h, refl)
-  decodes_unread halted h true n = inl (unmade key_spec key, h, took_nothing (left key), (refl, refl))
+  decodes_unread halted h false false = unmade has_ended faults idles left refusals sent (decode_spec (record { dialect = profile_definitions; key = None })) main
+  decodes_unread halted h false true = inl (unmade has_ended faults idles left refusals sent definitions_spec defs, h, refl)
+  decodes_unread halted h true n = inl (unmade has_ended faults idles left refusals sent key_spec key, h, took_nothing (left key), (refl, refl))

@@ -1,4 +1,3 @@
-pub mod Same
 pub mod Decoded
 pub mod Routed
 pub mod Flown

@@ -20,7 +20,7 @@ use Rattle.mav_log.specs.Spec.{show_telling, filter_telling, make_telling}
 use Rattle.decode_command.proofs.Stays.{telling_steady}
 use Rattle.run_status.specs.Seen.{Input, input_of, before_status_over}
 use Rattle.line_commands.specs.Logging.{log_spec, Logs}
-use Rattle.line_commands.proofs.Decoded.{unmade}
+use Rattle.line_key.proofs.Runs.{unmade}
 
 -- the same line
 pub logs_asked : (asked other : Asked) (runs : CommandSpec → Input → Type 0) (halted : Type 0) (defs main : Input) → asked ≡ other → Logs asked.command asked.plain (has_given Defs asked.settings) runs halted defs main → Logs other.command other.plain (has_given Defs other.settings) runs halted defs main
@@ -72,7 +72,7 @@ module _ {A : Type 0} (has_ended : A → Type 0) (faults idles : A → ℕ) (lef
       → Logs command plain named (before_status_over (record { refusals_before = refusals; refusals_after = refusals; sent_before = sent; sent_after = sent }) (Some NoMemory)) halted (input_of has_ended faults idles left defs defs) (input_of has_ended faults idles left main main)
   logs_unread halted h command settings plain false is are =
       let (number, says) = number_said command settings plain is are in
-      (number, says, unmade has_ended faults idles left defs defs main refusals sent (log_spec command profile_definitions number) main)
+      (number, says, unmade has_ended faults idles left refusals sent (log_spec command profile_definitions number) main)
   logs_unread halted h command settings plain true is are =
       let (number, says) = number_said command settings plain is are in
-      (number, says, inl (unmade has_ended faults idles left defs defs main refusals sent definitions_spec defs, h, refl))
+      (number, says, inl (unmade has_ended faults idles left refusals sent definitions_spec defs, h, refl))

@@ -34,7 +34,8 @@ use Rattle.mav_router.proofs.Halts.{stops_as}
 use Rattle.run_status.specs.Seen.{Input, input_of, before_status_over}
 use Rattle.line_commands.specs.Decoding.{WithDefinitions}
 use Rattle.line_commands.specs.Routing.{Routing, pad, router_of, AllEnded}
-use Rattle.line_commands.proofs.Decoded.{took_nothing, unmade}
+use Rattle.line_key.proofs.Named.{took_nothing}
+use Rattle.line_key.proofs.Runs.{unmade}
 
 -- which ports are open
 abbrev pub flags : List Port → List Bool
@@ -139,4 +140,4 @@ routing_asked state asked other runs halted unmoved before after end rb ra sb sa
 -- there was no memory before anything was read
 module _ {A : Type 0} (has_ended : A → Type 0) (faults idles : A → ℕ) (left : A → Option (List ℕ)) (key : A) (refusals : ℕ) (sent : Option (List ℕ)) where
   pub key_unread : (halted others : Type 0) → halted → others → before_status_over (record { refusals_before = refusals; refusals_after = refusals; sent_before = sent; sent_after = sent }) (Some NoMemory) given_key_spec (input_of has_ended faults idles left key key) × halted × TookAtMost 67 (left key) (left key) × others
-  key_unread halted others h o = (unmade has_ended faults idles left key key key refusals sent given_key_spec key, h, took_nothing (left key), o)
+  key_unread halted others h o = (unmade has_ended faults idles left refusals sent given_key_spec key, h, took_nothing (left key), o)

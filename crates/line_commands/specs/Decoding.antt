@@ -1,22 +1,14 @@
 -- What is read of the inputs that a line of `decode` names, and in which order.
-use Rattle.std.specs.Prelude.{◌≡◌, ◌⊎◌, ℕ, Bool, true, false, List, None, Some}
+use Rattle.std.specs.Prelude.{◌≡◌, ◌⊎◌, ℕ, Bool, true, false, List}
 use Rattle.std.specs.declared.option.Option.{Option}
 use Rattle.field_layout.specs.Definition.{Definition}
 use Rattle.mav_profile.specs.Profile.{profile_definitions}
 use Rattle.run_status.specs.Runs.{CommandSpec}
-use Rattle.key_file.specs.Spec.{key_spec, HoldsKey, TookAtMost}
 use Rattle.dialect_command.specs.Reads.{Holds}
 use Rattle.dialect_command.specs.Spec.{definitions_spec}
 use Rattle.decode_command.specs.Spec.{decode_spec}
 use Rattle.run_status.specs.Seen.{Input}
-
--- a key that is named is read first: the run halts at it and reads nothing else, or it goes on with the key; without one
--- it goes on at once
-abbrev pub WithKey : Bool → (CommandSpec → Input → Type 0) → (halted others : Type 0) → Input → (Option (List ℕ) → Type 0) → Type 0
-WithKey false runs halted others key next = next None
-WithKey true runs halted others key next =
-    (runs key_spec key × halted × TookAtMost 67 key.left_before key.left_after × others)
-    ⊎ ((bytes : List ℕ) × HoldsKey key.spent key.left_before key.left_after bytes × next (Some bytes))
+use Rattle.line_key.specs.Named.{WithKey}
 
 -- then definitions that are named: the run halts at them, nothing is written of them, and the main input isn't read; or it
 -- goes on with them; without them the profile is used
@@ -34,11 +26,6 @@ DecodesWith key named_defs runs halted defs main =
 abbrev pub Decodes : (named_key named_defs : Bool) → (CommandSpec → Input → Type 0) → (halted : Type 0) → (key defs main : Input) → Type 0
 Decodes named_key named_defs runs halted key defs main =
     WithKey named_key runs halted (defs.unread × main.unread) key (λ k. DecodesWith k named_defs runs halted defs main)
-
--- a key was named and read, or none was named
-abbrev pub KeyIs : Bool → Input → Option (List ℕ) → Type 0
-KeyIs false key k = (k ≡ None) × key.unread
-KeyIs true key k = (bytes : List ℕ) × (k ≡ Some bytes) × HoldsKey key.spent key.left_before key.left_after bytes
 
 -- the definitions that were read, or those of the profile
 abbrev pub KnownIs : Bool → Input → List Definition → Type 0

@@ -7,10 +7,10 @@ ghost use Rattle.line_commands.specs.Decoding.{Decodes};
 ghost use Rattle.run_status.specs.Seen.{input_of, output_of, before_status_over};
 
 use crate::definitions::known_messages;
-use crate::keys::named_key;
 use crate::wants::Inputs;
 use command_line::{Line, OptionName};
 use decode_command::{Known, decode_by};
+use line_key::named_key;
 use mav_ports::{Sink, Source};
 use run_status::RunEnd;
 use std::alloc::Global;

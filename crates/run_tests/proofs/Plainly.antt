@@ -20,9 +20,9 @@ use Rattle.fleet_examples.proofs.Playable.{one_item_playable}
 use Rattle.command_line.specs.Names.{port_words}
 use Rattle.line_commands.specs.Routing.{AreAsked}
 use Rattle.line_commands.specs.Wants.{keepers_asked}
-use Rattle.line_commands.proofs.Same.{same_asked}
+use Rattle.line_key.proofs.Same.{same_asked}
 use Rattle.run_status.specs.Seen.{Input, Output, input_of, output_of, around, promised_over}
-use Rattle.station_cli.specs.Fleets.{CarriesOver, FleetsComplete}
+use Rattle.fleet_line.specs.Fleets.{CarriesOver, FleetsComplete}
 
 never : false ≡ true → ⊥
 never same = cc

@@ -26,23 +26,24 @@ use Rattle.route_command.specs.Routes.{RoutesBeforeStatus}
 use Rattle.route_command.proofs.Reports.{reported as route_reported}
 use Rattle.line_commands.specs.Dialects.{Dialects}
 use Rattle.station_cli.specs.Doing.{Surroundings, Does, LeavesAlone, before_status, once_told}
-use Rattle.station_cli.specs.Fleets.{Fleets}
+use Rattle.fleet_line.specs.Fleets.{Fleets}
 use Rattle.line_commands.specs.Flying.{Devices, Flown}
 use Rattle.station_cli.specs.Promised.{RunPromises}
 use Rattle.line_commands.specs.Reported.{Reported}
 use Rattle.line_commands.specs.Routing.{AllEnded, router_of}
 use Rattle.run_status.specs.Seen.{Input, Output, input_of, no_input, before_status_over, promised_over}
 use Rattle.line_commands.specs.Stationing.{Stationed, file_asked}
-use Rattle.station_cli.proofs.Completes.{fleets_complete}
-use Rattle.line_commands.proofs.Decoded.{unmade, reported_over, decodes_reported, decodes_unread}
+use Rattle.fleet_line.proofs.Completes.{fleets_complete}
+use Rattle.line_key.proofs.Runs.{unmade, reported_over}
+use Rattle.line_commands.proofs.Decoded.{decodes_reported, decodes_unread}
 use Rattle.line_commands.proofs.Flown.{drone_reported, ran_reported}
 use Rattle.line_commands.proofs.Logged.{logs_reported, logs_unread}
 use Rattle.station_cli.proofs.Made.{make_steady, makes_on, unmade_number}
 use Rattle.line_commands.proofs.Routed.{routing_reported, ports_wait, key_unread}
-use Rattle.line_commands.proofs.Same.{same_asked}
-use Rattle.station_cli.proofs.Scenarios.{fleets_reported, fleets_carry, fleets_unread}
+use Rattle.line_key.proofs.Same.{same_asked}
+use Rattle.fleet_line.proofs.Scenarios.{fleets_reported, fleets_carry, fleets_unread}
 use Rattle.line_commands.proofs.Stationed.{station_reported}
-use Rattle.station_cli.proofs.Usages.{words_reported, halted_code, usage_ended, five_only}
+use Rattle.fleet_line.proofs.Usages.{words_reported, halted_code, usage_ended, five_only}
 
 -- the same words leave the same alone
 pub leaves_same : {A B : Type 0} (s : Surroundings A B) (words : List (List ℕ)) (asked other : Asked) → Asks built words asked → Asks built words other → LeavesAlone s asked → LeavesAlone s other
@@ -68,7 +69,7 @@ module _ (S A B : Type 0) (has_ended : S → Type 0) (faults idles : S → ℕ) 
   }
 
   undescribed : (named : Bool) → Dialects named (before_status_over nothing (Some NoMemory)) (input_of has_ended faults idles left defs defs)
-  undescribed true = unmade has_ended faults idles left key defs main refusals sent dialect_spec defs
+  undescribed true = unmade has_ended faults idles left refusals sent dialect_spec defs
   undescribed false = before_status_nothing profile_spec _ _ _
 
   unlogged : {words : List (List ℕ)} (asked : Asked) (c : Command) → Asks built words asked → asked.command ≡ c → ArePlain built c asked.settings asked.plain
@@ -85,7 +86,7 @@ module _ (S A B : Type 0) (has_ended : S → Type 0) (faults idles : S → ℕ) 
   undone_by asked LogShow asks is = logs_unread has_ended faults idles left defs main refusals sent (IsErr ended) refl LogShow asked.settings asked.plain (has_given Defs asked.settings) refl (unlogged asked LogShow asks is)
   undone_by asked LogFilter asks is = logs_unread has_ended faults idles left defs main refusals sent (IsErr ended) refl LogFilter asked.settings asked.plain (has_given Defs asked.settings) refl (unlogged asked LogFilter asks is)
   undone_by asked LogMake asks is = logs_unread has_ended faults idles left defs main refusals sent (IsErr ended) refl LogMake asked.settings asked.plain (has_given Defs asked.settings) refl (unlogged asked LogMake asks is)
-  undone_by asked Fence asks is = unmade has_ended faults idles left key defs main refusals sent fence_spec main
+  undone_by asked Fence asks is = unmade has_ended faults idles left refusals sent fence_spec main
 
   pub undone : {words : List (List ℕ)} (asked : Asked) → Asks built words asked → Does (before_status nothing ended) here asked asked.command
   undone asked asks = undone_by asked asked.command asks refl

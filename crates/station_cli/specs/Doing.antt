@@ -17,7 +17,7 @@ use Rattle.route_command.specs.Promises.{RoutePromises}
 use Rattle.route_command.specs.Routes.{Ports, RoutesBeforeStatus}
 use Rattle.line_commands.specs.Decoding.{Decodes}
 use Rattle.line_commands.specs.Dialects.{Dialects}
-use Rattle.station_cli.specs.Fleets.{Fleets}
+use Rattle.fleet_line.specs.Fleets.{Fleets}
 use Rattle.line_commands.specs.Flying.{Devices, devices, Flown}
 use Rattle.line_commands.specs.Logging.{Logs}
 use Rattle.station_cli.specs.Making.{Makes}

@@ -7,11 +7,11 @@ use Rattle.command_line.specs.Forms.{has_given}
 use Rattle.command_line.specs.Grammar.{Asked, Asks, AskNothing}
 use Rattle.make_command.specs.Theorem.{GeneratedTheorem}
 use Rattle.station_cli.specs.Doing.{Surroundings, Does, LeavesAlone, once_told}
-use Rattle.station_cli.specs.Fleets.{FleetsCarry, FleetsComplete}
+use Rattle.fleet_line.specs.Fleets.{FleetsCarry, FleetsComplete}
 use Rattle.station_cli.specs.Making.{Makes}
 use Rattle.line_commands.specs.Routing.{AllEnded}
 use Rattle.run_status.specs.Seen.{Output}
-use Rattle.station_cli.specs.Usage.{UsageReported}
+use Rattle.fleet_line.specs.Usage.{UsageReported}
 
 -- a run over these words, with its inputs, ports, stores and clock, its output and its status
 pub record RunPromises {A B : Type 0} (words : List (List ℕ)) (s : Surroundings A B) (out : Output) (code : ℕ) : Type 0 where

@@ -6,7 +6,6 @@
 //! are of no command. Nothing here opens a file or ends a process, and only a `route` of `run` waits.
 #![tactic(auto)]
 
-mod fleets;
 mod making;
 mod runs;
 

@@ -12,10 +12,10 @@ ghost use Rattle.line_commands.specs.Routing.{AreAsked};
 ghost use Rattle.run_status.specs.Seen.{output_of};
 ghost use Rattle.line_commands.specs.Wants.{AreThere, keepers_asked};
 
-use crate::fleets::run_fleet;
 use crate::making::run_make;
 use command_line::{Command, Line, OptionName, Task, WantedFault, read};
 use fence_command::fence;
+use fleet_line::run_fleet;
 use line_commands::{
     Inputs, Store, run_decode, run_dialect, run_drone, run_log, run_route, run_station,
 };
@@ -60,7 +60,7 @@ fn run_line<T: Router, S: Source, K: Sink, C: Clock>(
     ensures not_usage { ¬ IsErrOf result RunEnd.Usage }
 {
     match line.command {
-        Command::Fleet => run_fleet(alloc, line, inputs, out),
+        Command::Fleet => run_fleet(alloc, line, &mut inputs.key, &mut inputs.main, out),
         Command::Dialect => {
             run_dialect(alloc, line.has(OptionName::Defs), &mut inputs.defs, out)
         }

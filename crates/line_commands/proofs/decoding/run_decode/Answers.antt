@@ -4,7 +4,9 @@ use Rattle.mav_profile.specs.Profile.{profile_definitions}
 use Rattle.dialect_command.specs.Spec.{definitions_spec}
 use Rattle.dialect_command.proofs.Endings.{untold_unread}
 use Rattle.decode_command.specs.Spec.{decode_spec}
-use Rattle.line_commands.proofs.Decoded.{after_key, at_key, after_definitions, at_definitions, unmade_as}
+use Rattle.line_key.proofs.Named.{after_key, at_key}
+use Rattle.line_key.proofs.Runs.{unmade_as}
+use Rattle.line_commands.proofs.Decoded.{after_definitions, at_definitions}
 use Rattle.line_commands.proofs.decoding.run_decode.Goals as goal
 
 pub returns-in_err-key-clause-decoded : goal.returns-in_err-key-clause-decoded
@@ -20,7 +22,7 @@ returns-in_err-dialect-clause-decoded g c =
     (after_key _ _ _ _ _ c.in_ok-key.key _ c.in_ok-key.ensures.is
     (at_definitions _ _ _ _ _ _
     (λ named. untold_unread definitions_spec.closing _ _ _ _ _ _ _ _ _ _ _ c.in_err-dialect.field-0.0 refl (c.in_err-dialect.ensures.halts named)) refl refl
-    (λ unnamed. unmade_as g.S.Source.has_ended g.S.Source.faults g.S.Source.idles g.S.Source.left inputs.key inputs.defs inputs.main (g.K.Sink.faults c.args.out.now) (g.K.Sink.sent c.args.out.now)
+    (λ unnamed. unmade_as g.S.Source.has_ended g.S.Source.faults g.S.Source.idles g.S.Source.left (g.K.Sink.faults c.args.out.now) (g.K.Sink.sent c.args.out.now)
     (decode_spec (record { dialect = profile_definitions; key = c.in_ok-key.key })) inputs.main c.in_err-dialect.field-0.0 (c.in_err-dialect.ensures.memory unnamed))))
 
 pub returns-clause-decoded : goal.returns-clause-decoded

@@ -4,7 +4,8 @@ use Rattle.mav_profile.specs.Profile.{profile_definitions}
 use Rattle.dialect_command.specs.Spec.{definitions_spec}
 use Rattle.dialect_command.proofs.Endings.{untold_unread}
 use Rattle.line_commands.specs.Logging.{log_spec}
-use Rattle.line_commands.proofs.Decoded.{after_definitions, at_definitions, unmade_as}
+use Rattle.line_key.proofs.Runs.{unmade_as}
+use Rattle.line_commands.proofs.Decoded.{after_definitions, at_definitions}
 use Rattle.line_commands.proofs.logging.run_log.Goals as goal
 
 pub returns-in_err-known-clause-logs : goal.returns-in_err-known-clause-logs
@@ -17,7 +18,7 @@ returns-in_err-known-clause-logs g c =
       c.requires.says.number_is,
       at_definitions _ _ _ _ _ _
           (λ named. untold_unread definitions_spec.closing _ _ _ _ _ _ _ _ _ _ _ c.in_err-known.field-0.0 refl (c.in_err-known.ensures.halts named)) refl refl
-          (λ unnamed. unmade_as g.S.Source.has_ended g.S.Source.faults g.S.Source.idles g.S.Source.left inputs.key inputs.defs inputs.main (g.K.Sink.faults c.args.out.now) (g.K.Sink.sent c.args.out.now)
+          (λ unnamed. unmade_as g.S.Source.has_ended g.S.Source.faults g.S.Source.idles g.S.Source.left (g.K.Sink.faults c.args.out.now) (g.K.Sink.sent c.args.out.now)
           (log_spec line.command profile_definitions line.number) inputs.main c.in_err-known.field-0.0 (c.in_err-known.ensures.memory unnamed)),
     )
 

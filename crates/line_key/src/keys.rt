@@ -3,7 +3,7 @@ ghost use Rattle.std.specs.Prelude.{◌≡◌, true, map, IfOk, IfErr};
 ghost use Rattle.command_line.specs.Forms.{has_given};
 ghost use Rattle.command_line.specs.Lines.{given_of};
 ghost use Rattle.key_file.specs.Spec.{key_spec, TookAtMost};
-ghost use Rattle.line_commands.specs.Decoding.{KeyIs};
+ghost use Rattle.line_key.specs.Named.{KeyIs};
 ghost use Rattle.run_status.specs.Seen.{halted_over, input_of};
 
 use command_line::{Line, OptionName};

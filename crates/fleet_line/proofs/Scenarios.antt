@@ -10,9 +10,10 @@ use Rattle.fleet_command.specs.Spec.{fleet_spec}
 use Rattle.fleet_command.proofs.Stays.{fleet_steady}
 use Rattle.fleet_theorem.proofs.Theorem.{carried}
 use Rattle.run_status.specs.Seen.{Input, Output, input_of, around, before_status_over, promised_over}
-use Rattle.line_commands.specs.Decoding.{KeyIs}
-use Rattle.station_cli.specs.Fleets.{or_default, Fleets, CarriesOver, FleetsCarry}
-use Rattle.line_commands.proofs.Decoded.{after_key, took_nothing, unmade}
+use Rattle.line_key.specs.Named.{KeyIs}
+use Rattle.fleet_line.specs.Fleets.{or_default, Fleets, CarriesOver, FleetsCarry}
+use Rattle.line_key.proofs.Named.{after_key, took_nothing}
+use Rattle.line_key.proofs.Runs.{unmade}
 
 -- the key was read, or none was named, and then the main input was played
 pub fleets_behind : (named_key frames : Bool) (runs : CommandSpec → Input → Type 0) (halted : Type 0) (key main : Input) (k : Option (List ℕ)) (used : List ℕ) (printed : Bool) → KeyIs named_key key k → used ≡ or_default k → printed ≡ frames → runs (fleet_spec used printed) main → Fleets named_key frames runs halted key main
@@ -44,5 +45,5 @@ fleets_carry true frames out code key main (inr (bytes, holds, d)) = inr (bytes,
 -- there was no memory before anything was read
 module _ {A : Type 0} (has_ended : A → Type 0) (faults idles : A → ℕ) (left : A → Option (List ℕ)) (key main : A) (refusals : ℕ) (sent : Option (List ℕ)) where
   pub fleets_unread : (halted : Type 0) → halted → (named_key frames : Bool) → Fleets named_key frames (before_status_over (record { refusals_before = refusals; refusals_after = refusals; sent_before = sent; sent_after = sent }) (Some NoMemory)) halted (input_of has_ended faults idles left key key) (input_of has_ended faults idles left main main)
-  fleets_unread halted h false frames = unmade has_ended faults idles left key main main refusals sent (fleet_spec default_key frames) main
-  fleets_unread halted h true frames = inl (unmade has_ended faults idles left key main main refusals sent key_spec key, h, took_nothing (left key), refl)
+  fleets_unread halted h false frames = unmade has_ended faults idles left refusals sent (fleet_spec default_key frames) main
+  fleets_unread halted h true frames = inl (unmade has_ended faults idles left refusals sent key_spec key, h, took_nothing (left key), refl)

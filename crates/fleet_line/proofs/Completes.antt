@@ -12,7 +12,7 @@ use Rattle.key_file.proofs.Stays.{goes_on}
 use Rattle.fleet_command.specs.Spec.{fleet_spec}
 use Rattle.fleet_theorem.proofs.Completeness.{completed}
 use Rattle.run_status.specs.Seen.{Input, Output, around, promised_over}
-use Rattle.station_cli.specs.Fleets.{Fleets, FleetsComplete}
+use Rattle.fleet_line.specs.Fleets.{Fleets, FleetsComplete}
 
 -- ---- a key's text is short
 

@@ -10,7 +10,7 @@ use Rattle.run_status.specs.declared.run_ends.RunEnd.{RunEnd}
 use Rattle.run_status.specs.declared.run_ends.RunEnd.TheVariants.{Usage, Stopped, ReadFault, WriteFault, NoMemory, TurnsSpent, Live}
 use Rattle.run_status.specs.Endings.{code_of}
 use Rattle.run_status.specs.StatusText.{StatusWritten, WritesStatus}
-use Rattle.station_cli.specs.Usage.{UsageReported}
+use Rattle.fleet_line.specs.Usage.{UsageReported}
 
 -- status 2 is that of words alone
 usage_code : (run_end : RunEnd) → code_of (Some run_end) ≡ 2 → run_end ≡ Usage

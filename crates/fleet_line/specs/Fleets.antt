@@ -7,7 +7,7 @@ use Rattle.fleet_command.specs.Spec.{fleet_spec}
 use Rattle.fleet_theorem.specs.Theorem.{Carries}
 use Rattle.fleet_theorem.specs.Completeness.{NoFault, Completes}
 use Rattle.run_status.specs.Seen.{Input, Output, around, promised_over}
-use Rattle.line_commands.specs.Decoding.{WithKey}
+use Rattle.line_key.specs.Named.{WithKey}
 
 -- the key of all nodes: the one that is named, or the default
 abbrev pub or_default : Option (List ℕ) → List ℕ

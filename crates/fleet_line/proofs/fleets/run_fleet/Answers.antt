@@ -5,9 +5,9 @@ use Rattle.command_line.specs.declared.commands.OptionName.TheVariants.{Frames, 
 use Rattle.command_line.specs.Forms.{has_given}
 use Rattle.command_line.specs.Lines.{given_of}
 use Rattle.run_status.specs.Seen.{input_of, output_of, before_status_over}
-use Rattle.line_commands.proofs.Decoded.{at_key}
-use Rattle.station_cli.proofs.Scenarios.{fleets_behind}
-use Rattle.station_cli.proofs.fleets.run_fleet.Goals as goal
+use Rattle.line_key.proofs.Named.{at_key}
+use Rattle.fleet_line.proofs.Scenarios.{fleets_behind}
+use Rattle.fleet_line.proofs.fleets.run_fleet.Goals as goal
 
 pub returns-in_err-named_key-clause-fleet : goal.returns-in_err-named_key-clause-fleet
 returns-in_err-named_key-clause-fleet g c =
@@ -16,11 +16,10 @@ returns-in_err-named_key-clause-fleet g c =
 
 pub returns-clause-fleet : goal.returns-clause-fleet
 returns-clause-fleet g c =
-    let old = c.args.inputs.now in
     fleets_behind
     (has_given Key (map given_of c.args.line.now.settings.items)) (has_given Frames (map given_of c.args.line.now.settings.items))
     (before_status_over (output_of g.K.Sink.faults g.K.Sink.sent c.args.out.now c.fleet.new.out) (result_err c.fleet.result)) (IsErr c.fleet.result)
-    (input_of g.S.Source.has_ended g.S.Source.faults g.S.Source.idles g.S.Source.left old.key c.named_key.new.key)
-    (input_of g.S.Source.has_ended g.S.Source.faults g.S.Source.idles g.S.Source.left old.main c.fleet.new.main)
-    c.in_ok-named_key.field-0 c.or_default-key.result c.has-frames.result
-    c.in_ok-named_key.ensures.is c.or_default-key.ensures c.has-frames.ensures c.fleet.ensures.before_status
+    (input_of g.S.Source.has_ended g.S.Source.faults g.S.Source.idles g.S.Source.left c.args.key.now c.named_key.new.key)
+    (input_of g.S.Source.has_ended g.S.Source.faults g.S.Source.idles g.S.Source.left c.args.main.now c.fleet.new.main)
+    c.in_ok-named_key.field-0 c.or_default-secret.result c.has-frames.result
+    c.in_ok-named_key.ensures.is c.or_default-secret.ensures c.has-frames.ensures c.fleet.ensures.before_status

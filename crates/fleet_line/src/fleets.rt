@@ -3,13 +3,13 @@ ghost use Rattle.std.specs.Prelude.{◌≡◌, false, map, IsErr, IsErrOf};
 ghost use Rattle.std.specs.Result.{result_err};
 ghost use Rattle.command_line.specs.Forms.{has_given};
 ghost use Rattle.command_line.specs.Lines.{given_of};
-ghost use Rattle.station_cli.specs.Fleets.{Fleets, or_default};
+ghost use Rattle.fleet_line.specs.Fleets.{Fleets, or_default};
 ghost use Rattle.run_status.specs.Seen.{input_of, output_of, before_status_over};
 
 use command_line::{Line, OptionName};
 use fleet_command::fleet;
 use key_file::default_key;
-use line_commands::{Inputs, named_key};
+use line_key::named_key;
 use mav_ports::{Sink, Source};
 use mav_sign::Key;
 use run_status::RunEnd;
@@ -24,25 +24,25 @@ fn or_default(key: Option<Key>) -> Key
     }
 }
 
-/// Plays the main input. Why the run halted, if it did, isn't written.
-pub(crate) fn run_fleet<S: Source, K: Sink>(
+/// Plays the main input under the key. Why the run halted, if it did, isn't written.
+pub fn run_fleet<S: Source, K: Sink>(
     alloc: Global,
     line: &Line,
-    inputs: &mut Inputs<S>,
+    key: &mut S,
+    main: &mut S,
     out: &mut K,
 ) -> Result<(), RunEnd>
     ensures fleet { Fleets
         (has_given OptionName.Key (map given_of line.now.settings.items))
         (has_given OptionName.Frames (map given_of line.now.settings.items))
         (before_status_over (output_of K.faults K.sent out.old out.new) (result_err result)) (IsErr result)
-        (input_of S.has_ended S.faults S.idles S.left inputs.old.key inputs.new.key)
-        (input_of S.has_ended S.faults S.idles S.left inputs.old.main inputs.new.main) }
-    ensures unread_defs { inputs.new.defs ≡ inputs.old.defs }
+        (input_of S.has_ended S.faults S.idles S.left key.old key.new)
+        (input_of S.has_ended S.faults S.idles S.left main.old main.new) }
     ensures unread_key { has_given OptionName.Key (map given_of line.now.settings.items) ≡ false
-        → inputs.new.key ≡ inputs.old.key }
+        → key.new ≡ key.old }
     ensures sound { ¬ IsErrOf result RunEnd.WriteFault → K.faults out.new ≡ K.faults out.old }
 {
-    let key = or_default(named_key(line, &mut inputs.key)?);
+    let secret = or_default(named_key(line, key)?);
     let frames = line.has(OptionName::Frames);
-    fleet(alloc, key, frames, &mut inputs.main, out)
+    fleet(alloc, secret, frames, main, out)
 }

@@ -1,0 +1,4 @@
+pub mod Usages
+pub mod Scenarios
+pub mod Completes
+mod Told
