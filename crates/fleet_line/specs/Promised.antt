@@ -21,7 +21,8 @@ pub record FleetPromises (words : List (List ℕ)) (key main : Input) (out : Out
   -- the main theorem, of that same run
   pub main_theorem : (asked : Asked) → Asks built words asked → asked.command ≡ Fleet
       → FleetsCarry (has_given Key asked.settings) (has_given Frames asked.settings) out code key main
-  -- completeness: an authentic scenario of the grammar that keeps to the limits is played to its end, unless memory ran out
+  -- completeness: if no port fails, an authentic scenario of the grammar that keeps to the limits is played to its end,
+  -- unless memory ran out
   pub completeness : (asked : Asked) → Asks built words asked → asked.command ≡ Fleet
       → FleetsComplete (has_given Key asked.settings) (has_given Frames asked.settings) out code key main
   -- the words are of no `fleet` exactly if the status is 2, unless the output refused that text or there was no memory
