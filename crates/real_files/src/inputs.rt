@@ -1,5 +1,6 @@
 // The inputs that words name.
-ghost use Rattle.std.specs.Prelude.{◌≡◌, None, IsNone, IfOk};
+ghost use Rattle.std.specs.Prelude.{◌≡◌, None, IsNone, IfOk, option_map, string_bytes};
+ghost use Rattle.real_files.specs.Named.{is_stdin, names_stdin, reads_stdin};
 
 use crate::NoMemory;
 use mav_ports::{Source, StdSource};
@@ -34,7 +35,9 @@ impl Read for Reader {
 }
 
 // The file of that name, or standard input for `-`; none if it can't be opened.
-fn reader_of(rt: &HostRuntime, name: &str) -> Result<Option<Reader>, NoMemory> {
+fn reader_of(rt: &HostRuntime, name: &str) -> Result<Option<Reader>, NoMemory>
+    ensures stdin { IfOk result (λ reader. reads_stdin reader ≡ is_stdin name.now) }
+{
     if name == "-" {
         return Ok(Some(Reader::Stdin(rt.stdin())));
     }
@@ -48,6 +51,7 @@ fn reader_of(rt: &HostRuntime, name: &str) -> Result<Option<Reader>, NoMemory> {
 /// The input of that name: a file, or standard input for `-`. One that isn't named or can't be opened fails at each read.
 pub fn open_input(rt: &HostRuntime, name: &Option<String>) -> Result<StdSource<Reader>, NoMemory>
     ensures unnamed { name.now ≡ None → IfOk result (λ input. IsNone input.reader) }
+    ensures stdin { IfOk result (λ input. reads_stdin input.reader ≡ names_stdin (option_map string_bytes name.now)) }
     ensures faults { IfOk result (λ input. ⟦<StdSource<Reader> as Source>⟧.faults input ≡ 0) }
     ensures begun { IfOk result (λ input. ¬ ⟦<StdSource<Reader> as Source>⟧.has_ended input) }
 {

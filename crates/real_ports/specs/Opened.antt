@@ -1,7 +1,46 @@
 -- What was just opened.
-use Rattle.std.specs.Prelude.{None, false}
+use Rattle.std.specs.Prelude.{None, false, true, ℕ, Bool, List, codes}
+use Rattle.std.specs.Str.{bytes_eq}
+use Rattle.command_line.specs.declared.ports.SocketKind.{SocketKind}
+use Rattle.command_line.specs.declared.ports.SocketKind.TheVariants.{Tcp, Listen, Udp, UdpListen}
+use Rattle.command_line.specs.declared.ports.FilesKind.{FilesKind}
+use Rattle.command_line.specs.declared.ports.FilesKind.TheVariants.{File, Replay}
+use Rattle.command_line.specs.declared.ports.Target.{Target}
+use Rattle.command_line.specs.declared.ports.Target.TheVariants.{Socket as SocketTarget, Files as FilesTarget}
 use Rattle.mav_links.specs.Links.{LinkState}
+use Rattle.real_ports.specs.declared.links.RealLink.{RealLink}
+use Rattle.real_ports.specs.declared.links.RealLink.TheVariants.{Files, Log, Stream, Datagrams}
+use Rattle.real_ports.specs.declared.stores.RealStore.{RealStore}
+use Rattle.real_ports.specs.declared.stores.RealStore.TheVariants.{File as InFile, Failing}
 
 -- a link to the system, before its first call: nothing is known of its bytes, and nothing was counted
 abbrev pub just_opened : LinkState
 just_opened = record { left = None; sent = None; faults = 0; idles = 0; pauses = None; ended = false }
+
+-- whether a link is what a socket of that kind has: a TCP connection, or datagrams
+abbrev pub is_of_socket : SocketKind → RealLink → Bool
+is_of_socket Tcp (Stream link) = true
+is_of_socket Listen (Stream link) = true
+is_of_socket Udp (Datagrams link) = true
+is_of_socket UdpListen (Datagrams link) = true
+is_of_socket kind link = false
+
+-- whether a link is what files of that kind have: their bytes, or the frames of a log
+abbrev pub is_of_files : FilesKind → RealLink → Bool
+is_of_files File (Files link) = true
+is_of_files Replay (Log link) = true
+is_of_files kind link = false
+
+-- whether a link is what a port names
+abbrev pub is_of_target : Target → RealLink → Bool
+is_of_target (SocketTarget socket) link = is_of_socket socket.kind link
+is_of_target (FilesTarget files) link = is_of_files files.kind link
+
+-- whether a store is over a file
+abbrev pub is_in_file : RealStore → Bool
+is_in_file (InFile store) = true
+is_in_file (Failing store) = false
+
+-- the name of standard input, which is no file to keep anything in
+abbrev pub is_stdin : List ℕ → Bool
+is_stdin name = bytes_eq name (codes "-")

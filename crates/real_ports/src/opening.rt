@@ -1,6 +1,7 @@
 // The ports that words name.
-ghost use Rattle.std.specs.Prelude.{◌≡◌, IfOk};
-ghost use Rattle.real_ports.specs.Opened.{just_opened};
+ghost use Rattle.std.specs.Prelude.{◌≡◌, IfOk, true};
+ghost use Rattle.command_line.specs.declared.ports.SocketKind.TheVariants.{Tcp, Udp};
+ghost use Rattle.real_ports.specs.Opened.{just_opened, is_of_socket, is_of_files, is_of_target};
 
 use crate::{NoMemory, RealLink};
 use command_line::{Files, FilesKind, Port, Socket, SocketKind, Target};
@@ -17,6 +18,7 @@ use std::{fs, io};
 /// Opens a port, whose reads wait so long. A file that is written is made empty. One that can't be opened fails at each call.
 pub fn open_link(rt: &HostRuntime, port: &Port, wait: Duration) -> Result<RealLink, NoMemory>
     ensures opened { IfOk result (λ link. ⟦<RealLink as Link>⟧.state link ≡ just_opened) }
+    ensures kind { IfOk result (λ link. is_of_target port.now.target link ≡ true) }
 {
     match &port.target {
         Target::Files(files) => files_link(rt, files),
@@ -48,6 +50,7 @@ fn two_files(rt: &HostRuntime, files: &Files) -> Result<FileLink<File, File>, No
 // Over two files, or playing the log in the first with the messages of the profile.
 fn files_link(rt: &HostRuntime, files: &Files) -> Result<RealLink, NoMemory>
     ensures opened { IfOk result (λ link. ⟦<RealLink as Link>⟧.state link ≡ just_opened) }
+    ensures kind { IfOk result (λ link. is_of_files files.now.kind link ≡ true) }
 {
     let link = two_files(rt, files)?;
     match files.kind {
@@ -77,6 +80,7 @@ fn accept(rt: &HostRuntime, socket: &Socket, wait: Duration) -> io::Result<Closi
 // Over a TCP connection: one that is made, or the first that comes.
 fn stream_link(rt: &HostRuntime, socket: &Socket, wait: Duration) -> Result<RealLink, NoMemory>
     ensures opened { IfOk result (λ link. ⟦<RealLink as Link>⟧.state link ≡ just_opened) }
+    ensures kind { IfOk result (λ link. is_of_socket Tcp link ≡ true) }
 {
     let stream = match socket.kind {
         SocketKind::Listen => accept(rt, socket, wait),
@@ -111,6 +115,7 @@ fn to_peer(
 // Over a UDP socket: to one peer, or to its latest sender.
 fn datagrams_link(rt: &HostRuntime, socket: &Socket, wait: Duration) -> Result<RealLink, NoMemory>
     ensures opened { IfOk result (λ link. ⟦<RealLink as Link>⟧.state link ≡ just_opened) }
+    ensures kind { IfOk result (λ link. is_of_socket Udp link ≡ true) }
 {
     let link = match socket.kind {
         SocketKind::UdpListen => {

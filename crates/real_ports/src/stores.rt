@@ -1,5 +1,6 @@
 // The store that words name.
-ghost use Rattle.std.specs.Prelude.{◌≡◌, IfOk};
+ghost use Rattle.std.specs.Prelude.{◌≡◌, IfOk, not};
+ghost use Rattle.real_ports.specs.Opened.{is_in_file, is_stdin};
 
 use crate::NoMemory;
 use plan_store::{FailKeeper, KeepFault, Keeper};
@@ -58,6 +59,7 @@ impl Keeper for RealStore {
 /// Opens the store in the file of that name, and not in standard input, which is `-` and fails at each call.
 pub fn open_store(rt: &HostRuntime, name: &str) -> Result<RealStore, NoMemory>
     ensures faults { IfOk result (λ store. ⟦<RealStore as Keeper>⟧.faults store ≡ 0) }
+    ensures kind { IfOk result (λ store. is_in_file store ≡ not (is_stdin name.now)) }
 {
     if name == "-" {
         return Ok(RealStore::Failing(FailKeeper::new()));
