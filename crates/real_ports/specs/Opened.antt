@@ -1,6 +1,5 @@
 -- What was just opened.
-use Rattle.std.specs.Prelude.{None, false, true, ℕ, Bool, List, codes}
-use Rattle.std.specs.Str.{bytes_eq}
+use Rattle.std.specs.Prelude.{None, false, true, Bool}
 use Rattle.command_line.specs.declared.ports.SocketKind.{SocketKind}
 use Rattle.command_line.specs.declared.ports.SocketKind.TheVariants.{Tcp, Listen, Udp, UdpListen}
 use Rattle.command_line.specs.declared.ports.FilesKind.{FilesKind}
@@ -40,7 +39,3 @@ is_of_target (FilesTarget files) link = is_of_files files.kind link
 abbrev pub is_in_file : RealStore → Bool
 is_in_file (InFile store) = true
 is_in_file (Failing store) = false
-
--- the name of standard input, which is no file to keep anything in
-abbrev pub is_stdin : List ℕ → Bool
-is_stdin name = bytes_eq name (codes "-")

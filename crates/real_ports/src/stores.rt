@@ -1,6 +1,7 @@
 // The store that words name.
 ghost use Rattle.std.specs.Prelude.{◌≡◌, IfOk, not};
-ghost use Rattle.real_ports.specs.Opened.{is_in_file, is_stdin};
+ghost use Rattle.command_line.specs.Forms.{is_stdin};
+ghost use Rattle.real_ports.specs.Opened.{is_in_file};
 
 use crate::NoMemory;
 use plan_store::{FailKeeper, KeepFault, Keeper};
