@@ -4,8 +4,8 @@ ghost use Rattle.mav_ports.specs.Gets.{GivesWithin};
 ghost use Rattle.mav_links.specs.Tallies.{nothing_counted};
 
 use crate::Link;
-use crate::tallies::{Tally, write_once};
-use mav_ports::{Got, Put};
+use crate::tallies::{Tally, put_once};
+use mav_ports::{Got, Put, read_once};
 use std::io::{Read, Write};
 
 /// A link that reads from any reader and writes to any writer, as of two files. It says nothing of the bytes, never
@@ -36,7 +36,7 @@ impl<R: Read + Drop, W: Write + Drop> FileLink<R, W> {
 fn read_from<R: Read>(reader: &mut R, buf: &mut [u8]) -> Got
     ensures { GivesWithin result buf.new }
 {
-    match reader.read(buf) {
+    match read_once(reader, buf) {
         Ok(0) => Got::End,
         Ok(count) => Got::Bytes(count),
         Err(_) => Got::Failed,
@@ -60,7 +60,7 @@ impl<R: Read + Send + Drop, W: Write + Send + Drop> Link for FileLink<R, W> {
 
     fn write(&mut self, bytes: &[u8]) -> Put {
         let put = match &mut self.writer {
-            Some(writer) => write_once(writer, bytes),
+            Some(writer) => put_once(writer, bytes),
             None => Put::Failed,
         };
         self.tally.write(put);

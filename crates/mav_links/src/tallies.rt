@@ -5,7 +5,7 @@ ghost use Rattle.mav_ports.specs.Puts.{CountsRefusal, TakesWithin};
 ghost use Rattle.mav_links.specs.Links.{IsNoBytes};
 ghost use Rattle.mav_links.specs.Tallies.{nothing_counted};
 
-use mav_ports::{Got, Put};
+use mav_ports::{Got, Put, read_once, write_once};
 use std::io::{ErrorKind, Read, Write};
 
 /// How many calls failed and how many reads returned Idle, and whether one returned End.
@@ -54,22 +54,15 @@ impl Tally {
     }
 }
 
-// An interrupted call is repeated so often.
-const MOST_REPEATS: u32 = 1_000_000;
-
 /// What a reader gave that waits for its bytes: Idle if none came in time.
 pub(crate) fn read_waiting<R: Read>(reader: &mut R, buf: &mut [u8]) -> Got
     ensures { GivesWithin result buf.new }
 {
-    for _repeat in 0..MOST_REPEATS {
-        match reader.read(buf) {
-            Ok(0) => return Got::End,
-            Ok(count) => return Got::Bytes(count),
-            Err(error) if error.kind() == ErrorKind::Interrupted => {}
-            Err(error) => return waited(error.kind()),
-        }
+    match read_once(reader, buf) {
+        Ok(0) => Got::End,
+        Ok(count) => Got::Bytes(count),
+        Err(error) => waited(error.kind()),
     }
-    Got::Failed
 }
 
 /// What a read that met this error gave.
@@ -84,15 +77,11 @@ pub(crate) fn waited(kind: ErrorKind) -> Got
 }
 
 /// What a writer took.
-pub(crate) fn write_once<W: Write>(writer: &mut W, bytes: &[u8]) -> Put
+pub(crate) fn put_once<W: Write>(writer: &mut W, bytes: &[u8]) -> Put
     ensures { TakesWithin result bytes.now }
 {
-    for _repeat in 0..MOST_REPEATS {
-        match writer.write(bytes) {
-            Ok(count) if count > 0 => return Put::Took(count),
-            Err(error) if error.kind() == ErrorKind::Interrupted => {}
-            _ => return Put::Failed,
-        }
+    match write_once(writer, bytes) {
+        Ok(count) if count > 0 => Put::Took(count),
+        _ => Put::Failed,
     }
-    Put::Failed
 }

@@ -3,7 +3,7 @@ ghost use Rattle.std.specs.Prelude.{◌≡◌, None};
 ghost use Rattle.mav_links.specs.Tallies.{nothing_counted};
 
 use crate::Link;
-use crate::tallies::{Tally, read_waiting, write_once};
+use crate::tallies::{Tally, put_once, read_waiting};
 use mav_ports::{Got, Put};
 use std::io::{Read, Write};
 
@@ -45,7 +45,7 @@ impl<S: Read + Write + Send + Drop> Link for TcpLink<S> {
 
     fn write(&mut self, bytes: &[u8]) -> Put {
         let put = match &mut self.stream {
-            Some(stream) => write_once(stream, bytes),
+            Some(stream) => put_once(stream, bytes),
             None => Put::Failed,
         };
         self.tally.write(put);

@@ -17,6 +17,9 @@ use std::net::{SocketAddr, UdpSocket};
 // As many bytes as a datagram can have.
 const MOST_BYTES: usize = 65_536;
 
+// A call that a signal interrupts is made again so often.
+const MOST_REPEATS: u32 = 1_000_000;
+
 /// A link over a UDP socket: with a fixed peer, or with the latest sender as its peer, before whose first datagram
 /// what is written is dropped. Each write sends one datagram, with the first of the frames given. The part of a datagram
 /// that doesn't fit the buffer of a read is kept for the next. It says nothing of the bytes; it idles if no datagram came
@@ -65,7 +68,7 @@ impl UdpLink {
         let Some(socket) = &self.socket else {
             return Got::Failed;
         };
-        match socket.recv_from(&mut self.datagram) {
+        match receive_once(socket, &mut self.datagram) {
             Ok((count, from)) => {
                 self.start = 0;
                 self.end = count;
@@ -73,7 +76,6 @@ impl UdpLink {
                 Got::Idle
             }
             Err(error) if error.kind() == ErrorKind::ConnectionRefused => Got::Idle,
-            Err(error) if error.kind() == ErrorKind::Interrupted => Got::Idle,
             Err(error) => waited(error.kind()),
         }
     }
@@ -95,6 +97,30 @@ impl UdpLink {
     }
 }
 
+// Receives once, and again if that was interrupted.
+fn receive_once(socket: &UdpSocket, datagram: &mut [u8]) -> io::Result<(usize, SocketAddr)>
+    ensures within { IfOk result (λ received. received.0 ≤ length datagram.new) }
+{
+    for _repeat in 0..MOST_REPEATS {
+        match socket.recv_from(datagram) {
+            Err(error) if error.kind() == ErrorKind::Interrupted => {}
+            result => return result,
+        }
+    }
+    socket.recv_from(datagram)
+}
+
+// Sends a datagram once, and again if that was interrupted.
+fn send_once(socket: &UdpSocket, bytes: &[u8], peer: SocketAddr) -> io::Result<usize> {
+    for _repeat in 0..MOST_REPEATS {
+        match socket.send_to(bytes, peer) {
+            Err(error) if error.kind() == ErrorKind::Interrupted => {}
+            result => return result,
+        }
+    }
+    socket.send_to(bytes, peer)
+}
+
 // What a send of the first frame to the peer took.
 fn send(socket: &UdpSocket, peer: Option<SocketAddr>, bytes: &[u8]) -> Put
     requires { 0 < length bytes.now }
@@ -104,7 +130,7 @@ fn send(socket: &UdpSocket, peer: Option<SocketAddr>, bytes: &[u8]) -> Put
         return Put::Took(bytes.len());
     };
     let size = datagram_size(bytes);
-    match socket.send_to(&bytes[..size], peer) {
+    match send_once(socket, &bytes[..size], peer) {
         Ok(_) => Put::Took(size),
         Err(error) if error.kind() == ErrorKind::ConnectionRefused => Put::Took(size),
         Err(_) => Put::Failed,

@@ -3,11 +3,12 @@
 //! [`Source`], [`Sink`] and [`Clock`] promise which bytes moved, and that a call failed only if a
 //! count of faults rose. The ports over memory also say what each call returns, for tests and
 //! runs without a system; the `Std` ports wrap the system's own and promise nothing of what
-//! these hold. Nothing here allocates but the constructors that return [`NoMemory`].
+//! these hold; a call that a signal interrupts is made again. Nothing here allocates but the constructors that return [`NoMemory`].
 #![tactic(auto)]
 
 mod calls;
 mod clocks;
+mod interrupts;
 mod mem_clock;
 mod mem_sink;
 mod mem_source;
@@ -21,6 +22,7 @@ mod sure_sink;
 mod sure_source;
 
 pub use clocks::Clock;
+pub use interrupts::{read_once, write_once};
 pub use mav_names::{Name, Stream};
 pub use mem_clock::MemClock;
 pub use mem_sink::MemSink;

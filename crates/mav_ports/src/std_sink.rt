@@ -1,7 +1,7 @@
 // A sink over a writer of the system.
 ghost use Rattle.std.specs.Prelude.{◌≡◌, None};
 
-use crate::{Put, Sink};
+use crate::{Put, Sink, write_once};
 use std::io::Write;
 
 /// A sink over any writer. It says nothing of the bytes, and counts as a fault each error of the
@@ -27,7 +27,7 @@ impl<W: Write + Drop> Sink for StdSink<W> {
     ghost faults = { λ s. s.faults };
 
     fn write(&mut self, bytes: &[u8]) -> Put {
-        match self.writer.write(bytes) {
+        match write_once(&mut self.writer, bytes) {
             Ok(count) if count > 0 => Put::Took(count),
             _ => {
                 self.faults = self.faults.saturating_add(1);

@@ -2,7 +2,7 @@
 ghost use Rattle.std.specs.Prelude.{◌≡◌, ◌<◌, None, IsTrue, IsSome, IsNone, length};
 ghost use Rattle.mav_ports.specs.Gets.{GivesWithin, CountsFault, idles_after};
 
-use crate::{Got, Source};
+use crate::{Got, Source, read_once};
 use std::io::Read;
 
 /// A source over any reader. It says nothing of the bytes, counts each error of the reader as a
@@ -54,7 +54,7 @@ impl<R: Read + Drop> Source for StdSource<R> {
             return Got::End;
         }
         let count = match &mut self.reader {
-            Some(reader) => reader.read(buf).ok(),
+            Some(reader) => read_once(reader, buf).ok(),
             None => None,
         };
         match count {

@@ -124,7 +124,7 @@ fn all_that_is_written_is_sent_while_there_is_room(rt: HostRuntime) -> Result<()
     Ok(())
 }
 
-// Gives one byte a call, but fails at its second, ends at its fourth, and goes on after that.
+// Gives one byte a call, but fails at its second, is interrupted at its third, ends at its fifth, and goes on after that.
 #[derive(Drop)]
 struct Unsteady {
     calls: u8,
@@ -134,8 +134,9 @@ impl Read for Unsteady {
     fn read(&mut self, buf: &mut [u8]) -> io::Result<usize> {
         self.calls = self.calls.saturating_add(1);
         match self.calls {
-            2 => Err(Error::from(ErrorKind::Interrupted)),
-            4 => Ok(0),
+            2 => Err(Error::from(ErrorKind::BrokenPipe)),
+            3 => Err(Error::from(ErrorKind::Interrupted)),
+            5 => Ok(0),
             _ => Ok(buf.len().min(1)),
         }
     }
@@ -146,7 +147,8 @@ impl Write for Unsteady {
         self.calls = self.calls.saturating_add(1);
         match self.calls {
             2 => Err(Error::from(ErrorKind::BrokenPipe)),
-            4 => Ok(0),
+            3 => Err(Error::from(ErrorKind::Interrupted)),
+            5 => Ok(0),
             _ => Ok(buf.len().min(1)),
         }
     }
@@ -174,7 +176,8 @@ fn written_by(writer: Unsteady) -> [Put; 4] {
     four_writes(&mut StdSink::new(writer))
 }
 
-// A source over a reader ends once, and one over none fails; a sink also fails if none is taken.
+// A source over a reader ends once, and one over none fails; a sink also fails if none is taken. Interrupted calls are
+// made again.
 #[test]
 fn the_adapters_fail_at_errors(rt: HostRuntime) {
     assert_eq!(rt;
