@@ -1,5 +1,5 @@
 -- What a frame's entry is, and what holds of a switch after it.
-use Rattle.std.proofs.Common.{◌≡◌, ◌∙◌, ◌==◌, ◌<◌, ◌+◌, arith, length, true, ◌++◌, ◌∷◌, [], ℕ, zero, suc, List, All, Bool, Some, Err, map, take, slice_get, refl, sym, ap, subst, append_assoc}
+use Rattle.std.proofs.Common.{◌≡◌, ◌∙◌, ◌==◌, ◌<◌, ◌≤◌, ◌+◌, arith, length, true, ◌++◌, ◌∷◌, [], ℕ, zero, suc, List, All, Bool, Some, Err, map, take, slice_get, refl, sym, ap, subst, append_assoc}
 use Rattle.std.proofs.lemmas.Grind.{common_steps}
 use Rattle.std.proofs.lemmas.List.{append-nil, length-map}
 use Rattle.std.proofs.lemmas.Option.{get_or_from_slice_get, slice_get_within}
@@ -13,7 +13,7 @@ use Rattle.link_table.specs.Routing.{ways_of, has_port}
 use Rattle.link_table.specs.Table.{Masks, Represents as StandsFor}
 use Rattle.mav_router.specs.declared.entries.Entry.{Entry}
 use Rattle.mav_router.specs.declared.entries.Outcome.{Outcome}
-use Rattle.mav_router.specs.Journal.{Rules, IsJournal, entry_after, verdict_on, is_unsigned, ways_by, target_by, learned_at, learned_by, learned_in, tried_by, tried_in}
+use Rattle.mav_router.specs.Journal.{Rules, IsPortOf, IsJournal, entry_after, verdict_on, is_unsigned, ways_by, target_by, learned_at, learned_by, learned_in, tried_by, tried_in}
 use Rattle.mav_router.specs.declared.found.FoundFrame.{FoundFrame}
 use Rattle.mav_router.specs.Admitting.{AdmitsThese, IsAfter, Judges, entry_by}
 use Rattle.mav_router.specs.Found.{Admits, IsJudged, Judged, Keeps, packets_of}
@@ -35,15 +35,15 @@ entry_judged rules journal port packet target stamps later table taught outcome 
     ∙ ap (λ (n : ℕ). ways (ways_of rules.ports learned n (target_by rules packet))) at)))
 
 -- the verifier, the table and the journal after it
-pub holds_more : (rules : Rules) (journal after : List Entry) (port : ℕ) (packet : Packet) (target : Name) (stamps later : Kept) (table taught : Masks) (outcome : Outcome) → Judges rules port packet target stamps later table taught outcome → after ≡ journal ++ entry_by packet outcome ∷ [] → IsAfter rules stamps table journal → table.ports ≡ rules.ports → target ≡ target_by rules packet → IsAfter rules later taught after
-holds_more rules journal after port packet target stamps later table taught outcome j is h ports target_is =
+pub holds_more : (rules : Rules) (journal after : List Entry) (port : ℕ) (packet : Packet) (target : Name) (stamps later : Kept) (table taught : Masks) (outcome : Outcome) → Judges rules port packet target stamps later table taught outcome → after ≡ journal ++ entry_by packet outcome ∷ [] → IsAfter rules stamps table journal → IsPortOf rules port → table.ports ≡ rules.ports → target ≡ target_by rules packet → IsAfter rules later taught after
+holds_more rules journal after port packet target stamps later table taught outcome j is h at ports target_is =
     let entry = entry_by packet outcome in
     let e = entry_judged rules journal port packet target stamps later table taught outcome j h.kept h.stands ports target_is in
     let learned = subst (λ (n : ℕ). StandsFor taught (learned_in journal ++ listed (learned_at (is_admitted outcome.admit) n packet.from))) (sym j.port_is) (j.learned (learned_in journal) h.stands) in
     record {
       kept = subst (Represents later) (sym (ap tried_in is ∙ filter_map_push tried_by journal entry)) (j.history (tried_in journal) h.kept);
       stands = subst (StandsFor taught) (sym (ap learned_in is ∙ filter_map_push learned_by journal entry)) learned;
-      legal = subst (IsJournal rules []) (sym is) (journal_more rules [] journal entry h.legal e);
+      legal = subst (IsJournal rules []) (sym is) (journal_more rules [] journal entry h.legal (subst (IsPortOf rules) (sym j.port_is) at) e);
     }
 
 -- nothing was admitted yet
@@ -55,13 +55,13 @@ admits_none rules port stamps table = record {
 }
 
 -- a frame more
-pub admits_more : (rules : Rules) (port : ℕ) (frames : List Packet) (stamps middle later : Kept) (table seen taught : Masks) (entries : List Entry) (packet : Packet) (target : Name) (outcome : Outcome) → AdmitsThese rules port frames stamps middle table seen entries → Judges rules port packet target middle later seen taught outcome → target ≡ target_by rules packet → AdmitsThese rules port (frames ++ packet ∷ []) stamps later table taught (entries ++ entry_by packet outcome ∷ [])
-admits_more rules port frames stamps middle later table seen taught entries packet target outcome a j target_is =
+pub admits_more : (rules : Rules) (port : ℕ) (frames : List Packet) (stamps middle later : Kept) (table seen taught : Masks) (entries : List Entry) (packet : Packet) (target : Name) (outcome : Outcome) → 1 ≤ port → port ≤ table.ports → AdmitsThese rules port frames stamps middle table seen entries → Judges rules port packet target middle later seen taught outcome → target ≡ target_by rules packet → AdmitsThese rules port (frames ++ packet ∷ []) stamps later table taught (entries ++ entry_by packet outcome ∷ [])
+admits_more rules port frames stamps middle later table seen taught entries packet target outcome from to a j target_is =
     let entry = entry_by packet outcome in
     record {
       keeps = keeps_more port [] entries (entries ++ entry ∷ []) entry frames j.port_is a.keeps refl;
       ports = j.ports ∙ a.ports;
-      after = λ journal same h. holds_more rules (journal ++ entries) (journal ++ (entries ++ entry ∷ [])) port packet target middle later seen taught outcome j (sym (append_assoc journal entries (entry ∷ []))) (a.after journal same h) (a.ports ∙ same) target_is;
+      after = λ journal same h. holds_more rules (journal ++ entries) (journal ++ (entries ++ entry ∷ [])) port packet target middle later seen taught outcome j (sym (append_assoc journal entries (entry ∷ []))) (a.after journal same h) (from, subst (λ (n : ℕ). port ≤ n) same to) (a.ports ∙ same) target_is;
     }
 
 -- an element of some that all have a property, and of what is made of them
@@ -88,8 +88,8 @@ next_found bytes found at one there =
 
 -- the last entry is that of the rules
 journal_last : (rules : Rules) (before entries : List Entry) (entry : Entry) → IsJournal rules before (entries ++ entry ∷ []) → entry ≡ entry_after rules (before ++ entries) entry.port entry.frame
-journal_last rules before [] entry j = subst (λ (b : List Entry). entry ≡ entry_after rules b entry.port entry.frame) (sym (append-nil before)) j.0
-journal_last rules before (x ∷ xs) entry j = subst (λ (b : List Entry). entry ≡ entry_after rules b entry.port entry.frame) (append_assoc before (x ∷ []) xs) (journal_last rules (before ++ x ∷ []) xs entry j.1)
+journal_last rules before [] entry j = subst (λ (b : List Entry). entry ≡ entry_after rules b entry.port entry.frame) (sym (append-nil before)) j.1
+journal_last rules before (x ∷ xs) entry j = subst (λ (b : List Entry). entry ≡ entry_after rules b entry.port entry.frame) (append_assoc before (x ∷ []) xs) (journal_last rules (before ++ x ∷ []) xs entry j.2)
 
 same_port : (m n : ℕ) → (m == n) ≡ true → m ≡ n
 same_port m n e = grind (arith, common_steps)

@@ -10,7 +10,7 @@ use Rattle.mav_sign.specs.declared.admission.Admit.{Admit}
 use Rattle.mav_sign.specs.History.{is_admitted}
 use Rattle.mav_sign.specs.Streams.{listed}
 use Rattle.mav_router.specs.declared.entries.Entry.{Entry}
-use Rattle.mav_router.specs.Journal.{Rules, IsJournal, frames_at, entry_after, admit_after, is_unsigned, ways_by, target_by, learned_in, frame_to, frames_to}
+use Rattle.mav_router.specs.Journal.{Rules, IsPortOf, IsJournal, frames_at, entry_after, admit_after, is_unsigned, ways_by, target_by, learned_in, frame_to, frames_to}
 
 -- what a filter keeps of one element
 pub filter_map_one : {X Y : Type 0} (f : X → Option Y) (x : X) → filter_map f (x ∷ []) ≡ listed (f x)
@@ -24,10 +24,10 @@ pub filter_map_push : {X Y : Type 0} (f : X → Option Y) (xs : List X) (x : X) 
 filter_map_push f xs x = filter_map-append f xs (x ∷ []) ∙ ap (λ ys. filter_map f xs ++ ys) (filter_map_one f x)
 
 -- one more entry of the journal
-pub journal_more : (rules : Rules) (before entries : List Entry) (entry : Entry) → IsJournal rules before entries → entry ≡ entry_after rules (before ++ entries) entry.port entry.frame → IsJournal rules before (entries ++ entry ∷ [])
-journal_more rules before [] entry j e = (subst (λ b. entry ≡ entry_after rules b entry.port entry.frame) (append-nil before) e, tt)
-journal_more rules before (x ∷ xs) entry j e =
-    (j.0, journal_more rules (before ++ x ∷ []) xs entry j.1 (subst (λ b. entry ≡ entry_after rules b entry.port entry.frame) (sym (append_assoc before (x ∷ []) xs)) e))
+pub journal_more : (rules : Rules) (before entries : List Entry) (entry : Entry) → IsJournal rules before entries → IsPortOf rules entry.port → entry ≡ entry_after rules (before ++ entries) entry.port entry.frame → IsJournal rules before (entries ++ entry ∷ [])
+journal_more rules before [] entry j p e = (p, subst (λ b. entry ≡ entry_after rules b entry.port entry.frame) (append-nil before) e, tt)
+journal_more rules before (x ∷ xs) entry j p e =
+    (j.0, j.1, journal_more rules (before ++ x ∷ []) xs entry j.2 p (subst (λ b. entry ≡ entry_after rules b entry.port entry.frame) (sym (append_assoc before (x ∷ []) xs)) e))
 
 pub entry_is : (rules : Rules) (before : List Entry) (port : ℕ) (packet : Packet) (admit : Admit) (ways : List Bool) → admit ≡ admit_after rules before port packet → ways ≡ ways_by (is_admitted admit) (is_unsigned packet) rules.plain (ways_of rules.ports (learned_in before) port (target_by rules packet)) → ◌≡◌ {A = Entry} (record { port = port; frame = packet; admit = admit; ways = ways }) (entry_after rules before port packet)
 entry_is rules before port packet admit ways e f =

@@ -16,7 +16,7 @@ abbrev pub EveryEntry : Type 0
 EveryEntry =
     (rules : Rules) (before after : List Entry) (entry : Entry) (port : ℕ) → IsJournal rules [] (before ++ entry ∷ after) → 1 ≤ port → port ≤ 8 → has_port entry.ways port ≡ reaches rules before entry port
 
--- no packet goes back to the port that it came in at
+-- no packet goes back to the port that it came in at, in any journal
 abbrev pub NeverBack : Type 0
 NeverBack =
-    (rules : Rules) (before after : List Entry) (entry : Entry) → IsJournal rules [] (before ++ entry ∷ after) → 1 ≤ entry.port → entry.port ≤ 8 → has_port entry.ways entry.port ≡ false
+    (rules : Rules) (before after : List Entry) (entry : Entry) → IsJournal rules [] (before ++ entry ∷ after) → has_port entry.ways entry.port ≡ false

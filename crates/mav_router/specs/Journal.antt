@@ -1,6 +1,6 @@
 -- The journal of a router: every frame that came in, with its verdict and the ports that it goes to (MAVLink guide,
 -- Routing; Message Signing, Accepting Signed Packets).
-use Rattle.std.specs.Prelude.{ℕ, ◌≡◌, ◌==◌, ◌-◌, ◌&&◌, Bool, if◌then◌else◌, List, [], ◌∷◌, ◌++◌, take, slice_get, slice_index, option_map, Option, Some, None, is_none, ⊤}
+use Rattle.std.specs.Prelude.{ℕ, ◌≡◌, ◌≤◌, ◌==◌, ◌-◌, ◌&&◌, Bool, if◌then◌else◌, List, [], ◌∷◌, ◌++◌, take, slice_get, slice_index, option_map, Option, Some, None, is_none, ⊤}
 use Rattle.std.specs.List.{filter_map, flat_map}
 use Rattle.mav_names.specs.declared.names.Name.{Name}
 use Rattle.field_layout.specs.Definition.{Definition, base_len_of}
@@ -82,11 +82,15 @@ entry_after rules before port packet = record {
   ways = ways_by (is_admitted (admit_after rules before port packet)) (is_unsigned packet) rules.plain (ways_of rules.ports (learned_in before) port (target_by rules packet));
 }
 
--- each entry is that of its port and frame after those before it
+-- ports are numbered from 1
+abbrev pub IsPortOf : Rules → ℕ → Type 0
+IsPortOf rules port = (1 ≤ port) × (port ≤ rules.ports)
+
+-- each entry is of one of the router's ports, and is that of its port and frame after those before it
 abbrev pub IsJournal : Rules → List Entry → List Entry → Type 0
 IsJournal rules before [] = ⊤
 IsJournal rules before (entry ∷ entries) =
-    (entry ≡ entry_after rules before entry.port entry.frame) × IsJournal rules (before ++ entry ∷ []) entries
+    IsPortOf rules entry.port × (entry ≡ entry_after rules before entry.port entry.frame) × IsJournal rules (before ++ entry ∷ []) entries
 
 -- the frames that came in at a port, and those that go out at it
 abbrev pub frame_from : ℕ → Entry → Option Packet

@@ -39,7 +39,7 @@ loop-at-preserved c =
     let items = c.put_last.ensures.items in
     let long = ap length items in
     let entries = ap (entries_of bytes) items ∙ map-append (entry_of bytes) r.heads.items (head ∷ []) in
-    let more = admits_more rules port (take r.at packets) c.args.stamps.now r.stamps stamps c.args.table.now r.table table (entries_of bytes r.heads.items) packet one.judgement.target outcome r.invariant.admits judges judged.target in
+    let more = admits_more rules port (take r.at packets) c.args.stamps.now r.stamps stamps c.args.table.now r.table table (entries_of bytes r.heads.items) packet one.judgement.target outcome c.requires.from c.requires.to r.invariant.admits judges judged.target in
     let P : Head → Type 0 = λ h. Holds bytes h.span in
     let holds : P head = all_got (λ (f : FoundFrame). Holds bytes f.span) found r.at one c.requires.held there in
     record {
