@@ -1,5 +1,5 @@
 -- What a port's run is at its start and its end.
-use Rattle.std.proofs.Common.{◌⊎◌, inl, inr, ◌≡◌, ◌∙◌, ◌<◌, ◌≤◌, ℕ, zero, suc, ◌+◌, arith, length-append, length-take, Bool, false, true, List, [], ◌∷◌, ◌++◌, length, take, drop, get_or, Option, Some, None, Err, refl, ap, sym, subst, slice_get, slice_index, ◌-◌, append_assoc}
+use Rattle.std.proofs.Common.{◌⊎◌, inl, inr, ◌≡◌, ◌∙◌, ◌<◌, ◌≤◌, ℕ, zero, suc, ◌+◌, ◌*◌, arith, length-append, length-take, Bool, false, true, List, [], ◌∷◌, ◌++◌, length, take, drop, get_or, Option, Some, None, Err, refl, ap, sym, subst, slice_get, slice_index, ◌-◌, append_assoc}
 use Rattle.std.proofs.lemmas.Option.{get_or_from_slice_get, slice_get_cases, slice_get_past}
 use Rattle.std.proofs.lemmas.List.{append-nil}
 use Rattle.std.specs.Io.KnownBytes.{prepend_known}
@@ -26,10 +26,10 @@ use Rattle.mav_router.specs.declared.lane.Lane.{Lane}
 use Rattle.mav_router.specs.declared.ends.PortEnd.{PortEnd}
 use Rattle.mav_router.specs.declared.ends.RouteFault.{RouteFault}
 use Rattle.mav_router.specs.Journal.{Rules, SwitchState, frame_to, frames_to, given_to, bytes_of}
-use Rattle.mav_router.specs.Runs.{AllRead, Output, PortSoFar, RunSoFar, Reading, IsNew, IsFresh, AllFresh, HadTurns, AllTurned, IsDrained, FaultsBy, skips_of}
+use Rattle.mav_router.specs.Runs.{AllRead, Output, PortSoFar, RunSoFar, Reading, IsNew, IsFresh, AllFresh, HadTurns, AllTurned, IsDrained, FaultsBy, ArePieces, joined_turns, skips_of}
 use Rattle.mav_router.specs.Routed.{HasEnded, HasStopped}
 use Rattle.mav_router.proofs.Halts.{stops_as}
-use Rattle.mav_router.specs.Ends.{PortRun, TurnedBy, ParsedBy, WrittenBy, FaultsAtEnd, IsOpenParse, IsClosedParse, how_by, end_by}
+use Rattle.mav_router.specs.Ends.{PortRun, TurnedBy, GaveEnd, ParsedBy, WrittenBy, FaultsAtEnd, IsOpenParse, IsClosedParse, how_by, end_by}
 
 nothing_incomplete : (extras : List (ℕ × ℕ)) (old : Bool) → IsIncomplete extras old []
 nothing_incomplete extras old = record {
@@ -70,8 +70,8 @@ port_at_start rules switch port first lane empty none fresh = record {
   input = record {
     bytes = [];
     turns = [];
+    pieces = λ k d less. absurd (omega (arith, less));
     joined = refl;
-    most = omega arith;
     idles = refl;
     turned = fresh.turns ∙ omega arith;
     left = prepend_none first.left;
@@ -80,6 +80,7 @@ port_at_start rules switch port first lane empty none fresh = record {
         (subst (λ (h : Held). AllRead rules port [] h lane.skipped []) (sym fresh.scanner) (subst (λ (n : ℕ). AllRead rules port [] (nothing_held (extras_of rules.known) (has_port rules.plain port)) n []) (sym fresh.skipped) (nothing_parsed rules port)));
     ended = ap (λ (h : Held). h.ended) fresh.scanner ∙ sym fresh.ended;
     spent = λ e. absurd (let wrong : ◌≡◌ {A = Bool} true false = sym e ∙ fresh.ended in cc);
+    gave_end = λ e. absurd (let wrong : ◌≡◌ {A = Bool} true false = sym e ∙ fresh.ended in cc);
     faults = fresh_faults lane.failed first.faults fresh.failed;
   };
   output = subst (λ (f : List Packet). Output f first first lane) (sym none) (record {
@@ -117,10 +118,24 @@ faults_by true ended turns before now f = f
 faults_by false true turns before now f = f
 faults_by false false turns before now f = f
 
-turned_by : (failed ended : Bool) (most : ℕ) (turns : List (List ℕ)) → (failed ≡ false → ended ≡ false → most ≡ length turns) → TurnedBy (how_by failed ended most) most turns
-turned_by true ended most turns f = tt
-turned_by false true most turns f = tt
-turned_by false false most turns f = (refl, f refl refl)
+turned_by : (failed ended : Bool) (most : ℕ) (turns : List (List ℕ)) → (failed ≡ false → ended ≡ false → most ≡ length turns) → (ended ≡ true → length turns < most) → length turns ≤ most → TurnedBy (how_by failed ended most) most turns
+turned_by true ended most turns live fewer within = within
+turned_by false true most turns live fewer within = fewer refl
+turned_by false false most turns live fewer within = (refl, live refl refl)
+
+gave_end_by : (failed ended : Bool) (turns : ℕ) (last : LinkState) → (ended ≡ true → last.ended ≡ true) → GaveEnd (how_by failed ended turns) last
+gave_end_by true ended turns last gave = tt
+gave_end_by false true turns last gave = gave refl
+gave_end_by false false turns last gave = tt
+
+-- pieces have at most 4,096 bytes each
+joined_short : (turns : List (List ℕ)) → ArePieces turns → length (joined_turns turns) ≤ 4096 * length turns
+joined_short [] all = omega arith
+joined_short (piece ∷ turns) all =
+    let first : length piece ≤ 4096 = all 0 [] (omega arith) in
+    let rest = joined_short turns (λ k d less. all (suc k) d (omega (arith, less))) in
+    let long = length-append piece (joined_turns turns) in
+    omega (arith, first, rest, long)
 
 -- no more bytes are skipped than there are
 skips_short : (events : List Event) → length (skips_of events) ≤ length (flat_map event_bytes events)
@@ -150,17 +165,23 @@ port_at_end rules switch journal port first last lane end turns few small same i
     let waiting = bytes_of (frames_to port (drop (slice_index switch.seen (port - 1)) switch.journal)) in
     let front = sym (append_assoc o.written o.rest waiting) ∙ (ap (λ (b : List ℕ). b ++ waiting) o.front ∙ sym (given_and_waiting switch port)) in
     let whole = λ (fine : lane.failed ≡ false). sym (append-nil o.written) ∙ (ap (λ (b : List ℕ). o.written ++ b) (sym (o.all fine)) ∙ (o.front ∙ ap bytes_of (drained fine))) in
+    let most : length i.bytes ≤ 4096 * length i.turns = (let joined = ap length i.joined in let short = joined_short i.turns i.pieces in omega (arith, joined, short)) in
     let reads : length i.turns ≤ 1000000000 = (let had = turned.most in let is_count = i.turned in omega (arith, had, is_count, few)) in
-    let read : lane.read ≡ length i.bytes = (let count = i.read in let most = i.most in omega (arith, count, most, reads)) in
-    let skipped : lane.skipped ≡ length (skips_of r.events) = (let count = r.skipped in let within = skips_within rules port i.bytes lane.scanner lane.skipped switch.journal r in let most = i.most in omega (arith, count, within, most, reads)) in
+    let read : lane.read ≡ length i.bytes = (let count = i.read in omega (arith, count, most, reads)) in
+    let skipped : lane.skipped ≡ length (skips_of r.events) = (let count = r.skipped in let within = skips_within rules port i.bytes lane.scanner lane.skipped switch.journal r in omega (arith, count, within, most, reads)) in
     let entries = length-take (slice_index switch.seen (port - 1)) switch.journal in
     let written : lane.written ≡ length o.written = (let count = o.count in let most = o.most in let given = kept_within (frame_to port) (take (slice_index switch.seen (port - 1)) switch.journal) in omega (arith, count, most, given, entries, small)) in
     subst (λ (e : PortEnd). PortRun rules journal turns port first last e) (sym is) (subst (λ (j : List Entry). PortRun rules j turns port first last (end_by lane turns)) (sym same) (record {
       bytes = i.bytes;
       turns = i.turns;
+      pieces = i.pieces;
       joined = i.joined;
       idles = i.idles;
-      turned = turned_by lane.failed lane.ended turns i.turns (λ fine live. (let exact = turned.live live fine in let count = i.turned in omega (arith, exact, count, reads)));
+      turned = turned_by lane.failed lane.ended turns i.turns
+          (λ fine live. (let exact = turned.live live fine in let count = i.turned in omega (arith, exact, count, reads)))
+          (λ ended. (let had = turned.fewer ended in let count = i.turned in omega (arith, had, count, reads)))
+          (let had = turned.most in let count = i.turned in omega (arith, had, count, reads));
+      gave_end = gave_end_by lane.failed lane.ended turns last i.gave_end;
       events = r.events;
       written = o.written;
       left = i.left;
@@ -276,4 +297,8 @@ unrouted {A} one state rules most links after fault is none same = record {
 
 -- a lane that is new had no turn
 pub new_turned : (extras : List (ℕ × ℕ)) (old : Bool) (lane : Lane) → IsNew extras old lane → HadTurns lane 0
-new_turned extras old lane new = record { most = omega (arith, new.turns); live = λ live fine. new.turns }
+new_turned extras old lane new = record {
+  most = omega (arith, new.turns);
+  fewer = λ e. absurd (let wrong : ◌≡◌ {A = Bool} true false = sym e ∙ new.ended in cc);
+  live = λ live fine. new.turns;
+}

@@ -2,6 +2,7 @@
 use Rattle.std.proofs.Common.{◌≡◌, ◌∙◌, ◌<◌, ◌≤◌, ℕ, ◌+◌, ◌-◌, ◌^◌, arith, Bool, false, true, min, List, [], ◌∷◌, ◌++◌, length, take, drop, Option, Some, None, Ok, Err, OnOk, OnErr, refl, ap, sym, subst, append_assoc, length-append, length-take, take-append-drop}
 use Rattle.std.proofs.lemmas.List.{append-nil, drop_all, flat_map_more}
 use Rattle.std.proofs.lemmas.List.Concat.{flat_map-append}
+use Rattle.std.proofs.lemmas.List.Elements.{All-append, All-cons}
 use Rattle.std.proofs.lemmas.List.Sums.{fold-append}
 use Rattle.std.specs.Io.KnownBytes.{append_known, prepend_known}
 use Rattle.mav_ports.specs.Counts.{Rose, next_count}
@@ -17,7 +18,7 @@ use Rattle.mav_router.specs.declared.lane.Lane.{Lane}
 use Rattle.mav_router.specs.Journal.{Rules, bytes_of}
 use Rattle.mav_router.specs.Outgoing.{Joins, Continues}
 use Rattle.mav_router.specs.Faults.{StopsReading, StopsInput}
-use Rattle.mav_router.specs.Runs.{PortProgress, Reading, AllRead, Input, Output, FaultsBy, joined_turns, idles_after_turn, idles_over}
+use Rattle.mav_router.specs.Runs.{PortProgress, Reading, AllRead, Input, Output, FaultsBy, ArePieces, joined_turns, idles_after_turn, idles_over}
 
 -- more frames were written, or a prefix of them
 pub frames_written : (frames more : List Packet) (first before after : LinkState) (lane new : Lane) (count : ℕ) (bytes : List ℕ) → Joins bytes more → count ≤ length bytes → after.sent ≡ append_known before.sent (take count bytes) → lane.failed ≡ false → (new.failed ≡ false → length bytes ≤ count) → new.written ≡ min (lane.written + count) (2 ^ 64 - 1) → Output frames first before lane → Output (frames ++ more) first after new
@@ -71,6 +72,12 @@ idles_at_bytes : (got : List ℕ) (n : ℕ) → 0 < length got → idles_after_t
 idles_at_bytes [] n some = absurd (omega (arith, some))
 idles_at_bytes (byte ∷ bytes) n some = refl
 
+-- a piece more
+pieces_more : (turns : List (List ℕ)) (piece : List ℕ) → ArePieces turns → length piece ≤ 4096 → ArePieces (turns ++ piece ∷ [])
+pieces_more turns piece all short =
+    let P : List ℕ → Type 0 = λ l. length l ≤ 4096 in
+    All-append P turns (piece ∷ []) all (All-cons P piece [] short (λ k d less. absurd (omega (arith, less))))
+
 -- some bytes were read
 pub input_read : (rules : Rules) (before after : List Entry) (port : ℕ) (first now new : LinkState) (lane next : Lane) (got : List ℕ) → lane.ended ≡ false → (i : Input rules before port first now lane) → 0 < length got → length got ≤ 4096 → next.turns ≡ min (lane.turns + 1) (2 ^ 64 - 1) → new.idles ≡ now.idles → now.left ≡ prepend_known got new.left → new.faults ≡ now.faults → next.failed ≡ lane.failed → next.ended ≡ lane.ended → next.scanner.ended ≡ lane.scanner.ended → next.read ≡ min (lane.read + length got) (2 ^ 64 - 1) → AllRead rules port (i.bytes ++ got) next.scanner next.skipped after → Input rules after port first new next
 input_read rules before after port first now new lane next got live i some few turn idle left faults failed ended scanner read parsed =
@@ -78,11 +85,10 @@ input_read rules before after port first now new lane next got live i some few t
     let so_far = i.read in
     let turns_so_far = i.turned in
     let one_more = length-append i.turns (got ∷ []) in
-    let most = i.most in
     record {
       bytes = i.bytes ++ got;
       turns = i.turns ++ got ∷ [];
-      most = omega (arith, long, one_more, few, most);
+      pieces = pieces_more i.turns got i.pieces few;
       joined = ap (λ (b : List ℕ). b ++ got) i.joined ∙ flat_map_more (λ (piece : List ℕ). piece) [] i.turns got;
       idles = idle ∙ (i.idles ∙ (sym (idles_at_bytes got (idles_over i.turns first.idles) some) ∙ sym (fold-append idles_after_turn first.idles i.turns (got ∷ []))));
       turned = omega (arith, turns_so_far, one_more, turn);
@@ -91,6 +97,7 @@ input_read rules before after port first now new lane next got live i some few t
       parsed = parsed;
       ended = scanner ∙ (i.ended ∙ sym ended);
       spent = λ e. absurd (let wrong : ◌≡◌ {A = Bool} true false = sym e ∙ (ended ∙ live) in cc);
+      gave_end = λ e. absurd (let wrong : ◌≡◌ {A = Bool} true false = sym e ∙ (ended ∙ live) in cc);
       faults = subst (λ (n : ℕ). FaultsBy next.failed first.faults n) (sym faults) (subst (λ (b : Bool). FaultsBy b first.faults now.faults) (sym failed) i.faults);
     }
 
@@ -99,7 +106,7 @@ pub input_idle : (rules : Rules) (journal : List Entry) (port : ℕ) (first now 
 input_idle rules journal port first now new lane turns live i turn idle left faults = record {
   bytes = i.bytes;
   turns = i.turns ++ [] ∷ [];
-  most = (let one_more = length-append i.turns ([] ∷ []) in let most = i.most in omega (arith, most, one_more));
+  pieces = pieces_more i.turns [] i.pieces (omega arith);
   joined = i.joined ∙ (sym (append-nil (joined_turns i.turns)) ∙ flat_map_more (λ (piece : List ℕ). piece) [] i.turns []);
   idles = idle ∙ (ap next_count i.idles ∙ sym (fold-append idles_after_turn first.idles i.turns ([] ∷ [])));
   turned = (let so_far = i.turned in let one_more = length-append i.turns ([] ∷ []) in omega (arith, so_far, one_more, turn));
@@ -108,6 +115,7 @@ input_idle rules journal port first now new lane turns live i turn idle left fau
   parsed = i.parsed;
   ended = i.ended;
   spent = λ e. absurd (let wrong : ◌≡◌ {A = Bool} true false = sym e ∙ live in cc);
+  gave_end = λ e. absurd (let wrong : ◌≡◌ {A = Bool} true false = sym e ∙ live in cc);
   faults = subst (λ (n : ℕ). FaultsBy lane.failed first.faults n) (sym faults) i.faults;
 }
 
@@ -119,7 +127,7 @@ input_failed rules journal port first now new lane live fine i idle left rose =
       bytes = i.bytes;
       turns = i.turns;
       joined = i.joined;
-      most = i.most;
+      pieces = i.pieces;
       idles = idle ∙ i.idles;
       turned = i.turned;
       left = i.left ∙ ap (prepend_known i.bytes) (left ∙ prepend_none new.left);
@@ -127,16 +135,17 @@ input_failed rules journal port first now new lane live fine i idle left rose =
       parsed = i.parsed;
       ended = i.ended;
       spent = λ e. absurd (let wrong : ◌≡◌ {A = Bool} true false = sym e ∙ live in cc);
+      gave_end = λ e. absurd (let wrong : ◌≡◌ {A = Bool} true false = sym e ∙ live in cc);
       faults = subst (λ (n : ℕ). Rose n new.faults) same rose;
     }
 
 -- it has ended
-pub input_ended : (rules : Rules) (before after : List Entry) (port : ℕ) (first now new : LinkState) (lane next : Lane) → (i : Input rules before port first now lane) → next.turns ≡ lane.turns → new.idles ≡ now.idles → now.left ≡ prepend_known [] new.left → IsSpent new.left → new.faults ≡ now.faults → next.failed ≡ lane.failed → next.ended ≡ true → next.scanner.ended ≡ true → next.read ≡ lane.read → AllRead rules port i.bytes next.scanner next.skipped after → Input rules after port first new next
-input_ended rules before after port first now new lane next i turn idle left spent faults failed ended scanner read parsed = record {
+pub input_ended : (rules : Rules) (before after : List Entry) (port : ℕ) (first now new : LinkState) (lane next : Lane) → (i : Input rules before port first now lane) → next.turns ≡ lane.turns → new.idles ≡ now.idles → now.left ≡ prepend_known [] new.left → IsSpent new.left → new.ended ≡ true → new.faults ≡ now.faults → next.failed ≡ lane.failed → next.ended ≡ true → next.scanner.ended ≡ true → next.read ≡ lane.read → AllRead rules port i.bytes next.scanner next.skipped after → Input rules after port first new next
+input_ended rules before after port first now new lane next i turn idle left spent gave faults failed ended scanner read parsed = record {
   bytes = i.bytes;
   turns = i.turns;
   joined = i.joined;
-  most = i.most;
+  pieces = i.pieces;
   idles = idle ∙ i.idles;
   turned = turn ∙ i.turned;
   left = i.left ∙ ap (prepend_known i.bytes) (left ∙ prepend_none new.left);
@@ -144,6 +153,7 @@ input_ended rules before after port first now new lane next i turn idle left spe
   parsed = parsed;
   ended = scanner ∙ sym ended;
   spent = λ e. spent;
+  gave_end = λ e. gave;
   faults = subst (λ (n : ℕ). FaultsBy next.failed first.faults n) (sym faults) (subst (λ (b : Bool). FaultsBy b first.faults now.faults) (sym failed) i.faults);
 }
 

@@ -37,7 +37,7 @@ input_kept rules before after port first now lane same i =
       bytes = i.bytes;
       turns = i.turns;
       joined = i.joined;
-      most = i.most;
+      pieces = i.pieces;
       idles = i.idles;
       turned = i.turned;
       left = i.left;
@@ -48,6 +48,7 @@ input_kept rules before after port first now lane same i =
       };
       ended = i.ended;
       spent = i.spent;
+      gave_end = i.gave_end;
       faults = i.faults;
     }
 

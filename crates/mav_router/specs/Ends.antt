@@ -1,5 +1,5 @@
 -- What a run of a router has done at its end.
-use Rattle.std.specs.Prelude.{ℕ, Bool, true, false, ◌≡◌, ◌⊎◌, List, ◌++◌, length, ⊤}
+use Rattle.std.specs.Prelude.{ℕ, Bool, true, false, ◌≡◌, ◌<◌, ◌≤◌, ◌⊎◌, List, ◌++◌, length, ⊤}
 use Rattle.std.specs.declared.option.Option.{Option}
 use Rattle.std.specs.Io.KnownBytes.{append_known, prepend_known}
 use Rattle.mav_ports.specs.Counts.{Rose}
@@ -16,7 +16,7 @@ use Rattle.mav_router.specs.declared.ends.How.{How}
 use Rattle.mav_router.specs.declared.ends.How.TheVariants.{Ended, Failed, Turns}
 use Rattle.mav_router.specs.declared.lane.Lane.{Lane}
 use Rattle.mav_router.specs.Journal.{Rules, frames_from, frames_to, bytes_of}
-use Rattle.mav_router.specs.Runs.{skips_of, joined_turns, idles_over}
+use Rattle.mav_router.specs.Runs.{skips_of, ArePieces, joined_turns, idles_over}
 
 -- the parse of a port's input that isn't at its end
 abbrev pub IsOpenParse : Rules → ℕ → List Event → List ℕ → Type 0
@@ -41,10 +41,16 @@ abbrev pub FaultsAtEnd : How → ℕ → ℕ → Type 0
 FaultsAtEnd Failed before now = Rose before now
 FaultsAtEnd _ before now = now ≡ before
 
--- a port that hadn't ended was read as often as it may be
+-- a port that hadn't ended was read as often as it may be, and one that returned End fewer times before that
 abbrev pub TurnedBy : How → ℕ → List (List ℕ) → Type 0
 TurnedBy (Turns n) most turns = (n ≡ most) × (n ≡ length turns)
-TurnedBy _ most turns = ⊤
+TurnedBy Ended most turns = length turns < most
+TurnedBy Failed most turns = length turns ≤ most
+
+-- it returned End if its run ended so, also if its bytes aren't known
+abbrev pub GaveEnd : How → LinkState → Type 0
+GaveEnd Ended last = last.ended ≡ true
+GaveEnd _ last = ⊤
 
 -- how the run ended at a port, by what the router keeps of it
 abbrev pub how_by : Bool → Bool → ℕ → How
@@ -68,9 +74,11 @@ pub record PortRun (rules : Rules) (journal : List Entry) (most port : ℕ) (fir
   pub written : List ℕ
   -- what each read gave that didn't fail or return End: some bytes, or none at an Idle answer
   pub turns : List (List ℕ)
+  pub pieces : ArePieces turns
   pub joined : bytes ≡ joined_turns turns
   pub idles : last.idles ≡ idles_over turns first.idles
   pub turned : TurnedBy end.how most turns
+  pub gave_end : GaveEnd end.how last
   pub left : first.left ≡ prepend_known bytes last.left
   pub sent : last.sent ≡ append_known first.sent written
   -- the journal's entries of the port are the frames of the parse, in order

@@ -1,5 +1,5 @@
 -- How far a router is with a port.
-use Rattle.std.specs.Prelude.{ℕ, ◌≡◌, ◌<◌, ◌≤◌, ◌+◌, ◌*◌, ◌-◌, ◌^◌, Bool, true, false, min, List, [], ◌∷◌, ◌++◌, length, fold, slice_get, Option, Some, None}
+use Rattle.std.specs.Prelude.{ℕ, ◌≡◌, ◌<◌, ◌≤◌, ◌+◌, ◌*◌, ◌-◌, ◌^◌, Bool, true, false, min, List, [], ◌∷◌, ◌++◌, length, All, fold, slice_get, Option, Some, None}
 use Rattle.std.specs.List.{filter_map, flat_map}
 use Rattle.std.specs.Io.KnownBytes.{append_known, prepend_known}
 use Rattle.mav_ports.specs.Counts.{Rose, next_count}
@@ -62,6 +62,10 @@ pub record Begun (ended : Bool) (rules : Rules) (port : ℕ) (bytes : List ℕ) 
   pub begins : BeginsParse ended rules port bytes events rest
   pub entries : frames_from port journal ++ beyond ≡ frames_of events
 
+-- a read gives at most 4,096 bytes
+abbrev pub ArePieces : List (List ℕ) → Type 0
+ArePieces turns = All (λ (piece : List ℕ). length piece ≤ 4096) turns
+
 -- the bytes of some turns, and the count of Idle answers after them
 abbrev pub joined_turns : List (List ℕ) → List ℕ
 joined_turns turns = flat_map (λ (piece : List ℕ). piece) turns
@@ -73,9 +77,10 @@ idles_after_turn n (byte ∷ bytes) = n
 abbrev pub idles_over : List (List ℕ) → ℕ → ℕ
 idles_over turns n = fold idles_after_turn n turns
 
--- a port that is still read had so many turns, and no port had more
+-- a port that is still read had so many turns, one that has ended fewer, and no port had more
 pub record HadTurns (lane : Lane) (turns : ℕ) : Type 0 where
   pub most : lane.turns ≤ turns
+  pub fewer : lane.ended ≡ true → lane.turns < turns
   pub live : lane.ended ≡ false → lane.failed ≡ false → lane.turns ≡ turns
 
 -- the count of faults rose at a port that failed, and is the same at another
@@ -89,7 +94,7 @@ pub record Input (rules : Rules) (journal : List Entry) (port : ℕ) (first now 
   -- what each read gave that didn't fail or return End: some bytes, or none at an Idle answer
   pub turns : List (List ℕ)
   pub joined : bytes ≡ joined_turns turns
-  pub most : length bytes ≤ 4096 * length turns
+  pub pieces : ArePieces turns
   pub idles : now.idles ≡ idles_over turns first.idles
   pub turned : lane.turns ≡ capped (length turns)
   pub left : first.left ≡ prepend_known bytes now.left
@@ -97,6 +102,7 @@ pub record Input (rules : Rules) (journal : List Entry) (port : ℕ) (first now 
   pub parsed : AllRead rules port bytes lane.scanner lane.skipped journal
   pub ended : lane.scanner.ended ≡ lane.ended
   pub spent : lane.ended ≡ true → IsSpent now.left
+  pub gave_end : lane.ended ≡ true → now.ended ≡ true
   pub faults : FaultsBy lane.failed first.faults now.faults
 
 -- what was written to a port: the bytes of these frames, or a prefix of them if the port failed

@@ -1,5 +1,5 @@
 // What a port is read into.
-ghost use Rattle.std.specs.Prelude.{◌≡◌, ◌+◌, ◌≤◌, length, take, slice_range, IfOk};
+ghost use Rattle.std.specs.Prelude.{◌≡◌, ◌+◌, ◌≤◌, true, length, take, slice_range, IfOk};
 ghost use Rattle.std.specs.Io.KnownBytes.{prepend_known};
 ghost use Rattle.mav_ports.specs.Gets.{given, idles_after, CountsFault, GivesWithin, IsSpent};
 
@@ -47,6 +47,7 @@ fn read_after<L: Link>(link: &mut L, buf: &mut [u8], held: usize) -> Got
     ensures faults { CountsFault result (L.state link.old).faults (L.state link.new).faults }
     ensures idles { (L.state link.new).idles ≡ idles_after result (L.state link.old).idles }
     ensures end { result ≡ Got.End → IsSpent (L.state link.new).left }
+    ensures ended { result ≡ Got.End → (L.state link.new).ended ≡ true }
     ensures sent { (L.state link.new).sent ≡ (L.state link.old).sent }
 {
     link.read(&mut buf[held..held + PIECE])
@@ -84,6 +85,7 @@ impl Buffer {
         ensures faults { CountsFault result (L.state link.old).faults (L.state link.new).faults }
         ensures idles { (L.state link.new).idles ≡ idles_after result (L.state link.old).idles }
         ensures end { result ≡ Got.End → IsSpent (L.state link.new).left }
+        ensures ended { result ≡ Got.End → (L.state link.new).ended ≡ true }
         ensures sent { (L.state link.new).sent ≡ (L.state link.old).sent }
         ensures size { length self.new ≡ 4376 }
     {

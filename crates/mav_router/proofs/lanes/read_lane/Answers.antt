@@ -49,7 +49,7 @@ returns-in-End-clause-some g c = λ rules journal port first i.
       reading = subst (λ (l : List ℕ). Reading rules port i.bytes (record over { bytes = l }) lane.skipped journal) text
           (scanner_ended rules port i.bytes lane.scanner over lane.skipped journal i.parsed.reading (c.end.ensures.progress _ _ i.bytes i.parsed.reading.events i.parsed.reading.progress));
       heard = λ after held skips ended all.
-          input_ended rules journal after port first now new lane _ i refl c.in-End.ensures.idles c.in-End.ensures.bytes spent c.in-End.ensures.faults refl refl (ended ∙ ap (λ (h : Held). h.ended) c.end.ensures.held) refl all;
+          input_ended rules journal after port first now new lane _ i refl c.in-End.ensures.idles c.in-End.ensures.bytes spent (c.in-End.ensures.ended refl) c.in-End.ensures.faults refl refl (ended ∙ ap (λ (h : Held). h.ended) c.end.ensures.held) refl all;
       stops = λ after stop.
           stopped_ended rules journal after port first now new lane over.ended i c.in-End.ensures.bytes spent stop;
     }
