@@ -1,5 +1,5 @@
 // Ports whose reads wait for each other: on one thread, or with a lock that is held over reads, they fail.
-use crate::threaded::{Outcome, route_over};
+use crate::threaded::route_over;
 use dialect::Dialect;
 use mav_links::{Link, TcpLink};
 use mav_router::NoMemory;
@@ -67,24 +67,29 @@ fn gated(own: &Arc<AtomicU64>, other: &Arc<AtomicU64>) -> Result<TcpLink<Gate>, 
     })))
 }
 
+// How many ports ended, and how many reads of each were made.
 fn run_gated<R: Threads + Wait + Sync>(
     rt: &R,
     alloc: Global,
     known: &Dialect,
-) -> Result<Option<Outcome>, NoMemory> {
+) -> Result<[u64; 3], NoMemory> {
     let first = Arc::new(alloc, AtomicU64::new(0))?;
     let second = Arc::new(alloc, AtomicU64::new(0))?;
     let mut links: Vec<Box<dyn Link>> = Vec::new(alloc);
     links.push(Box::new(alloc, gated(&first, &second)?)?)?;
     links.push(Box::new(alloc, gated(&second, &first)?)?)?;
-    Ok(route_over(rt, alloc, known, &mut links))
+    let ended = match route_over(rt, alloc, known, &mut links) {
+        Some(outcome) => outcome.ended,
+        None => 0,
+    };
+    let reads = first.load(Ordering::SeqCst);
+    Ok([ended, reads, second.load(Ordering::SeqCst)])
 }
 
-// The reads of both ports overlap, three times.
+// The reads of both ports overlap, three times; the third ends each.
 #[test]
 fn reads_of_two_ports_overlap(rt: HostRuntime) -> Result<(), Fail> {
     let known = Dialect::profile(rt.alloc())?;
-    let outcome = run_gated(&rt, rt.alloc(), &known)?;
-    assert!(rt; matches!(outcome, Some(o) if o.ended == 2));
+    assert_eq!(rt; run_gated(&rt, rt.alloc(), &known)?, [2, 3, 3]);
     Ok(())
 }

@@ -37,7 +37,7 @@ struct Run {
     output: &'static [u8],
 }
 
-static RUNS: [Run; 12] = [
+static RUNS: [Run; 13] = [
     // An input that fails at once, inside a line, inside a frame, inside definitions.
     Run {
         words: "fleet f",
@@ -103,6 +103,15 @@ static RUNS: [Run; 12] = [
         room: 100,
         status: 4,
         output: b"read fault\n",
+    },
+    // An input and the output both fail.
+    Run {
+        words: "fleet f",
+        bytes: ONE_ITEM,
+        reads: 8,
+        room: 4,
+        status: 5,
+        output: b"read",
     },
     // An output that takes nothing, or fails inside a line.
     Run {

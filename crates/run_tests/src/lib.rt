@@ -10,4 +10,6 @@ mod live;
 #[cfg(test)]
 mod ports;
 #[cfg(test)]
+mod routes;
+#[cfg(test)]
 mod worked;

@@ -163,7 +163,7 @@ fn run_linked(
 }
 
 // The status of a run over the links; that of want of memory, if the words aren't of so many ports alone.
-fn status_over(
+pub(crate) fn status_over(
     alloc: Global,
     text: &str,
     out: &mut SureSink,
