@@ -1,6 +1,7 @@
 -- Frames that are given, once or in a flow.
-use Rattle.std.proofs.Common.{◌≡◌, ℕ, zero, suc, ◌+◌, length, slice_get, Option, Some, None, Ok, Err, refl, ap, arith, ◌∙◌}
+use Rattle.std.proofs.Common.{◌≡◌, ℕ, zero, suc, ◌+◌, ◌++◌, length, slice_get, List, Option, Some, None, Ok, Err, refl, ap, arith, ◌∙◌}
 use Rattle.std.specs.declared.result.Result.{Result}
+use Rattle.std.proofs.lemmas.List.{append-nil}
 use Rattle.mav_names.specs.declared.names.Name.{Name}
 use Rattle.mav_names.specs.Addresses.{same_name, node_of}
 use Rattle.mav_frame.specs.Packet.{Packet}
@@ -20,7 +21,7 @@ use Rattle.fleet_invariants.proofs.Restated.{regiven}
 use Rattle.fleet_invariants.proofs.Heard.{sent_known}
 use Rattle.fleet_invariants.proofs.Calls.{sound_does}
 use Rattle.fleet_invariants.proofs.Gives.{sound_gives, sound_calls}
-use Rattle.fleet_commands.specs.Lines.{lines_begun}
+use Rattle.fleet_commands.specs.Lines.{Order, orders_begun}
 use Rattle.fleet_commands.specs.Accepted.{HasStation}
 use Rattle.fleet_commands.proofs.Worlds.{Commanded, After, Stays, no_line, rests_so, stays_behind, does_so, receives_so, calls_so, flies_so}
 
@@ -44,7 +45,7 @@ stays_both : (s t : WorldState) (r : Result Step StepError) → Kept s t → Aft
 stays_both s t (Err error) k h i = tt
 stays_both s t (Ok u) k h i = record {
   commanded = i.commanded;
-  begun = λ name is. let a = h.begun name is in let b = i.begun name (station_stays s t k name is) in omega arith;
+  begun = λ name is. i.begun name (station_stays s t k name is) ∙ append-nil (orders_begun name t.sent) ∙ h.begun name is;
 }
 
 then_stays : (s : WorldState) (r : Result Step StepError) (next : WorldState → Result Step StepError) → Keeps s r → Stays s no_line r → ((t : WorldState) → Sound t → StepKeeps s t → Commanded t → Stays t no_line (next t)) → Stays s no_line (and_then r next)
@@ -63,13 +64,13 @@ to_some (suc n) s g c i p sent k =
     then_stays s (given_to s k p (slice_get s.nodes k)) (λ t. given_from t (k + 1) n p) ((sound_gives s g).one i p sent k) (to_one s g c i p sent k (slice_get s.nodes k) refl) (λ t h e d. to_some n t h d i p (e.kept.sent i p sent) (k + 1))
 
 -- a state with the same nodes and frames
-pub stays_like : (s u : WorldState) (count : Name → ℕ) (r : Result Step StepError) → u.nodes ≡ s.nodes → u.sent ≡ s.sent → Stays u count r → Stays s count r
-stays_like s u count (Err error) nodes sent h = tt
-stays_like s u count (Ok t) nodes sent h = record {
+pub stays_like : (s u : WorldState) (orders : Name → List Order) (r : Result Step StepError) → u.nodes ≡ s.nodes → u.sent ≡ s.sent → Stays u orders r → Stays s orders r
+stays_like s u orders (Err error) nodes sent h = tt
+stays_like s u orders (Ok t) nodes sent h = record {
   commanded = h.commanded;
   begun = λ name is.
       h.begun name (record { index = is.index; node = is.node; found = ap (λ ns. slice_get ns is.index) nodes ∙ is.found; name_is = is.name_is })
-      ∙ ap (λ ps. lines_begun name ps + count name) sent;
+      ∙ ap (λ ps. orders_begun name ps ++ orders name) sent;
 }
 
 flow_goes : (s : WorldState) (g : Sound s) (c : Commanded s) (o : Option Packet) → slice_get s.sent s.given ≡ o → (next : WorldState → Result Step StepError) → ((t : WorldState) → Sound t → Commanded t → Stays t no_line (next t)) → Stays s no_line (flow_next s o next)

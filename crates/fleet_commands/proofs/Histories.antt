@@ -24,7 +24,7 @@ use Rattle.fleet_world.specs.WorldState.{stream_of}
 use Rattle.fleet_invariants.specs.Kept.{IsAmong}
 use Rattle.fleet_invariants.proofs.Lists.{some_is, nowhere}
 use Rattle.fleet_invariants.proofs.Tests.{by_test, name_eq}
-use Rattle.fleet_commands.specs.Lines.{command_in, commanded, line_at}
+use Rattle.fleet_commands.specs.Lines.{command_in, commanded, Order, order_in, line_at}
 use Rattle.fleet_commands.specs.Done.{Moment, hears_message, hears_frame, hears_tried, step_at, frame_done, commands_done, entries_of}
 use Rattle.fleet_commands.proofs.Lists.{stamp_in, stamp_of, Rising, Runs, later_sent, sent_once, lines_rise, same_line, IsAgain}
 
@@ -159,8 +159,8 @@ module _ (frames : List Packet) (name : Name) (rising : Rising name 0 frames) (r
       let order : h.index < b = later_sent name 0 frames h.index b h.packet q rising h.found found h.from from rest in
       let up : line_at name frames h.index ≤ line_at name frames b = lines_rise name frames h.index b (omega arith) in
       let other : line_at name frames h.index ≡ line_at name frames b → ⊥ = λ same.
-      let again : IsAgain name (executor.command_in h.message) m = same_line name None frames h.index b h.packet q h.message m runs h.found found h.is command order same in
-      let none : (executor_step e (stream_of name) (Commands m) ready).done ≡ None = done_once e (stream_of name) m ready l is again.confirmed (again.same ∙ sym h.same) in
+      let again : IsAgain name (order_in h.message) m = same_line name None frames h.index b h.packet q h.message m runs h.found found h.is command order same in
+      let none : (executor_step e (stream_of name) (Commands m) ready).done ≡ None = done_once e (stream_of name) m ready l is again.confirmed (ap (λ (o : Order). o.command) again.same ∙ sym h.same) in
       let wrong : ◌≡◌ {A = Option Command} None (Some c) = sym none ∙ done in
       cc in
       least n (line_at name frames h.index) (line_at name frames b) h.below up other

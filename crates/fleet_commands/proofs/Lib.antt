@@ -1,6 +1,7 @@
 pub mod Lists
 pub mod Histories
 pub mod Outcomes
+pub mod Targets
 pub mod Stations
 pub mod StationCalls
 pub mod Drones

@@ -1,6 +1,7 @@
 -- Each line leaves what holds of the commands of all nodes.
 use Rattle.std.proofs.Common.{◌≡◌, ℕ, suc, ◌+◌, ◌-◌, ◌<◌, Bool, true, false, inl, inr, if◌then◌else◌, nat_lt, IsTrue, List, [], ◌∷◌, ◌++◌, length, slice_get, Option, Some, None, refl, sym, ap, subst, arith, ◌∙◌}
 use Rattle.std.specs.Prelude.{position}
+use Rattle.std.proofs.lemmas.List.{append-nil}
 use Rattle.std.proofs.lemmas.List.Elements.{All-nil}
 use Rattle.std.specs.declared.result.Result.{Result}
 use Rattle.mav_names.specs.declared.names.Name.{Name}
@@ -40,13 +41,13 @@ use Rattle.fleet_invariants.proofs.Heard.{sent_known, authentic_known}
 use Rattle.fleet_invariants.proofs.Restarting.{sound_counted}
 use Rattle.fleet_commands.proofs.Lists.{stamp_of, stamp_next, last_stamp, Rising, Runs, Repeats, command_next}
 use Rattle.mav_nodes.specs.Payloads.{service_in}
-use Rattle.fleet_commands.specs.Lines.{command_in, commanded, lines_begun}
-use Rattle.fleet_commands.specs.Accepted.{accepts, accepted_at, accepted_found, accepted_by}
+use Rattle.fleet_commands.specs.Lines.{command_in, commanded, Order, orders_begun}
+use Rattle.fleet_commands.specs.Accepted.{order_of, accepts, accepted_at, accepted_found, accepted_by}
 use Rattle.fleet_commands.proofs.Outcomes.{Goes}
 use Rattle.fleet_commands.proofs.Stations.{Voice}
 use Rattle.fleet_commands.proofs.StationCalls.{StationSays, station_beginning, station_cancelling, station_clearing, station_getting, station_commanding, station_listing}
 use Rattle.fleet_commands.proofs.Drones.{Tells, tells_nothing, drone_restarting}
-use Rattle.fleet_commands.proofs.Worlds.{Commanded, sent_of, After, Stays, no_line, none_of, rests_so, stays_behind, does_count, does_so, station_before, of_station, of_drone, receives_so, beats_so, ticks_so, calls_so}
+use Rattle.fleet_commands.proofs.Worlds.{Commanded, sent_of, After, Stays, no_line, none_of, rests_so, stays_behind, does_begin, does_so, station_before, of_station, of_drone, receives_so, beats_so, ticks_so, calls_so}
 use Rattle.fleet_commands.proofs.Gives.{flows_so, stays_like, flights_so}
 
 -- ---- no reason against it
@@ -117,7 +118,7 @@ unsent s g name none i p found =
 module _ (s : WorldState) (g : Sound s) (c : Commanded s) where
   drone_joined : (d : DroneSide) → Tells s.sent (node_of d.link.me) d.link.history d.services.executor → After s no_line (record s { nodes = s.nodes ++ Drone d ∷ [] })
   drone_joined d tells = record {
-    begun = λ name is. omega arith;
+    begun = λ name is. sym (append-nil (orders_begun name s.sent));
     commanded = record {
       stations = λ k n e. elim (at_end s.nodes (Drone d) (Station n) k e) [ inl x ↦ c.stations k n x | inr x ↦ absurd (drone_station d n x.1) ];
       drones = λ k n e. elim (at_end s.nodes (Drone d) (Drone n) k e) [
@@ -135,7 +136,7 @@ module _ (s : WorldState) (g : Sound s) (c : Commanded s) where
 
   station_joined : (d : StationSide) → Voice s.sent (node_of d.link.me) d.link.history d.services.commander.issue → After s no_line (record s { nodes = s.nodes ++ Station d ∷ [] })
   station_joined d voice = record {
-    begun = λ name is. omega arith;
+    begun = λ name is. sym (append-nil (orders_begun name s.sent));
     commanded = record {
       stations = λ k n e. elim (at_end s.nodes (Station d) (Station n) k e) [
         | inl x ↦ c.stations k n x
@@ -169,66 +170,66 @@ module _ (s : WorldState) (g : Sound s) (c : Commanded s) where
   orders_so order each name = order_placed order each (position (is_station_named name) s.nodes)
 
   -- one that a station follows
-  follows : (k : ℕ) (n : StationSide) → slice_get s.nodes k ≡ Some (Station n) → (o : Outcome StationSide) → Goes (StationSays s.sent n.link.me s.clock 0) [] o → Stays s no_line (node_does s k (node_name (Station n)) (as_station o))
-  follows k n found o h = does_so s g c k (Station n) found (node_name (Station n)) (as_station o) (of_station s g c 0 n o h)
+  follows : (k : ℕ) (n : StationSide) → slice_get s.nodes k ≡ Some (Station n) → (o : Outcome StationSide) → Goes (StationSays s.sent n.link.me s.clock []) [] o → Stays s no_line (node_does s k (node_name (Station n)) (as_station o))
+  follows k n found o h = does_so s g c k (Station n) found (node_name (Station n)) (as_station o) (of_station s g c [] n o h)
 
-  order_or : (k : ℕ) (n : StationSide) → slice_get s.nodes k ≡ Some (Station n) → (why : Option OpFault) (o : Outcome StationSide) → Goes (StationSays s.sent n.link.me s.clock 0) [] o → Stays s no_line (orders s k n why o)
+  order_or : (k : ℕ) (n : StationSide) → slice_get s.nodes k ≡ Some (Station n) → (why : Option OpFault) (o : Outcome StationSide) → Goes (StationSays s.sent n.link.me s.clock []) [] o → Stays s no_line (orders s k n why o)
   order_or k n found (Some why) o h = rests_so s c
   order_or k n found None o h = follows k n found o h
 
-  asked_or : (k : ℕ) (n : StationSide) → slice_get s.nodes k ≡ Some (Station n) → (why : Option Event) (o : Outcome StationSide) → Goes (StationSays s.sent n.link.me s.clock 0) [] o → Stays s no_line (asks s k n why o)
+  asked_or : (k : ℕ) (n : StationSide) → slice_get s.nodes k ≡ Some (Station n) → (why : Option Event) (o : Outcome StationSide) → Goes (StationSays s.sent n.link.me s.clock []) [] o → Stays s no_line (asks s k n why o)
   asked_or k n found (Some why) o h = rests_so s c
   asked_or k n found None o h = follows k n found o h
 
   cancels_so : (station : Name) → Stays s no_line (cancels s station)
   cancels_so station =
-      orders_so (λ k n. orders s k n None (station_cancels s.clock n)) (λ k n found. order_or k n found None (station_cancels s.clock n) (station_cancelling s.sent n.link.me s.clock 0 n (station_before s g c k n found))) station
+      orders_so (λ k n. orders s k n None (station_cancels s.clock n)) (λ k n found. order_or k n found None (station_cancels s.clock n) (station_cancelling s.sent n.link.me s.clock [] n (station_before s g c k n found))) station
 
   clears_so : (station drone : Name) (kind : ℕ) → Stays s no_line (clears s station drone kind)
   clears_so station drone kind =
       orders_so (λ k n. orders s k n (refusal n.core) (station_clears s.clock (stream_of drone) kind n))
-      (λ k n found. order_or k n found (refusal n.core) (station_clears s.clock (stream_of drone) kind n) (station_clearing s.sent n.link.me s.clock 0 n (station_before s g c k n found) (stream_of drone) kind)) station
+      (λ k n found. order_or k n found (refusal n.core) (station_clears s.clock (stream_of drone) kind n) (station_clearing s.sent n.link.me s.clock [] n (station_before s g c k n found) (stream_of drone) kind)) station
 
   gets_so : (station drone : Name) (kind : ℕ) → Stays s no_line (gets s station drone kind)
   gets_so station drone kind =
       orders_so (λ k n. orders s k n (refusal n.core) (station_gets s.clock (stream_of drone) kind n))
-      (λ k n found. order_or k n found (refusal n.core) (station_gets s.clock (stream_of drone) kind n) (station_getting s.sent n.link.me s.clock 0 n (station_before s g c k n found) (stream_of drone) kind)) station
+      (λ k n found. order_or k n found (refusal n.core) (station_gets s.clock (stream_of drone) kind n) (station_getting s.sent n.link.me s.clock [] n (station_before s g c k n found) (stream_of drone) kind)) station
 
   -- a command, which is accepted if none is open
   abbrev commanding : Name → ℕ → ℕ → ℕ → StationSide → Result Step StepError
   commanding drone number word k n = asks s k n (command_busy (node_of n.link.me) (open_command n.services.commander)) (station_commands s.clock (stream_of drone) number word n)
 
-  abbrev at_most_one : StationSide → Option ℕ → Name → ℕ
-  at_most_one n busy name = if same_name (node_of n.link.me) name then accepts busy else 0
+  abbrev at_most_one : Order → StationSide → Option ℕ → Name → List Order
+  at_most_one order n busy name = if same_name (node_of n.link.me) name then accepts order busy else []
 
   command_by : (drone : Name) (number word : ℕ) → NameInRange drone → Is16 number → Is32 word → (k : ℕ) (n : StationSide) → slice_get s.nodes k ≡ Some (Station n) → (busy : Option ℕ)
-      → Stays s (at_most_one n busy) (asks s k n (command_busy (node_of n.link.me) busy) (station_commands s.clock (stream_of drone) number word n))
+      → Stays s (at_most_one (order_of drone number word) n busy) (asks s k n (command_busy (node_of n.link.me) busy) (station_commands s.clock (stream_of drone) number word n))
   command_by drone number word range small short k n found (Some open_number) = record {
     commanded = c;
-    begun = λ name is. let e : at_most_one n (Some open_number) name ≡ 0 = none_of (Station n) name in omega arith;
+    begun = λ name is. sym (append-nil (orders_begun name s.sent)) ∙ ap (λ os. orders_begun name s.sent ++ os) (sym (none_of (Station n) name));
   }
   command_by drone number word range small short k n found None =
-      does_count s g c 1 k (Station n) found (node_of n.link.me) (as_station (station_commands s.clock (stream_of drone) number word n))
-      (of_station s g c 1 n (station_commands s.clock (stream_of drone) number word n)
+      does_begin s g c (order_of drone number word ∷ []) k (Station n) found (node_of n.link.me) (as_station (station_commands s.clock (stream_of drone) number word n))
+      (of_station s g c (order_of drone number word ∷ []) n (station_commands s.clock (stream_of drone) number word n)
       (station_commanding s.sent n.link.me s.clock n (station_before s g c k n found) (g.cores k (Station n) found).services (stream_of drone) number word range small short))
 
-  command_at : (drone : Name) (number word : ℕ) → NameInRange drone → Is16 number → Is32 word → (k : ℕ) (o : Option Node) → slice_get s.nodes k ≡ o → Stays s (λ name. accepted_at name o) (orders_at s k o (commanding drone number word))
+  command_at : (drone : Name) (number word : ℕ) → NameInRange drone → Is16 number → Is32 word → (k : ℕ) (o : Option Node) → slice_get s.nodes k ≡ o → Stays s (λ name. accepted_at (order_of drone number word) name o) (orders_at s k o (commanding drone number word))
   command_at drone number word range small short k None found = rests_so s c
   command_at drone number word range small short k (Some (Drone n)) found = rests_so s c
   command_at drone number word range small short k (Some (Station n)) found = command_by drone number word range small short k n found (open_command n.services.commander)
 
-  command_placed : (drone : Name) (number word : ℕ) → NameInRange drone → Is16 number → Is32 word → (o : Option ℕ) → Stays s (λ name. accepted_found s name o) (orders_found s o (commanding drone number word))
+  command_placed : (drone : Name) (number word : ℕ) → NameInRange drone → Is16 number → Is32 word → (o : Option ℕ) → Stays s (λ name. accepted_found (order_of drone number word) s name o) (orders_found s o (commanding drone number word))
   command_placed drone number word range small short None = rests_so s c
   command_placed drone number word range small short (Some k) = command_at drone number word range small short k (slice_get s.nodes k) refl
 
-  commands_so : (station drone : Name) (number word : ℕ) → NameInRange drone → Is16 number → Is32 word → Stays s (λ name. accepted_found s name (position (is_station_named station) s.nodes)) (commands s station drone number word)
+  commands_so : (station drone : Name) (number word : ℕ) → NameInRange drone → Is16 number → Is32 word → Stays s (λ name. accepted_found (order_of drone number word) s name (position (is_station_named station) s.nodes)) (commands s station drone number word)
   commands_so station drone number word range small short = command_placed drone number word range small short (position (is_station_named station) s.nodes)
 
   params_so : (station drone : Name) → Stays s no_line (lists_params s station drone)
   params_so station drone =
       orders_so (λ k n. asks s k n (params_busy (node_of n.link.me) n.services.client.operation) (station_lists_params s.clock (stream_of drone) n))
       (λ k n found. asked_or k n found (params_busy (node_of n.link.me) n.services.client.operation) (station_lists_params s.clock (stream_of drone) n)
-      (station_listing s.sent n.link.me s.clock 0 n (station_before s g c k n found) (stream_of drone))) station
+      (station_listing s.sent n.link.me s.clock [] n (station_before s g c k n found) (stream_of drone))) station
 
   -- ---- a drone that starts again
 
@@ -257,7 +258,7 @@ begin_so s g c drone kind k n found None =
     let t : WorldState = record s { draft = [] } in
     let h : Sound t = sound_restated s s.given [] s.clock g g.given (All-nil ItemInRange) (omega arith) g.clock in
     let d : Commanded t = record { stations = c.stations; drones = c.drones } in
-    stays_like s t no_line (upload_begins s k n drone kind None) refl refl (follows t h d k n found (station_begins s.clock (stream_of drone) kind s.draft n) (station_beginning s.sent n.link.me s.clock 0 n (station_before s g c k n found) (stream_of drone) kind s.draft))
+    stays_like s t no_line (upload_begins s k n drone kind None) refl refl (follows t h d k n found (station_begins s.clock (stream_of drone) kind s.draft n) (station_beginning s.sent n.link.me s.clock [] n (station_before s g c k n found) (stream_of drone) kind s.draft))
 
 begins_so : (s : WorldState) (g : Sound s) (c : Commanded s) (station drone : Name) (kind : ℕ) → Stays s no_line (begins s station drone kind)
 begins_so s g c station drone kind =
@@ -279,15 +280,15 @@ same_nodes s t c nodes sent = record {
     stations = λ k n found. subst (λ frames. Voice frames (node_of n.link.me) n.link.history n.services.commander.issue) (sym sent) (c.stations k n (ap (λ ns. slice_get ns k) (sym nodes) ∙ found));
     drones = λ k n found. subst (λ frames. Tells frames (node_of n.link.me) n.link.history n.services.executor) (sym sent) (c.drones k n (ap (λ ns. slice_get ns k) (sym nodes) ∙ found));
   };
-  begun = λ name is. let e = ap (lines_begun name) sent in omega (arith, e);
+  begun = λ name is. ap (orders_begun name) sent ∙ sym (append-nil (orders_begun name s.sent));
 }
 
 located : (s : WorldState) → Commanded s → (drone : Name) (at : Option Location) → Stays s no_line (locates_as s drone at)
 located s c drone None = rests_so s c
 located s c drone (Some at) = rests_so s c
 
-from_line : (s : WorldState) (count : Name → ℕ) (r : Result Step StepError) → Stays (station_line s) count r → Stays s count r
-from_line s count r h = stays_like s (station_line s) count r refl refl h
+from_line : (s : WorldState) (orders : Name → List Order) (r : Result Step StepError) → Stays (station_line s) orders r → Stays s orders r
+from_line s orders r h = stays_like s (station_line s) orders r refl refl h
 
 at_commanded : (s : WorldState) → Commanded s → Commanded (station_line s)
 at_commanded s c = record { stations = c.stations; drones = c.drones }

@@ -1,15 +1,13 @@
 -- What holds of the frames of one station in the order in which they were sent: timestamps rise, and each frame of a
--- command that isn't the first of its line gives the same command as the one before it.
-use Rattle.std.proofs.Common.{◌≡◌, ℕ, zero, suc, ◌+◌, ◌==◌, ◌<◌, ◌≤◌, ◌⊎◌, inl, inr, Bool, true, if◌then◌else◌, List, [], ◌∷◌, ◌++◌, slice_get, Option, Some, None, refl, sym, ap, subst, arith, ◌∙◌}
+-- command that isn't the first of its line gives the same order as the one before it.
+use Rattle.std.proofs.Common.{◌≡◌, ℕ, zero, suc, ◌+◌, ◌==◌, ◌<◌, ◌≤◌, ◌⊎◌, inl, inr, Bool, true, false, if◌then◌else◌, List, [], ◌∷◌, ◌++◌, slice_get, Option, Some, None, refl, sym, ap, subst, arith, ◌∙◌}
 use Rattle.mav_names.specs.declared.names.Name.{Name}
 use Rattle.mav_names.specs.Addresses.{same_name}
 use Rattle.mav_frame.specs.Packet.{Packet, SignatureBlock}
 use Rattle.mav_messages.specs.declared.commands.CommandLong.{CommandLong}
-use Rattle.command_proto.specs.Executor as executor
-use Rattle.command_proto.specs.declared.commands.Command.{Command}
 use Rattle.fleet_invariants.proofs.Lists.{some_is, nowhere}
 use Rattle.fleet_invariants.proofs.Tests.{by_test}
-use Rattle.fleet_commands.specs.Lines.{commanded, begins, line_at}
+use Rattle.fleet_commands.specs.Lines.{commanded, Order, order_in, begins, begins_with, orders_begun, line_at}
 
 -- the timestamp that a frame is signed at
 abbrev pub stamp_in : Option SignatureBlock → ℕ
@@ -93,29 +91,29 @@ module _ (name : Name) where
 
   -- ---- commands
 
-  -- the command that the node gave last, after one frame and after some
-  abbrev pub command_next : Option Command → Option CommandLong → Option Command
+  -- the order that the node gave last, after one frame and after some
+  abbrev pub command_next : Option Order → Option CommandLong → Option Order
   command_next before None = before
-  command_next before (Some m) = Some (executor.command_in m)
+  command_next before (Some m) = Some (order_in m)
 
-  abbrev pub last_command : Option Command → List Packet → Option Command
+  abbrev pub last_command : Option Order → List Packet → Option Order
   last_command before [] = before
   last_command before (p ∷ ps) = last_command (command_next before (commanded name p)) ps
 
-  -- a frame that isn't the first of its line gives the command that was given last
-  abbrev pub Repeats : Option Command → Option CommandLong → Type 0
+  -- a frame that isn't the first of its line gives the order that was given last
+  abbrev pub Repeats : Option Order → Option CommandLong → Type 0
   Repeats before None = Unit {0}
-  Repeats before (Some m) = 0 < m.confirmation → before ≡ Some (executor.command_in m)
+  Repeats before (Some m) = 0 < m.confirmation → before ≡ Some (order_in m)
 
-  abbrev pub Runs : Option Command → List Packet → Type 0
+  abbrev pub Runs : Option Order → List Packet → Type 0
   Runs before [] = Unit {0}
   Runs before (p ∷ ps) = Repeats before (commanded name p) × Runs (command_next before (commanded name p)) ps
 
-  pub runs_push : (before : Option Command) (ps : List Packet) (p : Packet) → Runs before ps → Repeats (last_command before ps) (commanded name p) → Runs before (ps ++ p ∷ [])
+  pub runs_push : (before : Option Order) (ps : List Packet) (p : Packet) → Runs before ps → Repeats (last_command before ps) (commanded name p) → Runs before (ps ++ p ∷ [])
   runs_push before [] p h again = (again, tt)
   runs_push before (q ∷ qs) p h again = (h.0, runs_push (command_next before (commanded name q)) qs p h.1 again)
 
-  pub command_push : (before : Option Command) (ps : List Packet) (p : Packet) → last_command before (ps ++ p ∷ []) ≡ command_next (last_command before ps) (commanded name p)
+  pub command_push : (before : Option Order) (ps : List Packet) (p : Packet) → last_command before (ps ++ p ∷ []) ≡ command_next (last_command before ps) (commanded name p)
   command_push before [] p = refl
   command_push before (q ∷ qs) p = command_push (command_next before (commanded name q)) qs p
 
@@ -133,14 +131,14 @@ module _ (name : Name) where
   confirmed m none =
       by_test (λ n. n ≡ 0 → 0 < m.confirmation) (m.confirmation == 0) 1 0 (λ _ e. absurd (omega arith)) (λ e _. grind arith) none
 
-  -- after one that begins none the last command is still the same
-  still : (c : Command) (o : Option CommandLong) → begins o ≡ 0 → Repeats (Some c) o → command_next (Some c) o ≡ Some c
+  -- after one that begins none the last order is still the same
+  still : (c : Order) (o : Option CommandLong) → begins o ≡ 0 → Repeats (Some c) o → command_next (Some c) o ≡ Some c
   still c None none h = refl
   still c (Some m) none h = sym (h (confirmed m none))
 
-  pub record IsAgain (c : Command) (n : CommandLong) : Type 0 where
+  pub record IsAgain (c : Order) (n : CommandLong) : Type 0 where
     pub confirmed : 0 < n.confirmation
-    pub same : executor.command_in n ≡ c
+    pub same : order_in n ≡ c
 
   first_none : (a b : ℕ) → a + b ≡ 0 → a ≡ 0
   first_none a b e = omega arith
@@ -148,8 +146,8 @@ module _ (name : Name) where
   rest_none : (a b : ℕ) → a + b ≡ 0 → b ≡ 0
   rest_none a b e = omega arith
 
-  -- as long as no line begins, each frame gives the same command
-  same_from : (c : Command) (ps : List Packet) (b : ℕ) (q : Packet) (n : CommandLong) → Runs (Some c) ps → line_at name ps b ≡ 0 → slice_get ps b ≡ Some q → commanded name q ≡ Some n → IsAgain c n
+  -- as long as no line begins, each frame gives the same order
+  same_from : (c : Order) (ps : List Packet) (b : ℕ) (q : Packet) (n : CommandLong) → Runs (Some c) ps → line_at name ps b ≡ 0 → slice_get ps b ≡ Some q → commanded name q ≡ Some n → IsAgain c n
   same_from c [] b q n h none found is = absurd (nowhere b q found)
   same_from c (x ∷ xs) zero q n h none found is =
       let e : commanded name x ≡ Some n = ap (commanded name) (some_is found) ∙ is in
@@ -165,13 +163,95 @@ module _ (name : Name) where
   both_less : (k a b : ℕ) → k + a ≡ k + b → a ≡ b
   both_less k a b e = omega arith
 
-  pub same_line : (before : Option Command) (ps : List Packet) (a b : ℕ) (p q : Packet) (m n : CommandLong) → Runs before ps → slice_get ps a ≡ Some p → slice_get ps b ≡ Some q → commanded name p ≡ Some m → commanded name q ≡ Some n
-      → a < b → line_at name ps a ≡ line_at name ps b → IsAgain (executor.command_in m) n
+  pub same_line : (before : Option Order) (ps : List Packet) (a b : ℕ) (p q : Packet) (m n : CommandLong) → Runs before ps → slice_get ps a ≡ Some p → slice_get ps b ≡ Some q → commanded name p ≡ Some m → commanded name q ≡ Some n
+      → a < b → line_at name ps a ≡ line_at name ps b → IsAgain (order_in m) n
   same_line before [] a b p q m n h pa qb ip iq less same = absurd (nowhere a p pa)
   same_line before (x ∷ xs) zero zero p q m n h pa qb ip iq less same = absurd (omega arith)
   same_line before (x ∷ xs) zero (suc b) p q m n h pa qb ip iq less same =
       let e : commanded name x ≡ Some m = ap (commanded name) (some_is pa) ∙ ip in
-      same_from (executor.command_in m) xs b q n (subst (λ (o : Option CommandLong). Runs (command_next before o) xs) e h.1) (no_more (begins (commanded name x)) (line_at name xs b) same) qb iq
+      same_from (order_in m) xs b q n (subst (λ (o : Option CommandLong). Runs (command_next before o) xs) e h.1) (no_more (begins (commanded name x)) (line_at name xs b) same) qb iq
   same_line before (x ∷ xs) (suc a) zero p q m n h pa qb ip iq less same = absurd (omega arith)
   same_line before (x ∷ xs) (suc a) (suc b) p q m n h pa qb ip iq less same =
       same_line (command_next before (commanded name x)) xs a b p q m n h.1 pa qb ip iq (omega arith) (both_less (begins (commanded name x)) (line_at name xs a) (line_at name xs b) same)
+
+  -- ---- the order of a line
+
+  -- a frame has the order of its line, or the one that was given before all of these
+  pub record IsOfLine (ps : List Packet) (a : ℕ) (m : CommandLong) : Type 0 where
+    pub line : ℕ
+    pub line_is : line_at name ps a ≡ line + 1
+    pub order : slice_get (orders_begun name ps) line ≡ Some (order_in m)
+
+  record IsOfBefore (before : Option Order) (ps : List Packet) (a : ℕ) (m : CommandLong) : Type 0 where
+    none : line_at name ps a ≡ 0
+    order : before ≡ Some (order_in m)
+
+  -- the first frame
+  of_first : (before : Option Order) (p : Packet) (ps : List Packet) (m : CommandLong) → commanded name p ≡ Some m → Repeats before (commanded name p) → IsOfBefore before (p ∷ ps) 0 m ⊎ IsOfLine (p ∷ ps) 0 m
+  of_first before p ps m is again = by_confirmation (m.confirmation == 0) refl
+    where
+      begun : begins (commanded name p) ≡ (if m.confirmation == 0 then 1 else 0)
+      begun = ap begins is
+
+      orders : orders_begun name (p ∷ ps) ≡ (if m.confirmation == 0 then order_in m ∷ [] else []) ++ orders_begun name ps
+      orders = ap (λ o. begins_with o ++ orders_begun name ps) is
+
+      by_confirmation : (b : Bool) → (m.confirmation == 0) ≡ b → IsOfBefore before (p ∷ ps) 0 m ⊎ IsOfLine (p ∷ ps) 0 m
+      by_confirmation true e = inr (record {
+        line = 0;
+        line_is = begun ∙ ap (λ (b : Bool). if b then 1 else 0) e;
+        order = ap (λ os. slice_get os 0) (orders ∙ ap (λ (b : Bool). (if b then order_in m ∷ [] else []) ++ orders_begun name ps) e);
+      })
+      by_confirmation false e =
+          let none : begins (commanded name p) ≡ 0 = begun ∙ ap (λ (b : Bool). if b then 1 else 0) e in
+          inl (record { none = none; order = subst (Repeats before) is again (confirmed m (sym (ap begins is) ∙ none)) })
+
+  -- a later one
+  of_later : (before : Option Order) (p : Packet) (ps : List Packet) (a : ℕ) (m : CommandLong) (o : Option CommandLong) → commanded name p ≡ o → Repeats before o → IsOfBefore (command_next before o) ps a m ⊎ IsOfLine ps a m → IsOfBefore before (p ∷ ps) (suc a) m ⊎ IsOfLine (p ∷ ps) (suc a) m
+  of_later before p ps a m None is again (inl x) = inl (record { none = (let none = ap begins is in let rest = x.none in omega arith); order = x.order })
+  of_later before p ps a m None is again (inr x) = inr (record {
+    line = x.line;
+    line_is = (let none = ap begins is in let rest = x.line_is in omega arith);
+    order = ap (λ o. slice_get (begins_with o ++ orders_begun name ps) x.line) is ∙ x.order;
+  })
+  of_later before p ps a m (Some n) is again h = by_confirmation (n.confirmation == 0) refl h
+    where
+      begun : line_at name (p ∷ ps) (suc a) ≡ (if n.confirmation == 0 then 1 else 0) + line_at name ps a
+      begun = ap (λ o. begins o + line_at name ps a) is
+
+      orders : orders_begun name (p ∷ ps) ≡ (if n.confirmation == 0 then order_in n ∷ [] else []) ++ orders_begun name ps
+      orders = ap (λ o. begins_with o ++ orders_begun name ps) is
+
+      by_confirmation : (b : Bool) → (n.confirmation == 0) ≡ b → IsOfBefore (Some (order_in n)) ps a m ⊎ IsOfLine ps a m → IsOfBefore before (p ∷ ps) (suc a) m ⊎ IsOfLine (p ∷ ps) (suc a) m
+      by_confirmation true e (inl x) = inr (record {
+        line = 0;
+        line_is = (let all = begun ∙ ap (λ (b : Bool). (if b then 1 else 0) + line_at name ps a) e in let none = x.none in omega arith);
+        order = ap (λ os. slice_get os 0) (orders ∙ ap (λ (b : Bool). (if b then order_in n ∷ [] else []) ++ orders_begun name ps) e) ∙ x.order;
+      })
+      by_confirmation true e (inr x) = inr (record {
+        line = suc x.line;
+        line_is = (let all = begun ∙ ap (λ (b : Bool). (if b then 1 else 0) + line_at name ps a) e in let rest = x.line_is in omega arith);
+        order = ap (λ os. slice_get os (suc x.line)) (orders ∙ ap (λ (b : Bool). (if b then order_in n ∷ [] else []) ++ orders_begun name ps) e) ∙ x.order;
+      })
+      by_confirmation false e (inl x) = inl (record {
+        none = (let all = begun ∙ ap (λ (b : Bool). (if b then 1 else 0) + line_at name ps a) e in let rest = x.none in omega arith);
+        order = again (confirmed n (ap (λ (b : Bool). if b then 1 else 0) e)) ∙ x.order;
+      })
+      by_confirmation false e (inr x) = inr (record {
+        line = x.line;
+        line_is = (let all = begun ∙ ap (λ (b : Bool). (if b then 1 else 0) + line_at name ps a) e in let rest = x.line_is in omega arith);
+        order = ap (λ os. slice_get os x.line) (orders ∙ ap (λ (b : Bool). (if b then order_in n ∷ [] else []) ++ orders_begun name ps) e) ∙ x.order;
+      })
+
+  of_either : (before : Option Order) (ps : List Packet) (a : ℕ) (p : Packet) (m : CommandLong) → Runs before ps → slice_get ps a ≡ Some p → commanded name p ≡ Some m → IsOfBefore before ps a m ⊎ IsOfLine ps a m
+  of_either before [] a p m h found is = absurd (nowhere a p found)
+  of_either before (q ∷ qs) zero p m h found is = of_first before q qs m (ap (commanded name) (some_is found) ∙ is) h.0
+  of_either before (q ∷ qs) (suc a) p m h found is =
+      of_later before q qs a m (commanded name q) refl h.0 (of_either (command_next before (commanded name q)) qs a p m h.1 found is)
+
+  -- from the first frame on
+  pub of_line : (ps : List Packet) (a : ℕ) (p : Packet) (m : CommandLong) → Runs None ps → slice_get ps a ≡ Some p → commanded name p ≡ Some m → IsOfLine ps a m
+  of_line ps a p m h found is = elim (of_either None ps a p m h found is) [
+    | inl x ↦ absurd (let wrong : ◌≡◌ {A = Option Order} None (Some (order_in m)) = x.order in cc)
+    | inr x ↦ x
+  ]

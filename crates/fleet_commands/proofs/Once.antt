@@ -1,15 +1,18 @@
 -- The law: each command once.
-use Rattle.std.proofs.Common.{◌≡◌, ℕ, ◌<◌, ◌⊎◌, inl, inr, true, List, [], refl, sym, subst, arith}
+use Rattle.std.proofs.Common.{◌≡◌, ℕ, ◌<◌, ◌⊎◌, inl, inr, Bool, true, if◌then◌else◌, List, [], Option, Some, None, refl, sym, ap, subst, arith, ◌∙◌}
 use Rattle.mav_names.specs.declared.names.Name.{Name}
 use Rattle.mav_names.specs.Addresses.{same_name, node_of}
 use Rattle.mav_frame.specs.Packet.{Packet}
 use Rattle.command_proto.specs.Executor.{new_executor}
 use Rattle.fleet_world.specs.WorldState.{WorldState}
 use Rattle.fleet_invariants.proofs.Tests.{name_same}
-use Rattle.fleet_commands.specs.Lines.{line_at}
+use Rattle.mav_nodes.specs.Payloads.{service_in}
+use Rattle.fleet_commands.specs.Lines.{command_in, commanded, line_at}
 use Rattle.fleet_commands.specs.Done.{done_since}
 use Rattle.fleet_commands.specs.Once.{IsFrame, EachDoesOnce, EveryCommandOnce}
+use Rattle.fleet_commands.proofs.Lists.{of_line}
 use Rattle.fleet_commands.proofs.Histories.{AreFit, Rises, rises, ordered, all_among}
+use Rattle.fleet_commands.proofs.Targets.{all_for}
 use Rattle.fleet_commands.proofs.Stations.{Voice}
 use Rattle.fleet_commands.proofs.Drones.{Tells}
 use Rattle.fleet_commands.proofs.Worlds.{Commanded}
@@ -42,7 +45,15 @@ does_once s c k d found =
           let rise : Rises s.sent name v.rising v.runs 0 done = rises s.sent name v.rising v.runs moments [] (new_executor (node_of d.link.me)) 0 refl (subst (AreFit s.sent []) (sym is) t.fit) in
           let order : (i j a b : ℕ) → IsFrame s.sent done name i a → IsFrame s.sent done name j b → i < j → line_at name s.sent a < line_at name s.sent b =
           λ i j a b p q less. ordered s.sent name v.rising v.runs 0 done rise i j p.packet q.packet p.done_there q.done_there (by_name p.packet.from name p.from) (by_name q.packet.from name q.from) a b p.sent_there q.sent_there less in
-          record { once = one_line s.sent done name order; in_order = order };
+          record {
+            once = one_line s.sent done name order;
+            in_order = order;
+            ordered = λ i a f.
+                let for_it = all_for (node_of d.link.me) moments (new_executor (node_of d.link.me)) refl i f.packet f.done_there in
+                let is : commanded name f.packet ≡ Some for_it.0 = ap (λ (t : Bool). if t then command_in (service_in f.packet.id f.packet.payload) else None) (by_name f.packet.from name f.from) ∙ ap command_in for_it.1 in
+                let l = of_line name s.sent a f.packet for_it.0 v.runs f.sent_there is in
+                record { message = for_it.0; is = is; for_me = for_it.2; line = l.line; line_is = l.line_is; order = l.order };
+          };
     }
 
 pub every_once : EveryCommandOnce

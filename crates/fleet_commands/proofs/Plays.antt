@@ -20,6 +20,7 @@ use Rattle.scenario_lines.specs.declared.lines.Line.{Line}
 use Rattle.fleet_invariants.proofs.Plays.{choosing, sound_start}
 use Rattle.fleet_world.specs.WorldState.{WorldState}
 use Rattle.mav_names.specs.declared.names.Name.{Name}
+use Rattle.fleet_commands.specs.Lines.{Order}
 use Rattle.fleet_commands.specs.Accepted.{accepted_by, BeginsLines, DoneBegins, EveryLineBegins}
 use Rattle.fleet_commands.proofs.Worlds.{Commanded, Stays}
 use Rattle.fleet_commands.proofs.Lines.{commanded_line}
@@ -110,9 +111,9 @@ holds_between key ended bytes authentic before after is =
 
 -- ---- the lines that begin in each line
 
-begins_of : (s : WorldState) (count : Name → ℕ) (r : Result Step StepError) → Stays s count r → BeginsLines s count r
-begins_of s count (Ok t) h = h.begun
-begins_of s count (Err error) h = tt
+begins_of : (s : WorldState) (orders : Name → List Order) (r : Result Step StepError) → Stays s orders r → BeginsLines s orders r
+begins_of s orders (Ok t) h = h.begun
+begins_of s orders (Err error) h = tt
 
 read_begins : (p : Played) → Holds p → (text : List ℕ) (reason : Option Reason) → reason_against (context_of p.state) text ≡ reason → AuthenticDone p.state (line_read text reason) → DoneBegins p.state (line_read text reason)
 read_begins p g text (Some reason) e authentic = tt

@@ -1,5 +1,6 @@
 -- Whatever a station does, its timestamps rise, and a command is given again as it was.
-use Rattle.std.proofs.Common.{◌≡◌, ℕ, ◌+◌, ◌<◌, ◌^◌, min, false, ◌==◌, nat_lt, List, [], ◌∷◌, ◌++◌, Option, Some, None, IfSome, refl, sym, subst, arith}
+use Rattle.std.proofs.Common.{◌≡◌, ℕ, ◌+◌, ◌<◌, ◌^◌, min, false, ◌==◌, nat_lt, List, [], ◌∷◌, ◌++◌, Option, Some, None, IfSome, refl, sym, ap, subst, arith, ◌∙◌}
+use Rattle.std.proofs.lemmas.List.{append-nil}
 use Rattle.mav_names.specs.declared.names.Stream.{Stream}
 use Rattle.mav_names.specs.Addresses.{node_of}
 use Rattle.plan_items.specs.declared.items.Item.{Item}
@@ -15,7 +16,6 @@ use Rattle.mav_sign.specs.History.{Entry, tried, previous_in, answer_to}
 use Rattle.mav_sign.specs.History as history
 use Rattle.mav_sign.specs.Endpoints.{frames_of}
 use Rattle.mav_frame.specs.FinalParse.{final_parse}
-use Rattle.command_proto.specs.declared.commands.Command.{Command}
 use Rattle.command_proto.specs.declared.commands.Issue.{Issue}
 use Rattle.command_proto.specs.Commander.{CommanderState, CommanderStep, command_message, first_issue, given_again, counts, acknowledged, ack_comes, commander_step, waits_on, issue_ticks, commander_tick, idle_limit}
 use Rattle.command_proto.specs.Laws.{IssueInRange}
@@ -36,48 +36,49 @@ use Rattle.fleet_invariants.proofs.Hearing.{services_silent}
 use Rattle.fleet_invariants.proofs.Files.{SaysOfFiles, Says_nothing, Says_one, station_says, tick_says}
 use Rattle.fleet_invariants.proofs.Params.{IsOfParams, client_hears, client_waits}
 use Rattle.fleet_invariants.proofs.Services.{station_waiting, command_asked}
+use Rattle.fleet_commands.specs.Lines.{Order}
 use Rattle.fleet_commands.proofs.Lists.{last_command}
 use Rattle.fleet_commands.proofs.Outcomes.{Goes, goes_quietly, goes_then, goes_still, goes_sends, goes_all, goes_answers, goes_core, AllOf, all_of_both}
-use Rattle.fleet_commands.proofs.Stations.{begun_by, Speaks, IsPlain, plan_plain, params_plain, speaks_plainly, speaks_command}
+use Rattle.fleet_commands.proofs.Stations.{order_given, begun_by, Speaks, IsPlain, plan_plain, params_plain, speaks_plainly, speaks_command}
 
 -- ---- what a commander's step leaves
 
--- the last command that was given is that of the issue, if one is open
-abbrev IsOf : Option Command → Option Issue → Type 0
-IsOf last issue = IfSome issue (λ (i : Issue). last ≡ Some i.command)
+-- the last order that was given is that of the issue, if one is open
+abbrev IsOf : Option Order → Option Issue → Type 0
+IsOf last issue = IfSome issue (λ (i : Issue). last ≡ Some (order_given i))
 
 -- it says nothing
-record SaysNothing (last : Option Command) (t : CommanderStep) : Type 0 where
+record SaysNothing (last : Option Order) (t : CommanderStep) : Type 0 where
   answer : t.answer ≡ None
   issue : IsOf last t.commander.issue
 
-acked : (last : Option Command) (c : CommanderState) (issue : Option Issue) (from : Stream) (m : CommandAck) → IsOf last c.issue → IsOf last issue → SaysNothing last (ack_comes c issue from m)
+acked : (last : Option Order) (c : CommanderState) (issue : Option Issue) (from : Stream) (m : CommandAck) → IsOf last c.issue → IsOf last issue → SaysNothing last (ack_comes c issue from m)
 acked last c None from m h k = record { answer = refl; issue = h }
 acked last c (Some i) from m h k =
     by_test (SaysNothing last) (counts c.me i from m) (acknowledged c i m.result) (waits_on c)
     (λ _. by_test (SaysNothing last) (m.result == 5) _ _ (λ _. record { answer = refl; issue = k }) (λ _. record { answer = refl; issue = tt }))
     (λ _. record { answer = refl; issue = h })
 
-commander_hears : (last : Option Command) (c : CommanderState) (from : Stream) (m : Message) → IsOf last c.issue → SaysNothing last (commander_step c from m)
+commander_hears : (last : Option Order) (c : CommanderState) (from : Stream) (m : Message) → IsOf last c.issue → SaysNothing last (commander_step c from m)
 commander_hears last c from (Acknowledges m) h = acked last c c.issue from m h h
 commander_hears last c from _ h = record { answer = refl; issue = h }
 
 -- or it gives a command: one that was given before as it was
-record Commands (last : Option Command) (t : CommanderStep) : Type 0 where
+record Commands (last : Option Order) (t : CommanderStep) : Type 0 where
   issue : Issue
   answer : t.answer ≡ Some (command_message issue)
   kept : t.commander.issue ≡ Some issue
-  again : 0 < issue.confirmation → last ≡ Some issue.command
-  later : begun_by issue ≡ 0
+  again : 0 < issue.confirmation → last ≡ Some (order_given issue)
+  later : begun_by issue ≡ []
 
-data Says (last : Option Command) (t : CommanderStep) : Type 0 where
+data Says (last : Option Order) (t : CommanderStep) : Type 0 where
   Nothing : SaysNothing last t → Says last t
   Gives : Commands last t → Says last t
 
-not_first : (i : Issue) → begun_by (given_again i) ≡ 0
-not_first i = by_test (λ n. n ≡ 0) (min (i.confirmation + 1) 255 == 0) 1 0 (λ e. absurd (grind arith)) (λ _. refl)
+not_first : (i : Issue) → begun_by (given_again i) ≡ []
+not_first i = by_test (λ (os : List Order). os ≡ []) (min (i.confirmation + 1) 255 == 0) (order_given i ∷ []) [] (λ e. absurd (grind arith)) (λ _. refl)
 
-says_at_tick : (last : Option Command) (c : CommanderState) (issue : Option Issue) → IsOf last c.issue → IsOf last issue → Says last (issue_ticks c issue)
+says_at_tick : (last : Option Order) (c : CommanderState) (issue : Option Issue) → IsOf last c.issue → IsOf last issue → Says last (issue_ticks c issue)
 says_at_tick last c None h k = Nothing (record { answer = refl; issue = h })
 says_at_tick last c (Some i) h k =
     by_test (Says last) (nat_lt (i.idle + 1) idle_limit) _ _
@@ -108,36 +109,36 @@ told_silent (Some t) = tt
 
 -- ---- a station
 
-module _ (frames : List Packet) (me : Stream) (clock : ℕ) (count : ℕ) where
+module _ (frames : List Packet) (me : Stream) (clock : ℕ) (orders : List Order) where
   -- of a station, after frames that it has sent since a call began
   abbrev pub StationSays : StationSide → List Packet → Type 0
-  StationSays n ps = Speaks frames me count n.services.commander.issue n.link ps
+  StationSays n ps = Speaks frames me orders n.services.commander.issue n.link ps
 
-  abbrev latest : List Packet → Option Command
+  abbrev latest : List Packet → Option Order
   latest ps = last_command (node_of me) None (frames ++ ps)
 
-  plainly : (issue : Option Issue) (ms : List Message) (link : Link) (ps : List Packet) → AllOf IsPlain ms → Speaks frames me count issue link ps → Goes (Speaks frames me count issue) ps (sends_all clock ms link)
-  plainly issue = goes_all (Speaks frames me count issue) IsPlain clock (speaks_plainly frames me clock count issue)
+  plainly : (issue : Option Issue) (ms : List Message) (link : Link) (ps : List Packet) → AllOf IsPlain ms → Speaks frames me orders issue link ps → Goes (Speaks frames me orders issue) ps (sends_all clock ms link)
+  plainly issue = goes_all (Speaks frames me orders issue) IsPlain clock (speaks_plainly frames me clock orders issue)
 
   -- its services send no command
-  quietly : (t : ServiceStep StationServices) (core : StationState) (link : Link) (ps : List Packet) → AllOf IsPlain t.answers → Silent t.last → Speaks frames me count t.services.commander.issue link ps → Goes StationSays ps (serves clock link core t)
+  quietly : (t : ServiceStep StationServices) (core : StationState) (link : Link) (ps : List Packet) → AllOf IsPlain t.answers → Silent t.last → Speaks frames me orders t.services.commander.issue link ps → Goes StationSays ps (serves clock link core t)
   quietly t core link ps plain silent h =
-      goes_core StationSays core t.services (Speaks frames me count t.services.commander.issue) t.last ps (sends_all clock t.answers link) (λ l qs k. k) silent (plainly t.services.commander.issue t.answers link ps plain h)
+      goes_core StationSays core t.services (Speaks frames me orders t.services.commander.issue) t.last ps (sends_all clock t.answers link) (λ l qs k. k) silent (plainly t.services.commander.issue t.answers link ps plain h)
 
   -- they send one first
-  commanding : (before : ℕ) (services : StationServices) (last : List NodeEvent) (i : Issue) (old : Option Issue) (more : List Message) (core : StationState) (link : Link) (ps : List Packet) → services.commander.issue ≡ Some i → AllOf IsPlain more → Silent last → IssueInRange i
-      → (0 < i.confirmation → latest ps ≡ Some i.command) → before + begun_by i ≡ count → Speaks frames me before old link ps → Goes StationSays ps (serves clock link core (record { services = services; answers = command_message i ∷ more; last = last }))
+  commanding : (before : List Order) (services : StationServices) (last : List NodeEvent) (i : Issue) (old : Option Issue) (more : List Message) (core : StationState) (link : Link) (ps : List Packet) → services.commander.issue ≡ Some i → AllOf IsPlain more → Silent last → IssueInRange i
+      → (0 < i.confirmation → latest ps ≡ Some (order_given i)) → before ++ begun_by i ≡ orders → Speaks frames me before old link ps → Goes StationSays ps (serves clock link core (record { services = services; answers = command_message i ∷ more; last = last }))
   commanding before services last i old more core link ps kept plain silent range again total h =
-      goes_core StationSays core services (Speaks frames me count (Some i)) last ps (sends_all clock (command_message i ∷ more) link) (λ l qs k. subst (λ issue. Speaks frames me count issue l qs) (sym kept) k) silent
-      (goes_then (Speaks frames me count (Some i)) (Speaks frames me count (Some i)) ps (sends clock (command_message i) link) (sends_all clock more)
-      (goes_sends (Speaks frames me count (Some i)) clock (command_message i) link ps (speaks_command frames me clock i before count old link ps range again total h)) (λ l qs k. plainly (Some i) more l qs plain k))
+      goes_core StationSays core services (Speaks frames me orders (Some i)) last ps (sends_all clock (command_message i ∷ more) link) (λ l qs k. subst (λ issue. Speaks frames me orders issue l qs) (sym kept) k) silent
+      (goes_then (Speaks frames me orders (Some i)) (Speaks frames me orders (Some i)) ps (sends clock (command_message i) link) (sends_all clock more)
+      (goes_sends (Speaks frames me orders (Some i)) clock (command_message i) link ps (speaks_command frames me clock i before orders old link ps range again total h)) (λ l qs k. plainly (Some i) more l qs plain k))
 
   -- its plan core does a step
   stepping : (n : StationSide) (ps : List Packet) (step : StationStep) → StationSays n ps → Goes StationSays ps (steps clock n.link n.services (station_does step))
   stepping n ps step h =
       goes_quietly StationSays ps [] _ tt
-      (goes_core StationSays (station_does step).core n.services (Speaks frames me count n.services.commander.issue) (told_events step.station.outcome) ps (answers clock step.answer n.link) (λ l qs k. k) (told_silent step.station.outcome)
-      (goes_answers (Speaks frames me count n.services.commander.issue) IsPlain clock (speaks_plainly frames me clock count n.services.commander.issue) plan_plain step.answer n.link ps h))
+      (goes_core StationSays (station_does step).core n.services (Speaks frames me orders n.services.commander.issue) (told_events step.station.outcome) ps (answers clock step.answer n.link) (λ l qs k. k) (told_silent step.station.outcome)
+      (goes_answers (Speaks frames me orders n.services.commander.issue) IsPlain clock (speaks_plainly frames me clock orders n.services.commander.issue) plan_plain step.answer n.link ps h))
 
   -- ---- frames
 
@@ -197,8 +198,8 @@ module _ (frames : List Packet) (me : Stream) (clock : ℕ) (count : ℕ) where
 
     pub station_beating : Goes StationSays [] (station_beats clock n)
     station_beating =
-        goes_core StationSays n.core n.services (Speaks frames me count n.services.commander.issue) [] [] (sends clock station_heartbeat n.link) (λ l qs k. k) tt
-        (goes_sends (Speaks frames me count n.services.commander.issue) clock station_heartbeat n.link [] (speaks_plainly frames me clock count n.services.commander.issue station_heartbeat n.link [] beat_plain h))
+        goes_core StationSays n.core n.services (Speaks frames me orders n.services.commander.issue) [] [] (sends clock station_heartbeat n.link) (λ l qs k. k) tt
+        (goes_sends (Speaks frames me orders n.services.commander.issue) clock station_heartbeat n.link [] (speaks_plainly frames me clock orders n.services.commander.issue station_heartbeat n.link [] beat_plain h))
 
     pub station_beginning : (drone : Stream) (kind : ℕ) (plan : List Item) → Goes StationSays [] (station_begins clock drone kind plan n)
     station_beginning drone kind plan = stepping n [] (begin_upload n.core drone kind plan) h
@@ -246,9 +247,9 @@ module _ (frames : List Packet) (me : Stream) (clock : ℕ) (count : ℕ) where
               (record { me_is = k.me_is; begun = k.begun; voice = record { rising = k.voice.rising; last = k.voice.last; runs = k.voice.runs; given = none.issue }; own = k.own })
           says (Gives g) =
               subst (λ (o : Option Message). Goes StationSays qs (serves clock a.link a.core (record { services = (station_served c r f).services; answers = (sent_of o ++ sent_of r.answer) ++ f.answers; last = (station_served c r f).last }))) (sym g.answer)
-              (commanding count (station_served c r f).services (station_served c r f).last g.issue a.services.commander.issue (sent_of r.answer ++ f.answers) a.core a.link qs g.kept
+              (commanding orders (station_served c r f).services (station_served c r f).last g.issue a.services.commander.issue (sent_of r.answer ++ f.answers) a.core a.link qs g.kept
               (all_of_both IsPlain (sent_of r.answer) f.answers plain of_files) (services_silent c r f)
-              (subst (λ (o : Option Issue). IfSome o IssueInRange) g.kept in_range) g.again (let e = g.later in omega arith) k)
+              (subst (λ (o : Option Issue). IfSome o IssueInRange) g.kept in_range) g.again (ap (λ os. orders ++ os) g.later ∙ append-nil orders) k)
 
       record Ticks (a : StationSide) (qs : List Packet) : Type 0 where
         says : StationSays a qs
@@ -259,14 +260,14 @@ module _ (frames : List Packet) (me : Stream) (clock : ℕ) (count : ℕ) where
           let step : StationStep = station_tick n.core in
           goes_then Ticks StationSays [] (steps clock n.link n.services (station_does step)) (services_tick clock)
           (goes_quietly Ticks [] [] _ tt
-          (goes_core Ticks (station_does step).core n.services (Speaks frames me count n.services.commander.issue) (told_events step.station.outcome) [] (answers clock step.answer n.link) (λ l qs k. record { says = k; same = refl }) (told_silent step.station.outcome)
-          (goes_answers (Speaks frames me count n.services.commander.issue) IsPlain clock (speaks_plainly frames me clock count n.services.commander.issue) plan_plain step.answer n.link [] h)))
+          (goes_core Ticks (station_does step).core n.services (Speaks frames me orders n.services.commander.issue) (told_events step.station.outcome) [] (answers clock step.answer n.link) (λ l qs k. record { says = k; same = refl }) (told_silent step.station.outcome)
+          (goes_answers (Speaks frames me orders n.services.commander.issue) IsPlain clock (speaks_plainly frames me clock orders n.services.commander.issue) plan_plain step.answer n.link [] h)))
           (λ a qs k. waiting a qs k.same k.says)
 
 -- a command, which begins a line
-module _ (frames : List Packet) (me : Stream) (clock : ℕ) (n : StationSide) (h : StationSays frames me clock 0 n []) (own : SoundStationServices (node_of n.link.me) n.services) where
-  pub station_commanding : (drone : Stream) (number word : ℕ) → StreamInRange drone → number < 65536 → word < 2 ^ 32 → Goes (StationSays frames me clock 1) [] (station_commands clock drone number word n)
+module _ (frames : List Packet) (me : Stream) (clock : ℕ) (n : StationSide) (h : StationSays frames me clock [] n []) (own : SoundStationServices (node_of n.link.me) n.services) where
+  pub station_commanding : (drone : Stream) (number word : ℕ) → StreamInRange drone → number < 65536 → word < 2 ^ 32 → Goes (StationSays frames me clock (record { target = node_of drone; command = command_of number word } ∷ [])) [] (station_commands clock drone number word n)
   station_commanding drone number word range small short =
       let i : Issue = first_issue drone (command_of number word) in
       let services : StationServices = record n.services { commander = record n.services.commander { issue = Some i } } in
-      commanding frames me clock 1 0 services [] i n.services.commander.issue [] n.core n.link [] refl tt tt (command_asked (node_of n.link.me) n.services own drone number word range small short).services.commander (λ more. absurd (omega arith)) refl h
+      commanding frames me clock (order_given i ∷ []) [] services [] i n.services.commander.issue [] n.core n.link [] refl tt tt (command_asked (node_of n.link.me) n.services own drone number word range small short).services.commander (λ more. absurd (omega arith)) refl h

@@ -27,7 +27,7 @@ use Rattle.mav_nodes.proofs.Sendings.{service_reads_back}
 use Rattle.fleet_invariants.proofs.Tests.{name_same, name_eq}
 use Rattle.fleet_invariants.proofs.Histories.{sending_is, next_later}
 use Rattle.fleet_invariants.proofs.Params.{IsOfParams}
-use Rattle.fleet_commands.specs.Lines.{command_in, commanded, begins, lines_begun}
+use Rattle.fleet_commands.specs.Lines.{command_in, commanded, Order, order_in, begins_with, orders_begun}
 use Rattle.fleet_commands.proofs.Lists.{stamp_of, stamp_next, last_stamp, Rising, rising_push, last_push, command_next, last_command, Repeats, Runs, runs_push, command_push}
 use Rattle.fleet_commands.proofs.Outcomes.{frame_at, link_at, IsSteady}
 
@@ -40,27 +40,30 @@ pub all_by_push : (name : Name) (ps : List Packet) (p : Packet) → AllBy name p
 all_by_push name [] p h is = (is, tt)
 all_by_push name (q ∷ qs) p h is = (h.0, all_by_push name qs p h.1 is)
 
-pub begun_push : (name : Name) (ps : List Packet) (p : Packet) → lines_begun name (ps ++ p ∷ []) ≡ lines_begun name ps + begins (commanded name p)
-begun_push name [] p = omega arith
-begun_push name (q ∷ qs) p = let e = begun_push name qs p in omega arith
+pub begun_push : (name : Name) (ps : List Packet) (p : Packet) → orders_begun name (ps ++ p ∷ []) ≡ orders_begun name ps ++ begins_with (commanded name p)
+begun_push name [] p = append-nil (begins_with (commanded name p))
+begun_push name (q ∷ qs) p = ap (λ os. begins_with (commanded name q) ++ os) (begun_push name qs p) ∙ sym (append_assoc (begins_with (commanded name q)) (orders_begun name qs) (begins_with (commanded name p)))
 
-pub begun_more : (name : Name) (ps qs : List Packet) → lines_begun name (ps ++ qs) ≡ lines_begun name ps + lines_begun name qs
-begun_more name [] qs = omega arith
-begun_more name (p ∷ ps) qs = let e = begun_more name ps qs in omega arith
+pub begun_more : (name : Name) (ps qs : List Packet) → orders_begun name (ps ++ qs) ≡ orders_begun name ps ++ orders_begun name qs
+begun_more name [] qs = refl
+begun_more name (p ∷ ps) qs = ap (λ os. begins_with (commanded name p) ++ os) (begun_more name ps qs) ∙ sym (append_assoc (begins_with (commanded name p)) (orders_begun name ps) (orders_begun name qs))
 
--- 1 if the frame of an issue begins a line
-abbrev pub begun_by : Issue → ℕ
-begun_by i = if i.confirmation == 0 then 1 else 0
+-- the order of an issue, and that of the line which its frame begins, if it begins one
+abbrev pub order_given : Issue → Order
+order_given i = record { target = node_of i.drone; command = i.command }
+
+abbrev pub begun_by : Issue → List Order
+begun_by i = if i.confirmation == 0 then order_given i ∷ [] else []
 
 -- what a node of this name has sent, with the history of its link and the command that is open
 pub record Voice (frames : List Packet) (name : Name) (history : List Entry) (issue : Option Issue) : Type 0 where
   pub rising : Rising name 0 frames
   pub last : last_stamp name 0 frames ≤ previous_in history
   pub runs : Runs name None frames
-  pub given : IfSome issue (λ (i : Issue). last_command name None frames ≡ Some i.command)
+  pub given : IfSome issue (λ (i : Issue). last_command name None frames ≡ Some (order_given i))
 
 abbrev Latest : Name → List Packet → Option Issue → Type 0
-Latest name frames issue = IfSome issue (λ (i : Issue). last_command name None frames ≡ Some i.command)
+Latest name frames issue = IfSome issue (λ (i : Issue). last_command name None frames ≡ Some (order_given i))
 
 latest_same : (name : Name) (frames others : List Packet) (issue : Option Issue) → last_command name None others ≡ last_command name None frames → Latest name frames issue → Latest name others issue
 latest_same name frames others None same h = tt
@@ -73,7 +76,7 @@ own_next name low p by = ap (λ (t : Bool). if t then stamp_of p else low) by
 
 pub voice_own : (frames : List Packet) (name : Name) (history : List Entry) (issue new : Option Issue) (p : Packet) (stamp : ℕ) → Voice frames name history issue
     → same_name p.from name ≡ true → stamp_of p ≡ stamp → previous_in history < stamp → Repeats name (last_command name None frames) (commanded name p)
-    → IfSome new (λ (i : Issue). command_next name (last_command name None frames) (commanded name p) ≡ Some i.command) → Voice (frames ++ p ∷ []) name (history ++ sent stamp ∷ []) new
+    → IfSome new (λ (i : Issue). command_next name (last_command name None frames) (commanded name p) ≡ Some (order_given i)) → Voice (frames ++ p ∷ []) name (history ++ sent stamp ∷ []) new
 voice_own frames name history issue new p stamp v by is later again given = record {
   rising = rising_push name 0 frames p v.rising (λ _. let last = v.last in omega arith);
   last = (let a = last_push name 0 frames p in let b = own_next name (last_stamp name 0 frames) p by in let c = sending_is history stamp in omega arith);
@@ -81,7 +84,7 @@ voice_own frames name history issue new p stamp v by is later again given = reco
   given = each new given;
 }
   where
-    each : (new : Option Issue) → IfSome new (λ (i : Issue). command_next name (last_command name None frames) (commanded name p) ≡ Some i.command) → Latest name (frames ++ p ∷ []) new
+    each : (new : Option Issue) → IfSome new (λ (i : Issue). command_next name (last_command name None frames) (commanded name p) ≡ Some (order_given i)) → Latest name (frames ++ p ∷ []) new
     each None h = tt
     each (Some i) h = command_push name None frames p ∙ h
 
@@ -112,12 +115,10 @@ other_name a b c is apart =
     elim (same_name a c) as (λ t. same_name a c ≡ t → t ≡ false) [ true ↦ λ e. absurd (apart (sym is ∙ name_eq a c e)) | false ↦ λ _. refl ] refl
 
 -- no line of another node begins
-pub none_begun : (ps : List Packet) (name other : Name) → AllBy other ps → (other ≡ name → ⊥) → lines_begun name ps ≡ 0
+pub none_begun : (ps : List Packet) (name other : Name) → AllBy other ps → (other ≡ name → ⊥) → orders_begun name ps ≡ []
 none_begun [] name other by apart = refl
 none_begun (p ∷ ps) name other by apart =
-    let first = ap begins (other_command name p (other_name p.from other name by.0 apart)) in
-    let rest = none_begun ps name other by.1 apart in
-    omega arith
+    ap (λ o. begins_with o ++ orders_begun name ps) (other_command name p (other_name p.from other name by.0 apart)) ∙ none_begun ps name other by.1 apart
 
 pub voice_others : (ps frames : List Packet) (name other : Name) (history : List Entry) (issue : Option Issue) → AllBy other ps → (other ≡ name → ⊥) → Voice frames name history issue → Voice (frames ++ ps) name history issue
 voice_others [] frames name other history issue by apart v = subst (λ x. Voice x name history issue) (sym (append-nil frames)) v
@@ -127,10 +128,10 @@ voice_others (p ∷ ps) frames name other history issue by apart v =
 
 -- ---- a link
 
--- of a station's link, after frames that it has sent since a call began, with which so many lines began
-pub record Speaks (frames : List Packet) (me : Stream) (count : ℕ) (issue : Option Issue) (link : Link) (ps : List Packet) : Type 0 where
+-- of a station's link, after frames that it has sent since a call began, with which lines of these orders began
+pub record Speaks (frames : List Packet) (me : Stream) (orders : List Order) (issue : Option Issue) (link : Link) (ps : List Packet) : Type 0 where
   pub me_is : link.me ≡ me
-  pub begun : lines_begun (node_of me) ps ≡ count
+  pub begun : orders_begun (node_of me) ps ≡ orders
   pub voice : Voice (frames ++ ps) (node_of me) link.history issue
   pub own : AllBy (node_of me) ps
 
@@ -162,29 +163,29 @@ module _ (frames : List Packet) (me : Stream) (clock : ℕ) where
   by_is m link is = ap (λ n. same_name n (node_of me)) (from_is m link is) ∙ name_same (node_of me)
 
   -- one more frame, with the command that is open then
-  speaks_on : (m : Message) (count total : ℕ) (issue new : Option Issue) (link : Link) (ps : List Packet) → Speaks frames me count issue link ps
-      → count + begins (commanded (node_of me) (frame_at clock m link)) ≡ total
+  speaks_on : (m : Message) (orders total : List Order) (issue new : Option Issue) (link : Link) (ps : List Packet) → Speaks frames me orders issue link ps
+      → orders ++ begins_with (commanded (node_of me) (frame_at clock m link)) ≡ total
       → Repeats (node_of me) (last_command (node_of me) None (frames ++ ps)) (commanded (node_of me) (frame_at clock m link))
-      → IfSome new (λ (i : Issue). command_next (node_of me) (last_command (node_of me) None (frames ++ ps)) (commanded (node_of me) (frame_at clock m link)) ≡ Some i.command)
+      → IfSome new (λ (i : Issue). command_next (node_of me) (last_command (node_of me) None (frames ++ ps)) (commanded (node_of me) (frame_at clock m link)) ≡ Some (order_given i))
       → Speaks frames me total new (link_at clock link) (ps ++ frame_at clock m link ∷ [])
-  speaks_on m count total issue new link ps h more again given = record {
+  speaks_on m orders total issue new link ps h more again given = record {
     me_is = h.me_is;
-    begun = (let a = begun_push (node_of me) ps (frame_at clock m link) in let b = h.begun in omega (arith, more));
+    begun = begun_push (node_of me) ps (frame_at clock m link) ∙ ap (λ os. os ++ begins_with (commanded (node_of me) (frame_at clock m link))) h.begun ∙ more;
     voice = subst (λ x. Voice x (node_of me) (link_at clock link).history new) (append_assoc frames ps (frame_at clock m link ∷ []))
         (voice_own (frames ++ ps) (node_of me) link.history issue new (frame_at clock m link) (next_in link.history clock) h.voice (by_is m link h.me_is) refl (let later = next_later link.history clock in omega arith) again given);
     own = all_by_push (node_of me) ps (frame_at clock m link) h.own (from_is m link h.me_is);
   }
 
   -- no command
-  pub speaks_plainly : (count : ℕ) (issue : Option Issue) → IsSteady (Speaks frames me count issue) IsPlain clock
-  speaks_plainly count issue m link ps plain h =
+  pub speaks_plainly : (orders : List Order) (issue : Option Issue) → IsSteady (Speaks frames me orders issue) IsPlain clock
+  speaks_plainly orders issue m link ps plain h =
       let none : commanded (node_of me) (frame_at clock m link) ≡ None =
       ap (λ (t : Bool). if t then command_in (service_in (frame_at clock m link).id (frame_at clock m link).payload) else None) (by_is m link h.me_is) ∙ plain (frame_at clock m link).payload in
-      speaks_on m count count issue issue link ps h (let e = ap begins none in omega arith) (subst (Repeats (node_of me) (last_command (node_of me) None (frames ++ ps))) (sym none) tt)
+      speaks_on m orders orders issue issue link ps h (ap (λ o. orders ++ begins_with o) none ∙ append-nil orders) (subst (Repeats (node_of me) (last_command (node_of me) None (frames ++ ps))) (sym none) tt)
       (still issue none h.voice.given)
     where
       still : (issue : Option Issue) → commanded (node_of me) (frame_at clock m link) ≡ None → Latest (node_of me) (frames ++ ps) issue
-          → IfSome issue (λ (i : Issue). command_next (node_of me) (last_command (node_of me) None (frames ++ ps)) (commanded (node_of me) (frame_at clock m link)) ≡ Some i.command)
+          → IfSome issue (λ (i : Issue). command_next (node_of me) (last_command (node_of me) None (frames ++ ps)) (commanded (node_of me) (frame_at clock m link)) ≡ Some (order_given i))
       still None none k = tt
       still (Some i) none k = ap (command_next (node_of me) (last_command (node_of me) None (frames ++ ps))) none ∙ k
 
@@ -222,16 +223,20 @@ module _ (frames : List Packet) (me : Stream) (clock : ℕ) where
   same_command : (i : Issue) → IssueInRange i → executor.command_in (long_of i) ≡ i.command
   same_command i h = λ j. record { number = i.command.number; params = seven i.command.params h.seven j }
 
+  same_order : (i : Issue) → IssueInRange i → order_in (long_of i) ≡ order_given i
+  same_order i h = ap (λ (c : Command). record { target = node_of i.drone; command = c }) (same_command i h)
+
   is_command : (i : Issue) (link : Link) → IssueInRange i → link.me ≡ me → commanded (node_of me) (frame_at clock (command_message i) link) ≡ Some (long_of i)
   is_command i link h is =
       ap (λ (t : Bool). if t then command_in (service_in (frame_at clock (command_message i) link).id (frame_at clock (command_message i) link).payload) else None) (by_is (command_message i) link is)
       ∙ ap command_in (service_reads_back (command_message i) (sendable_command i h).fits tt (payload_small (command_message i)))
 
-  pub speaks_command : (i : Issue) (count total : ℕ) (old : Option Issue) (link : Link) (ps : List Packet) → IssueInRange i → (0 < i.confirmation → last_command (node_of me) None (frames ++ ps) ≡ Some i.command) → count + begun_by i ≡ total → Speaks frames me count old link ps
+  pub speaks_command : (i : Issue) (orders total : List Order) (old : Option Issue) (link : Link) (ps : List Packet) → IssueInRange i → (0 < i.confirmation → last_command (node_of me) None (frames ++ ps) ≡ Some (order_given i)) → orders ++ begun_by i ≡ total → Speaks frames me orders old link ps
       → Speaks frames me total (Some i) (link_at clock link) (ps ++ frame_at clock (command_message i) link ∷ [])
-  speaks_command i count total old link ps range again more h =
+  speaks_command i orders total old link ps range again more h =
       let is : commanded (node_of me) (frame_at clock (command_message i) link) ≡ Some (long_of i) = is_command i link range h.me_is in
-      let before : Option Command = last_command (node_of me) None (frames ++ ps) in
-      speaks_on (command_message i) count total old (Some i) link ps h (let e = ap begins is in omega (arith, more))
-      (subst (Repeats (node_of me) before) (sym is) (λ confirmed. again confirmed ∙ ap (λ c. Some c) (sym (same_command i range))))
-      (ap (command_next (node_of me) before) is ∙ ap (λ c. Some c) (same_command i range))
+      let before : Option Order = last_command (node_of me) None (frames ++ ps) in
+      speaks_on (command_message i) orders total old (Some i) link ps h
+      (ap (λ o. orders ++ begins_with o) is ∙ ap (λ (o : Order). orders ++ (if i.confirmation == 0 then o ∷ [] else [])) (same_order i range) ∙ more)
+      (subst (Repeats (node_of me) before) (sym is) (λ confirmed. again confirmed ∙ ap (λ (o : Order). Some o) (sym (same_order i range))))
+      (ap (command_next (node_of me) before) is ∙ ap (λ (o : Order). Some o) (same_order i range))

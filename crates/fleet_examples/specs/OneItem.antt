@@ -36,6 +36,6 @@ one_fleet = nodes_of (played the_key true one_item).state.nodes
 
 -- that plan was installed, once, from a fully transmitted upload of that station; and the report's line that says so is true
 pub record IsInstalledOnce : Type 0 where
-  pub safe : Safe the_key (played the_key true one_item) (actions_of the_key true one_item)
+  pub safe : Safe the_key one_item (played the_key true one_item) (actions_of the_key true one_item)
   pub installed : InstallIsTrue one_fleet (actions_of the_key true one_item) 7 the_drone 0 the_plan the_station
   pub reported : OutcomeIsTrue one_fleet (actions_of the_key true one_item) 9 the_station Told_installed

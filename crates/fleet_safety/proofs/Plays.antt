@@ -31,7 +31,7 @@ use Rattle.fleet_invariants.specs.Kept.{KeepsLine}
 use Rattle.fleet_invariants.specs.Laws.{EveryCallKeeps, SentKnown, AuthenticKnown, EveryLineKeeps, EveryReadLineFits}
 use Rattle.fleet_safety.specs.Reporting.{seen, plan_lines, steps_reported}
 use Rattle.fleet_safety.specs.Actions.{Action, calls_of, line_end, calls_done, line_actions, lines_actions, last_actions, actions_of, unless_stopped as unless_stopped_actions}
-use Rattle.fleet_safety.specs.Safe.{nodes_of, start, events_of, report_of, orders_of, state_after, world_after, history_of, orders_in, IsTheUpload, IsSafe, Safe}
+use Rattle.fleet_safety.specs.Safe.{nodes_of, start, events_of, report_of, orders_of, state_after, world_after, history_of, orders_in, IsTheUpload, IsSafe, LeadsTo, Safe}
 use Rattle.fleet_safety.proofs.Lists.{by_both}
 use Rattle.fleet_safety.proofs.Names.{Named, Covers, covers_back, own_cover, own_distinct}
 use Rattle.fleet_safety.proofs.StoreLines.{history_lines}
@@ -204,12 +204,13 @@ module _ (key : List ℕ) (p : Played) (actions : List Action) (h : Runs key p a
         held = λ index d kind e l. subst (λ (x : DroneState). IsHeld (history_of n (before ++ a ∷ [])) d.link.me kind (plan_at x.plans kind)) (state d (it.drones index d e)) (histories.held n distinct start (events_of (before ++ a ∷ [])) d.link.me kind l);
       }
 
-  pub safe : Safe key p actions
-  safe =
+  pub safe : (bytes : List ℕ) → ((before after : List (List ℕ)) → whole_lines bytes ≡ before ++ after → LeadsTo key (lines_played (at_start key) 1 before) (lines_actions (at_start key) 1 before) actions) → Safe key bytes p actions
+  safe bytes lines =
       let orders_are : orders_in (history_of n actions) ≡ orders_of actions = orders_all n (first_world start) actions follows in
       record {
         report = h.report;
         state = h.state;
+        lines = lines;
         each = each;
         execution = induction.always n distinct start (events_of actions);
         valid = valid;
@@ -217,12 +218,49 @@ module _ (key : List ℕ) (p : Played) (actions : List Action) (h : Runs key p a
         uploads = λ s number drone kind plan. subst (λ os. Uploaded (history_of n actions) s number drone kind plan ↔ IsTheUpload os s number drone kind plan) orders_are (the_upload (history_of n actions) s number drone kind plan);
       }
 
+-- ---- the first lines
+
+-- they are authentic
+weaker : (o : Option ScenarioError) (T R : Type 0) → (T → R) → UnlessStopped o T → UnlessStopped o R
+weaker None T R f h = f h
+weaker (Some stop) T R f h = tt
+
+first_lines : (before after : List (List ℕ)) (p : Played) (number : ℕ) → HoldsOfLines AuthenticDone p number (before ++ after) → HoldsOfLines AuthenticDone p number before
+first_lines [] after p number h = tt
+first_lines (raw ∷ more) after p number h = weaker p.stop _ _ (λ k. (k.0, first_lines more after (line_played p number raw) (number + 1) k.1)) h
+
+-- their actions are the first ones
+unless_more : (o : Option ScenarioError) (done first : List Action) (all : List Action) → ((rest : List Action) × (all ≡ first ++ rest)) → (rest : List Action) × (unless_stopped_actions o (done ++ all) ≡ unless_stopped_actions o (done ++ first) ++ rest)
+unless_more None done first all h = (h.0, ap (λ xs. done ++ xs) h.1 ∙ sym (append_assoc done first h.0))
+unless_more (Some stop) done first all h = ([], refl)
+
+first_actions : (before after : List (List ℕ)) (p : Played) (number : ℕ) → (rest : List Action) × (lines_actions p number (before ++ after) ≡ lines_actions p number before ++ rest)
+first_actions [] after p number = (lines_actions p number after, refl)
+first_actions (raw ∷ more) after p number =
+    let q : Played = line_played p number raw in
+    unless_more p.stop (line_actions number p.state (line_done p.state number raw (without_cr raw))) (lines_actions q (number + 1) more) (lines_actions q (number + 1) (more ++ after)) (first_actions more after q (number + 1))
+
+-- and lead to what was played so far
+each_line : (key : List ℕ) (ended : Bool) (bytes : List ℕ) → Authentic key ended bytes → (before after : List (List ℕ)) → whole_lines bytes ≡ before ++ after → LeadsTo key (lines_played (at_start key) 1 before) (lines_actions (at_start key) 1 before) (actions_of key ended bytes)
+each_line key ended bytes authentic before after is =
+    let p : Played = at_start key in
+    let first : List Action = lines_actions p 1 before in
+    let last : List Action = last_actions ended (lines_played p 1 (whole_lines bytes)) (length (whole_lines bytes) + 1) (unfinished bytes) in
+    let rest = first_actions before after p 1 in
+    let run : Runs key (lines_played p 1 before) first = lines_run sound_does heard.sent_known heard.authentic_known sound_line read_fits key before p [] 1 (starts key) (first_lines before after p 1 (subst (HoldsOfLines AuthenticDone p 1) is authentic.lines)) in
+    record {
+      later = rest.0 ++ last;
+      is = ap (λ lines. lines_actions p 1 lines ++ last) is ∙ ap (λ xs. xs ++ last) rest.1 ∙ append_assoc first rest.0 last;
+      report = run.report;
+      state = run.state;
+    }
+
 -- by what holds of the states of authentic scenarios
 pub every_run : (key : List ℕ) (ended : Bool) (bytes : List ℕ) → Authentic key ended bytes → Runs key (played key ended bytes) (actions_of key ended bytes)
 every_run key ended bytes authentic = all_run sound_does heard.sent_known heard.authentic_known sound_line read_fits key ended bytes (starts key) authentic
 
-pub every_scenario : (key : List ℕ) (ended : Bool) (bytes : List ℕ) → Authentic key ended bytes → Safe key (played key ended bytes) (actions_of key ended bytes)
-every_scenario key ended bytes authentic = safe key (played key ended bytes) (actions_of key ended bytes) (every_run key ended bytes authentic)
+pub every_scenario : (key : List ℕ) (ended : Bool) (bytes : List ℕ) → Authentic key ended bytes → Safe key bytes (played key ended bytes) (actions_of key ended bytes)
+every_scenario key ended bytes authentic = safe key (played key ended bytes) (actions_of key ended bytes) (every_run key ended bytes authentic) bytes (each_line key ended bytes authentic)
 
 -- all that the report says
 pub every_report : (key : List ℕ) (ended : Bool) (bytes : List ℕ) → Authentic key ended bytes → plan_lines (seen (played key ended bytes).events) ≡ steps_reported (history_of (nodes_of (played key ended bytes).state.nodes) (actions_of key ended bytes))

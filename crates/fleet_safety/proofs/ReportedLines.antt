@@ -12,6 +12,7 @@ use Rattle.plan_safety.specs.History.{Step, step, IsHistory, Uploaded, Installat
 use Rattle.plan_safety.proofs.Keys.{by_test, number_same, same}
 use Rattle.plan_safety.proofs.StoreLaws.{once_law, never_law, installed_law, installation_law}
 use Rattle.plan_safety.proofs.OutcomeLaws.{got_law, ended_law, not_installed_law, unknown_law}
+use Rattle.plan_safety.proofs.ClearLaws.{cleared_law}
 use Rattle.fleet_report.specs.Events as report
 use Rattle.fleet_world.specs.Scenario.{Played, played}
 use Rattle.fleet_world.specs.Authentic.{Authentic}
@@ -197,7 +198,7 @@ module _ (whole later earlier : List Step) (sent : List Frame) (s : Stream) (val
       let z : tally refuses whole s (uploads earlier s) ≡ tally refuses (later ++ step sent (EndedStep s (Told_not_installed code)) ∷ earlier) s (uploads earlier s) = ap (λ h. tally refuses h s (uploads earlier s)) is in
       (never_law whole valid s (uploads earlier s) (omega arith), not_installed_law earlier sent s code part)
   means Told_unknown is = unknown_law earlier sent s (part_is later (step sent (EndedStep s Told_unknown) ∷ earlier) (subst IsHistory is valid))
-  means Told_cleared is = (part_is later (step sent (EndedStep s Told_cleared) ∷ earlier) (subst IsHistory is valid)).0
+  means Told_cleared is = cleared_law earlier sent s (part_is later (step sent (EndedStep s Told_cleared) ∷ earlier) (subst IsHistory is valid))
   means (Told_got plan) is = got_law earlier sent s plan (part_is later (step sent (EndedStep s (Told_got plan)) ∷ earlier) (subst IsHistory is valid))
   means (Told_ended code) is = ended_law earlier sent s code (part_is later (step sent (EndedStep s (Told_ended code)) ∷ earlier) (subst IsHistory is valid))
 

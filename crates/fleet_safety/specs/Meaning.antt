@@ -6,9 +6,9 @@ use Rattle.plan_items.specs.declared.items.Item.{Item}
 use Rattle.plan_upload.specs.Addresses.{node_of}
 use Rattle.plan_upload.specs.Station.{Told, Told_installed, Told_not_installed, Told_unknown, Told_cleared, Told_got, Told_ended}
 use Rattle.plan_safety.specs.Frames.{Frame}
-use Rattle.plan_safety.specs.Store.{StoreEvent, Installed, Ended, HasClear}
+use Rattle.plan_safety.specs.Store.{StoreEvent, Installed, Ended}
 use Rattle.plan_safety.specs.World.{Nodes}
-use Rattle.plan_safety.specs.History.{Step, step, store_of, installs as installs_upload, uploads, tally, Installation, GotHeld, NotInstalledBy, UnknownBy, EndedBy}
+use Rattle.plan_safety.specs.History.{Step, step, store_of, installs as installs_upload, uploads, tally, Installation, GotHeld, NotInstalledBy, UnknownBy, ClearedBy, EndedBy}
 use Rattle.fleet_report.specs.Events as report
 use Rattle.fleet_safety.specs.Actions.{Action}
 use Rattle.fleet_safety.specs.Safe.{Upload, upload, uploads_by, report_of, orders_of, history_of, steps_in}
@@ -20,10 +20,11 @@ Means Told_installed whole earlier sent station = tally installs_upload whole st
 -- it is never installed, before or after, and its code is 15 or one that the drone refused it with
 Means (Told_not_installed code) whole earlier sent station =
     (tally installs_upload whole station (uploads earlier station) ≡ 0) × NotInstalledBy earlier sent station code
--- the drone has started again since it began
+-- since it began the drone has started again, the last item was sent, a cancel after it, and the drone answered code 1
+-- after that cancel
 Means Told_unknown whole earlier sent station = UnknownBy earlier sent station
--- a clear was open
-Means Told_cleared whole earlier sent station = HasClear ((store_of earlier).opening station)
+-- each kind of the clear was emptied since it began
+Means Told_cleared whole earlier sent station = ClearedBy earlier station
 -- the drone held the plan that was got, at one moment since the download began
 Means (Told_got plan) whole earlier sent station = GotHeld earlier station plan
 -- the code is one that the drone sent since it began, or 15 after a cancel, or 4 for too long a plan
@@ -77,7 +78,8 @@ pub record InstallIsTrue (n : Nodes) (actions : List Action) (index : ℕ) (dron
 pub record LinesAreTrue (n : Nodes) (events : List report.Event) (actions : List Action) : Type 0 where
   -- each line `outcome` is true: what is reported as installed was installed, and in the whole history once; what is reported
   -- as not installed never is, before or after; a plan that was got is one that the drone held since the download began;
-  -- and an outcome is unknown only if the drone has started again since the upload began
+  -- what is reported as cleared was emptied since the clear began; and an outcome is unknown only if since the upload
+  -- began the drone has started again, and answered code 1 after a cancel that was sent after the last item
   pub outcomes : (index : ℕ) (station : Name) (told : Told) → slice_get events index ≡ Some (report.Ended station told)
       → OutcomeIsTrue n actions index station told
   -- each line `install` is: the plan is the draft of the station's latest accepted `begin` line, which it has fully transmitted

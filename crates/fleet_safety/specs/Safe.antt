@@ -15,9 +15,10 @@ use Rattle.scenario_lines.specs.LineContext.{has_drone, has_station}
 use Rattle.fleet_report.specs.Events.{Event}
 use Rattle.node_reports.specs.Nodes.{Node, Drone}
 use Rattle.fleet_world.specs.WorldState.{WorldState, empty_state, names_of}
-use Rattle.fleet_world.specs.Scenario.{Played}
+use Rattle.fleet_world.specs.Scenario.{Played, at_start, lines_played}
+use Rattle.scenario_lines.specs.FileLines.{whole_lines}
 use Rattle.fleet_safety.specs.Reporting.{seen, reported}
-use Rattle.fleet_safety.specs.Actions.{Action, Order, Accepts_upload, Accepts_clear, Accepts_get, Accepts_cancel}
+use Rattle.fleet_safety.specs.Actions.{Action, lines_actions, Order, Accepts_upload, Accepts_clear, Accepts_get, Accepts_cancel}
 
 -- the nodes that were named, each with its stream: all sign on link 0
 abbrev pub nodes_of : List Node → Nodes
@@ -118,11 +119,21 @@ pub record IsSafe (n : Nodes) (before : List Action) (a : Action) : Type 0 where
   pub held : (index : ℕ) (d : DroneSide) (kind : ℕ) → slice_get a.state.nodes index ≡ Some (Drone d) → kind < 3
       → IsHeld (history_of n (before ++ a ∷ [])) d.link.me kind (plan_at d.core.plans kind)
 
--- What a scenario leads to under a key is safe, and these are its actions:
-pub record Safe (key : List ℕ) (p : Played) (actions : List Action) : Type 0 where
+-- what was played so far is what these first actions lead to
+pub record LeadsTo (key : List ℕ) (p : Played) (first actions : List Action) : Type 0 where
+  pub later : List Action
+  pub is : actions ≡ first ++ later
+  pub report : report_of first ≡ p.events
+  pub state : state_after (empty_state key) first ≡ p.state
+
+-- What a scenario's bytes lead to under a key is safe, and these are its actions:
+pub record Safe (key : List ℕ) (bytes : List ℕ) (p : Played) (actions : List Action) : Type 0 where
   -- the report and the state are what they lead to;
   pub report : report_of actions ≡ p.events
   pub state : state_after (empty_state key) actions ≡ p.state
+  -- line by line: after each of the whole lines both are what the actions of the lines so far lead to;
+  pub lines : (before after : List (List ℕ)) → whole_lines bytes ≡ before ++ after
+      → LeadsTo key (lines_played (at_start key) 1 before) (lines_actions (at_start key) 1 before) actions
   -- each of them is safe;
   pub each : (before : List Action) (a : Action) (later : List Action) → actions ≡ before ++ a ∷ later → IsSafe (nodes_of p.state.nodes) before a
   -- their events are, one by one, an execution of the abstract mission store, with the same plans after each;

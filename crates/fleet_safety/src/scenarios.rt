@@ -15,12 +15,12 @@ ghost use Rattle.fleet_safety.specs.Safe.{nodes_of, events_of, history_of, Safe}
 
 /// For all bytes of an authentic scenario under any key, whether its input ended after them or not.
 pub fn every_scenario()
-    ensures { (key : List ℕ) → (ended : Bool) → (bytes : List ℕ) → Authentic key ended bytes → Safe key (played key ended bytes) (actions_of key ended bytes) }
+    ensures { (key : List ℕ) → (ended : Bool) → (bytes : List ℕ) → Authentic key ended bytes → Safe key bytes (played key ended bytes) (actions_of key ended bytes) }
 {}
 
 /// So for all bytes of a scenario without foreign bytes: no line of it is a `noise` line.
 pub fn every_quiet_scenario()
-    ensures { (key : List ℕ) → (ended : Bool) → (bytes : List ℕ) → IsQuiet bytes → Safe key (played key ended bytes) (actions_of key ended bytes) }
+    ensures { (key : List ℕ) → (ended : Bool) → (bytes : List ℕ) → IsQuiet bytes → Safe key bytes (played key ended bytes) (actions_of key ended bytes) }
 {}
 
 /// So what a report says of plans and outcomes is, in this order, what the abstract mission store goes

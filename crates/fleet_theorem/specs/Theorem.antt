@@ -16,10 +16,10 @@ use Rattle.fleet_command.specs.Spec.{fleet_spec}
 -- what holds of a scenario's bytes under a key, whether their input ended after them or not, if its foreign bytes
 -- bring no frame that verifies and wasn't sent
 pub record MainTheorem (key : List ℕ) (ended : Bool) (bytes : List ℕ) : Type 0 where
-  -- its actions, call by call, are an execution of the abstract mission store, and the report has exactly what that execution
-  -- reports; after each action each drone's plan is the store's: empty, or exactly the plan of one upload, which was installed,
-  -- and which is the draft of one `begin` line
-  pub safe : Safe key (played key ended bytes) (actions_of key ended bytes)
+  -- its actions, line by line and call by call, are an execution of the abstract mission store, and the report has
+  -- exactly what that execution reports; after each action each drone's plan is the store's: empty, or exactly the plan
+  -- of one upload, which was installed, and which is the draft of one `begin` line
+  pub safe : Safe key bytes (played key ended bytes) (actions_of key ended bytes)
   -- and what the report says of uploads and downloads is true
   pub lines : LinesAreTrue (nodes_of (played key ended bytes).state.nodes) (played key ended bytes).events (actions_of key ended bytes)
   -- and each uncontended upload of a valid plan is installed and acknowledged within its flow line

@@ -14,7 +14,7 @@ use Rattle.plan_safety.specs.Store.{Transaction, A_get}
 use Rattle.plan_safety.proofs.Keys.{by_test, eq_true, number_same, stream_eq, both_true}
 use Rattle.plan_safety.proofs.Pair.{Pair, Facts, SentByDrone, speaks, lists, a_count, an_ack}
 use Rattle.plan_safety.proofs.DroneSide as side
-use Rattle.plan_safety.proofs.Part.{Seen, Shows, Copies, GathersIn, Means, Operates, shown_of, Part, Moments, pair_of, subject, Inv, truths_keep, number_in, work_number, gathers_more, coded_more, final_more, cancel_more, Answers}
+use Rattle.plan_safety.proofs.Part.{Seen, Shows, Copies, GathersIn, Means, Operates, shown_of, Part, Moments, pair_of, subject, Inv, truths_keep, Again, again_same, settles_again, accepts_again, Final, number_in, work_number, gathers_more, coded_more, final_more, cancel_more, Answers}
 use Rattle.plan_safety.proofs.Leaf.{Own, drone_said}
 use Rattle.plan_safety.proofs.DroneCases.{Clearing as Listed, clear_refuses, on_denial, on_answer, three, denied, left_copies, refuses_only, no_clear}
 
@@ -31,6 +31,14 @@ lists_new p k n = (omega arith, omega arith, λ _ _ _. refl)
 
 thirteen_new : (p : Pair) (k : ℕ) → Facts p → SentByDrone (speaks p) p.drone_next (an_ack 13 k)
 thirteen_new p k f = grind arith
+
+-- the code 13 answers no cancel and no Clear
+no_thirteen : ◌≢◌ {A = ℕ} 13 0 × ◌≢◌ {A = ℕ} 13 1
+no_thirteen = (λ e. absurd (omega arith), λ e. absurd (omega arith))
+
+-- a Count leaves attempts and clears as they are
+unlisted_again : (p : Pair) → Again p (lists p)
+unlisted_again p = again_same p (lists p) refl refl refl (omega arith)
 
 -- since the upload was opened no Request of an earlier operation is admitted
 no_request : (p : Pair) → Facts p → (0 < p.first_count → p.drone_last < p.first_count) → 0 < p.first_open → ⊥
@@ -62,16 +70,16 @@ gathers_free x Listing_items got total h = tt
 gathers_free x Getting got total h = absurd (omega arith)
 
 -- an open download
-abbrev pub getting : ℕ → Option (List Item) → ℕ → Option Seen
-getting kind shown since = Some (record { kind = kind; job = A_get shown; drone_since = since })
+abbrev pub getting : ℕ → Option (List Item) → ℕ × List ℕ → Option Seen
+getting kind shown since = Some (record { kind = kind; job = A_get shown; drone_since = since.0; emptied = since.1 })
 
 -- the operation is that download, whatever it is shown
-means_again : (t : Transaction) (k n : ℕ) (x y : Option (List Item)) (w : Work) (kind : ℕ) (plan : List Item) → work_number w ≡ 3 → Means t (getting k x n) w kind plan → Means t (getting k y n) w kind plan
+means_again : (t : Transaction) (k : ℕ) (n : ℕ × List ℕ) (x y : Option (List Item)) (w : Work) (kind : ℕ) (plan : List Item) → work_number w ≡ 3 → Means t (getting k x n) w kind plan → Means t (getting k y n) w kind plan
 means_again t k n x y Uploads kind plan e h = absurd (omega arith)
 means_again t k n x y Clears kind plan e h = absurd (omega arith)
 means_again t k n x y Gets kind plan e h = h
 
-get_again : (d s : Stream) (sent : List Frame) (f : Frame) (t : Transaction) (k n : ℕ) (x y : Option (List Item)) (cancelled : Bool) (pings : ℕ) (o : Option Operation) → number_in o (λ (z : Operation). work_number z.work) ≡ 3 → number_in o (λ (z : Operation). phase_number z.phase) < 6 → Operates d s sent t (getting k x n) cancelled pings o → Operates d s (f ∷ sent) t (getting k y n) cancelled pings o
+get_again : (d s : Stream) (sent : List Frame) (f : Frame) (t : Transaction) (k : ℕ) (n : ℕ × List ℕ) (x y : Option (List Item)) (cancelled : Bool) (pings : ℕ) (o : Option Operation) → number_in o (λ (z : Operation). work_number z.work) ≡ 3 → number_in o (λ (z : Operation). phase_number z.phase) < 6 → Operates d s sent t (getting k x n) cancelled pings o → Operates d s (f ∷ sent) t (getting k y n) cancelled pings o
 get_again d s sent f t k n x y cancelled pings None e l h = tt
 get_again d s sent f t k n x y cancelled pings (Some o) e l h = record {
   means = means_again t k n x y o.work o.kind o.plan e h.means;
@@ -80,7 +88,7 @@ get_again d s sent f t k n x y cancelled pings (Some o) e l h = record {
   terminates = h.terminates;
   gathers = gathers_free (shown_of (getting k y n)) o.phase o.got o.total l;
   final = λ z. final_more d s sent f t (h.final z);
-  cancel = cancel_more d s sent f t.since o.kind o.phase h.cancel;
+  cancel = cancel_more d s sent f t.since (λ earlier. Final earlier d s t) o.final_sent o.kind o.phase h.cancel;
 }
 
 abbrev pub with_download : Part → Option Download → Part
@@ -116,7 +124,7 @@ module _ (d s : Stream) (ne : d ≢ s) where
 
   -- the item that is asked for, of the copy
   on_give : (p : Part) (g : Moments) (c : Download) (seq kind : ℕ) (x : Option Item) → Inv d s (with_download p (Some c)) g → (0 < g.first_count → p.drone_last < g.first_count) → slice_get c.items seq ≡ x → c.stream ≡ s → c.kind ≡ kind → Own d s (with_download p (Some c)) (give_item (with_download p (Some c)).drone s c seq kind x)
-  on_give p g c seq kind None i early e own ek = record { needs = tt; moments = g; inv = on_answer d s ne (with_download p (Some c)) g (ack s 13 kind) i (thirteen_new (pair_of s (with_download p (Some c)) g) kind i.facts) tt (λ _. denied_request (with_download p (Some c)) g kind i early) }
+  on_give p g c seq kind None i early e own ek = record { needs = tt; moments = g; inv = on_answer d s ne (with_download p (Some c)) g (ack s 13 kind) i (thirteen_new (pair_of s (with_download p (Some c)) g) kind i.facts) tt (λ _. denied_request (with_download p (Some c)) g kind i early) no_thirteen }
   on_give p g c seq kind (Some x) i early e own ek =
       let v = with_download p (Some c) in
       let q : Pair = pair_of s v g in
@@ -125,23 +133,23 @@ module _ (d s : Stream) (ne : d ≢ s) where
         moments = g;
         inv =
             drone_said d s ne v g g (record v.drone { download = Some (record c { idle = 0 }) }) (Give (node_of s) seq kind x) (speaks q) i refl (side.speaks_facts q i.facts)
-            (record { drone_next = omega arith; station_next = omega arith; shows = λ a b. (a, refl); drone = λ u x. side.speaks_drone q u x i.facts; station = λ ck k t l u x. side.speaks_station q ck k t l u x i.facts })
+            (record { drone_next = omega arith; station_next = omega arith; shows = λ a b. (a, refl); again = again_same _ _ refl refl refl (omega arith); drone = λ u x. side.speaks_drone q u x i.facts; station = λ ck k t l u x. side.speaks_station q ck k t l u x i.facts })
             (λ _. (let z : q.drone_next < q.drone_next + 1 = omega arith in z)) (omega arith) i.upload refl
             (λ _. λ a b _. let o = (i.download a b).1 own in (sym ek ∙ o.0, subst (λ (y : List Item). slice_get y seq ≡ Some x) o.1 e))
-            (λ k x z. z) (λ y. ((i.asked y).0, inr (i.asked y).1)) i.answers (λ _ _. tt);
+            (λ k x z. z) (λ y. ((i.asked y).0, inr (i.asked y).1)) i.answers (λ _ _. tt) (λ _. (tt, tt));
       }
 
   -- MISSION_REQUEST_INT
   pub on_request : (p : Part) (g : Moments) (w : Option Download) (seq kind : ℕ) → Inv d s (with_download p w) g → (0 < g.first_count → p.drone_last < g.first_count) → Own d s (with_download p w) (request_comes (with_download p w).drone s w seq kind)
-  on_request p g None seq kind i early = record { needs = tt; moments = g; inv = on_answer d s ne (with_download p None) g (ack s 13 kind) i (thirteen_new (pair_of s (with_download p None) g) kind i.facts) tt (λ _. denied_request (with_download p None) g kind i early) }
+  on_request p g None seq kind i early = record { needs = tt; moments = g; inv = on_answer d s ne (with_download p None) g (ack s 13 kind) i (thirteen_new (pair_of s (with_download p None) g) kind i.facts) tt (λ _. denied_request (with_download p None) g kind i early) no_thirteen }
   on_request p g (Some c) seq kind i early =
       let v = with_download p (Some c) in
       by_test (Own d s v) (same_stream c.stream s && (c.kind == kind)) _ _
       (λ e. let b = both_true _ _ e in on_give p g c seq kind (slice_get c.items seq) i early refl (stream_eq _ _ b.0) (eq_true _ _ b.1))
-      (λ _. record { needs = tt; moments = g; inv = on_answer d s ne v g (ack s 13 kind) i (thirteen_new (pair_of s v g) kind i.facts) tt (λ _. denied_request v g kind i early) })
+      (λ _. record { needs = tt; moments = g; inv = on_answer d s ne v g (ack s 13 kind) i (thirteen_new (pair_of s v g) kind i.facts) tt (λ _. denied_request v g kind i early) no_thirteen })
 
   -- it shows its plan
-  on_shown : (p : Part) (g : Moments) (k n : ℕ) (x : Option (List Item)) → (let v = with_opening p (getting k x n) in Inv d s v g → Listed (pair_of s v g) → Listing_comes (pair_of s v g) → Own d s v (record { drone = record p.drone { download = copy_of s k (plan_at p.drone.plans k) }; answer = Some (Count (node_of s) (length (plan_at p.drone.plans k)) k); event = Showing s k (plan_at p.drone.plans k) }))
+  on_shown : (p : Part) (g : Moments) (k : ℕ) (n : ℕ × List ℕ) (x : Option (List Item)) → (let v = with_opening p (getting k x n) in Inv d s v g → Listed (pair_of s v g) → Listing_comes (pair_of s v g) → Own d s v (record { drone = record p.drone { download = copy_of s k (plan_at p.drone.plans k) }; answer = Some (Count (node_of s) (length (plan_at p.drone.plans k)) k); event = Showing s k (plan_at p.drone.plans k) }))
   on_shown p g k n x i a b =
       let v = with_opening p (getting k x n) in
       let plan = plan_at p.drone.plans k in
@@ -154,11 +162,13 @@ module _ (d s : Stream) (ne : d ≢ s) where
         inv = rw (number_same k) (record {
           facts = side.lists_facts q i.facts a.begun b.own a.job b.work a.last a.first a.unlisted b.attempt b.phase;
           truths = (
-            record { drone = λ _ _. lists_new q k (length plan); shows = λ _ _. λ _ _ _. (refl, refl); station = λ y _. absurd (ne y); named = λ y _. absurd (ne y); by_drone = λ _. omega arith; by_station = λ y. absurd (ne y) },
-            truths_keep d s q (lists q) j j' (λ f t. record {
+            record { drone = λ _ _. lists_new q k (length plan); shows = λ _ _. λ _ _ _. (refl, refl); last = λ _ _. tt; accepts = λ _ _. tt; station = λ y _. absurd (ne y); named = λ y _. absurd (ne y); by_drone = λ _. omega arith; by_station = λ y. absurd (ne y) },
+            truths_keep d s q (lists q) j j' (λ f earlier t. record {
               drone = λ y z. side.lists_drone q f.timestamp f.message i.facts a.begun b.own a.job b.work a.last a.first a.unlisted b.attempt b.phase (t.drone y z);
               shows = λ y z. shows_early (lists q) k plan f.timestamp f.message (t.by_drone y);
               station = λ y z. side.lists_station q k p.transaction.kind (length p.transaction.plan) (slice_get p.transaction.plan) f.timestamp f.message i.facts a.begun b.own a.job b.work a.last a.first a.unlisted b.attempt b.phase (t.station y z);
+              last = λ y z. settles_again d s q (lists q) j f.timestamp earlier f.message (unlisted_again q) (t.by_drone y) (t.last y z);
+              accepts = λ y z. accepts_again q (lists q) j.emptied j'.emptied f.timestamp f.message (unlisted_again q) (λ e. e) (t.drone y z) (t.accepts y z);
               named = t.named;
               by_drone = λ y. let l = t.by_drone y in omega arith;
               by_station = t.by_station;
@@ -177,7 +187,7 @@ module _ (d s : Stream) (ne : d ≢ s) where
       }
 
   -- MISSION_REQUEST_LIST
-  pub on_list : (p : Part) (g : Moments) (k n : ℕ) (x : Option (List Item)) → (let v = with_opening p (getting k x n) in Inv d s v g → Listed (pair_of s v g) → Listing_comes (pair_of s v g) → Own d s v (list_comes p.drone s k))
+  pub on_list : (p : Part) (g : Moments) (k : ℕ) (n : ℕ × List ℕ) (x : Option (List Item)) → (let v = with_opening p (getting k x n) in Inv d s v g → Listed (pair_of s v g) → Listing_comes (pair_of s v g) → Own d s v (list_comes p.drone s k))
   on_list p g k n x i a b =
       let v = with_opening p (getting k x n) in
       let can = clear_refuses (pair_of s v g) i.facts a in

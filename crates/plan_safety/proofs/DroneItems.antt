@@ -16,7 +16,8 @@ use Rattle.plan_safety.proofs.Keys.{by_test, eq_true, stream_eq, less, not_less,
 use Rattle.plan_safety.proofs.Lists.{in_range, next_front}
 use Rattle.plan_safety.proofs.Pair.{Pair, Facts, SentByDrone, asks, installs, an_ack, a_request}
 use Rattle.plan_safety.proofs.DroneSide as side
-use Rattle.plan_safety.proofs.Part.{Part, Moments, pair_of, Truths, subject, Answers, Gathers, Gathering, Inv, Keeps, keeps_truth, truths_keep, operates_more, operates_else, answered_else, fresh}
+use Rattle.plan_safety.proofs.Part.{Part, Moments, pair_of, Truths, subject, Answers, Gathers, Gathering, Inv, Keeps, keeps_truth, truths_keep, again_same, operates_more, operates_else, fresh}
+use Rattle.plan_safety.proofs.Acknowledgements.{answered_else}
 use Rattle.plan_safety.proofs.Leaf.{Own, own_part, drone_said}
 use Rattle.plan_safety.proofs.DroneCases.{IsRefusal, CanRefuse, acked, on_refusal, result_same, refuses_only}
 
@@ -44,13 +45,17 @@ asks_new p k i f h = grind arith
 installs_new : (p : Pair) (k : ℕ) → Facts p → 0 < p.has_open → (0 < p.first_ping → p.drone_last < p.first_ping) → SentByDrone (installs p) p.drone_next (an_ack 0 k)
 installs_new p k f h q = grind arith
 
+-- in a clear no upload is open
+open_clearing : (p : Pair) → Facts p → 0 < p.has_open → p.phase ≡ 4 → ⊥
+open_clearing p f h ph = grind arith
+
 -- an item may be refused
 item_refuses : (p : Pair) → Facts p → 0 < p.has_open → (0 < p.first_ping → p.drone_last < p.first_ping) → CanRefuse p
 item_refuses p f h q = grind arith
 
 -- what was true of each message is true after a Request
 pub keeps_asks : (p : Pair) → Facts p → 0 < p.has_open → Keeps p (asks p)
-keeps_asks p f h = record { drone_next = omega arith; station_next = omega arith; shows = λ a b. (a, refl); drone = λ u x. side.asks_drone p u x f h; station = λ ck k t l u x. side.asks_station p ck k t l u x f h }
+keeps_asks p f h = record { drone_next = omega arith; station_next = omega arith; shows = λ a b. (a, refl); again = again_same _ _ refl refl refl (omega arith); drone = λ u x. side.asks_drone p u x f h; station = λ ck k t l u x. side.asks_station p ck k t l u x f h }
 
 -- an index up to the last
 upto : (n i : ℕ) → i < n + 1 → (i < n) ⊎ (i ≡ n)
@@ -117,7 +122,7 @@ module _ (d s : Stream) (ne : d ≢ s) where
         inv =
             drone_said d s ne p g (record g { last_request = p.drone_next }) (record p.drone { upload = Some u }) (ask s k i) (asks q) inv (rw (← e) refl)
             (side.asks_facts q inv.facts h) (keeps_asks q inv.facts h) (λ _. asks_new q k i inv.facts h) (omega arith) gathers refl (λ _. tt) (λ k l z. z)
-            (λ x. ((inv.asked x).0, inr (inv.asked x).1)) inv.answers (λ _ _. tt);
+            (λ x. ((inv.asked x).0, inr (inv.asked x).1)) inv.answers (λ _ _. tt) (λ _. (tt, tt));
       }
 
   -- the installation
@@ -133,8 +138,8 @@ module _ (d s : Stream) (ne : d ≢ s) where
         inv = record {
           facts = subst Facts (sym is) (side.installs_facts q i.facts h b.0 b.1 b.2);
           truths = subst (λ x. Truths d s x (subject p.transaction p.opening) v.sent) (sym is) (
-            record { drone = λ _ _. installs_new q u.kind i.facts h b.2; shows = λ _ _. tt; station = λ x _. absurd (ne x); named = λ x _. absurd (ne x); by_drone = λ _. omega arith; by_station = λ x. absurd (ne x) },
-            truths_keep d s q (installs q) (subject p.transaction p.opening) (subject p.transaction p.opening) (keeps_truth d s q (installs q) (subject p.transaction p.opening) (record { drone_next = omega arith; station_next = omega arith; shows = λ a b. (a, refl); drone = λ w x. side.installs_drone q w x i.facts h b.0 b.1 b.2; station = λ ck k t l w x. side.installs_station q ck k t l w x i.facts h b.0 b.1 b.2 })) p.sent i.truths,
+            record { drone = λ _ _. installs_new q u.kind i.facts h b.2; shows = λ _ _. tt; last = λ _ _. λ _ _ _ e. absurd (omega arith); accepts = λ _ _. λ ph _ _. absurd (open_clearing q i.facts h ph); station = λ x _. absurd (ne x); named = λ x _. absurd (ne x); by_drone = λ _. omega arith; by_station = λ x. absurd (ne x) },
+            truths_keep d s q (installs q) (subject p.transaction p.opening) (subject p.transaction p.opening) (keeps_truth d s q (installs q) (subject p.transaction p.opening) (record { drone_next = omega arith; station_next = omega arith; shows = λ a b. (a, refl); again = again_same _ _ refl refl refl (omega arith); drone = λ w x. side.installs_drone q w x i.facts h b.0 b.1 b.2; station = λ ck k t l w x. side.installs_station q ck k t l w x i.facts h b.0 b.1 b.2 })) p.sent i.truths,
           );
           upload = tt;
           operation = operates_else d s v.sent p.transaction In_place p.transaction.lost p.opening p.cancelled p.pings p.operation (operates_more d s p.sent _ p.transaction p.opening p.cancelled p.pings p.operation i.operation);

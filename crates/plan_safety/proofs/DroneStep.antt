@@ -12,7 +12,7 @@ use Rattle.plan_safety.specs.Store.{Job, A_clear, A_get}
 use Rattle.plan_safety.proofs.Keys.{by_test, name_eq}
 use Rattle.plan_safety.proofs.Pair.{Pair, Facts, SentByStation, SentByDrone, admits, later_drone, speaks, replies, a_ping}
 use Rattle.plan_safety.proofs.DroneSide as side
-use Rattle.plan_safety.proofs.Part.{Seen, IsClear, kind_of, job_number, Part, Moments, pair_of, subject, Reaches, Named, Inv, keeps_truth, truths_keep, number_in}
+use Rattle.plan_safety.proofs.Part.{Seen, IsClear, kind_of, job_number, Part, Moments, pair_of, subject, Reaches, Named, Inv, keeps_truth, truths_keep, again_same, number_in}
 use Rattle.plan_safety.proofs.Leaf.{Own, drone_said}
 use Rattle.plan_safety.proofs.DroneCases.{Cancelled, Clearing, on_answer, on_count, on_cancel, on_clear}
 use Rattle.plan_safety.proofs.DroneItems.{on_item}
@@ -68,16 +68,16 @@ clear_kind (Some x) k h e = (is_clear x.job h, sym e)
     is_clear A_clear h = refl
     is_clear (A_get y) h = absurd (omega arith)
 
-abbrev opens : ℕ → Job → ℕ → Option Seen
-opens k w n = Some (record { kind = k; job = w; drone_since = n })
+abbrev opens : ℕ → Job → ℕ × List ℕ → Option Seen
+opens k w n = Some (record { kind = k; job = w; drone_since = n.0; emptied = n.1 })
 
-get_kind : (c : Option Seen) (k : ℕ) → number_in c (λ (x : Seen). job_number x.job) ≡ 2 → k ≡ kind_of c → (y : Option (List Item)) × (n : ℕ) × (c ≡ getting k y n)
+get_kind : (c : Option Seen) (k : ℕ) → number_in c (λ (x : Seen). job_number x.job) ≡ 2 → k ≡ kind_of c → (y : Option (List Item)) × (n : ℕ × List ℕ) × (c ≡ getting k y n)
 get_kind None k h e = absurd (omega arith)
 get_kind (Some x) k h e = is_get x.job h
   where
-    is_get : (w : Job) → job_number w ≡ 2 → (y : Option (List Item)) × (n : ℕ) × (opens x.kind w x.drone_since ≡ getting k y n)
+    is_get : (w : Job) → job_number w ≡ 2 → (y : Option (List Item)) × (n : ℕ × List ℕ) × (opens x.kind w (x.drone_since, x.emptied) ≡ getting k y n)
     is_get A_clear h = absurd (omega arith)
-    is_get (A_get y) h = (y, x.drone_since, ap (λ i. opens i (A_get y) x.drone_since) (sym e))
+    is_get (A_get y) h = (y, (x.drone_since, x.emptied), ap (λ i. opens i (A_get y) (x.drone_since, x.emptied)) (sym e))
 
 -- what the store has open in a clear and in a download
 open_clear : (p : Pair) → Facts p → p.work ≡ 2 → p.job ≡ 1
@@ -99,9 +99,9 @@ module _ (d s : Stream) (ne : d ≢ s) where
       let j = subject p.transaction p.opening in
       record {
         facts = side.later_drone_facts (admits q t) n f more;
-        truths = truths_keep d s q (later_drone (admits q t) n) j j (λ x y. keeps_truth d s (admits q t) (later_drone (admits q t) n) j
-            (record { drone_next = more; station_next = omega arith; shows = λ a b. (a, refl); drone = λ v x. side.later_drone_drone (admits q t) n v x f more; station = λ ck k tt' l v x. side.later_drone_station (admits q t) n ck k tt' l v x f more }) x
-            (keeps_truth d s q (admits q t) j (record { drone_next = omega arith; station_next = omega arith; shows = λ a b. (a, refl); drone = λ v x. side.admits_drone q t v x i.facts late known; station = λ ck k tt' l v x. side.admits_station q t ck k tt' l v x i.facts late known }) x y)) p.sent i.truths;
+        truths = truths_keep d s q (later_drone (admits q t) n) j j (λ x earlier y. keeps_truth d s (admits q t) (later_drone (admits q t) n) j
+            (record { drone_next = more; station_next = omega arith; shows = λ a b. (a, refl); again = again_same _ _ refl refl refl (omega arith); drone = λ v x. side.later_drone_drone (admits q t) n v x f more; station = λ ck k tt' l v x. side.later_drone_station (admits q t) n ck k tt' l v x f more }) x earlier
+            (keeps_truth d s q (admits q t) j (record { drone_next = omega arith; station_next = omega arith; shows = λ a b. (a, refl); again = again_same _ _ refl refl refl (omega arith); drone = λ v x. side.admits_drone q t v x i.facts late known; station = λ ck k tt' l v x. side.admits_station q t ck k tt' l v x i.facts late known }) x earlier y)) p.sent i.truths;
         upload = i.upload;
         operation = i.operation;
         for_drone = i.for_drone;
@@ -125,11 +125,11 @@ module _ (d s : Stream) (ne : d ≢ s) where
               inv =
                   drone_said d s ne p g (record g { first_reply = p.drone_next }) p.drone (Ping (node_of s) usec n) (replies q) i refl
                   (side.replies_facts q i.facts c.0 c.1 late)
-                  (record { drone_next = omega arith; station_next = omega arith; shows = λ a b. (a, refl); drone = λ v x. side.replies_drone q v x i.facts c.0 c.1 late; station = λ ck k t l v x. side.replies_station q ck k t l v x i.facts c.0 c.1 late })
+                  (record { drone_next = omega arith; station_next = omega arith; shows = λ a b. (a, refl); again = record { attempt = λ _ _. inr (omega arith); clear = λ a. inl (a, omega arith) }; drone = λ v x. side.replies_drone q v x i.facts c.0 c.1 late; station = λ ck k t l v x. side.replies_station q ck k t l v x i.facts c.0 c.1 late })
                   (λ _. replies_new q n i.facts known) (omega arith) i.upload refl (λ _. tt) (λ k l z. z)
-                  (λ x. ((i.asked x).0, inr (i.asked x).1)) i.answers (λ _ _. tt);
+                  (λ x. ((i.asked x).0, inr (i.asked x).1)) i.answers (λ _ _. tt) (λ _. (tt, tt));
             }
-        | inr c ↦ record { needs = tt; moments = g; inv = on_answer d s ne p g (Ping (node_of s) usec n) i (answers_new q n i.facts known c) tt (λ _. tt) }
+        | inr c ↦ record { needs = tt; moments = g; inv = on_answer d s ne p g (Ping (node_of s) usec n) i (answers_new q n i.facts known c) tt (λ _. tt) tt }
       ]
 
   -- a message of the station that comes late enough

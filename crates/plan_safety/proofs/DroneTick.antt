@@ -11,9 +11,10 @@ use Rattle.plan_safety.specs.Store.{Closed}
 use Rattle.plan_safety.proofs.Keys.{by_test, same, split, flag, flag_true, flag_false}
 use Rattle.plan_safety.proofs.Pair.{Pair, Facts, speaks, later_drone, asks, restarts}
 use Rattle.plan_safety.proofs.DroneSide as side
-use Rattle.plan_safety.proofs.Part.{stage_number, result_number, Part, Moments, pair_of, subject, Inv, truths_keep, keeps_truth, Truths, operates_else, answered_else}
+use Rattle.plan_safety.proofs.Part.{stage_number, result_number, Part, Moments, pair_of, subject, Inv, truths_keep, keeps_truth, again_same, Truths, operates_else}
+use Rattle.plan_safety.proofs.Acknowledgements.{answered_else}
 use Rattle.plan_safety.proofs.Leaf.{part_says, said_part, drone_said}
-use Rattle.plan_safety.proofs.DroneCases.{acked, on_close, cancel_own, refuses_only}
+use Rattle.plan_safety.proofs.DroneCases.{acked, concludes_cancelled, on_close, cancel_own, refuses_only}
 use Rattle.plan_safety.proofs.DroneItems.{with_upload, asks_new, keeps_asks}
 use Rattle.plan_safety.proofs.DroneOther.{Unmoved, closed_unmoved}
 
@@ -31,7 +32,7 @@ module _ (d s : Stream) (ne : d ≢ s) where
       let j = subject p.transaction p.opening in
       record {
         facts = subst Facts (sym is) (side.later_drone_facts q n i.facts more);
-        truths = subst (λ x. Truths d s x j p.sent) (sym is) (truths_keep d s q (later_drone q n) j j (keeps_truth d s q (later_drone q n) j (record { drone_next = more; station_next = omega arith; shows = λ a b. (a, refl); drone = λ v x. side.later_drone_drone q n v x i.facts more; station = λ ck k t l v x. side.later_drone_station q n ck k t l v x i.facts more })) p.sent i.truths);
+        truths = subst (λ x. Truths d s x j p.sent) (sym is) (truths_keep d s q (later_drone q n) j j (keeps_truth d s q (later_drone q n) j (record { drone_next = more; station_next = omega arith; shows = λ a b. (a, refl); again = again_same _ _ refl refl refl (omega arith); drone = λ v x. side.later_drone_drone q n v x i.facts more; station = λ ck k t l v x. side.later_drone_station q n ck k t l v x i.facts more })) p.sent i.truths);
         upload = u.gathers _ _ _ i.upload;
         operation = i.operation;
         for_drone = i.for_drone;
@@ -48,8 +49,8 @@ module _ (d s : Stream) (ne : d ≢ s) where
   on_said p g a i h =
       let q : Pair = pair_of s p g in
       drone_said d s ne p g g p.drone a (speaks q) i refl (side.speaks_facts q i.facts)
-      (record { drone_next = omega arith; station_next = omega arith; shows = λ a b. (a, refl); drone = λ u x. side.speaks_drone q u x i.facts; station = λ ck k t l u x. side.speaks_station q ck k t l u x i.facts })
-      (λ e. absurd (h e)) (omega arith) i.upload refl (λ e. absurd (h e)) (λ k l z. z) (λ x. ((i.asked x).0, inr (i.asked x).1)) i.answers (λ _ e. absurd (h e))
+      (record { drone_next = omega arith; station_next = omega arith; shows = λ a b. (a, refl); again = again_same _ _ refl refl refl (omega arith); drone = λ u x. side.speaks_drone q u x i.facts; station = λ ck k t l u x. side.speaks_station q ck k t l u x i.facts })
+      (λ e. absurd (h e)) (omega arith) i.upload refl (λ e. absurd (h e)) (λ k l z. z) (λ x. ((i.asked x).0, inr (i.asked x).1)) i.answers (λ _ e. absurd (h e)) (λ e. absurd (h e))
 
   -- an aging upload is unchanged
   aged : (p : Part) (u : Upload) → Unmoved s (record p.drone { upload = Some u }) (record p.drone { upload = Some (record u { idle = u.idle + 1 }) })
@@ -70,7 +71,7 @@ module _ (d s : Stream) (ne : d ≢ s) where
               record g { last_request = p.drone_next },
               drone_said d s ne v g (record g { last_request = p.drone_next }) e (ask u.stream u.kind (length u.items)) (asks q) i refl
                   (side.asks_facts q i.facts h) (keeps_asks q i.facts h) (λ _. asks_new q u.kind (length u.items) i.facts h) (omega arith) ((aged p u).gathers d p.sent p.transaction i.upload) refl (λ _. tt) (λ k l z. z)
-                  (λ x. ((i.asked x).0, inr (i.asked x).1)) i.answers (λ _ _. tt),
+                  (λ x. ((i.asked x).0, inr (i.asked x).1)) i.answers (λ _ _. tt) (λ _. (tt, tt)),
             )
         | inr not ↦ (g, on_said (record p { drone = e }) g (ask u.stream u.kind (length u.items)) (on_later v g e p.drone_next i (aged p u) (omega arith)) (far not))
       ])
@@ -82,7 +83,7 @@ module _ (d s : Stream) (ne : d ≢ s) where
             (λ _. (
               acked g p.drone_next g.last_verdict,
               on_close d s ne v g v.drone.download 15 u.kind g.last_verdict (λ k l z. z) i h (omega arith) (let z = i.facts.last_verdict_sent in omega arith) (λ _. refl) (cancel_own q u.kind i.facts h)
-                  (λ _. (λ _ r. absurd ((refuses_only 15 r).3 refl), λ some _ _. ((i.upload own).kind, i.asked some, inr (inr (inr refl))))),
+                  (λ _. (λ _ r. absurd ((refuses_only 15 r).3 refl), λ some _ _. ((i.upload own).kind, i.asked some, inr (inr (inr refl))))) (concludes_cancelled d s v q),
             ))
             (λ other. absurd (let z : q.has_open ≡ 0 = flag_false _ other in omega arith)))
         | inr not ↦ (g, on_said (record p { drone = closed v.drone u.stream }) g (ack u.stream 15 u.kind) (on_later v g (closed v.drone u.stream) p.drone_next i (closed_unmoved p.drone s u.stream (Some u) not) (omega arith)) (far not))
@@ -100,7 +101,7 @@ module _ (d s : Stream) (ne : d ≢ s) where
       let j = subject p.transaction p.opening in
       record {
         facts = side.restarts_facts q l n x i.facts a b z;
-        truths = truths_keep d s q (restarts q l n x) j j (keeps_truth d s q (restarts q l n x) j (record { drone_next = b; station_next = omega arith; shows = λ a b. (a, refl); drone = λ v y. side.restarts_drone q l n x v y i.facts a b z; station = λ ck k t w v y. side.restarts_station q l n x ck k t w v y i.facts a b z })) p.sent i.truths;
+        truths = truths_keep d s q (restarts q l n x) j j (keeps_truth d s q (restarts q l n x) j (record { drone_next = b; station_next = omega arith; shows = λ a b. (a, refl); again = again_same _ _ refl refl refl (omega arith); drone = λ v y. side.restarts_drone q l n x v y i.facts a b z; station = λ ck k t w v y. side.restarts_station q l n x ck k t w v y i.facts a b z })) p.sent i.truths;
         upload = tt;
         operation = operates_else d s p.sent p.transaction p.transaction.stage lost p.opening p.cancelled p.pings p.operation i.operation;
         for_drone = i.for_drone;

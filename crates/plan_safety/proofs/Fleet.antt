@@ -27,7 +27,7 @@ abbrev pub view_transaction : Stream → Transaction → Transaction
 view_transaction d t = if same_stream t.drone d then t else hidden t
 
 abbrev pub seen_of : Opening → Seen
-seen_of c = record { kind = c.kind; job = c.job; drone_since = c.drone_since }
+seen_of c = record { kind = c.kind; job = c.job; drone_since = c.drone_since; emptied = c.emptied }
 
 abbrev pub view_opening : Stream → Option Opening → Option Seen
 view_opening d None = None
@@ -131,7 +131,7 @@ harmless_at nodes (g ∷ fs) (suc k) f e h = harmless_at nodes fs k f e h.1
 pub on_foreign : (d s : Stream) (p : Part) (g : Moments) (f : Frame) → Inv d s p g → f.from ≢ d → f.from ≢ s → Inv d s (record p { sent = f ∷ p.sent }) g
 on_foreign d s p g f i a b = record {
   facts = i.facts;
-  truths = (record { drone = λ e _. absurd (a e); shows = λ e _. absurd (a e); station = λ e _. absurd (b e); named = λ e _. absurd (b e); by_drone = λ e. absurd (a e); by_station = λ e. absurd (b e) }, i.truths);
+  truths = (record { drone = λ e _. absurd (a e); shows = λ e _. absurd (a e); last = λ e _. absurd (a e); accepts = λ e _. absurd (a e); station = λ e _. absurd (b e); named = λ e _. absurd (b e); by_drone = λ e. absurd (a e); by_station = λ e. absurd (b e) }, i.truths);
   upload = gathers_more d s p.sent f p.transaction p.drone.upload i.upload;
   operation = operates_more d s p.sent f p.transaction p.opening p.cancelled p.pings p.operation i.operation;
   for_drone = i.for_drone;

@@ -10,10 +10,10 @@ use Rattle.plan_upload.specs.Plans.{plan_at, every_kind}
 use Rattle.plan_upload.specs.Drone.{DroneState, DroneStep, PlanEvent, Quiet, Installs, Empties, Shows}
 use Rattle.plan_safety.specs.Frames.{Frame, Said}
 use Rattle.plan_safety.specs.World.{Nodes, Distinct, World, DroneNode, quiet, drone_sends, drone_news, clears, drone_takes, drone_admits, to_drone}
-use Rattle.plan_safety.specs.Store.{Store, StoreEvent, Installed, Cleared, Shown, Transaction, Opening, Fresh, In_place, MayClear, at, staged, saw, sees, with_plan, Meets, follows, does}
+use Rattle.plan_safety.specs.Store.{Store, StoreEvent, Installed, Cleared, Shown, Transaction, Opening, Fresh, In_place, MayClear, at, staged, saw, sees, empties, with_plan, Meets, follows, does}
 use Rattle.plan_safety.proofs.Keys.{by_test, eq_true, stream_eq, same, apart, split, less, both_true, at_same, at_apart}
 use Rattle.plan_safety.proofs.Part.{subject, pair_of, truth_at, said_at}
-use Rattle.plan_safety.proofs.Leaf.{CanInstall, shown_in}
+use Rattle.plan_safety.proofs.Leaf.{CanInstall, shown_in, emptied_in}
 use Rattle.plan_safety.proofs.DroneStep.{on_frame}
 use Rattle.plan_safety.proofs.DroneOther.{frame_unmoved}
 use Rattle.plan_safety.proofs.DroneShape.{plans_after, frame_shape}
@@ -46,6 +46,43 @@ near_sees n k p (Some c) = by_both (same_stream c.drone n) refl (c.kind == k) re
 sees_at : (nodes : Nodes) (n : Stream) (k : ℕ) (p : List Item) (c : Option Opening) → AtDrone nodes c → AtDrone nodes (sees c n k p)
 sees_at nodes n k p None h = tt
 sees_at nodes n k p (Some c) h = by_test (AtDrone nodes) (same_stream c.drone n && (c.kind == k)) _ (Some c) (λ _. h) (λ _. h)
+
+-- what a clear has open, once it has emptied its kinds
+abbrev cleared_opening : Option Opening → ℕ → Option Opening
+cleared_opening c k = if k == every_kind then empties (empties (empties c 0) 1) 2 else empties c k
+
+-- as the drone's own pair sees it
+near_cleared : (n : Stream) (k : ℕ) (c : Option Opening) → view_opening n (cleared_opening c k) ≡ emptied_in (view_opening n c) k
+near_cleared n k None = by_kind (k == every_kind)
+  where
+    by_kind : (a : Bool) → view_opening n (if a then None else None) ≡ None
+    by_kind true = refl
+    by_kind false = refl
+near_cleared n k (Some c) = by_both (k == every_kind) refl (same_stream c.drone n) refl
+  where
+    by_both : (a : Bool) → (k == every_kind) ≡ a → (b : Bool) → same_stream c.drone n ≡ b → view_opening n (if a then Some (record c { emptied = 2 ∷ 1 ∷ 0 ∷ c.emptied }) else Some (record c { emptied = k ∷ c.emptied })) ≡ emptied_in (if b then Some (seen_of c) else None) k
+    by_both true ea true eb = rw (ea, eb) refl
+    by_both true ea false eb = rw eb refl
+    by_both false ea true eb = rw (ea, eb) refl
+    by_both false ea false eb = rw eb refl
+
+-- another drone's pair doesn't see it
+far_cleared : (d n : Stream) (k j : ℕ) (c : Option Opening) → ClearAt c n j → d ≢ n → view_opening d (cleared_opening c k) ≡ view_opening d c
+far_cleared d n k j None h far = absurd h
+far_cleared d n k j (Some c) h far = by_kind (k == every_kind) (apart c.drone d (λ z. far (sym z ∙ h.0)))
+  where
+    by_kind : (a : Bool) → same_stream c.drone d ≡ false → view_opening d (if a then Some (record c { emptied = 2 ∷ 1 ∷ 0 ∷ c.emptied }) else Some (record c { emptied = k ∷ c.emptied })) ≡ view_opening d (Some c)
+    by_kind true e = rw e refl
+    by_kind false e = rw e refl
+
+-- it stays a drone's, and a clear of the same kind
+cleared_at : (nodes : Nodes) (k : ℕ) (c : Option Opening) → AtDrone nodes c → AtDrone nodes (cleared_opening c k)
+cleared_at nodes k None h = by_test (AtDrone nodes) (k == every_kind) None None (λ _. tt) (λ _. tt)
+cleared_at nodes k (Some c) h = by_test (AtDrone nodes) (k == every_kind) (Some (record c { emptied = 2 ∷ 1 ∷ 0 ∷ c.emptied })) (Some (record c { emptied = k ∷ c.emptied })) (λ _. h) (λ _. h)
+
+still_clears : (c : Option Opening) (n : Stream) (k j : ℕ) → ClearAt c n k → ClearAt (empties c j) n k
+still_clears None n k j h = h
+still_clears (Some c) n k j h = h
 
 -- more is sent, and no less
 said_more : (b : Option PlanMsg) (w : World) (n : Stream) (x : DroneNode) (s : Stream) (since : ℕ) (m : PlanMsg) → Said w.sent s since m → Said (drone_sends w n x b).sent s since m
@@ -155,18 +192,24 @@ module _ (nodes : Nodes) (sound : Distinct nodes) (w : World) (m : Store) (n t :
         other_plans = λ d i far. replaced_far m.plan n k p d i far;
       }))
 
-  -- a clear changes plans alone
-  cleared : (k : ℕ) (news : List StoreEvent) (m' : Store) → Done (Empties t k) → m'.transaction ≡ m.transaction → m'.opening ≡ m.opening → m'.cancelled ≡ m.cancelled → ((i : ℕ) → i < 3 → plans_after (m.plan n) (Empties t k) i ≡ m'.plan n i) → ((d : Stream) (i : ℕ) → d ≢ n → m'.plan d i ≡ m.plan d i) → All nodes (after news) m'
-  cleared k news m' h et eo ec plans other = steps nodes sound w m m' n t stamp next e a (Empties t k) news all drone h (record {
+  -- a clear changes plans, and what was emptied
+  cleared : (k j : ℕ) (news : List StoreEvent) (m' : Store) → Done (Empties t k) → ClearAt (m.opening t) n j → m'.transaction ≡ m.transaction → m'.opening t ≡ cleared_opening (m.opening t) k → ((s : Stream) → s ≢ t → m'.opening s ≡ m.opening s) → m'.cancelled ≡ m.cancelled → ((i : ℕ) → i < 3 → plans_after (m.plan n) (Empties t k) i ≡ m'.plan n i) → ((d : Stream) (i : ℕ) → d ≢ n → m'.plan d i ≡ m.plan d i) → All nodes (after news) m'
+  cleared k j news m' h clear et eo far_eo ec plans other = steps nodes sound w m m' n t stamp next e a (Empties t k) news all drone h (record {
     transaction = λ _. ap (λ f. view_transaction n (f t)) et;
-    opening = λ _. ap (λ f. view_opening n (f t)) eo;
+    opening = λ _. ap (view_opening n) eo ∙ near_cleared n k (m.opening t);
     else_transaction = λ s _. ap (λ f. f s) et;
-    else_opening = λ s _. ap (λ f. f s) eo;
+    else_opening = far_eo;
     cancels = λ s. ap (λ f. f s) ec;
     far_transaction = λ d s _. ap (λ f. view_transaction d (f s)) et;
-    far_opening = λ d s _. ap (λ f. view_opening d (f s)) eo;
+    far_opening = λ d s far. elim (split t s) [
+      | inl is ↦ subst (λ s. view_opening d (m'.opening s) ≡ view_opening d (m.opening s)) (sym is) (ap (view_opening d) eo ∙ far_cleared d n k j (m.opening t) clear far)
+      | inr out ↦ ap (view_opening d) (far_eo s out)
+    ];
     fresh = λ u hu. subst (λ f. (f u).stage ≡ Fresh → nodes.is_drone (f u).drone ≡ true) (sym et) (all.transactions u hu);
-    at_drone = λ u hu. subst (λ f. AtDrone nodes (f u)) (sym eo) (all.openings u hu);
+    at_drone = λ u hu. elim (split t u) [
+      | inl is ↦ subst (λ u. AtDrone nodes (m'.opening u)) (sym is) (subst (AtDrone nodes) (sym eo) (cleared_at nodes k (m.opening t) (subst (λ y. AtDrone nodes (m.opening y)) is (all.openings u hu))))
+      | inr out ↦ subst (AtDrone nodes) (sym (far_eo u out)) (all.openings u hu)
+    ];
     plans = plans;
     other_plans = other;
   })
@@ -178,15 +221,25 @@ module _ (nodes : Nodes) (sound : Distinct nodes) (w : World) (m : Store) (n t :
       let f = m.plan in
       let f1 = replaced f n 0 [] in
       let f2 = replaced f1 n 1 [] in
+      let o1 : Stream → Option Opening = at m.opening t (empties (m.opening t) 0) in
+      let o2 : Stream → Option Opening = at o1 t (empties (o1 t) 1) in
+      let e1 : o1 t ≡ empties (m.opening t) 0 = at_same m.opening t (empties (m.opening t) 0) in
+      let e2 : o2 t ≡ empties (o1 t) 1 = at_same o1 t (empties (o1 t) 1) in
+      let c1 : ClearAt (o1 t) n k = subst (λ x. ClearAt x n k) (sym e1) (still_clears (m.opening t) n k 0 c) in
+      let c2 : ClearAt (o2 t) n k = subst (λ x. ClearAt x n k) (sym e2) (still_clears (o1 t) n k 1 c1) in
       by_test (λ news. Goes nodes (after news) m) (k == every_kind) (Cleared n 0 t ∷ Cleared n 1 t ∷ Cleared n 2 t ∷ []) (Cleared n k t ∷ [])
       (λ all_kinds. let ek : k ≡ every_kind = eq_true k every_kind all_kinds in
       let news : List StoreEvent = Cleared n 0 t ∷ Cleared n 1 t ∷ Cleared n 2 t ∷ [] in
-      as_reported news (may_clear (m.opening t) n k 0 c (inr ek), (may_clear (m.opening t) n k 1 c (inr ek), (may_clear (m.opening t) n k 2 c (inr ek), tt)))
-      (cleared k news (follows m news) h refl refl refl
+      as_reported news (may_clear (m.opening t) n k 0 c (inr ek), (may_clear (o1 t) n k 1 c1 (inr ek), (may_clear (o2 t) n k 2 c2 (inr ek), tt)))
+      (cleared k k news (follows m news) h c refl
+      (rw all_kinds (at_same o2 t (empties (o2 t) 2) ∙ ap (λ x. empties x 2) (e2 ∙ ap (λ x. empties x 1) e1)))
+      (λ s far. at_apart o2 t s (empties (o2 t) 2) far ∙ at_apart o1 t s (empties (o1 t) 1) far ∙ at_apart m.opening t s (empties (m.opening t) 0) far) refl
       (λ i l. rw all_kinds (sym (replaced_here f2 n 2 [] i ∙ by_two i l (replaced_here f1 n 1 [] i) (replaced_here f n 0 [] i))))
       (λ d i far. replaced_far f2 n 2 [] d i far ∙ replaced_far f1 n 1 [] d i far ∙ replaced_far f n 0 [] d i far)))
       (λ one. as_reported (Cleared n k t ∷ []) (may_clear (m.opening t) n k k c (inl refl), tt)
-      (cleared k (Cleared n k t ∷ []) (does m (Cleared n k t)) h refl refl refl
+      (cleared k k (Cleared n k t ∷ []) (does m (Cleared n k t)) h c refl
+      (rw one (at_same m.opening t (empties (m.opening t) k)))
+      (λ s far. at_apart m.opening t s (empties (m.opening t) k) far) refl
       (λ i l. rw one (sym (replaced_here f n k [] i)))
       (λ d i far. replaced_far f n k [] d i far)))
     where
@@ -257,7 +310,7 @@ module _ (nodes : Nodes) (sound : Distinct nodes) (w : World) (m : Store) (n : S
         own = λ st.
             let p = all.pairs n f.from drone st in
             let q = part w m n f.from in
-            let t = truth_at n f.from (pair_of f.from q p.0) (subject q.transaction q.opening) w.sent k f e p.1.truths in
+            let t = (truth_at n f.from (pair_of f.from q p.0) (subject q.transaction q.opening) w.sent k f e p.1.truths).1 in
             on_frame n f.from (not_both nodes sound n f.from drone st) keeps q p.0 f.timestamp (max (w.drone n).next f.timestamp) f.message (all.systems n drone) p.1 late (t.by_station refl) (max_more _ _) (t.station refl) (t.named refl) (λ x is since. said_at w.sent k f f.from q.transaction.since x e refl since is);
         other = λ s far. frame_unmoved keeps (w.drone n).state s f.from far f.message;
         later = max_more _ _;

@@ -10,7 +10,7 @@ use Rattle.plan_upload.specs.Drone.{DroneState, DroneTick, Upload, Download, wai
 use Rattle.plan_safety.specs.World.{Nodes, Distinct, World, DroneNode, frame_of, quiet, drone_ticked, tick_answer, drone_speaks, restarted}
 use Rattle.plan_safety.specs.Store.{Store, Restarted, Transaction, Fresh, Closed, at, lose, does}
 use Rattle.plan_safety.proofs.Keys.{by_test, stream_eq, apart}
-use Rattle.plan_safety.proofs.Part.{Copies, Part, Moments, Inv, truths_keep, keeps_truth, pair_of, subject, gathers_more, operates_more}
+use Rattle.plan_safety.proofs.Part.{again_same, Copies, Part, Moments, Inv, truths_keep, keeps_truth, pair_of, subject, gathers_more, operates_more}
 use Rattle.plan_safety.proofs.Pair.{Pair, speaks}
 use Rattle.plan_safety.proofs.DroneSide as side
 use Rattle.plan_safety.proofs.Leaf.{part_says}
@@ -55,8 +55,8 @@ on_spoken d s ne p g i =
     record {
       facts = side.speaks_facts q i.facts;
       truths = (
-        record { drone = λ _ h. absurd h; shows = λ _ h. absurd h; station = λ x _. absurd (ne x); named = λ x _. absurd (ne x); by_drone = λ _. omega arith; by_station = λ x. absurd (ne x) },
-        truths_keep d s q (speaks q) j j (keeps_truth d s q (speaks q) j (record { drone_next = omega arith; station_next = omega arith; shows = λ a b. (a, refl); drone = λ u x. side.speaks_drone q u x i.facts; station = λ ck k t l u x. side.speaks_station q ck k t l u x i.facts })) p.sent i.truths,
+        record { drone = λ _ h. absurd h; shows = λ _ h. absurd h; last = λ _ h. absurd h; accepts = λ _ h. absurd h; station = λ x _. absurd (ne x); named = λ x _. absurd (ne x); by_drone = λ _. omega arith; by_station = λ x. absurd (ne x) },
+        truths_keep d s q (speaks q) j j (keeps_truth d s q (speaks q) j (record { drone_next = omega arith; station_next = omega arith; shows = λ a b. (a, refl); again = again_same _ _ refl refl refl (omega arith); drone = λ u x. side.speaks_drone q u x i.facts; station = λ ck k t l u x. side.speaks_station q ck k t l u x i.facts })) p.sent i.truths,
       );
       upload = gathers_more d s p.sent _ p.transaction p.drone.upload i.upload;
       operation = operates_more d s p.sent _ p.transaction p.opening p.cancelled p.pings p.operation i.operation;

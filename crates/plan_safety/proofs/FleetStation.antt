@@ -6,6 +6,7 @@ use Rattle.plan_items.specs.declared.messages.PlanMsg.{PlanMsg}
 use Rattle.plan_items.specs.declared.messages.PlanMsg.TheVariants.{Count, Request, Item as Give, Ack, List as Listing, Clear, Ping}
 use Rattle.plan_upload.specs.Addresses.{same_stream, node_of, everyone, is_for_drone}
 use Rattle.plan_upload.specs.Station.{StationState, Operation, Told, is_synced}
+use Rattle.plan_safety.specs.Frames.{Frame}
 use Rattle.plan_safety.specs.World.{Nodes, Distinct, World, StationNode, frame_of, station_sends}
 use Rattle.plan_safety.specs.Store.{Store, StoreEvent, Transaction, Stage, Fresh, In_place, Closed, at}
 use Rattle.plan_safety.proofs.Keys.{by_test, same, apart, split, drone_not_everyone}
@@ -56,10 +57,12 @@ not_fresh : (q : Pair) → Facts q → q.work ≡ 0 → q.stage ≢ 1
 not_fresh q f h = grind arith
 
 -- a frame that the drone does not hear
-unheard_truth : (d s : Stream) (q : Pair) (j : Subject) (t : ℕ) (m : PlanMsg) → d ≢ s → t < q.station_next → (Reaches d (Some m) → ⊥) → Truth d s q j (frame_of s t (Some m))
+unheard_truth : {earlier : List Frame} (d s : Stream) (q : Pair) (j : Subject) (t : ℕ) (m : PlanMsg) → d ≢ s → t < q.station_next → (Reaches d (Some m) → ⊥) → Truth d s q j (frame_of s t (Some m)) earlier
 unheard_truth d s q j t m ne l h = record {
   drone = λ x _. absurd (ne (sym x));
   shows = λ x _. absurd (ne (sym x));
+  last = λ x _. absurd (ne (sym x));
+  accepts = λ x _. absurd (ne (sym x));
   station = λ _ r. absurd (h r);
   named = λ _ r. absurd (h r);
   by_drone = λ x. absurd (ne (sym x));
@@ -72,10 +75,12 @@ not_for d e to far named is (inl h) = far (subst (λ x. is_for_drone d.sys x ≡
 not_for d e to far named is (inr h) = named (sym is ∙ h)
 
 -- a frame for another drone, or a PING
-other_truth : (d s e : Stream) (q : Pair) (j : Subject) (t : ℕ) (m : PlanMsg) → d ≢ s → t < q.station_next → Facts q → q.work ≡ 0 → (is_for_drone d.sys (node_of e) ≡ true → ⊥) → node_of e ≢ everyone → ForDrone e m → ((to : Name) (usec n : ℕ) → m ≡ Ping to usec n → n < q.next_ping) → Truth d s q j (frame_of s t (Some m))
+other_truth : {earlier : List Frame} (d s e : Stream) (q : Pair) (j : Subject) (t : ℕ) (m : PlanMsg) → d ≢ s → t < q.station_next → Facts q → q.work ≡ 0 → (is_for_drone d.sys (node_of e) ≡ true → ⊥) → node_of e ≢ everyone → ForDrone e m → ((to : Name) (usec n : ℕ) → m ≡ Ping to usec n → n < q.next_ping) → Truth d s q j (frame_of s t (Some m)) earlier
 other_truth d s e q j t (Ping to usec n) ne l f idle far named to_e used = record {
   drone = λ x _. absurd (ne (sym x));
   shows = λ x _. absurd (ne (sym x));
+  last = λ x _. absurd (ne (sym x));
+  accepts = λ x _. absurd (ne (sym x));
   station = λ _ _. (l, used to usec n refl, λ x. absurd (not_attempt q f idle x));
   named = λ _ _. tt;
   by_drone = λ x. absurd (ne (sym x));
@@ -89,9 +94,9 @@ other_truth d s e q j t (Clear to k) ne l f idle far named to_e used = unheard_t
 other_truth d s e q j t (Listing to k) ne l f idle far named to_e used = unheard_truth d s q j t (Listing to k) ne l (not_for d e to far named to_e)
 
 -- the numbers of PINGs that are sent are used
-ping_used : (d s e : Stream) (q : Pair) (j : Subject) (t : ℕ) (m : PlanMsg) → ForDrone e m → Truth e s q j (frame_of s t (Some m)) → (to : Name) (usec n : ℕ) → m ≡ Ping to usec n → n < q.next_ping
-ping_used d s e q j t m to_e h to usec n is =
-    subst (λ x. ForDrone e x → Truth e s q j (frame_of s t (Some x)) → n < q.next_ping) (sym is) (λ to_e h. (h.station refl (inr to_e)).1) to_e h
+ping_used : {earlier : List Frame} (d s e : Stream) (q : Pair) (j : Subject) (t : ℕ) (m : PlanMsg) → ForDrone e m → Truth e s q j (frame_of s t (Some m)) earlier → (to : Name) (usec n : ℕ) → m ≡ Ping to usec n → n < q.next_ping
+ping_used {earlier = earlier} d s e q j t m to_e h to usec n is =
+    subst (λ x. ForDrone e x → Truth e s q j (frame_of s t (Some x)) earlier → n < q.next_ping) (sym is) (λ to_e h. (h.station refl (inr to_e)).1) to_e h
 
 -- what the store is afterwards, for each pair
 pub record Views (nodes : Nodes) (m m' : Store) (s e : Stream) (now later : ℕ) (x : StationNews) : Type 0 where

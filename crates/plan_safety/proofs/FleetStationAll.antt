@@ -7,13 +7,13 @@ use Rattle.plan_items.specs.declared.messages.PlanMsg.{PlanMsg}
 use Rattle.plan_items.specs.declared.messages.PlanMsg.TheVariants.{Item as Give, Ack}
 use Rattle.plan_upload.specs.Addresses.{same_stream, node_of}
 use Rattle.plan_upload.specs.Station.{StationState, Operation, Told, Told_installed, Told_not_installed, Told_unknown, Told_cleared, Told_got, Told_ended}
-use Rattle.plan_safety.specs.Frames.{Frame, Said}
+use Rattle.plan_safety.specs.Frames.{Frame, Said, SaidAfter}
 use Rattle.plan_safety.specs.World.{Nodes, Distinct, World, station_sends}
-use Rattle.plan_safety.specs.Store.{Store, StoreEvent, Upload_begun, Clear_begun, Get_begun, Cancelled, Ended, Job, A_clear, A_get, Transaction, Opening, Stage, Fresh, In_place, Closed, Acked, RefusedWith, FinalSent, CancelSent, EndCause, HasClear, HasGot, at, begun, opened, staged, unless_placed, given_up, Meets, follows, does}
+use Rattle.plan_safety.specs.Store.{Store, StoreEvent, Upload_begun, Clear_begun, Get_begun, Cancelled, Ended, Job, A_clear, A_get, Transaction, Opening, Stage, Fresh, In_place, Closed, Acked, RefusedWith, FinalSent, CancelSent, EndCause, AnsweredLast, HasCleared, HasGot, is_emptied, at, begun, opened, staged, unless_placed, given_up, Meets, follows, does}
 use Rattle.plan_safety.proofs.Keys.{by_test, same, apart, stream_eq, at_same, at_apart}
 use Rattle.plan_safety.proofs.Pair.{Pair, Facts}
 use Rattle.plan_safety.proofs.Part.{Seen, pair_of, stage_number, job_number, work_number, number_in}
-use Rattle.plan_safety.proofs.StationNews.{StationNews, Silent, Reports, Begins_upload, Begins_clear, Begins_get, Cancels, SeesClear, SeesPlan, SeesEnd, Reportable, reportable_more, Acted, with_station, OfDrone, station_transaction, station_opening, station_cancelled}
+use Rattle.plan_safety.proofs.StationNews.{StationNews, Silent, Reports, Begins_upload, Begins_clear, Begins_get, Cancels, SeesCleared, SeesPlan, SeesEnd, Reportable, reportable_more, Acted, with_station, OfDrone, station_transaction, station_opening, station_cancelled}
 use Rattle.plan_safety.proofs.Fleet.{hidden, All, part, view_transaction, view_opening, view_operation, seen_of, AtDrone, view_fresh}
 use Rattle.plan_safety.proofs.FleetMoves.{Goes}
 use Rattle.plan_safety.proofs.FleetStation.{Views, steps}
@@ -85,10 +85,10 @@ opening_else e d (Some c) h far =
     (λ t _. opening_far d c (λ z. far (sym z ∙ stream_eq _ _ t))) (λ _ g. absurd (g refl)) h
 
 -- what an outcome needs, in the store's words
-view_has_clear : (e : Stream) (c : Option Opening) → SeesClear (view_opening e c) → HasClear c × (view_opening e c ≡ None → ⊥)
-view_has_clear e None h = absurd h
-view_has_clear e (Some c) h =
-    by_test (λ (v : Option Seen). SeesClear v → (c.job ≡ A_clear) × (v ≡ None → ⊥)) (same_stream c.drone e) (Some (seen_of c)) None
+view_has_cleared : (e : Stream) (c : Option Opening) → SeesCleared (view_opening e c) → HasCleared c × (view_opening e c ≡ None → ⊥)
+view_has_cleared e None h = absurd h
+view_has_cleared e (Some c) h =
+    by_test (λ (v : Option Seen). SeesCleared v → ((c.job ≡ A_clear) × (is_emptied c.kind c.emptied ≡ true)) × (v ≡ None → ⊥)) (same_stream c.drone e) (Some (seen_of c)) None
     (λ _ h. (h, λ z. absurd (cc))) (λ _ h. absurd h) h
 
 view_got : (e : Stream) (c : Option Opening) (p : List Item) → SeesPlan (view_opening e c) p → HasGot c p × (view_opening e c ≡ None → ⊥)
@@ -272,8 +272,8 @@ module _ (nodes : Nodes) (sound : Distinct nodes) (w : World) (m : Store) (s e :
       let sent = (after news).sent in
       let v = view_transaction e o in
       as_reported news (
-        subst (λ (y : Transaction). (y.stage ≡ Closed → ⊥) × (y.lost ≡ true) × Acked sent y.drone s y.drone_since 1 × FinalSent sent s y × CancelSent sent s y) view.0
-            (more.0, more.1, subst (λ d. Acked sent d s v.drone_since 1) (sym is) more.2, subst (λ d. (seq : ℕ) × (item : Item) × (seq + 1 ≡ length v.plan) × (slice_get v.plan seq ≡ Some item) × Said sent s v.since (Give (node_of d) seq v.kind item)) (sym is) more.3, subst (λ d. Said sent s v.since (Ack (node_of d) 15 v.kind)) (sym is) more.4),
+        subst (λ (y : Transaction). (y.stage ≡ Closed → ⊥) × (y.lost ≡ true) × Acked sent y.drone s y.drone_since 1 × FinalSent sent s y × CancelSent sent s y × AnsweredLast sent s y 1) view.0
+            (more.0, more.1, subst (λ d. Acked sent d s v.drone_since 1) (sym is) more.2, subst (λ d. (seq : ℕ) × (item : Item) × (seq + 1 ≡ length v.plan) × (slice_get v.plan seq ≡ Some item) × Said sent s v.since (Give (node_of d) seq v.kind item)) (sym is) more.3, subst (λ d. Said sent s v.since (Ack (node_of d) 15 v.kind)) (sym is) more.4, subst (λ d. (kind : ℕ) × SaidAfter (λ earlier. SaidAfter (λ first. (seq : ℕ) × (item : Item) × (seq + 1 ≡ length v.plan) × (slice_get v.plan seq ≡ Some item) × Said first s v.since (Give (node_of d) seq v.kind item)) earlier s (Ack (node_of d) 15 v.kind)) sent d (Ack (node_of s) 1 kind)) (sym is) more.5),
         tt,
       )
       (keeps x news (record m { transaction = at m.transaction s (given_up o) }) h
@@ -281,7 +281,7 @@ module _ (nodes : Nodes) (sound : Distinct nodes) (w : World) (m : Store) (s e :
   reported_goes Told_cleared h =
       let x : StationNews = Reports Told_cleared in
       let news : List StoreEvent = Ended s Told_cleared ∷ [] in
-      let view = view_has_clear e (m.opening s) h.needs in
+      let view = view_has_cleared e (m.opening s) h.needs in
       as_reported news (view.0, tt) (keeps x news (record m { opening = at m.opening s None }) h (over_views x (λ o. refl) (λ c. refl) refl view.1))
   reported_goes (Told_got plan) h =
       let x : StationNews = Reports (Told_got plan) in

@@ -19,10 +19,11 @@ use Rattle.plan_safety.specs.Store.{Store, StoreEvent, Upload_begun, Clear_begun
 use Rattle.plan_safety.proofs.Keys.{by_test, name_eq, stream_eq, less, both_true, split, at_same, at_apart}
 use Rattle.plan_safety.proofs.Pair.{Pair, Facts, SentByDrone, IsVerdict, hears, later_station, a_count, an_ack}
 use Rattle.plan_safety.proofs.StationSide as side
-use Rattle.plan_safety.proofs.Part.{Shows, shows_again, kind_of, shown_of, IsTo, Part, Moments, Inv, subject, pair_of, truth_at, said_at, truths_keep, keeps_truth, gathers_more, operates_more, IsAbout, answered_at}
+use Rattle.plan_safety.proofs.Part.{Shows, shows_again, kind_of, shown_of, IsTo, Part, Moments, Inv, subject, pair_of, truth_at, said_at, truths_keep, keeps_truth, again_same, Accepts, emptied_of, gathers_more, operates_more}
+use Rattle.plan_safety.proofs.Acknowledgements.{settled_at, IsAbout, answered_at}
 use Rattle.plan_safety.proofs.StationNews.{StationNews, Begins_upload, Begins_clear, Begins_get, Cancels, news_of, Acted, Heeds, with_station, OfDrone}
 use Rattle.plan_safety.proofs.StationCases.{with_operation, attempt_reported}
-use Rattle.plan_safety.proofs.StationStep.{Heard, inv_heard, on_hears, on_cancel, on_tick}
+use Rattle.plan_safety.proofs.StationStep.{Heard, Concludes, inv_heard, on_hears, on_cancel, on_tick}
 use Rattle.plan_safety.proofs.StationBegin.{on_begin, on_clear, on_get}
 use Rattle.plan_safety.proofs.Fleet.{All, part, part_of, view_operation, OfDrones, not_both}
 use Rattle.plan_safety.proofs.FleetMoves.{Goes, station_moves}
@@ -40,7 +41,7 @@ on_later d s p g n i more =
     let j = subject p.transaction p.opening in
     record {
       facts = side.later_station_facts q n i.facts more;
-      truths = truths_keep d s q (later_station q n) j j (keeps_truth d s q (later_station q n) j (record { drone_next = omega arith; station_next = more; shows = λ a b. (a, refl); drone = λ v x. side.later_station_drone q n v x i.facts more; station = λ ck k l y v x. side.later_station_station q n ck k l y v x i.facts more })) p.sent i.truths;
+      truths = truths_keep d s q (later_station q n) j j (keeps_truth d s q (later_station q n) j (record { drone_next = omega arith; station_next = more; shows = λ a b. (a, refl); again = again_same _ _ refl refl refl (omega arith); drone = λ v x. side.later_station_drone q n v x i.facts more; station = λ ck k l y v x. side.later_station_station q n ck k l y v x i.facts more })) p.sent i.truths;
       upload = i.upload;
       operation = i.operation;
       for_drone = i.for_drone;
@@ -58,7 +59,7 @@ on_spoken d s ne p g i =
     let j = on_later d s p g (p.station_next + 1) i (omega arith) in
     record {
       facts = j.facts;
-      truths = (record { drone = λ e _. absurd (ne (sym e)); shows = λ e _. absurd (ne (sym e)); station = λ _ h. absurd h; named = λ _ h. absurd h; by_drone = λ e. absurd (ne (sym e)); by_station = λ _. omega arith }, j.truths);
+      truths = (record { drone = λ e _. absurd (ne (sym e)); shows = λ e _. absurd (ne (sym e)); last = λ e _. absurd (ne (sym e)); accepts = λ e _. absurd (ne (sym e)); station = λ _ h. absurd h; named = λ _ h. absurd h; by_drone = λ e. absurd (ne (sym e)); by_station = λ _. omega arith }, j.truths);
       upload = gathers_more d s p.sent (frame_of s p.station_next None) p.transaction p.drone.upload j.upload;
       operation = operates_more d s p.sent (frame_of s p.station_next None) p.transaction p.opening p.cancelled p.pings p.operation j.operation;
       for_drone = j.for_drone;
@@ -69,6 +70,10 @@ on_spoken d s ne p g i =
       asked = λ x. ((j.asked x).0, inr (j.asked x).1);
       answers = λ ph. (λ e _. absurd (ne (sym e)), j.answers ph);
     }
+
+-- in phase 2 the PING was answered, and the answer was heard
+replied : (p : Pair) → Facts p → p.phase ≡ 2 → (0 < p.first_reply) × (p.first_reply ≤ p.station_last)
+replied p f ph = (f.phase_replied ph, f.phase_after ph)
 
 -- a verdict that comes shows that nothing was shown
 unlisted : (q : Pair) (t : ℕ) → Facts q → q.station_last < t → 4 < q.phase → t ≡ q.last_verdict → q.now_shown ≡ 0
@@ -235,10 +240,10 @@ module _ (nodes : Nodes) (sound : Distinct nodes) (w : World) (m : Store) (s : S
   own_part e q g t o a b c i = own_move (λ z. Inv e s z g) e q t o a b c i
 
   -- a message, a cancel and a tick with the operation's drone
-  hears_own : (e : Stream) (hd : nodes.is_drone e ≡ true) (p : Part) (g : Moments) (t : StationState) (o : Operation) (x : PlanMsg) → o.drone ≡ e → Inv e s (with_station e p (with_operation t (Some o))) g → Heard (pair_of s (with_station e p (with_operation t (Some o))) g) (Some x) → Shows (pair_of s (with_station e p (with_operation t (Some o))) g) (kind_of p.opening) (shown_of p.opening) p.station_last (Some x) → addressee x ≡ node_of s → ((since : ℕ) → since ≤ p.station_last → Said p.sent e since x) → ((to : Name) (c k : ℕ) → x ≡ Ack to c k → (pair_of s (with_station e p (with_operation t (Some o))) g).phase ≡ 3 → IsAbout g.counted g.first_open p.station_last c → RefusedWith p.sent e s p.transaction c) → Heeds e s (with_operation t (Some o)) (with_station e p (with_operation t (Some o))) (phase_step (with_operation t (Some o)) o o.phase x)
-  hears_own e hd p g t o x is i h sh to said by =
+  hears_own : (e : Stream) (hd : nodes.is_drone e ≡ true) (p : Part) (g : Moments) (t : StationState) (o : Operation) (x : PlanMsg) → o.drone ≡ e → Inv e s (with_station e p (with_operation t (Some o))) g → Heard (pair_of s (with_station e p (with_operation t (Some o))) g) (Some x) → Shows (pair_of s (with_station e p (with_operation t (Some o))) g) (kind_of p.opening) (shown_of p.opening) p.station_last (Some x) → addressee x ≡ node_of s → ((since : ℕ) → since ≤ p.station_last → Said p.sent e since x) → ((to : Name) (c k : ℕ) → x ≡ Ack to c k → (pair_of s (with_station e p (with_operation t (Some o))) g).phase ≡ 3 → IsAbout g.counted g.first_open p.station_last c → RefusedWith p.sent e s p.transaction c) → ((to : Name) (c k : ℕ) → x ≡ Ack to c k → Concludes e s p.sent p.transaction p.opening (pair_of s (with_station e p (with_operation t (Some o))) g) c) → Heeds e s (with_operation t (Some o)) (with_station e p (with_operation t (Some o))) (phase_step (with_operation t (Some o)) o o.phase x)
+  hears_own e hd p g t o x is i h sh to said by set =
       subst (λ d. (let u = with_operation t (Some (record o { drone = d })) in Inv e s (with_station e p u) g → Heard (pair_of s (with_station e p u) g) (Some x) → Shows (pair_of s (with_station e p u) g) (kind_of p.opening) (shown_of p.opening) p.station_last (Some x) → Heeds e s u (with_station e p u) (phase_step u (record o { drone = d }) o.phase x))) (sym is)
-      (λ i h sh. on_hears e s (not_here e hd) p g t o o.work o.phase x i h sh to said by) i h sh
+      (λ i h sh. on_hears e s (not_here e hd) p g t o o.work o.phase x i h sh to said by set) i h sh
 
   cancels_own : (e : Stream) (hd : nodes.is_drone e ≡ true) (p : Part) (g : Moments) (t : StationState) (o : Operation) → o.drone ≡ e → Inv e s (with_station e p (with_operation t (Some o))) g → Acted e s (with_operation t (Some o)) (with_station e p (with_operation t (Some o))) (operation_cancel (with_operation t (Some o)) (Some o)) Cancels
   cancels_own e hd p g t o is =
@@ -328,7 +333,7 @@ module _ (nodes : Nodes) (sound : Distinct nodes) (w : World) (m : Store) (s : S
 
     admitted : (d : Stream) → nodes.is_drone d ≡ true → (g : Moments) → Inv d s (part w m d s) g → Inv d s (record (part w m d s) { station_last = last d; station_next = next }) g
     admitted d hd g i = elim (split f.from d) [
-      | inl own ↦ (let t = truth_at d s (pair_of s (part w m d s) g) (subject (part w m d s).transaction (part w m d s).opening) w.sent k f is i.truths in
+      | inl own ↦ (let t = (truth_at d s (pair_of s (part w m d s) g) (subject (part w m d s).transaction (part w m d s).opening) w.sent k f is i.truths).1 in
           subst (λ z. Inv d s (record (part w m d s) { station_last = z; station_next = next }) g) (sym (ap last own ∙ at_same (w.station s).last f.from f.timestamp))
           (inv_heard d s (not_here d hd) (part w m d s) g f.timestamp next i (subst (λ z. (w.station s).last z < f.timestamp) (sym own) late) (t.by_drone (sym own)) (max_more _ _)))
       | inr far ↦ subst (λ z. Inv d s (record (part w m d s) { station_last = z; station_next = next }) g) (sym (at_apart (w.station s).last f.from d f.timestamp far)) (on_later d s (part w m d s) g next i (max_more _ _))
@@ -343,26 +348,30 @@ module _ (nodes : Nodes) (sound : Distinct nodes) (w : World) (m : Store) (s : S
         let hd : nodes.is_drone e ≡ true = subst (OfDrones nodes) is_op (all.operations s station) in
         let p = all.pairs e s hd station in
         let q : Part = part w m e s in
-        let t = truth_at e s (pair_of s q p.0) (subject q.transaction q.opening) w.sent k f is p.1.truths in
+        let t = (truth_at e s (pair_of s q p.0) (subject q.transaction q.opening) w.sent k f is p.1.truths).1 in
         let l : q.station_last < f.timestamp = subst (λ z. (w.station s).last z < f.timestamp) own late in
         let known : f.timestamp < q.drone_next = t.by_drone own in
         let for_me : IsTo (node_of s) f.message = subst (IsTo (node_of s)) (sym is_x) to in
         let before : SentByDrone (pair_of s q p.0) f.timestamp (Some x) = subst (SentByDrone (pair_of s q p.0) f.timestamp) is_x (t.drone own for_me) in
         let shows : Shows (pair_of s q p.0) (kind_of q.opening) (shown_of q.opening) f.timestamp (Some x) = subst (Shows (pair_of s q p.0) (kind_of q.opening) (shown_of q.opening) f.timestamp) is_x (t.shows own for_me) in
         let at_last : f.timestamp ≡ last e = sym (ap last (sym own) ∙ at_same (w.station s).last f.from f.timestamp) in
-        let P : Part → Type 0 = λ z. Inv e s z p.0 × Heard (pair_of s z p.0) (Some x) × Shows (pair_of s z p.0) (kind_of z.opening) (shown_of z.opening) z.station_last (Some x) × ((since : ℕ) → since ≤ z.station_last → Said z.sent e since x) × ((u : Name) (c kind : ℕ) → x ≡ Ack u c kind → (pair_of s z p.0).phase ≡ 3 → IsAbout p.0.counted p.0.first_open z.station_last c → RefusedWith z.sent e s z.transaction c) in
+        let P : Part → Type 0 = λ z. Inv e s z p.0 × Heard (pair_of s z p.0) (Some x) × Shows (pair_of s z p.0) (kind_of z.opening) (shown_of z.opening) z.station_last (Some x) × ((since : ℕ) → since ≤ z.station_last → Said z.sent e since x) × ((u : Name) (c kind : ℕ) → x ≡ Ack u c kind → (pair_of s z p.0).phase ≡ 3 → IsAbout p.0.counted p.0.first_open z.station_last c → RefusedWith z.sent e s z.transaction c) × ((u : Name) (c kind : ℕ) → x ≡ Ack u c kind → Concludes e s z.sent z.transaction z.opening (pair_of s z p.0) c) in
         let now : P (record q { station_last = f.timestamp; station_next = next }) = (
           inv_heard e s (not_here e hd) q p.0 f.timestamp next p.1 l known (max_more _ _),
           heard_facts (pair_of s q p.0) f.timestamp next (Some x) p.1.facts l known (max_more _ _) before,
           shows_again (pair_of s q p.0) (pair_of s (record q { station_last = f.timestamp; station_next = next }) p.0) (kind_of q.opening) (shown_of q.opening) f.timestamp (Some x) (λ a b. (a, refl)) shows,
           λ since h. said_at w.sent k f e since x is own h is_x,
           λ u c kind ack ph about. answered_at e s q.transaction p.0.counted p.0.first_open w.sent k f c kind is own (is_x ∙ ap Some ack ∙ ap (λ (n : Name). Some (Ack n c kind)) (subst (λ y. addressee y ≡ node_of s) ack to)) about (p.1.answers ph),
+          λ u c kind ack. (
+            λ ph last one. let b = replied (pair_of s q p.0) p.1.facts ph in settled_at e s (pair_of s q p.0) q.transaction q.opening w.sent k f kind is own (is_x ∙ ap Some ack ∙ ap (λ (n : Name). Some (Ack n c kind)) (subst (λ y. addressee y ≡ node_of s) ack to) ∙ ap (λ n. Some (Ack (node_of s) n kind)) one) b.0 (let z = b.1 in omega arith) last p.1.truths,
+            λ ph none. subst (Accepts (pair_of s q p.0) (emptied_of q.opening) f.timestamp) (is_x ∙ ap Some ack) (t.accepts own for_me) ph l none,
+          ),
         ) in
         let v : Part = record q { station_last = last e; station_next = next } in
         let there : P v = subst (λ z. P (record q { station_last = z; station_next = next })) at_last now in
         let own_there : P (with_station e v (with_operation st (Some o))) = own_move P e v (with_operation st (Some o)) refl (ap (view_operation e) is_op) refl refl there in
         acts e next last (phase_step st o o.phase x) hd (λ d far. at_apart (w.station s).last f.from d f.timestamp (λ z. far (z ∙ own))) (max_more _ _) (subst (OfDrone e) (sym is_op) refl)
-        (subst (λ z. Heeds e s (with_operation st z) (with_station e v (with_operation st z)) (phase_step (with_operation st z) o o.phase x)) (sym is_op) (hears_own e hd v p.0 st o x refl own_there.0 own_there.1 own_there.2 to own_there.3 own_there.4))
+        (subst (λ z. Heeds e s (with_operation st z) (with_station e v (with_operation st z)) (phase_step (with_operation st z) o o.phase x)) (sym is_op) (hears_own e hd v p.0 st o x refl own_there.0 own_there.1 own_there.2 to own_there.3 own_there.4 own_there.5))
 
     by_operation : (x : PlanMsg) (z : Option Operation) → f.message ≡ Some x → st.operation ≡ z → Goes nodes (station_steps w s (record { state = st; last = last; next = next }) (operation_step st z f.from x)) m
     by_operation x None is_x is_op = unheeded

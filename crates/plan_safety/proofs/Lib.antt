@@ -4,6 +4,7 @@ pub mod Pair
 pub mod DroneSide
 pub mod StationSide
 pub mod Part
+pub mod Acknowledgements
 pub mod Leaf
 pub mod DroneCases
 pub mod DroneItems
@@ -27,5 +28,6 @@ pub mod FleetStationEvents
 pub mod Induction
 pub mod StoreLaws
 pub mod OutcomeLaws
+pub mod ClearLaws
 pub mod Histories
 pub mod Shown

@@ -5,7 +5,7 @@ use Rattle.plan_items.specs.declared.items.Item.{Item}
 use Rattle.plan_upload.specs.Addresses.{same_stream}
 use Rattle.plan_upload.specs.Station.{Told_installed, Told_not_installed, Told_unknown, Told_cleared, Told_got, Told_ended}
 use Rattle.plan_safety.specs.Frames.{Frame}
-use Rattle.plan_safety.specs.Store.{Store, StoreEvent, Upload_begun, Installed, Clear_begun, Cleared, Get_begun, Shown, Cancelled, Ended, Restarted, Job, A_clear, A_get, Transaction, Opening, In_place, Closed, at, begun, opened, staged, given_up, saw, sees, Needs, HasGot, Acked, EndCause, TooMany, does}
+use Rattle.plan_safety.specs.Store.{Store, StoreEvent, Upload_begun, Installed, Clear_begun, Cleared, Get_begun, Shown, Cancelled, Ended, Restarted, Job, A_clear, A_get, Transaction, Opening, In_place, Closed, at, begun, staged, given_up, saw, sees, empties, MayClear, Needs, HasGot, Acked, EndCause, TooMany, does}
 use Rattle.plan_safety.specs.History.{Step, step, store_of, IsHistory, begins_upload, begins_get, begins, RestartedSince, CancelledSince, HeldSince, GotHeld, EndedBy, NotInstalledBy, UnknownBy}
 use Rattle.plan_safety.proofs.Keys.{by_test, eq_true, stream_eq, stream_ne, apart, both_true}
 
@@ -81,8 +81,8 @@ cancelled_law [] = λ s f. absurd (cc)
 cancelled_law (x ∷ h) = stopped_step x.sent x.event h (store_of h) (cancelled_law h)
 
 -- what a download has seen was held since it began
-abbrev getting : Stream → ℕ → Job → ℕ → Option Opening
-getting d k w n = Some (opened d k w n)
+abbrev getting : Stream → ℕ → Job → ℕ × List ℕ → Option Opening
+getting d k w n = Some (record { drone = d; kind = k; job = w; drone_since = n.0; emptied = n.1 })
 
 abbrev job_at : Option Opening → Job
 job_at None = A_clear
@@ -97,7 +97,7 @@ kind_at None = 0
 kind_at (Some c) = c.kind
 
 -- nothing open is no download
-none_seen : (d : Stream) (k : ℕ) (w : Job) (n : ℕ) → None ≡ getting d k w n → ⊥
+none_seen : (d : Stream) (k : ℕ) (w : Job) (n : ℕ × List ℕ) → None ≡ getting d k w n → ⊥
 none_seen d k w n e = absurd (cc)
 
 -- a download sees one plan
@@ -110,10 +110,10 @@ same_seen x y e = ap seen_of e
     seen_of (A_get (Some z)) = z
 
 abbrev SeenHeld : List Step → Store → Type 0
-SeenHeld h m = (s d : Stream) (k n : ℕ) (p : List Item) → m.opening s ≡ getting d k (A_get (Some p)) n → HeldSince h s d k p
+SeenHeld h m = (s d : Stream) (k : ℕ) (n : ℕ × List ℕ) (p : List Item) → m.opening s ≡ getting d k (A_get (Some p)) n → HeldSince h s d k p
 
 -- one slot is another, and holds no plan
-slot : (x : Step) (h : List Step) (f : Stream → Option Opening) (t : Stream) (c : Option Opening) → ((s d : Stream) (k n : ℕ) (p : List Item) → f s ≡ getting d k (A_get (Some p)) n → HeldSince h s d k p) → ((d : Stream) (k n : ℕ) (p : List Item) → c ≡ getting d k (A_get (Some p)) n → ⊥) → ((s : Stream) → s ≢ t → begins_get x.event s ≡ false) → (s d : Stream) (k n : ℕ) (p : List Item) → at f t c s ≡ getting d k (A_get (Some p)) n → HeldSince (x ∷ h) s d k p
+slot : (x : Step) (h : List Step) (f : Stream → Option Opening) (t : Stream) (c : Option Opening) → ((s d : Stream) (k : ℕ) (n : ℕ × List ℕ) (p : List Item) → f s ≡ getting d k (A_get (Some p)) n → HeldSince h s d k p) → ((d : Stream) (k : ℕ) (n : ℕ × List ℕ) (p : List Item) → c ≡ getting d k (A_get (Some p)) n → ⊥) → ((s : Stream) → s ≢ t → begins_get x.event s ≡ false) → (s d : Stream) (k : ℕ) (n : ℕ × List ℕ) (p : List Item) → at f t c s ≡ getting d k (A_get (Some p)) n → HeldSince (x ∷ h) s d k p
 slot x h f t c i not_seen far s d k n p =
     by_test (λ (y : Option Opening). y ≡ getting d k (A_get (Some p)) n → HeldSince (x ∷ h) s d k p) (same_stream s t) c (f s)
     (λ _ e. absurd (not_seen d k n p e))
@@ -130,7 +130,7 @@ shown_step sent who j l t h i v = λ s d k n p.
     by_job p A_clear e = absurd (cc)
     by_job p (A_get y) e = same_seen l p e
 
-    shown_one : (s d : Stream) (k n : ℕ) (p : List Item) → t ≡ s → (c : Option Opening) → (store_of h).opening t ≡ c → sees c who j l ≡ getting d k (A_get (Some p)) n → HeldSince (step sent (Shown who j l t) ∷ h) s d k p
+    shown_one : (s d : Stream) (k : ℕ) (n : ℕ × List ℕ) (p : List Item) → t ≡ s → (c : Option Opening) → (store_of h).opening t ≡ c → sees c who j l ≡ getting d k (A_get (Some p)) n → HeldSince (step sent (Shown who j l t) ∷ h) s d k p
     shown_one s d k n p ts None is e = absurd (none_seen d k _ n e)
     shown_one s d k n p ts (Some c) is e =
         by_test (λ (y : Option Opening). y ≡ getting d k (A_get (Some p)) n → HeldSince (step sent (Shown who j l t) ∷ h) s d k p) (same_stream c.drone who && (c.kind == j)) (Some (record c { job = saw c.job l })) (Some c)
@@ -143,17 +143,25 @@ shown_step sent who j l t h i v = λ s d k n p.
         inl (subst (λ y. (store_of h).plan y k ≡ p) dw (subst (λ y. (store_of h).plan who y ≡ p) kj (sym v ∙ lp))))
         (λ _ z. inr (refl, i s d k n p (ap (store_of h).opening (sym ts) ∙ is ∙ z))) e
 
+-- a clear is no download
+no_download : (o : Option Opening) (e d : Stream) (j k : ℕ) (n : ℕ × List ℕ) (p : List Item) → MayClear o e j → empties o j ≡ getting d k (A_get (Some p)) n → ⊥
+no_download None e d j k n p v z = v
+no_download (Some c) e d j k n p v z = let y : c.job ≡ A_get (Some p) = ap job_at z in let w : A_clear ≡ A_get (Some p) = sym v.1 ∙ y in absurd (cc)
+
 -- each event
 seen_step : (sent : List Frame) (event : StoreEvent) (h : List Step) → SeenHeld h (store_of h) → Needs sent (store_of h) event → SeenHeld (step sent event ∷ h) (does (store_of h) event)
-seen_step sent (Clear_begun t e j b) h i v = slot (step sent (Clear_begun t e j b)) h (store_of h).opening t (getting e j A_clear b) i (λ d k n p z. let y : A_clear ≡ A_get (Some p) = ap job_at z in absurd (cc)) (λ s far. refl)
-seen_step sent (Get_begun t e j b) h i v = slot (step sent (Get_begun t e j b)) h (store_of h).opening t (getting e j (A_get None) b) i (λ d k n p z. let y : A_get None ≡ A_get (Some p) = ap job_at z in absurd (cc)) (λ s far. apart t s (λ z. far (sym z)))
+seen_step sent (Clear_begun t e j b) h i v = slot (step sent (Clear_begun t e j b)) h (store_of h).opening t (getting e j A_clear (b, [])) i (λ d k n p z. let y : A_clear ≡ A_get (Some p) = ap job_at z in absurd (cc)) (λ s far. refl)
+seen_step sent (Get_begun t e j b) h i v = slot (step sent (Get_begun t e j b)) h (store_of h).opening t (getting e j (A_get None) (b, [])) i (λ d k n p z. let y : A_get None ≡ A_get (Some p) = ap job_at z in absurd (cc)) (λ s far. apart t s (λ z. far (sym z)))
 seen_step sent (Ended t Told_cleared) h i v = slot (step sent (Ended t Told_cleared)) h (store_of h).opening t None i (λ d k n p z. none_seen d k _ n z) (λ s far. refl)
 seen_step sent (Ended t (Told_got l)) h i v = slot (step sent (Ended t (Told_got l))) h (store_of h).opening t None i (λ d k n p z. none_seen d k _ n z) (λ s far. refl)
 seen_step sent (Ended t (Told_ended code)) h i v = slot (step sent (Ended t (Told_ended code))) h (store_of h).opening t None i (λ d k n p z. none_seen d k _ n z) (λ s far. refl)
 seen_step sent (Shown who j l t) h i v = shown_step sent who j l t h i v
 seen_step sent (Upload_begun t e j l a b) h i v = λ s d k n p z. inr (refl, i s d k n p z)
 seen_step sent (Installed e j l t) h i v = λ s d k n p z. inr (refl, i s d k n p z)
-seen_step sent (Cleared e j t) h i v = λ s d k n p z. inr (refl, i s d k n p z)
+seen_step sent (Cleared e j t) h i v = λ s d k n p.
+    by_test (λ (y : Option Opening). y ≡ getting d k (A_get (Some p)) n → HeldSince (step sent (Cleared e j t) ∷ h) s d k p) (same_stream s t) (empties ((store_of h).opening t) j) ((store_of h).opening s)
+    (λ _ z. absurd (no_download ((store_of h).opening t) e d j k n p v z))
+    (λ _ z. inr (refl, i s d k n p z))
 seen_step sent (Cancelled t) h i v = λ s d k n p z. inr (refl, i s d k n p z)
 seen_step sent (Restarted e) h i v = λ s d k n p z. inr (refl, i s d k n p z)
 seen_step sent (Ended t Told_installed) h i v = λ s d k n p z. inr (refl, i s d k n p z)
@@ -171,7 +179,7 @@ got_law h sent s plan v = one ((store_of h).opening s) refl v.0
   where
     one : (c : Option Opening) → (store_of h).opening s ≡ c → HasGot c plan → GotHeld h s plan
     one None is g = absurd g
-    one (Some c) is g = (c, is, seen_all h v.1 s c.drone c.kind c.drone_since plan (is ∙ ap (λ j. getting c.drone c.kind j c.drone_since) g))
+    one (Some c) is g = (c, is, seen_all h v.1 s c.drone c.kind (c.drone_since, c.emptied) plan (is ∙ ap (λ j. getting c.drone c.kind j (c.drone_since, c.emptied)) g))
 
 -- a clear or a download that ended with a code
 pub ended_law : (h : List Step) (sent : List Frame) (s : Stream) (code : ℕ) → IsHistory (step sent (Ended s (Told_ended code)) ∷ h) → EndedBy h sent s code
@@ -192,4 +200,4 @@ not_installed_law h sent s code v = v.0.1
 
 -- an upload that was reported as "unknown"
 pub unknown_law : (h : List Step) (sent : List Frame) (s : Stream) → IsHistory (step sent (Ended s Told_unknown) ∷ h) → UnknownBy h sent s
-unknown_law h sent s v = let n = v.0 in record { restarted = lost_law h s n.1; answered = n.2; final_sent = n.3; cancel_sent = n.4 }
+unknown_law h sent s v = let n = v.0 in record { restarted = lost_law h s n.1; answered = n.2; final_sent = n.3; cancel_sent = n.4; answered_last = n.5 }

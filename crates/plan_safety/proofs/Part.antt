@@ -1,5 +1,5 @@
 -- The part of the world and the store that a drone d and a station s have, and what holds of it.
-use Rattle.std.proofs.Common.{◌≡◌, ◌≢◌, ℕ, suc, zero, ◌+◌, ◌<◌, ◌≤◌, ◌⊎◌, inl, inr, Bool, true, false, List, [], ◌∷◌, length, take, Option, Some, None, refl, sym, ap, subst, arith, ◌∙◌}
+use Rattle.std.proofs.Common.{◌≡◌, ◌≢◌, ℕ, suc, zero, ◌+◌, ◌<◌, ◌≤◌, ◌⊎◌, inl, inr, Bool, true, false, List, [], ◌∷◌, length, take, Option, Some, None, refl, subst, arith, ◌∙◌}
 use Rattle.std.specs.Prelude.{slice_get}
 use Rattle.mav_names.specs.declared.names.Name.{Name}
 use Rattle.mav_names.specs.declared.names.Stream.{Stream}
@@ -9,16 +9,17 @@ use Rattle.plan_items.specs.declared.messages.PlanMsg.TheVariants.{Count, Reques
 use Rattle.plan_upload.specs.Addresses.{node_of, everyone, is_for_drone}
 use Rattle.plan_upload.specs.Drone.{DroneState, Upload, Download, is_own, result_of}
 use Rattle.plan_upload.specs.Station.{Operation, Work, Uploads, Clears, Gets, Phase, Pinging, Cancelling, Sending, Clearing, Listing_items, Getting, phase_number, addressee}
-use Rattle.plan_safety.specs.Frames.{Frame, Said}
-use Rattle.plan_safety.specs.Store.{Job, A_clear, A_get, Transaction, Stage, Fresh, In_place, Closed, CountSent, ItemAsked, RefusesCount, RefusesUpload, RefusedWith, staged}
+use Rattle.plan_safety.specs.Frames.{Frame, Said, SaidAfter}
+use Rattle.plan_safety.specs.Store.{Job, A_clear, A_get, Transaction, Stage, Fresh, In_place, Closed, CountSent, ItemAsked, RefusesCount, RefusesUpload, RefusedWith, is_emptied, staged}
 use Rattle.plan_safety.proofs.Keys.{flag}
-use Rattle.plan_safety.proofs.Pair.{Pair, Facts, SentByStation, SentByDrone}
+use Rattle.plan_safety.proofs.Pair.{Pair, Facts, SentByStation, SentByDrone, IsVerdict}
 
 -- what the station has open at the drone beside an upload
 pub record Seen : Type 0 where
   pub kind : ℕ
   pub job : Job
   pub drone_since : ℕ
+  pub emptied : List ℕ
 
 pub record Part : Type 0 where
   pub drone : DroneState
@@ -146,6 +147,11 @@ HasShown (Some c) = IsShown c.job
 abbrev pub kind_of : Option Seen → ℕ
 kind_of c = number_in c (λ x. x.kind)
 
+-- a clear is open that has emptied each of its kinds
+abbrev pub emptied_of : Option Seen → Bool
+emptied_of None = false
+emptied_of (Some c) = is_emptied c.kind c.emptied
+
 -- a clear of this kind is open, or a download
 abbrev pub IsClear : ℕ → Option Seen → Type 0
 IsClear kind None = ⊥
@@ -210,14 +216,15 @@ Terminates cancelled Gets terminating = terminating ≡ true → cancelled ≡ t
 abbrev pub Final : List Frame → Stream → Stream → Transaction → Type 0
 Final sent d s t = (seq : ℕ) × (item : Item) × (seq + 1 ≡ length t.plan) × (slice_get t.plan seq ≡ Some item) × Said sent s t.since (Give (node_of d) seq t.kind item)
 
--- in phase 2 the cancel was sent to the drone
-abbrev pub CancelSaid : List Frame → Stream → Stream → ℕ → ℕ → Phase → Type 0
-CancelSaid sent d s since kind Cancelling = Said sent s since (Ack (node_of d) 15 kind)
-CancelSaid sent d s since kind Pinging = Unit {0}
-CancelSaid sent d s since kind Sending = Unit {0}
-CancelSaid sent d s since kind Clearing = Unit {0}
-CancelSaid sent d s since kind Listing_items = Unit {0}
-CancelSaid sent d s since kind Getting = Unit {0}
+-- in phase 2 the cancel was sent to the drone, after the last item if that was sent
+abbrev pub CancelSaid : List Frame → Stream → Stream → ℕ → (List Frame → Type 0) → Bool → ℕ → Phase → Type 0
+CancelSaid sent d s since Last final kind Cancelling =
+    Said sent s since (Ack (node_of d) 15 kind) × (final ≡ true → SaidAfter Last sent s (Ack (node_of d) 15 kind))
+CancelSaid sent d s since Last final kind Pinging = Unit {0}
+CancelSaid sent d s since Last final kind Sending = Unit {0}
+CancelSaid sent d s since Last final kind Clearing = Unit {0}
+CancelSaid sent d s since Last final kind Listing_items = Unit {0}
+CancelSaid sent d s since Last final kind Getting = Unit {0}
 
 -- what holds of the station's operation at the drone
 pub record Operating (d s : Stream) (sent : List Frame) (t : Transaction) (c : Option Seen) (cancelled : Bool) (pings : ℕ) (o : Operation) : Type 0 where
@@ -227,22 +234,60 @@ pub record Operating (d s : Stream) (sent : List Frame) (t : Transaction) (c : O
   pub terminates : Terminates cancelled o.work o.terminating
   pub gathers : GathersIn (shown_of c) o.phase o.got o.total
   pub final : o.final_sent ≡ true → Final sent d s t
-  pub cancel : CancelSaid sent d s t.since o.kind o.phase
+  pub cancel : CancelSaid sent d s t.since (λ earlier. Final earlier d s t) o.final_sent o.kind o.phase
 
 abbrev pub Operates : Stream → Stream → List Frame → Transaction → Option Seen → Bool → ℕ → Option Operation → Type 0
 Operates d s sent t c cancelled pings None = Unit {0}
 Operates d s sent t c cancelled pings (Some o) = Operating d s sent t c cancelled pings o
 
--- what the truth of a frame speaks of: the kinds, how long the plan is, the plan, and the plan shown
+-- what the truth of a frame speaks of: the kinds, how long the plan is, the plan, since when it is uploaded, the plan
+-- shown, and whether the clear has emptied its kinds
 pub record Subject : Type 0 where
   pub jkind : ℕ
   pub kind : ℕ
   pub total : ℕ
   pub plan : ℕ → Option Item
+  pub since : ℕ
   pub shown : List Item
+  pub emptied : Bool
 
 abbrev pub subject : Transaction → Option Seen → Subject
-subject t c = record { jkind = kind_of c; kind = t.kind; total = length t.plan; plan = slice_get t.plan; shown = shown_of c }
+subject t c = record { jkind = kind_of c; kind = t.kind; total = length t.plan; plan = slice_get t.plan; since = t.since; shown = shown_of c; emptied = emptied_of c }
+
+-- the last item was sent, and a cancel of the upload after it
+abbrev pub LastSent : Stream → Stream → Subject → List Frame → Type 0
+LastSent d s j sent = (seq : ℕ) × (item : Item) × (seq + 1 ≡ j.total) × (j.plan seq ≡ Some item) × Said sent s j.since (Give (node_of d) seq j.kind item)
+
+abbrev pub LastCancelled : Stream → Stream → Subject → List Frame → Type 0
+LastCancelled d s j sent = SaidAfter (λ earlier. LastSent d s j earlier) sent s (Ack (node_of d) 15 j.kind)
+
+-- the drone answered with code 1 after that cancel
+abbrev pub Settled : List Frame → Stream → Stream → Transaction → Type 0
+Settled sent d s t =
+    (kind : ℕ) × SaidAfter (λ earlier. SaidAfter (λ first. Final first d s t) earlier s (Ack (node_of d) 15 t.kind)) sent d (Ack (node_of s) 1 kind)
+
+-- what is true of an acknowledgement since the first reply to this attempt's PING, once the last item was sent: if its
+-- code is 1 the cancel was sent before it
+abbrev pub Settles : Stream → Stream → Pair → Subject → ℕ → List Frame → Option PlanMsg → Type 0
+Settles d s p j t earlier (Some (Ping to usec n)) = Unit {0}
+Settles d s p j t earlier (Some (Count to n k)) = Unit {0}
+Settles d s p j t earlier (Some (Give to i k x)) = Unit {0}
+Settles d s p j t earlier (Some (Request to i k)) = Unit {0}
+Settles d s p j t earlier (Some (Ack to c k)) = 0 < p.first_reply → p.first_reply < t → p.final_sent ≡ 1 → c ≡ 1 → LastCancelled d s j earlier
+Settles d s p j t earlier (Some (Clear to k)) = Unit {0}
+Settles d s p j t earlier (Some (Listing to k)) = Unit {0}
+Settles d s p j t earlier None = Unit {0}
+
+-- what is true of an acknowledgement while a clear waits for it: if its code is 0 the clear has emptied its kinds
+abbrev pub Accepts : Pair → Bool → ℕ → Option PlanMsg → Type 0
+Accepts p emptied t (Some (Ping to usec n)) = Unit {0}
+Accepts p emptied t (Some (Count to n k)) = Unit {0}
+Accepts p emptied t (Some (Give to i k x)) = Unit {0}
+Accepts p emptied t (Some (Request to i k)) = Unit {0}
+Accepts p emptied t (Some (Ack to c k)) = p.phase ≡ 4 → p.station_last < t → c ≡ 0 → emptied ≡ true
+Accepts p emptied t (Some (Clear to k)) = Unit {0}
+Accepts p emptied t (Some (Listing to k)) = Unit {0}
+Accepts p emptied t None = Unit {0}
 
 -- a plan message for this name; one that a drone may hear
 abbrev pub IsTo : Name → Option PlanMsg → Type 0
@@ -264,18 +309,20 @@ Named d (Some (Clear to k)) = to ≡ node_of d
 Named d (Some (Listing to k)) = to ≡ node_of d
 Named d None = Unit {0}
 
--- what is true of a frame
-pub record Truth (d s : Stream) (p : Pair) (j : Subject) (f : Frame) : Type 0 where
+-- what is true of a frame, after these earlier ones
+pub record Truth (d s : Stream) (p : Pair) (j : Subject) (f : Frame) (earlier : List Frame) : Type 0 where
   pub drone : f.from ≡ d → IsTo (node_of s) f.message → SentByDrone p f.timestamp f.message
   pub station : f.from ≡ s → Reaches d f.message → SentByStation p j.jkind j.kind j.total j.plan f.timestamp f.message
   pub shows : f.from ≡ d → IsTo (node_of s) f.message → Shows p j.jkind j.shown f.timestamp f.message
+  pub last : f.from ≡ d → IsTo (node_of s) f.message → Settles d s p j f.timestamp earlier f.message
+  pub accepts : f.from ≡ d → IsTo (node_of s) f.message → Accepts p j.emptied f.timestamp f.message
   pub named : f.from ≡ s → Reaches d f.message → Named d f.message
   pub by_drone : f.from ≡ d → f.timestamp < p.drone_next
   pub by_station : f.from ≡ s → f.timestamp < p.station_next
 
 abbrev pub Truths : Stream → Stream → Pair → Subject → List Frame → Type 0
 Truths d s p j [] = Unit {0}
-Truths d s p j (f ∷ fs) = Truth d s p j f × Truths d s p j fs
+Truths d s p j (f ∷ fs) = Truth d s p j f fs × Truths d s p j fs
 
 -- what was gathered is a prefix of the transaction's plan, all of it sent
 pub record Gathering (d s : Stream) (sent : List Frame) (t : Transaction) (u : Upload) : Type 0 where
@@ -323,14 +370,14 @@ pub record Inv (d s : Stream) (p : Part) (g : Moments) : Type 0 where
   pub answers : (pair_of s p g).phase ≡ 3 → Answered d s p.transaction g.counted g.first_open p.sent
 
 -- frames
-pub truths_keep : (d s : Stream) (p q : Pair) (j k : Subject) → ((f : Frame) → Truth d s p j f → Truth d s q k f) → (fs : List Frame) → Truths d s p j fs → Truths d s q k fs
+pub truths_keep : (d s : Stream) (p q : Pair) (j k : Subject) → ((f : Frame) (earlier : List Frame) → Truth d s p j f earlier → Truth d s q k f earlier) → (fs : List Frame) → Truths d s p j fs → Truths d s q k fs
 truths_keep d s p q j k t [] h = tt
-truths_keep d s p q j k t (f ∷ fs) h = (t f h.0, truths_keep d s p q j k t fs h.1)
+truths_keep d s p q j k t (f ∷ fs) h = (t f fs h.0, truths_keep d s p q j k t fs h.1)
 
 -- of a frame in its place
-pub truth_at : (d s : Stream) (p : Pair) (j : Subject) (fs : List Frame) (k : ℕ) (f : Frame) → slice_get fs k ≡ Some f → Truths d s p j fs → Truth d s p j f
+pub truth_at : (d s : Stream) (p : Pair) (j : Subject) (fs : List Frame) (k : ℕ) (f : Frame) → slice_get fs k ≡ Some f → Truths d s p j fs → (earlier : List Frame) × Truth d s p j f earlier
 truth_at d s p j [] k f e h = absurd (cc)
-truth_at d s p j (g ∷ fs) zero f e h = let same : g ≡ f = cc in subst (Truth d s p j) same h.0
+truth_at d s p j (g ∷ fs) zero f e h = let same : g ≡ f = cc in (fs, subst (λ x. Truth d s p j x fs) same h.0)
 truth_at d s p j (g ∷ fs) (suc k) f e h = truth_at d s p j fs k f e h.1
 
 -- a frame in its place was said
@@ -356,13 +403,13 @@ coded_more d s sent f t (Some code) h = inr h
 pub final_more : (d s : Stream) (sent : List Frame) (f : Frame) (t : Transaction) → Final sent d s t → Final (f ∷ sent) d s t
 final_more d s sent f t h = (h.0, h.1, h.2, h.3, inr h.4)
 
-pub cancel_more : (d s : Stream) (sent : List Frame) (f : Frame) (since kind : ℕ) (phase : Phase) → CancelSaid sent d s since kind phase → CancelSaid (f ∷ sent) d s since kind phase
-cancel_more d s sent f since kind Cancelling h = inr h
-cancel_more d s sent f since kind Pinging h = tt
-cancel_more d s sent f since kind Sending h = tt
-cancel_more d s sent f since kind Clearing h = tt
-cancel_more d s sent f since kind Listing_items h = tt
-cancel_more d s sent f since kind Getting h = tt
+pub cancel_more : (d s : Stream) (sent : List Frame) (f : Frame) (since : ℕ) (Last : List Frame → Type 0) (final : Bool) (kind : ℕ) (phase : Phase) → CancelSaid sent d s since Last final kind phase → CancelSaid (f ∷ sent) d s since Last final kind phase
+cancel_more d s sent f since Last final kind Cancelling h = (inr h.0, λ e. inr (h.1 e))
+cancel_more d s sent f since Last final kind Pinging h = tt
+cancel_more d s sent f since Last final kind Sending h = tt
+cancel_more d s sent f since Last final kind Clearing h = tt
+cancel_more d s sent f since Last final kind Listing_items h = tt
+cancel_more d s sent f since Last final kind Getting h = tt
 
 pub operating_more : (d s : Stream) (sent : List Frame) (f : Frame) (t : Transaction) (c : Option Seen) (cancelled : Bool) (pings : ℕ) (o : Operation) → Operating d s sent t c cancelled pings o → Operating d s (f ∷ sent) t c cancelled pings o
 operating_more d s sent f t c cancelled pings o h = record {
@@ -372,7 +419,7 @@ operating_more d s sent f t c cancelled pings o h = record {
   terminates = h.terminates;
   gathers = h.gathers;
   final = λ e. final_more d s sent f t (h.final e);
-  cancel = cancel_more d s sent f t.since o.kind o.phase h.cancel;
+  cancel = cancel_more d s sent f t.since (λ earlier. Final earlier d s t) o.final_sent o.kind o.phase h.cancel;
 }
 
 pub operates_more : (d s : Stream) (sent : List Frame) (f : Frame) (t : Transaction) (c : Option Seen) (cancelled : Bool) (pings : ℕ) (o : Option Operation) → Operates d s sent t c cancelled pings o → Operates d s (f ∷ sent) t c cancelled pings o
@@ -401,11 +448,21 @@ operates_else d s sent t stage lost c cancelled pings (Some o) h = record {
   cancel = h.cancel;
 }
 
+-- what a step leaves of an attempt and of a clear
+pub record Again (p q : Pair) : Type 0 where
+  pub attempt : 0 < q.first_reply → q.final_sent ≡ 1 → ((p.first_reply ≡ q.first_reply) × (p.final_sent ≡ 1)) ⊎ (p.drone_next ≤ q.first_reply)
+  pub clear : q.phase ≡ 4 → ((p.phase ≡ 4) × (p.station_last ≤ q.station_last)) ⊎ (p.last_verdict ≤ q.station_last)
+
+-- a step that changes neither
+pub again_same : (p q : Pair) → p.first_reply ≡ q.first_reply → p.final_sent ≡ q.final_sent → p.phase ≡ q.phase → p.station_last ≤ q.station_last → Again p q
+again_same p q a b c l = record { attempt = λ _ e. inl (a, b ∙ e); clear = λ e. inl (c ∙ e, l) }
+
 -- what was true of each message is true of it again
 pub record Keeps (p q : Pair) : Type 0 where
   pub drone_next : p.drone_next ≤ q.drone_next
   pub station_next : p.station_next ≤ q.station_next
   pub shows : 4 < q.phase → 0 < q.now_shown → (4 < p.phase) × (p.now_shown ≡ q.now_shown)
+  pub again : Again p q
   pub drone : (u : ℕ) (m : Option PlanMsg) → SentByDrone p u m → SentByDrone q u m
   pub station : (jkind kind total : ℕ) (plan : ℕ → Option Item) (u : ℕ) (m : Option PlanMsg) → SentByStation p jkind kind total plan u m → SentByStation q jkind kind total plan u m
 
@@ -420,12 +477,44 @@ shows_again p q kind plan t (Some (Clear to c)) k h = tt
 shows_again p q kind plan t (Some (Listing to c)) k h = tt
 shows_again p q kind plan t None k h = tt
 
+-- what was true of acknowledgements is true again
+pub settles_again : (d s : Stream) (p q : Pair) (j : Subject) (t : ℕ) (earlier : List Frame) (m : Option PlanMsg) → Again p q → t < p.drone_next → Settles d s p j t earlier m → Settles d s q j t earlier m
+settles_again d s p q j t earlier (Some (Ping to usec n)) a l h = tt
+settles_again d s p q j t earlier (Some (Count to n k)) a l h = tt
+settles_again d s p q j t earlier (Some (Give to i k x)) a l h = tt
+settles_again d s p q j t earlier (Some (Request to i k)) a l h = tt
+settles_again d s p q j t earlier (Some (Ack to c k)) a l h = λ some late last one. elim (a.attempt some last) [
+  | inl x ↦ h (let y = x.0 in omega arith) (let y = x.0 in omega arith) x.1 one
+  | inr x ↦ absurd (omega arith)
+]
+settles_again d s p q j t earlier (Some (Clear to k)) a l h = tt
+settles_again d s p q j t earlier (Some (Listing to k)) a l h = tt
+settles_again d s p q j t earlier None a l h = tt
+
+pub zero_verdict : (c : ℕ) → c ≡ 0 → IsVerdict c
+zero_verdict c e = grind arith
+
+pub accepts_again : (p q : Pair) (e e' : Bool) (t : ℕ) (m : Option PlanMsg) → Again p q → (e ≡ true → e' ≡ true) → SentByDrone p t m → Accepts p e t m → Accepts q e' t m
+accepts_again p q e e' t (Some (Ping to usec n)) a l by h = tt
+accepts_again p q e e' t (Some (Count to n k)) a l by h = tt
+accepts_again p q e e' t (Some (Give to i k x)) a l by h = tt
+accepts_again p q e e' t (Some (Request to i k)) a l by h = tt
+accepts_again p q e e' t (Some (Ack to c k)) a l by h = λ ph late none. elim (a.clear ph) [
+  | inl x ↦ l (h x.0 (let y = x.1 in omega arith) none)
+  | inr x ↦ absurd (let y : t ≤ p.last_verdict = by.9 (zero_verdict c none) in omega arith)
+]
+accepts_again p q e e' t (Some (Clear to k)) a l by h = tt
+accepts_again p q e e' t (Some (Listing to k)) a l by h = tt
+accepts_again p q e e' t None a l by h = tt
+
 -- what was true of a frame
-pub keeps_truth : (d s : Stream) (p q : Pair) (j : Subject) → Keeps p q → (f : Frame) → Truth d s p j f → Truth d s q j f
-keeps_truth d s p q j k f t = record {
+pub keeps_truth : (d s : Stream) (p q : Pair) (j : Subject) → Keeps p q → (f : Frame) (earlier : List Frame) → Truth d s p j f earlier → Truth d s q j f earlier
+keeps_truth d s p q j k f earlier t = record {
   drone = λ a b. k.drone f.timestamp f.message (t.drone a b);
   shows = λ a b. shows_again p q j.jkind j.shown f.timestamp f.message k.shows (t.shows a b);
   station = λ a b. k.station _ _ _ _ f.timestamp f.message (t.station a b);
+  last = λ a b. settles_again d s p q j f.timestamp earlier f.message k.again (t.by_drone a) (t.last a b);
+  accepts = λ a b. accepts_again p q j.emptied j.emptied f.timestamp f.message k.again (λ z. z) (t.drone a b) (t.accepts a b);
   named = t.named;
   by_drone = λ e. let l = t.by_drone e in let n = k.drone_next in omega arith;
   by_station = λ e. let l = t.by_station e in let n = k.station_next in omega arith;
@@ -441,71 +530,3 @@ pub in_place : (s : Stage) → stage_number s ≡ 2 → s ≡ In_place
 in_place Fresh e = absurd (omega arith)
 in_place In_place e = refl
 in_place Closed e = absurd (omega arith)
-
--- an acknowledgement from before the upload was opened, and from before its first Count
-opened_later : (d s : Stream) (t : Transaction) (counted old opened time : ℕ) (earlier : List Frame) (m : Option PlanMsg) → time < opened → Answers d s t counted old time earlier m → Answers d s t counted opened time earlier m
-opened_later d s t counted old opened time earlier (Some (Ping to usec n)) l h = tt
-opened_later d s t counted old opened time earlier (Some (Count to n k)) l h = tt
-opened_later d s t counted old opened time earlier (Some (Give to i k x)) l h = tt
-opened_later d s t counted old opened time earlier (Some (Request to i k)) l h = tt
-opened_later d s t counted old opened time earlier (Some (Ack to c k)) l h = (h.0, λ _ late _. absurd (omega arith))
-opened_later d s t counted old opened time earlier (Some (Clear to k)) l h = tt
-opened_later d s t counted old opened time earlier (Some (Listing to k)) l h = tt
-opened_later d s t counted old opened time earlier None l h = tt
-
-counted_later : (d s : Stream) (t : Transaction) (counted opened time : ℕ) (earlier : List Frame) (m : Option PlanMsg) → opened ≡ 0 → time < counted → Answers d s t counted opened time earlier m
-counted_later d s t counted opened time earlier (Some (Ping to usec n)) z l = tt
-counted_later d s t counted opened time earlier (Some (Count to n k)) z l = tt
-counted_later d s t counted opened time earlier (Some (Give to i k x)) z l = tt
-counted_later d s t counted opened time earlier (Some (Request to i k)) z l = tt
-counted_later d s t counted opened time earlier (Some (Ack to c k)) z l = (λ late _. absurd (omega arith), λ some _ _. absurd (omega arith))
-counted_later d s t counted opened time earlier (Some (Clear to k)) z l = tt
-counted_later d s t counted opened time earlier (Some (Listing to k)) z l = tt
-counted_later d s t counted opened time earlier None z l = tt
-
--- the same of all that the drone has sent
-pub answered_opened : (d s : Stream) (t : Transaction) (counted old opened : ℕ) (p : Pair) (j : Subject) (fs : List Frame) → p.drone_next ≤ opened → Truths d s p j fs → Answered d s t counted old fs → Answered d s t counted opened fs
-answered_opened d s t counted old opened p j [] l h a = tt
-answered_opened d s t counted old opened p j (f ∷ fs) l h a =
-    (λ e to. opened_later d s t counted old opened f.timestamp fs f.message (let z = h.0.by_drone e in omega arith) (a.0 e to), answered_opened d s t counted old opened p j fs l h.1 a.1)
-
-pub answered_counted : (d s : Stream) (t : Transaction) (counted opened : ℕ) (p : Pair) (j : Subject) (fs : List Frame) → opened ≡ 0 → p.drone_next ≤ counted → Truths d s p j fs → Answered d s t counted opened fs
-answered_counted d s t counted opened p j [] z l h = tt
-answered_counted d s t counted opened p j (f ∷ fs) z l h =
-    (λ e _. counted_later d s t counted opened f.timestamp fs f.message z (let y = h.0.by_drone e in omega arith), answered_counted d s t counted opened p j fs z l h.1)
-
--- it does not speak of the transaction's stage, nor of whether it is lost
-answers_else : (d s : Stream) (t : Transaction) (stage : Stage) (lost : Bool) (counted opened time : ℕ) (earlier : List Frame) (m : Option PlanMsg) → Answers d s t counted opened time earlier m → Answers d s (record t { stage = stage; lost = lost }) counted opened time earlier m
-answers_else d s t stage lost counted opened time earlier (Some (Ping to usec n)) h = tt
-answers_else d s t stage lost counted opened time earlier (Some (Count to n k)) h = tt
-answers_else d s t stage lost counted opened time earlier (Some (Give to i k x)) h = tt
-answers_else d s t stage lost counted opened time earlier (Some (Request to i k)) h = tt
-answers_else d s t stage lost counted opened time earlier (Some (Ack to c k)) h = h
-answers_else d s t stage lost counted opened time earlier (Some (Clear to k)) h = tt
-answers_else d s t stage lost counted opened time earlier (Some (Listing to k)) h = tt
-answers_else d s t stage lost counted opened time earlier None h = tt
-
-pub answered_else : (d s : Stream) (t : Transaction) (stage : Stage) (lost : Bool) (counted opened : ℕ) (fs : List Frame) → Answered d s t counted opened fs → Answered d s (record t { stage = stage; lost = lost }) counted opened fs
-answered_else d s t stage lost counted opened [] a = tt
-answered_else d s t stage lost counted opened (f ∷ fs) a =
-    (λ e to. answers_else d s t stage lost counted opened f.timestamp fs f.message (a.0 e to), answered_else d s t stage lost counted opened fs a.1)
-
--- when an acknowledgement with this code at this time is about the upload
-abbrev pub IsAbout : ℕ → ℕ → ℕ → ℕ → Type 0
-IsAbout counted opened time c = ((counted ≤ time) × RefusesCount c) ⊎ ((0 < opened) × (opened ≤ time) × (c ≢ 0))
-
-answered_here : (d s : Stream) (t : Transaction) (counted opened : ℕ) (f : Frame) (fs : List Frame) (c k : ℕ) → f.from ≡ d → f.message ≡ Some (Ack (node_of s) c k) → IsAbout counted opened f.timestamp c → (f.from ≡ d → IsTo (node_of s) f.message → Answers d s t counted opened f.timestamp fs f.message) → RefusedWith (f ∷ fs) d s t c
-answered_here d s t counted opened f fs c k from is about h =
-    let a : Answers d s t counted opened f.timestamp fs (Some (Ack (node_of s) c k)) = subst (Answers d s t counted opened f.timestamp fs) is (h from (subst (IsTo (node_of s)) (sym is) refl)) in
-    elim about [
-      | inl b ↦ let x = a.0 b.0 b.1 in inl (from, is ∙ ap (λ n. Some (Ack (node_of s) c n)) x.0, inl (x.1, b.1))
-      | inr b ↦ let x = a.1 b.0 b.1 b.2 in inl (from, is ∙ ap (λ n. Some (Ack (node_of s) c n)) x.0, inr (x.1, x.2))
-    ]
-
--- such an acknowledgement of the drone, in its place, refused the upload
-pub answered_at : (d s : Stream) (t : Transaction) (counted opened : ℕ) (fs : List Frame) (index : ℕ) (f : Frame) (c k : ℕ) → slice_get fs index ≡ Some f → f.from ≡ d → f.message ≡ Some (Ack (node_of s) c k) → IsAbout counted opened f.timestamp c → Answered d s t counted opened fs → RefusedWith fs d s t c
-answered_at d s t counted opened [] index f c k e from is about a = absurd (cc)
-answered_at d s t counted opened (g ∷ fs) zero f c k e from is about a =
-    let same : f ≡ g = cc in
-    answered_here d s t counted opened g fs c k (subst (λ (x : Frame). x.from ≡ d) same from) (subst (λ (x : Frame). x.message ≡ Some (Ack (node_of s) c k)) same is) (subst (λ (x : Frame). IsAbout counted opened x.timestamp c) same about) a.0
-answered_at d s t counted opened (g ∷ fs) (suc index) f c k e from is about a = inr (answered_at d s t counted opened fs index f c k e from is about a.1)

@@ -13,16 +13,19 @@ use Rattle.plan_safety.specs.Store.{Job, A_clear, A_get, Transaction, begun}
 use Rattle.plan_safety.proofs.Keys.{by_test, same, flag, flag_true, differ}
 use Rattle.plan_safety.proofs.Pair.{Pair, Facts, SentByStation, SentByDrone, elsewhere, begins_attempt, begins_count, begins_clear, begins_clear_attempt, begins_get, begins_get_attempt, a_ping, a_count, a_clear, a_list}
 use Rattle.plan_safety.proofs.StationSide as side
-use Rattle.plan_safety.proofs.Part.{Seen, Shows, job_number, Part, Moments, pair_of, Subject, subject, Truth, Gathers, Inv, truths_keep, stage_number, gathers_more, number_in, answered_counted}
+use Rattle.plan_safety.proofs.Part.{Seen, Shows, job_number, Part, Moments, pair_of, Subject, subject, Truth, Gathers, Inv, truths_keep, stage_number, gathers_more, number_in}
+use Rattle.plan_safety.proofs.Acknowledgements.{settles_none, accepts_new, answered_counted}
 use Rattle.plan_safety.proofs.StationNews.{Begins_upload, Begins_clear, Begins_get, Acted, with_station, seen}
 use Rattle.plan_safety.proofs.StationCases.{with_operation, shows_low}
 
 -- what is true of each frame again, with another subject
-pub changes : (d s : Stream) (p q : Pair) (j k : Subject) → p.drone_next ≤ q.drone_next → p.station_next ≤ q.station_next → ((u : ℕ) (m : Option PlanMsg) → Shows q k.jkind k.shown u m) → ((u : ℕ) (m : Option PlanMsg) → SentByDrone p u m → SentByDrone q u m) → ((u : ℕ) (m : Option PlanMsg) → SentByStation p j.jkind j.kind j.total j.plan u m → SentByStation q k.jkind k.kind k.total k.plan u m) → (f : Frame) → Truth d s p j f → Truth d s q k f
-changes d s p q j k a b v x y f t = record {
+pub changes : (d s : Stream) (p q : Pair) (j k : Subject) → p.drone_next ≤ q.drone_next → p.station_next ≤ q.station_next → ((u : ℕ) (m : Option PlanMsg) → Shows q k.jkind k.shown u m) → ((u : ℕ) (m : Option PlanMsg) → SentByDrone p u m → SentByDrone q u m) → ((u : ℕ) (m : Option PlanMsg) → SentByStation p j.jkind j.kind j.total j.plan u m → SentByStation q k.jkind k.kind k.total k.plan u m) → (q.first_reply ≡ 0) × (q.phase ≡ 4 → p.last_verdict ≤ q.station_last) → (f : Frame) (earlier : List Frame) → Truth d s p j f earlier → Truth d s q k f earlier
+changes d s p q j k a b v x y z f earlier t = record {
   shows = λ _ _. v f.timestamp f.message;
   drone = λ e h. x f.timestamp f.message (t.drone e h);
   station = λ e h. y f.timestamp f.message (t.station e h);
+  last = λ _ _. settles_none d s q k f.timestamp earlier f.message z.0;
+  accepts = λ e h. accepts_new p q k.emptied f.timestamp f.message z.1 (t.drone e h);
   named = t.named;
   by_drone = λ e. let l = t.by_drone e in omega arith;
   by_station = λ e. let l = t.by_station e in omega arith;
@@ -73,6 +76,9 @@ idle p f h e = grind arith
 no_job : (p : Pair) → Facts p → p.work ≡ 0 → p.job ≡ 0
 no_job p f h = grind arith
 
+not_replied : (p : Pair) → Facts p → p.work ≡ 0 → p.first_reply ≡ 0
+not_replied p f h = grind arith
+
 -- nothing else is open
 none_open : (c : Option Seen) → number_in c (λ (x : Seen). job_number x.job) ≡ 0 → c ≡ None
 none_open None e = refl
@@ -109,8 +115,8 @@ module _ (d s : Stream) (ne : d ≢ s) where
         inv = record {
           facts = side.begins_count_facts q p.drone_next i.facts refl b refl;
           truths = (
-            record { drone = λ x _. absurd (ne (sym x)); shows = λ x _. absurd (ne (sym x)); station = λ _ _. begin_count_new q k.jkind kind (length plan) (slice_get plan) i.facts; named = λ _ _. refl; by_drone = λ x. absurd (ne (sym x)); by_station = λ _. omega arith },
-            truths_keep d s q (begins_count q p.drone_next) j k (changes d s q (begins_count q p.drone_next) j k (omega arith) (omega arith) (λ u m. shows_low (begins_count q p.drone_next) k.jkind k.shown u m (omega arith)) (λ y x. side.begins_count_drone q p.drone_next y x i.facts refl b refl) (λ y x. side.begins_count_station q p.drone_next j.jkind j.kind j.total j.plan k.jkind k.kind k.total k.plan y x i.facts refl b refl)) p.sent i.truths,
+            record { drone = λ x _. absurd (ne (sym x)); shows = λ x _. absurd (ne (sym x)); last = λ x _. absurd (ne (sym x)); accepts = λ x _. absurd (ne (sym x)); station = λ _ _. begin_count_new q k.jkind kind (length plan) (slice_get plan) i.facts; named = λ _ _. refl; by_drone = λ x. absurd (ne (sym x)); by_station = λ _. omega arith },
+            truths_keep d s q (begins_count q p.drone_next) j k (changes d s q (begins_count q p.drone_next) j k (omega arith) (omega arith) (λ u m. shows_low (begins_count q p.drone_next) k.jkind k.shown u m (omega arith)) (λ y x. side.begins_count_drone q p.drone_next y x i.facts refl b refl) (λ y x. side.begins_count_station q p.drone_next j.jkind j.kind j.total j.plan k.jkind k.kind k.total k.plan y x i.facts refl b refl) (refl, λ ph. absurd (omega arith))) p.sent i.truths,
           );
           upload = gathers_none d s _ p.transaction n p.drone.upload (shut q i.facts refl) (gathers_more d s p.sent _ p.transaction p.drone.upload i.upload);
           operation = record { means = (refl, refl); numbered = tt; coded = tt; terminates = tt; gathers = tt; final = λ e. absurd (cc); cancel = tt };
@@ -136,8 +142,8 @@ module _ (d s : Stream) (ne : d ≢ s) where
         inv = record {
           facts = side.begins_attempt_facts q p.drone_next i.facts refl refl;
           truths = (
-            record { drone = λ x _. absurd (ne (sym x)); shows = λ x _. absurd (ne (sym x)); station = λ _ _. begin_attempt_new q i.facts; named = λ _ _. tt; by_drone = λ x. absurd (ne (sym x)); by_station = λ _. omega arith },
-            truths_keep d s q (begins_attempt q p.drone_next) j k (changes d s q (begins_attempt q p.drone_next) j k (omega arith) (omega arith) (λ u m. shows_low (begins_attempt q p.drone_next) k.jkind k.shown u m (omega arith)) (λ y x. side.begins_attempt_drone q p.drone_next y x i.facts refl refl) (λ y x. side.begins_attempt_station q p.drone_next j.jkind j.kind j.total j.plan k.jkind k.kind k.total k.plan y x i.facts refl refl)) p.sent i.truths,
+            record { drone = λ x _. absurd (ne (sym x)); shows = λ x _. absurd (ne (sym x)); last = λ x _. absurd (ne (sym x)); accepts = λ x _. absurd (ne (sym x)); station = λ _ _. begin_attempt_new q i.facts; named = λ _ _. tt; by_drone = λ x. absurd (ne (sym x)); by_station = λ _. omega arith },
+            truths_keep d s q (begins_attempt q p.drone_next) j k (changes d s q (begins_attempt q p.drone_next) j k (omega arith) (omega arith) (λ u m. shows_low (begins_attempt q p.drone_next) k.jkind k.shown u m (omega arith)) (λ y x. side.begins_attempt_drone q p.drone_next y x i.facts refl refl) (λ y x. side.begins_attempt_station q p.drone_next j.jkind j.kind j.total j.plan k.jkind k.kind k.total k.plan y x i.facts refl refl) (refl, λ ph. absurd (omega arith))) p.sent i.truths,
           );
           upload = gathers_none d s _ p.transaction n p.drone.upload (shut q i.facts refl) (gathers_more d s p.sent _ p.transaction p.drone.upload i.upload);
           operation = record { means = (refl, refl); numbered = (let z : t.pings + 1 ≤ t.pings + 1 = omega arith in z); coded = tt; terminates = tt; gathers = tt; final = λ e. absurd (cc); cancel = tt };
@@ -177,8 +183,8 @@ module _ (d s : Stream) (ne : d ≢ s) where
         inv = record {
           facts = side.begins_clear_facts q p.drone_next i.facts refl b refl;
           truths = (
-            record { drone = λ x _. absurd (ne (sym x)); shows = λ x _. absurd (ne (sym x)); station = λ _ _. begin_clear_new q kind k.kind k.total k.plan i.facts; named = λ _ _. refl; by_drone = λ x. absurd (ne (sym x)); by_station = λ _. omega arith },
-            truths_keep d s q (begins_clear q p.drone_next) j k (changes d s q (begins_clear q p.drone_next) j k (omega arith) (omega arith) (λ u m. shows_low (begins_clear q p.drone_next) k.jkind k.shown u m (omega arith)) (λ y x. side.begins_clear_drone q p.drone_next y x i.facts refl b refl) (λ y x. side.begins_clear_station q p.drone_next j.jkind j.kind j.total j.plan k.jkind k.kind k.total k.plan y x i.facts refl b refl)) p.sent i.truths,
+            record { drone = λ x _. absurd (ne (sym x)); shows = λ x _. absurd (ne (sym x)); last = λ x _. absurd (ne (sym x)); accepts = λ x _. absurd (ne (sym x)); station = λ _ _. begin_clear_new q kind k.kind k.total k.plan i.facts; named = λ _ _. refl; by_drone = λ x. absurd (ne (sym x)); by_station = λ _. omega arith },
+            truths_keep d s q (begins_clear q p.drone_next) j k (changes d s q (begins_clear q p.drone_next) j k (omega arith) (omega arith) (λ u m. shows_low (begins_clear q p.drone_next) k.jkind k.shown u m (omega arith)) (λ y x. side.begins_clear_drone q p.drone_next y x i.facts refl b refl) (λ y x. side.begins_clear_station q p.drone_next j.jkind j.kind j.total j.plan k.jkind k.kind k.total k.plan y x i.facts refl b refl) (refl, λ _. i.facts.synced_ack refl b)) p.sent i.truths,
           );
           upload = gathers_more d s p.sent _ p.transaction p.drone.upload i.upload;
           operation = record { means = (refl, refl); numbered = tt; coded = tt; terminates = λ e. absurd (cc); gathers = tt; final = λ e. absurd (cc); cancel = tt };
@@ -204,8 +210,8 @@ module _ (d s : Stream) (ne : d ≢ s) where
         inv = record {
           facts = side.begins_clear_attempt_facts q p.drone_next i.facts refl refl;
           truths = (
-            record { drone = λ x _. absurd (ne (sym x)); shows = λ x _. absurd (ne (sym x)); station = λ _ _. begin_clear_attempt_new q i.facts; named = λ _ _. tt; by_drone = λ x. absurd (ne (sym x)); by_station = λ _. omega arith },
-            truths_keep d s q (begins_clear_attempt q p.drone_next) j k (changes d s q (begins_clear_attempt q p.drone_next) j k (omega arith) (omega arith) (λ u m. shows_low (begins_clear_attempt q p.drone_next) k.jkind k.shown u m (omega arith)) (λ y x. side.begins_clear_attempt_drone q p.drone_next y x i.facts refl refl) (λ y x. side.begins_clear_attempt_station q p.drone_next j.jkind j.kind j.total j.plan k.jkind k.kind k.total k.plan y x i.facts refl refl)) p.sent i.truths,
+            record { drone = λ x _. absurd (ne (sym x)); shows = λ x _. absurd (ne (sym x)); last = λ x _. absurd (ne (sym x)); accepts = λ x _. absurd (ne (sym x)); station = λ _ _. begin_clear_attempt_new q i.facts; named = λ _ _. tt; by_drone = λ x. absurd (ne (sym x)); by_station = λ _. omega arith },
+            truths_keep d s q (begins_clear_attempt q p.drone_next) j k (changes d s q (begins_clear_attempt q p.drone_next) j k (omega arith) (omega arith) (λ u m. shows_low (begins_clear_attempt q p.drone_next) k.jkind k.shown u m (omega arith)) (λ y x. side.begins_clear_attempt_drone q p.drone_next y x i.facts refl refl) (λ y x. side.begins_clear_attempt_station q p.drone_next j.jkind j.kind j.total j.plan k.jkind k.kind k.total k.plan y x i.facts refl refl) (refl, λ ph. absurd (omega arith))) p.sent i.truths,
           );
           upload = gathers_more d s p.sent _ p.transaction p.drone.upload i.upload;
           operation = record { means = (refl, refl); numbered = (let z : t.pings + 1 ≤ t.pings + 1 = omega arith in z); coded = tt; terminates = λ e. absurd (cc); gathers = tt; final = λ e. absurd (cc); cancel = tt };
@@ -245,8 +251,8 @@ module _ (d s : Stream) (ne : d ≢ s) where
         inv = record {
           facts = side.begins_get_facts q p.drone_next i.facts refl b refl;
           truths = (
-            record { drone = λ x _. absurd (ne (sym x)); shows = λ x _. absurd (ne (sym x)); station = λ _ _. begin_get_new q kind k.kind k.total k.plan i.facts; named = λ _ _. refl; by_drone = λ x. absurd (ne (sym x)); by_station = λ _. omega arith },
-            truths_keep d s q (begins_get q p.drone_next) j k (changes d s q (begins_get q p.drone_next) j k (omega arith) (omega arith) (λ u m. shows_none (begins_get q p.drone_next) k.jkind k.shown u m refl) (λ y x. side.begins_get_drone q p.drone_next y x i.facts refl b refl) (λ y x. side.begins_get_station q p.drone_next j.jkind j.kind j.total j.plan k.jkind k.kind k.total k.plan y x i.facts refl b refl)) p.sent i.truths,
+            record { drone = λ x _. absurd (ne (sym x)); shows = λ x _. absurd (ne (sym x)); last = λ x _. absurd (ne (sym x)); accepts = λ x _. absurd (ne (sym x)); station = λ _ _. begin_get_new q kind k.kind k.total k.plan i.facts; named = λ _ _. refl; by_drone = λ x. absurd (ne (sym x)); by_station = λ _. omega arith },
+            truths_keep d s q (begins_get q p.drone_next) j k (changes d s q (begins_get q p.drone_next) j k (omega arith) (omega arith) (λ u m. shows_none (begins_get q p.drone_next) k.jkind k.shown u m refl) (λ y x. side.begins_get_drone q p.drone_next y x i.facts refl b refl) (λ y x. side.begins_get_station q p.drone_next j.jkind j.kind j.total j.plan k.jkind k.kind k.total k.plan y x i.facts refl b refl) (refl, λ ph. absurd (omega arith))) p.sent i.truths,
           );
           upload = gathers_more d s p.sent _ p.transaction p.drone.upload i.upload;
           operation = record { means = (tt, refl); numbered = tt; coded = tt; terminates = λ e. absurd (cc); gathers = tt; final = λ e. absurd (cc); cancel = tt };
@@ -272,8 +278,8 @@ module _ (d s : Stream) (ne : d ≢ s) where
         inv = record {
           facts = side.begins_get_attempt_facts q p.drone_next i.facts refl refl;
           truths = (
-            record { drone = λ x _. absurd (ne (sym x)); shows = λ x _. absurd (ne (sym x)); station = λ _ _. begin_get_attempt_new q i.facts; named = λ _ _. tt; by_drone = λ x. absurd (ne (sym x)); by_station = λ _. omega arith },
-            truths_keep d s q (begins_get_attempt q p.drone_next) j k (changes d s q (begins_get_attempt q p.drone_next) j k (omega arith) (omega arith) (λ u m. shows_low (begins_get_attempt q p.drone_next) k.jkind k.shown u m (omega arith)) (λ y x. side.begins_get_attempt_drone q p.drone_next y x i.facts refl refl) (λ y x. side.begins_get_attempt_station q p.drone_next j.jkind j.kind j.total j.plan k.jkind k.kind k.total k.plan y x i.facts refl refl)) p.sent i.truths,
+            record { drone = λ x _. absurd (ne (sym x)); shows = λ x _. absurd (ne (sym x)); last = λ x _. absurd (ne (sym x)); accepts = λ x _. absurd (ne (sym x)); station = λ _ _. begin_get_attempt_new q i.facts; named = λ _ _. tt; by_drone = λ x. absurd (ne (sym x)); by_station = λ _. omega arith },
+            truths_keep d s q (begins_get_attempt q p.drone_next) j k (changes d s q (begins_get_attempt q p.drone_next) j k (omega arith) (omega arith) (λ u m. shows_low (begins_get_attempt q p.drone_next) k.jkind k.shown u m (omega arith)) (λ y x. side.begins_get_attempt_drone q p.drone_next y x i.facts refl refl) (λ y x. side.begins_get_attempt_station q p.drone_next j.jkind j.kind j.total j.plan k.jkind k.kind k.total k.plan y x i.facts refl refl) (refl, λ ph. absurd (omega arith))) p.sent i.truths,
           );
           upload = gathers_more d s p.sent _ p.transaction p.drone.upload i.upload;
           operation = record { means = (tt, refl); numbered = (let z : t.pings + 1 ≤ t.pings + 1 = omega arith in z); coded = tt; terminates = λ e. absurd (cc); gathers = tt; final = λ e. absurd (cc); cancel = tt };
@@ -312,7 +318,7 @@ module _ (d s : Stream) (ne : d ≢ s) where
           let a' : q.next_ping ≤ pings + 1 = omega arith in
           record {
             facts = side.elsewhere_facts q (pings + 1) next x (flag set) l i.facts refl a' b c e less;
-            truths = truths_keep d s q r j k (changes d s q r j k (omega arith) b (λ u m. shows_low r k.jkind k.shown u m (omega arith)) (λ y z. side.elsewhere_drone q (pings + 1) next x (flag set) l y z i.facts refl a' b c e less) (λ y z. side.elsewhere_station q (pings + 1) next x (flag set) l j.jkind j.kind j.total j.plan k.jkind k.kind k.total k.plan y z i.facts refl a' b c e less)) p.sent i.truths;
+            truths = truths_keep d s q r j k (changes d s q r j k (omega arith) b (λ u m. shows_low r k.jkind k.shown u m (omega arith)) (λ y z. side.elsewhere_drone q (pings + 1) next x (flag set) l y z i.facts refl a' b c e less) (λ y z. side.elsewhere_station q (pings + 1) next x (flag set) l j.jkind j.kind j.total j.plan k.jkind k.kind k.total k.plan y z i.facts refl a' b c e less) (not_replied q i.facts refl, λ ph. absurd (omega arith))) p.sent i.truths;
             upload = gathers_none d s p.sent p.transaction o p.drone.upload (shut q i.facts refl) i.upload;
             operation = tt;
             for_drone = λ y. absurd (c y);

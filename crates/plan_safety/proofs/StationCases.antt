@@ -13,8 +13,9 @@ use Rattle.plan_safety.proofs.Keys.{by_test, eq_true, eq_false, same, apart, bot
 use Rattle.plan_safety.proofs.Pair as pair
 use Rattle.plan_safety.proofs.Pair.{Pair, Facts, SentByStation, SentByDrone, AnswersCancel, attempts, attempts_spent, starts_count, starts_clear, starts_listing, pings, a_ping, a_count, a_clear, a_list, an_ack}
 use Rattle.plan_safety.proofs.StationSide as side
-use Rattle.plan_safety.proofs.Part.{Seen, Shows, kind_of, shown_of, stage_number, Part, Moments, pair_of, Subject, subject, Truth, Truths, IsClear, IsGet, Final, Numbered, Coded, Terminates, GathersIn, CancelSaid, Operating, Inv, Keeps, keeps_truth, truths_keep, coded_more, final_more, gathers_at, fresh, in_place, answered_counted}
-use Rattle.plan_safety.proofs.StationNews.{Silent, news_of, SeesPlan, SeesClear, SeesEnd, Acted, Heeds, with_station, station_said, end_cancelled}
+use Rattle.plan_safety.proofs.Part.{Seen, Shows, kind_of, shown_of, stage_number, Part, Moments, pair_of, Subject, subject, Truth, Truths, IsClear, IsGet, Final, Numbered, Coded, Terminates, GathersIn, CancelSaid, Settled, again_same, Operating, Inv, Keeps, keeps_truth, truths_keep, coded_more, final_more, gathers_at, fresh, in_place}
+use Rattle.plan_safety.proofs.Acknowledgements.{settles_none, accepts_new, answered_counted}
+use Rattle.plan_safety.proofs.StationNews.{Silent, news_of, SeesPlan, SeesCleared, SeesEnd, Acted, Heeds, with_station, station_said, end_cancelled}
 
 -- the operation o, at the drone d, in the phase f
 abbrev pub op : Operation → Stream → Phase → Option Operation
@@ -24,7 +25,7 @@ abbrev pub with_operation : StationState → Option Operation → StationState
 with_operation t o = record t { operation = o }
 
 -- the operation goes on, and a frame is sent
-pub op_sends : (d s : Stream) (sent : List Frame) (m : Frame) (t : Transaction) (c : Option Seen) (cancelled : Bool) (old_pings new_pings : ℕ) (o : Operation) (f : Phase) (idle : ℕ) (asked final_sent : Bool) (number : Option ℕ) (total : ℕ) (got : List Item) → Operating d s sent t c cancelled old_pings o → Numbered new_pings number → GathersIn (shown_of c) f got total → (final_sent ≡ true → Final (m ∷ sent) d s t) → CancelSaid (m ∷ sent) d s t.since o.kind f → Operating d s (m ∷ sent) t c cancelled new_pings (record o { phase = f; idle = idle; asked = asked; final_sent = final_sent; number = number; total = total; got = got })
+pub op_sends : (d s : Stream) (sent : List Frame) (m : Frame) (t : Transaction) (c : Option Seen) (cancelled : Bool) (old_pings new_pings : ℕ) (o : Operation) (f : Phase) (idle : ℕ) (asked final_sent : Bool) (number : Option ℕ) (total : ℕ) (got : List Item) → Operating d s sent t c cancelled old_pings o → Numbered new_pings number → GathersIn (shown_of c) f got total → (final_sent ≡ true → Final (m ∷ sent) d s t) → CancelSaid (m ∷ sent) d s t.since (λ earlier. Final earlier d s t) final_sent o.kind f → Operating d s (m ∷ sent) t c cancelled new_pings (record o { phase = f; idle = idle; asked = asked; final_sent = final_sent; number = number; total = total; got = got })
 op_sends d s sent m t c cancelled old_pings new_pings o f idle asked final_sent number total got h n g l x = record {
   means = h.means;
   numbered = n;
@@ -192,7 +193,7 @@ module _ (d s : Stream) (ne : d ≢ s) where
         inv =
             station_said d s ne v g h (sends (record u { pings = t.pings + 1 }) (pinging o' (Some (t.pings + 1))) ping).station ping (attempts q (flag terminating)) i refl
             (side.attempts_facts q (flag terminating) i.facts some end)
-            (record { drone_next = omega arith; station_next = omega arith; shows = λ a b. absurd (omega arith); drone = λ u x. side.attempts_drone q (flag terminating) u x i.facts some end; station = λ ck k n l u x. side.attempts_station q (flag terminating) ck k n l u x i.facts some end })
+            (record { drone_next = omega arith; station_next = omega arith; shows = λ a b. absurd (omega arith); again = record { attempt = λ a b. absurd (omega arith); clear = λ a. absurd (omega arith) }; drone = λ u x. side.attempts_drone q (flag terminating) u x i.facts some end; station = λ ck k n l u x. side.attempts_station q (flag terminating) ck k n l u x i.facts some end })
             (attempt_new q (flag terminating)) tt (omega arith)
             (record { means = i.operation.means; numbered = (let z : t.pings + 1 ≤ t.pings + 1 = omega arith in z); coded = coded_more d s p.sent (record { from = s; timestamp = p.station_next; message = Some ping }) p.transaction code cd; terminates = tm; gathers = tt; final = λ e. final_more d s p.sent _ p.transaction (i.operation.final e); cancel = tt })
             i.since_count (λ x. inr (i.count x)) (λ x. ((i.asked x).0, inr (i.asked x).1)) (λ ph. absurd (omega arith));
@@ -207,7 +208,7 @@ module _ (d s : Stream) (ne : d ≢ s) where
         me = refl;
         inv = record {
           facts = side.attempts_spent_facts q (flag terminating) i.facts some end;
-          truths = truths_keep d s q r j j (keeps_truth d s q r j (record { drone_next = omega arith; station_next = omega arith; shows = λ a b. absurd (omega arith); drone = λ u x. side.attempts_spent_drone q (flag terminating) u x i.facts some end; station = λ ck k n l u x. side.attempts_spent_station q (flag terminating) ck k n l u x i.facts some end })) p.sent i.truths;
+          truths = truths_keep d s q r j j (keeps_truth d s q r j (record { drone_next = omega arith; station_next = omega arith; shows = λ a b. absurd (omega arith); again = record { attempt = λ a b. absurd (omega arith); clear = λ a. absurd (omega arith) }; drone = λ u x. side.attempts_spent_drone q (flag terminating) u x i.facts some end; station = λ ck k n l u x. side.attempts_spent_station q (flag terminating) ck k n l u x i.facts some end })) p.sent i.truths;
           upload = i.upload;
           operation = record { means = i.operation.means; numbered = tt; coded = cd; terminates = tm; gathers = tt; final = i.operation.final; cancel = tt };
           for_drone = i.for_drone;
@@ -249,7 +250,7 @@ module _ (d s : Stream) (ne : d ≢ s) where
         inv =
             station_said d s ne v g m (starts (synchronised u d) o').station (Count (node_of d) (length o.plan) o.kind) (starts_count q) i (rw (synced_here t.synced d) refl)
             (side.starts_count_facts q i.facts refl refl refl can.acks can.heard)
-            (record { drone_next = omega arith; station_next = omega arith; shows = λ a b. absurd (omega arith); drone = λ u x. side.starts_count_drone q u x i.facts refl refl refl can.acks can.heard; station = λ ck k n l u x. side.starts_count_station q ck k n l u x i.facts refl refl refl can.acks can.heard })
+            (record { drone_next = omega arith; station_next = omega arith; shows = λ a b. absurd (omega arith); again = record { attempt = λ a b. absurd (omega arith); clear = λ a. absurd (omega arith) }; drone = λ u x. side.starts_count_drone q u x i.facts refl refl refl can.acks can.heard; station = λ ck k n l u x. side.starts_count_station q ck k n l u x i.facts refl refl refl can.acks can.heard })
             (rw (ek, ep) (count_new q (kind_of p.opening) p.transaction.kind (length p.transaction.plan) (slice_get p.transaction.plan) i.facts))
             refl (omega arith)
             (op_sends d s p.sent _ p.transaction p.opening p.cancelled t.pings t.pings o' Sending 0 o.asked o.final_sent None 0 [] i.operation tt tt (λ e. final_more d s p.sent _ p.transaction (i.operation.final e)) tt)
@@ -280,7 +281,7 @@ module _ (d s : Stream) (ne : d ≢ s) where
         inv =
             station_said d s ne v g m (starts (synchronised u d) o').station (Clear (node_of d) o.kind) (starts_clear q n.0) i (rw (synced_here t.synced d) refl)
             (side.starts_clear_facts q n.0 i.facts refl refl refl can.acks can.heard can.late e l n.3 n.4)
-            (record { drone_next = omega arith; station_next = omega arith; shows = λ a b. absurd (omega arith); drone = λ u x. side.starts_clear_drone q n.0 u x i.facts refl refl refl can.acks can.heard can.late e l n.3 n.4; station = λ ck k n' l' u x. side.starts_clear_station q n.0 ck k n' l' u x i.facts refl refl refl can.acks can.heard can.late e l n.3 n.4 })
+            (record { drone_next = omega arith; station_next = omega arith; shows = λ a b. absurd (omega arith); again = record { attempt = λ a b. absurd (omega arith); clear = λ _. inr can.acks }; drone = λ u x. side.starts_clear_drone q n.0 u x i.facts refl refl refl can.acks can.heard can.late e l n.3 n.4; station = λ ck k n' l' u x. side.starts_clear_station q n.0 ck k n' l' u x i.facts refl refl refl can.acks can.heard can.late e l n.3 n.4 })
             (subst (λ x. SentByStation (starts_clear q n.0) x p.transaction.kind (length p.transaction.plan) (slice_get p.transaction.plan) p.station_next (a_clear o.kind)) (sym ec) (clear_new q o.kind p.transaction.kind (length p.transaction.plan) (slice_get p.transaction.plan) n.0 i.facts refl e l))
             refl (omega arith)
             (op_sends d s p.sent _ p.transaction p.opening p.cancelled t.pings t.pings o' Clearing 0 o.asked o.final_sent None 0 [] i.operation tt tt (λ e. final_more d s p.sent _ p.transaction (i.operation.final e)) tt)
@@ -309,7 +310,7 @@ module _ (d s : Stream) (ne : d ≢ s) where
         inv =
             station_said d s ne v g m (starts (synchronised u d) o').station (Listing (node_of d) o.kind) (starts_listing q n.0) i (rw (synced_here t.synced d) refl)
             (side.starts_listing_facts q n.0 i.facts refl refl refl can.acks can.heard can.late e l n.3 n.4)
-            (record { drone_next = omega arith; station_next = omega arith; shows = λ a b. absurd (omega arith); drone = λ u x. side.starts_listing_drone q n.0 u x i.facts refl refl refl can.acks can.heard can.late e l n.3 n.4; station = λ ck k n' l' u x. side.starts_listing_station q n.0 ck k n' l' u x i.facts refl refl refl can.acks can.heard can.late e l n.3 n.4 })
+            (record { drone_next = omega arith; station_next = omega arith; shows = λ a b. absurd (omega arith); again = record { attempt = λ a b. absurd (omega arith); clear = λ a. absurd (omega arith) }; drone = λ u x. side.starts_listing_drone q n.0 u x i.facts refl refl refl can.acks can.heard can.late e l n.3 n.4; station = λ ck k n' l' u x. side.starts_listing_station q n.0 ck k n' l' u x i.facts refl refl refl can.acks can.heard can.late e l n.3 n.4 })
             (subst (λ x. SentByStation (starts_listing q n.0) x p.transaction.kind (length p.transaction.plan) (slice_get p.transaction.plan) p.station_next (a_list o.kind)) (sym ec) (listing_new q o.kind p.transaction.kind (length p.transaction.plan) (slice_get p.transaction.plan) n.0 i.facts refl e l))
             refl (omega arith)
             (op_sends d s p.sent _ p.transaction p.opening p.cancelled t.pings t.pings o' Listing_items 0 o.asked o.final_sent None 0 [] i.operation tt tt (λ e. final_more d s p.sent _ p.transaction (i.operation.final e)) tt)
@@ -327,7 +328,7 @@ module _ (d s : Stream) (ne : d ≢ s) where
       let two : n ≤ 2 = not_fresh stage not_one in
       let r : Pair = pair.ends q n q.job in
       let j = subject p.transaction p.opening in
-      let k : Keeps q r = record { drone_next = omega arith; station_next = omega arith; shows = λ a b. absurd (omega arith); drone = λ u x. side.ends_drone q n q.job u x i.facts c.work c.shut c.counts c.clears c.requests c.acks c.heard not_one two z c.late; station = λ ck kk n' l u x. side.ends_station q n q.job ck kk n' l u x i.facts c.work c.shut c.counts c.clears c.requests c.acks c.heard not_one two z c.late } in
+      let k : Keeps q r = record { drone_next = omega arith; station_next = omega arith; shows = λ a b. absurd (omega arith); again = record { attempt = λ a b. absurd (omega arith); clear = λ a. absurd (omega arith) }; drone = λ u x. side.ends_drone q n q.job u x i.facts c.work c.shut c.counts c.clears c.requests c.acks c.heard not_one two z c.late; station = λ ck kk n' l u x. side.ends_station q n q.job ck kk n' l u x i.facts c.work c.shut c.counts c.clears c.requests c.acks c.heard not_one two z c.late } in
       let is : pair_of s (record (with_station d p (with_operation (synchronised t d) None)) { transaction = staged p.transaction stage }) m ≡ r = rw (synced_here t.synced d) refl in
       record {
         facts = subst Facts (sym is) (side.ends_facts q n q.job i.facts c.work c.shut c.counts c.clears c.requests c.acks c.heard not_one two z c.late);
@@ -368,9 +369,9 @@ module _ (d s : Stream) (ne : d ≢ s) where
     inv = upload_over p g t Closed i c work (λ x. absurd (omega arith));
   }
 
-  pub on_unknown : (p : Part) (g : Moments) (t : StationState) → Inv d s (with_station d p t) g → CanEnd (pair_of s (with_station d p t) g) → (pair_of s (with_station d p t) g).work ≡ 1 → (pair_of s (with_station d p t) g).lost ≡ 1 → Acked p.sent d s p.transaction.drone_since 1 → Final p.sent d s p.transaction → Said p.sent s p.transaction.since (Ack (node_of d) 15 p.transaction.kind) → Heeds d s t (with_station d p t) (ends t d Told_unknown)
-  on_unknown p g t i c work lost acked final cancel = record {
-    needs = (λ e. absurd (let y : 0 < stage_number p.transaction.stage = i.facts.work_stage work in let y' : stage_number p.transaction.stage ≡ 0 = ap stage_number e in omega arith), is_flagged p.transaction.lost lost, acked, final, cancel);
+  pub on_unknown : (p : Part) (g : Moments) (t : StationState) → Inv d s (with_station d p t) g → CanEnd (pair_of s (with_station d p t) g) → (pair_of s (with_station d p t) g).work ≡ 1 → (pair_of s (with_station d p t) g).lost ≡ 1 → Acked p.sent d s p.transaction.drone_since 1 → Final p.sent d s p.transaction → Said p.sent s p.transaction.since (Ack (node_of d) 15 p.transaction.kind) → Settled p.sent d s p.transaction → Heeds d s t (with_station d p t) (ends t d Told_unknown)
+  on_unknown p g t i c work lost acked final cancel settled = record {
+    needs = (λ e. absurd (let y : 0 < stage_number p.transaction.stage = i.facts.work_stage work in let y' : stage_number p.transaction.stage ≡ 0 = ap stage_number e in omega arith), is_flagged p.transaction.lost lost, acked, final, cancel, settled);
     moments = record g { first_count = 0; first_open = 0; first_ping = 0; first_reply = 0; first_job = 0 };
     sends_to = tt;
     of_drone = tt;
@@ -392,11 +393,11 @@ module _ (d s : Stream) (ne : d ≢ s) where
       let q : Pair = pair_of s v g in
       let m : Moments = record g { first_count = 0; first_open = 0; first_ping = 0; first_reply = 0; first_job = 0 } in
       let z : q.stage ≢ 1 = not_one q i.facts on in
-      let k : Keeps q (pair.ends q q.stage 0) = record { drone_next = omega arith; station_next = omega arith; shows = λ a b. absurd (omega arith); drone = λ u x. side.ends_drone q q.stage 0 u x i.facts c.work c.shut c.counts c.clears c.requests c.acks c.heard z i.facts.stage_range refl c.late; station = λ ck kk n l u x. side.ends_station q q.stage 0 ck kk n l u x i.facts c.work c.shut c.counts c.clears c.requests c.acks c.heard z i.facts.stage_range refl c.late } in
+      let k : Keeps q (pair.ends q q.stage 0) = record { drone_next = omega arith; station_next = omega arith; shows = λ a b. absurd (omega arith); again = record { attempt = λ a b. absurd (omega arith); clear = λ a. absurd (omega arith) }; drone = λ u x. side.ends_drone q q.stage 0 u x i.facts c.work c.shut c.counts c.clears c.requests c.acks c.heard z i.facts.stage_range refl c.late; station = λ ck kk n l u x. side.ends_station q q.stage 0 ck kk n l u x i.facts c.work c.shut c.counts c.clears c.requests c.acks c.heard z i.facts.stage_range refl c.late } in
       let is : pair_of s (record (with_station d p (with_operation (synchronised t d) None)) { opening = None }) m ≡ pair.ends q q.stage 0 = rw (synced_here t.synced d) refl in
       record {
         facts = subst Facts (sym is) (side.ends_facts q q.stage 0 i.facts c.work c.shut c.counts c.clears c.requests c.acks c.heard z i.facts.stage_range refl c.late);
-        truths = subst (λ x. Truths d s x (subject p.transaction None) p.sent) (sym is) (truths_keep d s q (pair.ends q q.stage 0) (subject p.transaction p.opening) (subject p.transaction None) (other_kind (pair.ends q q.stage 0) (subject p.transaction p.opening) (subject p.transaction None) refl refl refl refl refl k) p.sent i.truths);
+        truths = subst (λ x. Truths d s x (subject p.transaction None) p.sent) (sym is) (truths_keep d s q (pair.ends q q.stage 0) (subject p.transaction p.opening) (subject p.transaction None) (other_kind (pair.ends q q.stage 0) (subject p.transaction p.opening) (subject p.transaction None) refl refl refl refl refl refl k) p.sent i.truths);
         upload = i.upload;
         operation = tt;
         for_drone = i.for_drone;
@@ -421,11 +422,13 @@ module _ (d s : Stream) (ne : d ≢ s) where
       kind_free q ck ck' k n l u (Some (Clear a b)) e h = (h.0, h.1, h.2, λ x _. absurd (omega arith), h.4, h.5)
       kind_free q ck ck' k n l u (Some (Listing a b)) e h = (h.0, h.1, h.2, λ x _. absurd (omega arith), h.4, h.5)
 
-      other_kind : {p : Pair} (q : Pair) (j j' : Subject) → q.first_job ≡ 0 → q.phase ≡ 0 → j'.kind ≡ j.kind → j'.total ≡ j.total → j'.plan ≡ j.plan → Keeps p q → (f : Frame) → Truth d s p j f → Truth d s q j' f
-      other_kind q j j' e ph a b c k f t = record {
+      other_kind : {p : Pair} (q : Pair) (j j' : Subject) → q.first_job ≡ 0 → q.phase ≡ 0 → q.first_reply ≡ 0 → j'.kind ≡ j.kind → j'.total ≡ j.total → j'.plan ≡ j.plan → Keeps p q → (f : Frame) (earlier : List Frame) → Truth d s p j f earlier → Truth d s q j' f earlier
+      other_kind q j j' e ph none a b c k f earlier t = record {
         drone = λ x y. k.drone f.timestamp f.message (t.drone x y);
         shows = λ _ _. shows_low q j'.jkind j'.shown f.timestamp f.message (omega arith);
         station = λ x y. rw (a, b, c) (kind_free q j.jkind j'.jkind j.kind j.total j.plan f.timestamp f.message e (k.station j.jkind j.kind j.total j.plan f.timestamp f.message (t.station x y)));
+        last = λ _ _. settles_none d s q j' f.timestamp earlier f.message none;
+        accepts = λ x y. accepts_new q q j'.emptied f.timestamp f.message (λ z. absurd (omega arith)) (k.drone f.timestamp f.message (t.drone x y));
         named = t.named;
         by_drone = λ e. let l = t.by_drone e in let n = k.drone_next in omega arith;
         by_station = λ e. let l = t.by_station e in let n = k.station_next in omega arith;
@@ -444,7 +447,7 @@ module _ (d s : Stream) (ne : d ≢ s) where
     inv = over p g t i c work;
   }
 
-  pub on_cleared : (p : Part) (g : Moments) (t : StationState) → Inv d s (with_station d p t) g → CanEnd (pair_of s (with_station d p t) g) → 1 < (pair_of s (with_station d p t) g).work → SeesClear p.opening → Heeds d s t (with_station d p t) (ends t d Told_cleared)
+  pub on_cleared : (p : Part) (g : Moments) (t : StationState) → Inv d s (with_station d p t) g → CanEnd (pair_of s (with_station d p t) g) → 1 < (pair_of s (with_station d p t) g).work → SeesCleared p.opening → Heeds d s t (with_station d p t) (ends t d Told_cleared)
   on_cleared p g t i c work clear = record {
     needs = clear;
     moments = record g { first_count = 0; first_open = 0; first_ping = 0; first_reply = 0; first_job = 0 };
@@ -473,20 +476,20 @@ module _ (d s : Stream) (ne : d ≢ s) where
         me = refl;
         inv =
             station_said d s ne v m m u (Ack (node_of d) 0 kind) (pings q) j refl (side.pings_facts q j.facts)
-            (record { drone_next = omega arith; station_next = omega arith; shows = λ a b. (a, refl); drone = λ u x. side.pings_drone q u x j.facts; station = λ ck k n l u x. side.pings_station q ck k n l u x j.facts })
+            (record { drone_next = omega arith; station_next = omega arith; shows = λ a b. (a, refl); again = again_same _ _ refl refl refl (omega arith); drone = λ u x. side.pings_drone q u x j.facts; station = λ ck k n l u x. side.pings_station q ck k n l u x j.facts })
             (omega arith, λ e. absurd (omega arith), λ e. absurd (omega arith)) refl (omega arith) tt j.since_count (λ x. inr (j.count x)) (λ x. absurd (omega arith)) (λ ph. absurd (omega arith));
       }
 
   -- the answer to the cancel: `acked` is the frame
-  pub on_synchronises : (p : Part) (g : Moments) (t : StationState) (o : Operation) (w : Work) (terminating : Bool) (c k : ℕ) → (let u = with_operation t (op (record o { work = w; terminating = terminating }) d Cancelling) in Inv d s (with_station d p u) g → Synchronises (pair_of s (with_station d p u) g) c k → Acked p.sent d s (pair_of s (with_station d p u) g).began c → Heeds d s u (with_station d p u) (synchronises u (record o { work = w; terminating = terminating; drone = d; phase = Cancelling }) c))
-  on_synchronises p g t o w false c k i h acked = on_start p g t o w c k i h
-  on_synchronises p g t o Clears true c k i h acked =
+  pub on_synchronises : (p : Part) (g : Moments) (t : StationState) (o : Operation) (w : Work) (terminating : Bool) (c k : ℕ) → (let u = with_operation t (op (record o { work = w; terminating = terminating }) d Cancelling) in Inv d s (with_station d p u) g → Synchronises (pair_of s (with_station d p u) g) c k → Acked p.sent d s (pair_of s (with_station d p u) g).began c → (o.final_sent ≡ true → c ≡ 1 → Settled p.sent d s p.transaction) → Heeds d s u (with_station d p u) (synchronises u (record o { work = w; terminating = terminating; drone = d; phase = Cancelling }) c))
+  on_synchronises p g t o w false c k i h acked settled = on_start p g t o w c k i h
+  on_synchronises p g t o Clears true c k i h acked settled =
       let u = with_operation t (op (record o { work = Clears; terminating = true }) d Cancelling) in
       on_ended p g u 15 i (synced_can (pair_of s (with_station d p u) g) c k i.facts h) (omega arith) (end_cancelled d s p.sent p.cancelled p.opening (some_job (pair_of s (with_station d p u) g) i.facts (omega arith)) (i.operation.terminates refl))
-  on_synchronises p g t o Gets true c k i h acked =
+  on_synchronises p g t o Gets true c k i h acked settled =
       let u = with_operation t (op (record o { work = Gets; terminating = true }) d Cancelling) in
       on_ended p g u 15 i (synced_can (pair_of s (with_station d p u) g) c k i.facts h) (omega arith) (end_cancelled d s p.sent p.cancelled p.opening (some_job (pair_of s (with_station d p u) g) i.facts (omega arith)) (i.operation.terminates refl))
-  on_synchronises p g t o Uploads true c k i h acked =
+  on_synchronises p g t o Uploads true c k i h acked settled =
       let u = with_operation t (op (record o { work = Uploads; terminating = true }) d Cancelling) in
       let v = with_station d p u in
       let q : Pair = pair_of s v g in
@@ -496,7 +499,7 @@ module _ (d s : Stream) (ne : d ≢ s) where
       (λ e. let b = both_true _ _ e in on_installed p g u i can refl (synced_zero q k i.facts (subst (λ n. Synchronises q n k) (eq_true _ _ b.1) h) (flag_true _ b.0)))
       (λ not0. by_test P (o.final_sent && (c == 1)) _ _
       (λ e. let b = both_true _ _ e in let one : c ≡ 1 = eq_true _ _ b.1 in
-      on_unknown p g u i can refl (synced_one q k i.facts (subst (λ n. Synchronises q n k) one h) (flag_true _ b.0)) (subst (λ n. Acked p.sent d s p.transaction.drone_since n) one acked) (i.operation.final b.0) (subst (λ n. Said p.sent s p.transaction.since (Ack (node_of d) 15 n)) i.operation.means.0 i.operation.cancel))
+      on_unknown p g u i can refl (synced_one q k i.facts (subst (λ n. Synchronises q n k) one h) (flag_true _ b.0)) (subst (λ n. Acked p.sent d s p.transaction.drone_since n) one acked) (i.operation.final b.0) (subst (λ n. Said p.sent s p.transaction.since (Ack (node_of d) 15 n)) i.operation.means.0 i.operation.cancel.0) (settled b.0 one))
       (λ not1. on_not_installed p g u (given_code o.code) i can refl (stage_one not0 not1) (cause o.code i.operation.coded)))
     where
       last_one : (c : ℕ) → AnswersCancel c → c ≢ 0 → c ≢ 1 → c ≡ 15

@@ -1,5 +1,5 @@
 -- What a step of the station with an operation at the drone has to show.
-use Rattle.std.proofs.Common.{◌≡◌, ◌≢◌, ℕ, ◌+◌, ◌<◌, ◌≤◌, ◌⊎◌, inl, inr, Bool, true, false, List, ◌∷◌, length, Option, Some, None, refl, sym, ap, subst, arith}
+use Rattle.std.proofs.Common.{◌≡◌, ◌≢◌, ℕ, ◌+◌, ◌<◌, ◌≤◌, ◌⊎◌, inl, inr, Bool, true, false, List, [], ◌∷◌, length, Option, Some, None, refl, sym, ap, subst, arith}
 use Rattle.mav_names.specs.declared.names.Stream.{Stream}
 use Rattle.plan_items.specs.declared.items.Item.{Item}
 use Rattle.plan_items.specs.declared.messages.PlanMsg.{PlanMsg}
@@ -9,10 +9,10 @@ use Rattle.plan_items.specs.Kinds.{limit_of}
 use Rattle.plan_upload.specs.Station.{StationState, StationStep, Operation, Told, Told_installed, Told_not_installed, Told_unknown, Told_cleared, Told_got, Told_ended, is_synced}
 use Rattle.plan_safety.specs.Frames.{Frame, Said}
 use Rattle.plan_safety.specs.World.{frame_of}
-use Rattle.plan_safety.specs.Store.{Job, A_clear, A_get, Transaction, Fresh, In_place, Closed, Acked, RefusedWith, ItemAsked, TooMany, staged, given_up, begun}
+use Rattle.plan_safety.specs.Store.{Job, A_clear, A_get, Transaction, Fresh, In_place, Closed, Acked, RefusedWith, ItemAsked, TooMany, is_emptied, staged, given_up, begun}
 use Rattle.plan_safety.proofs.Keys.{flag}
 use Rattle.plan_safety.proofs.Pair.{Pair, Facts, SentByStation}
-use Rattle.plan_safety.proofs.Part.{Seen, Part, Moments, pair_of, subject, Named, Truths, Final, Operates, Inv, Keeps, keeps_truth, truths_keep, gathers_more, shown_of, number_in, job_number, since_of, IsGet, Answered}
+use Rattle.plan_safety.proofs.Part.{Seen, Part, Moments, pair_of, subject, Named, Truths, Final, Settled, Operates, Inv, Keeps, keeps_truth, truths_keep, gathers_more, shown_of, number_in, job_number, since_of, IsGet, Answered}
 
 -- what a step reports: an outcome, that an operation began, or that it was cancelled
 pub data StationNews : Type 0 where
@@ -27,10 +27,10 @@ abbrev pub news_of : Option Told → StationNews
 news_of None = Silent
 news_of (Some told) = Reports told
 
--- a clear is open; a download that was shown this plan; what ends one with a code
-abbrev pub SeesClear : Option Seen → Type 0
-SeesClear None = ⊥
-SeesClear (Some c) = c.job ≡ A_clear
+-- a clear is open that has emptied its kinds; a download that was shown this plan; what ends one with a code
+abbrev pub SeesCleared : Option Seen → Type 0
+SeesCleared None = ⊥
+SeesCleared (Some c) = (c.job ≡ A_clear) × (is_emptied c.kind c.emptied ≡ true)
 
 abbrev pub SeesPlan : Option Seen → List Item → Type 0
 SeesPlan None plan = ⊥
@@ -45,8 +45,8 @@ SeesEnd sent d s cancelled (Some c) code =
 abbrev pub Reportable : Stream → Stream → List Frame → Transaction → Option Seen → Bool → Told → Type 0
 Reportable d s sent t c cancelled Told_installed = t.stage ≡ In_place
 Reportable d s sent t c cancelled (Told_not_installed code) = (t.stage ≡ Fresh) × ((code ≡ 15) ⊎ RefusedWith sent d s t code)
-Reportable d s sent t c cancelled Told_unknown = (t.stage ≡ Closed → ⊥) × (t.lost ≡ true) × Acked sent d s t.drone_since 1 × Final sent d s t × Said sent s t.since (Ack (node_of d) 15 t.kind)
-Reportable d s sent t c cancelled Told_cleared = SeesClear c
+Reportable d s sent t c cancelled Told_unknown = (t.stage ≡ Closed → ⊥) × (t.lost ≡ true) × Acked sent d s t.drone_since 1 × Final sent d s t × Said sent s t.since (Ack (node_of d) 15 t.kind) × Settled sent d s t
+Reportable d s sent t c cancelled Told_cleared = SeesCleared c
 Reportable d s sent t c cancelled (Told_got plan) = SeesPlan c plan
 Reportable d s sent t c cancelled (Told_ended code) = SeesEnd sent d s cancelled c code
 
@@ -77,7 +77,7 @@ station_transaction d now later t Cancels = t
 
 -- what is open afterwards
 abbrev pub seen : ℕ → Job → ℕ → Option Seen
-seen kind job since = Some (record { kind = kind; job = job; drone_since = since })
+seen kind job since = Some (record { kind = kind; job = job; drone_since = since; emptied = [] })
 
 abbrev pub reported_opening : Option Seen → Told → Option Seen
 reported_opening c Told_installed = c
@@ -160,7 +160,7 @@ pub station_said : (d s : Stream) → d ≢ s → (p : Part) (g h : Moments) (t 
 station_said d s ne p g h t x q i is f k n named l o c m ask old = record {
   facts = subst Facts (sym is) f;
   truths = subst (λ y. Truths d s y (subject p.transaction p.opening) (sent_part d s p t x).sent) (sym is) (
-    record { drone = λ e _. absurd (ne (sym e)); shows = λ e _. absurd (ne (sym e)); station = λ _ _. n; named = λ _ _. named; by_drone = λ e. absurd (ne (sym e)); by_station = λ _. l },
+    record { drone = λ e _. absurd (ne (sym e)); shows = λ e _. absurd (ne (sym e)); last = λ e _. absurd (ne (sym e)); accepts = λ e _. absurd (ne (sym e)); station = λ _ _. n; named = λ _ _. named; by_drone = λ e. absurd (ne (sym e)); by_station = λ _. l },
     truths_keep d s (pair_of s p g) q (subject p.transaction p.opening) (subject p.transaction p.opening) (keeps_truth d s (pair_of s p g) q (subject p.transaction p.opening) k) p.sent i.truths,
   );
   upload = gathers_more d s p.sent _ p.transaction p.drone.upload i.upload;
@@ -190,7 +190,7 @@ or_refused sent f d s t code (inr h) = inr (inr h)
 pub reportable_more : (d s : Stream) (sent : List Frame) (f : Frame) (t : Transaction) (c : Option Seen) (cancelled : Bool) (told : Told) → Reportable d s sent t c cancelled told → Reportable d s (f ∷ sent) t c cancelled told
 reportable_more d s sent f t c cancelled Told_installed h = h
 reportable_more d s sent f t c cancelled (Told_not_installed code) h = (h.0, or_refused sent f d s t code h.1)
-reportable_more d s sent f t c cancelled Told_unknown h = (h.0, h.1, acked_more sent f d s t.drone_since 1 h.2, (h.3.0, h.3.1, h.3.2, h.3.3, inr h.3.4), inr h.4)
+reportable_more d s sent f t c cancelled Told_unknown h = (h.0, h.1, acked_more sent f d s t.drone_since 1 h.2, (h.3.0, h.3.1, h.3.2, h.3.3, inr h.3.4), inr h.4, (h.5.0, inr h.5.1))
 reportable_more d s sent f t c cancelled Told_cleared h = h
 reportable_more d s sent f t c cancelled (Told_got plan) h = h
 reportable_more d s sent f t c cancelled (Told_ended code) h = end_more d s sent f cancelled c code h
@@ -204,7 +204,7 @@ pub end_cancelled : (d s : Stream) (sent : List Frame) (cancelled : Bool) (c : O
 end_cancelled d s sent cancelled None l h = absurd (omega arith)
 end_cancelled d s sent cancelled (Some c) l h = inr (inl (refl, h))
 
-too_many : (kind n : ℕ) (job : Job) → 0 < n → n ≡ length (shown_of (Some (record { kind = kind; job = job; drone_since = 0 }))) → limit_of kind < n → TooMany kind job
+too_many : (kind n : ℕ) (job : Job) → 0 < n → n ≡ length (shown_of (Some (record { kind = kind; job = job; drone_since = 0; emptied = [] }))) → limit_of kind < n → TooMany kind job
 too_many kind n A_clear some e l = absurd (let z : n ≡ 0 = e in omega arith)
 too_many kind n (A_get None) some e l = absurd (let z : n ≡ 0 = e in omega arith)
 too_many kind n (A_get (Some plan)) some e l = subst (λ x. limit_of kind < x) e l

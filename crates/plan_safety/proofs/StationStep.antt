@@ -18,8 +18,9 @@ use Rattle.plan_safety.proofs.Part as Part
 use Rattle.plan_safety.proofs.Lists.{in_range, next_front}
 use Rattle.plan_safety.proofs.Pair.{Pair, Facts, SentByStation, SentByDrone, AnswersCancel, IsVerdict, hears, later_station, cancels, sends_item, marks_terminating, gets, pings, counts, a_ping, a_count, an_item, an_ack}
 use Rattle.plan_safety.proofs.StationSide as side
-use Rattle.plan_safety.proofs.Part.{Seen, Shows, kind_of, shown_of, shown_by, since_of, HasShown, IsShown, IsGet, GathersIn, Numbered, Terminates, Final, Operating, Operates, Part, Moments, pair_of, subject, Inv, keeps_truth, truths_keep, work_number, job_number, number_in, attempt_number, began_at, operates_more, final_more, IsAbout}
-use Rattle.plan_safety.proofs.StationNews.{Silent, Cancels, SeesClear, SeesPlan, Acted, Heeds, with_station, station_said, OfDrone, end_acked, end_too_many}
+use Rattle.plan_safety.proofs.Part.{Seen, Shows, kind_of, shown_of, shown_by, since_of, HasShown, IsShown, IsGet, GathersIn, Numbered, Terminates, Final, Settled, emptied_of, again_same, Operating, Operates, Part, Moments, pair_of, subject, Inv, keeps_truth, truths_keep, work_number, job_number, number_in, attempt_number, began_at, operates_more, final_more}
+use Rattle.plan_safety.proofs.Acknowledgements.{IsAbout}
+use Rattle.plan_safety.proofs.StationNews.{Silent, Cancels, SeesCleared, SeesPlan, Acted, Heeds, with_station, station_said, OfDrone, end_acked, end_too_many}
 use Rattle.plan_safety.proofs.StationCases.{with_operation, op, op_sends, CanEnd, on_silent_attempt, on_attempt, on_synchronises, on_installed, on_ended, on_cleared, on_got, some_job}
 
 -- the station has admitted the timestamp t, and its next one is n
@@ -116,9 +117,9 @@ began_other Gets a b h = refl
 clear_job : (p : Pair) → Facts p → p.phase ≡ 4 → p.job ≡ 1
 clear_job p f h = grind arith
 
-sees_clear : (c : Option Seen) → number_in c (λ (x : Seen). job_number x.job) ≡ 1 → SeesClear c
-sees_clear None e = absurd (omega arith)
-sees_clear (Some c) e = by_job c.job e
+sees_cleared : (c : Option Seen) → number_in c (λ (x : Seen). job_number x.job) ≡ 1 → emptied_of c ≡ true → SeesCleared c
+sees_cleared None e all = absurd (omega arith)
+sees_cleared (Some c) e all = (by_job c.job e, all)
   where
     by_job : (j : Job) → job_number j ≡ 1 → j ≡ A_clear
     by_job A_clear e = refl
@@ -161,6 +162,11 @@ number_is : (pings seq : ℕ) (n : Option ℕ) → is_number n seq ≡ true → 
 number_is pings seq None e = absurd (cc)
 number_is pings seq (Some n) e = sym (eq_true n seq e)
 
+-- what an acknowledgement with this code says of an upload that ends unknown, and of a clear that ends
+abbrev pub Concludes : Stream → Stream → List Frame → Transaction → Option Seen → Pair → ℕ → Type 0
+Concludes d s sent t c q code =
+    (q.phase ≡ 2 → q.final_sent ≡ 1 → code ≡ 1 → Settled sent d s t) × (q.phase ≡ 4 → code ≡ 0 → emptied_of c ≡ true)
+
 -- a cancelled operation may terminate
 terminates_cancelled : (w : Work) (b : Bool) → Terminates true w b
 terminates_cancelled Uploads b = tt
@@ -171,6 +177,10 @@ operates_cancelled : (d s : Stream) (sent : List Frame) (t : Transaction) (c : O
 operates_cancelled d s sent t c cancelled pings None h = tt
 operates_cancelled d s sent t c cancelled pings (Some o) h = record { means = h.means; numbered = h.numbered; coded = h.coded; terminates = terminates_cancelled o.work o.terminating; gathers = h.gathers; final = h.final; cancel = h.cancel }
 
+-- in phase 3 no PING was answered
+sending_settled : (p : Pair) → Facts p → p.phase ≡ 3 → 0 < p.first_reply → ⊥
+sending_settled p f ph some = grind arith
+
 module _ (d s : Stream) (ne : d ≢ s) where
   -- the pair after a frame was admitted
   pub inv_heard : (p : Part) (g : Moments) (t n : ℕ) → Inv d s p g → p.station_last < t → t < p.drone_next → p.station_next ≤ n → Inv d s (heard p t n) g
@@ -180,9 +190,9 @@ module _ (d s : Stream) (ne : d ≢ s) where
       let j = subject p.transaction p.opening in
       record {
         facts = side.later_station_facts (hears q t) n f more;
-        truths = truths_keep d s q (later_station (hears q t) n) j j (λ x y. keeps_truth d s (hears q t) (later_station (hears q t) n) j
-            (record { drone_next = omega arith; station_next = more; shows = λ a b. (a, refl); drone = λ v x. side.later_station_drone (hears q t) n v x f more; station = λ ck k tt' l v x. side.later_station_station (hears q t) n ck k tt' l v x f more }) x
-            (keeps_truth d s q (hears q t) j (record { drone_next = omega arith; station_next = omega arith; shows = λ a b. (a, refl); drone = λ v x. side.hears_drone q t v x i.facts late known; station = λ ck k tt' l v x. side.hears_station q t ck k tt' l v x i.facts late known }) x y)) p.sent i.truths;
+        truths = truths_keep d s q (later_station (hears q t) n) j j (λ x earlier y. keeps_truth d s (hears q t) (later_station (hears q t) n) j
+            (record { drone_next = omega arith; station_next = more; shows = λ a b. (a, refl); again = again_same _ _ refl refl refl (omega arith); drone = λ v x. side.later_station_drone (hears q t) n v x f more; station = λ ck k tt' l v x. side.later_station_station (hears q t) n ck k tt' l v x f more }) x earlier
+            (keeps_truth d s q (hears q t) j (record { drone_next = omega arith; station_next = omega arith; shows = λ a b. (a, refl); again = again_same _ _ refl refl refl (omega arith); drone = λ v x. side.hears_drone q t v x i.facts late known; station = λ ck k tt' l v x. side.hears_station q t ck k tt' l v x i.facts late known }) x earlier y)) p.sent i.truths;
         upload = i.upload;
         operation = i.operation;
         for_drone = i.for_drone;
@@ -243,9 +253,9 @@ module _ (d s : Stream) (ne : d ≢ s) where
         inv =
             station_said d s ne v g (record g { last_cancel = p.station_next }) (with_operation t (op o d Cancelling)) (Ack (node_of d) 15 o.kind) (cancels q) i refl
             (side.cancels_facts q i.facts refl some late)
-            (record { drone_next = omega arith; station_next = omega arith; shows = λ a b. absurd (omega arith); drone = λ u x. side.cancels_drone q u x i.facts refl some late; station = λ ck k n l u x. side.cancels_station q ck k n l u x i.facts refl some late })
+            (record { drone_next = omega arith; station_next = omega arith; shows = λ a b. absurd (omega arith); again = record { attempt = λ _ b. inl (refl, b); clear = λ a. absurd (omega arith) }; drone = λ u x. side.cancels_drone q u x i.facts refl some late; station = λ ck k n l u x. side.cancels_station q ck k n l u x i.facts refl some late })
             (cancel_new q 0 0 0 (λ x. None) o.kind) refl (omega arith)
-            (op_sends d s p.sent _ p.transaction p.opening p.cancelled t.pings t.pings (record o { drone = d; phase = Pinging }) Cancelling o.idle o.asked o.final_sent o.number o.total o.got i.operation i.operation.numbered tt (λ e. final_more d s p.sent _ p.transaction (i.operation.final e)) (inl (refl, i.since, refl)))
+            (op_sends d s p.sent _ p.transaction p.opening p.cancelled t.pings t.pings (record o { drone = d; phase = Pinging }) Cancelling o.idle o.asked o.final_sent o.number o.total o.got i.operation i.operation.numbered tt (λ e. final_more d s p.sent _ p.transaction (i.operation.final e)) (inl (refl, i.since, refl), λ e. inl (refl, refl, i.operation.final e)))
             i.since_count (λ x. inr (i.count x)) (λ x. ((i.asked x).0, inr (i.asked x).1)) (λ ph. absurd (omega arith));
       }
 
@@ -272,7 +282,7 @@ module _ (d s : Stream) (ne : d ≢ s) where
         inv =
             station_said d s ne v g g (with_operation t (op (record o { work = Uploads; asked = true; idle = 0; final_sent = marked }) d Sending)) (Give (node_of d) seq o.kind x) (sends_item q last) i refl
             (side.sends_item_facts q last i.facts refl some late up one)
-            (record { drone_next = omega arith; station_next = omega arith; shows = λ a b. (a, refl); drone = λ u x. side.sends_item_drone q last u x i.facts refl some late up one; station = λ ck k n l u x. side.sends_item_station q last ck k n l u x i.facts refl some late up one })
+            (record { drone_next = omega arith; station_next = omega arith; shows = λ a b. (a, refl); again = record { attempt = λ a _. absurd (sending_settled q i.facts refl a); clear = λ a. absurd (omega arith) }; drone = λ u x. side.sends_item_drone q last u x i.facts refl some late up one; station = λ ck k n l u x. side.sends_item_station q last ck k n l u x i.facts refl some late up one })
             (subst (λ (l : List Item). SentByStation (sends_item q last) (kind_of p.opening) p.transaction.kind (length l) (slice_get l) p.station_next (an_item seq o.kind x)) i.operation.means.1
             (subst (λ k. SentByStation (sends_item q last) (kind_of p.opening) k (length o.plan) (slice_get o.plan) p.station_next (an_item seq o.kind x)) i.operation.means.0
             (item_new q (kind_of p.opening) o.kind (length o.plan) (slice_get o.plan) last seq x i.facts refl within is (last_flag o.final_sent seq (length o.plan)))))
@@ -317,7 +327,7 @@ module _ (d s : Stream) (ne : d ≢ s) where
         inv =
             station_said d s ne v g g (with_operation t (op (record o { idle = 0; total = n; got = [] }) d Getting)) (Request (node_of d) 0 o.kind) (gets q) i refl
             (side.gets_facts q i.facts refl some late)
-            (record { drone_next = omega arith; station_next = omega arith; shows = λ a b. (omega arith, refl); drone = λ u x. side.gets_drone q u x i.facts refl some late; station = λ ck k n l u x. side.gets_station q ck k n l u x i.facts refl some late })
+            (record { drone_next = omega arith; station_next = omega arith; shows = λ a b. (omega arith, refl); again = record { attempt = λ _ b. inl (refl, b); clear = λ a. absurd (omega arith) }; drone = λ u x. side.gets_drone q u x i.facts refl some late; station = λ ck k n l u x. side.gets_station q ck k n l u x i.facts refl some late })
             ((let z : p.station_next < p.station_next + 1 = omega arith in z), λ c. absurd (no_count q i.facts (omega arith) c)) refl (omega arith)
             (op_sends d s p.sent _ p.transaction p.opening p.cancelled t.pings t.pings (record o { drone = d; phase = Listing_items }) Getting 0 o.asked o.final_sent o.number n [] i.operation i.operation.numbered (refl, subst (λ n. 0 < n) len more, len) (λ e. final_more d s p.sent _ p.transaction (i.operation.final e)) tt)
             i.since_count (λ x. inr (i.count x)) (λ x. ((i.asked x).0, inr (i.asked x).1)) (λ ph. absurd (omega arith));
@@ -349,7 +359,7 @@ module _ (d s : Stream) (ne : d ≢ s) where
         inv =
             station_said d s ne v g g (with_operation t (op (record o { idle = 0; got = items }) d Getting)) (Request (node_of d) (length items) o.kind) (pings q) i refl
             (side.pings_facts q i.facts)
-            (record { drone_next = omega arith; station_next = omega arith; shows = λ a b. (a, refl); drone = λ u x. side.pings_drone q u x i.facts; station = λ ck k n l u x. side.pings_station q ck k n l u x i.facts })
+            (record { drone_next = omega arith; station_next = omega arith; shows = λ a b. (a, refl); again = again_same _ _ refl refl refl (omega arith); drone = λ u x. side.pings_drone q u x i.facts; station = λ ck k n l u x. side.pings_station q ck k n l u x i.facts })
             ((let z : p.station_next < p.station_next + 1 = omega arith in z), λ c. absurd (no_count q i.facts (omega arith) c)) refl (omega arith)
             (op_sends d s p.sent _ p.transaction p.opening p.cancelled t.pings t.pings (record o { drone = d; phase = Getting }) Getting 0 o.asked o.final_sent o.number o.total items i.operation i.operation.numbered (front, subst (λ n. length items < n) gathers.2 (less _ _ short), gathers.2) (λ e. final_more d s p.sent _ p.transaction (i.operation.final e)) tt)
             i.since_count (λ x. inr (i.count x)) (λ x. ((i.asked x).0, inr (i.asked x).1)) (λ ph. absurd (omega arith));
@@ -384,62 +394,62 @@ module _ (d s : Stream) (ne : d ≢ s) where
   ended_by p w to c k more me said began = acked_with p to c k (since_of p.opening) me (said (since_of p.opening) (subst (λ n. n ≤ p.station_last) (began_other w p.transaction.drone_since (since_of p.opening) more) began))
 
   -- each message of the drone, by the phase
-  pub on_hears : (p : Part) (g : Moments) (t : StationState) (o : Operation) (w : Work) (f : Phase) (x : PlanMsg) → (let u = with_operation t (op (record o { work = w }) d f) in Inv d s (with_station d p u) g → Heard (pair_of s (with_station d p u) g) (Some x) → Shows (pair_of s (with_station d p u) g) (kind_of p.opening) (shown_of p.opening) p.station_last (Some x) → addressee x ≡ node_of s → ((since : ℕ) → since ≤ p.station_last → Said p.sent d since x) → ((to : Name) (c k : ℕ) → x ≡ Ack to c k → (pair_of s (with_station d p u) g).phase ≡ 3 → IsAbout g.counted g.first_open p.station_last c → RefusedWith p.sent d s p.transaction c) → Heeds d s u (with_station d p u) (phase_step u (record o { work = w; drone = d; phase = f }) f x))
-  on_hears p g t o w Pinging (Ping to usec n) i h sh me said by =
+  pub on_hears : (p : Part) (g : Moments) (t : StationState) (o : Operation) (w : Work) (f : Phase) (x : PlanMsg) → (let u = with_operation t (op (record o { work = w }) d f) in Inv d s (with_station d p u) g → Heard (pair_of s (with_station d p u) g) (Some x) → Shows (pair_of s (with_station d p u) g) (kind_of p.opening) (shown_of p.opening) p.station_last (Some x) → addressee x ≡ node_of s → ((since : ℕ) → since ≤ p.station_last → Said p.sent d since x) → ((to : Name) (c k : ℕ) → x ≡ Ack to c k → (pair_of s (with_station d p u) g).phase ≡ 3 → IsAbout g.counted g.first_open p.station_last c → RefusedWith p.sent d s p.transaction c) → ((to : Name) (c k : ℕ) → x ≡ Ack to c k → Concludes d s p.sent p.transaction p.opening (pair_of s (with_station d p u) g) c) → Heeds d s u (with_station d p u) (phase_step u (record o { work = w; drone = d; phase = f }) f x))
+  on_hears p g t o w Pinging (Ping to usec n) i h sh me said by set =
       let u = with_operation t (op (record o { work = w }) d Pinging) in
       let q : Pair = pair_of s (with_station d p u) g in
       by_test (Heeds d s u (with_station d p u)) ((usec == t.boot) && is_number o.number n) _ _
       (λ e. let r = h.truth.2 (i.facts.phase_attempt (omega arith) (omega arith)) (number_is t.pings n o.number (both_true _ _ e).1) in on_reply p g t (record o { work = w }) i r.0 r.1)
       (λ _. rested p g u i refl)
-  on_hears p g t o w Cancelling (Ack to c k) i h sh me said by =
+  on_hears p g t o w Cancelling (Ack to c k) i h sh me said by set =
       let u = with_operation t (op (record o { work = w }) d Cancelling) in
       let q : Pair = pair_of s (with_station d p u) g in
       by_test (Heeds d s u (with_station d p u)) ((c == 0) || ((c == 1) || (c == 15))) _ _
-      (λ e. on_synchronises d s ne p g t o w o.terminating c k i (record { phase = refl; late = h.reply refl; code = cancel_answered c e; truth = h.truth }) (acked_with p to c k q.began me (said q.began (cancel_began q i.facts refl))))
+      (λ e. on_synchronises d s ne p g t o w o.terminating c k i (record { phase = refl; late = h.reply refl; code = cancel_answered c e; truth = h.truth }) (acked_with p to c k q.began me (said q.began (cancel_began q i.facts refl))) (λ last one. (set to c k refl).0 refl (ap flag last) one))
       (λ _. rested p g u i refl)
-  on_hears p g t o Uploads Sending (Request to seq k) i h sh me said by =
+  on_hears p g t o Uploads Sending (Request to seq k) i h sh me said by set =
       let u = with_operation t (op (record o { work = Uploads }) d Sending) in
       by_test (Heeds d s u (with_station d p u)) (k == o.kind) _ _
       (λ _. let r = h.request to seq k refl in on_item_asked p g t o seq (slice_get o.plan seq) i r.0 r.1 refl)
       (λ _. rested p g u i refl)
-  on_hears p g t o Clears Sending x i h sh me said by = absurd (let z : (pair_of s (with_station d p (with_operation t (op (record o { work = Clears }) d Sending))) g).work ≡ 1 = sending_work _ i.facts refl in omega arith)
-  on_hears p g t o Gets Sending x i h sh me said by = absurd (let z : (pair_of s (with_station d p (with_operation t (op (record o { work = Gets }) d Sending))) g).work ≡ 1 = sending_work _ i.facts refl in omega arith)
-  on_hears p g t o Uploads Sending (Ack to c k) i h sh me said by = on_upload_acked p g t o to c k i h (by to c k refl refl)
-  on_hears p g t o w Clearing (Ack to c k) i h sh me said by =
+  on_hears p g t o Clears Sending x i h sh me said by set = absurd (let z : (pair_of s (with_station d p (with_operation t (op (record o { work = Clears }) d Sending))) g).work ≡ 1 = sending_work _ i.facts refl in omega arith)
+  on_hears p g t o Gets Sending x i h sh me said by set = absurd (let z : (pair_of s (with_station d p (with_operation t (op (record o { work = Gets }) d Sending))) g).work ≡ 1 = sending_work _ i.facts refl in omega arith)
+  on_hears p g t o Uploads Sending (Ack to c k) i h sh me said by set = on_upload_acked p g t o to c k i h (by to c k refl refl)
+  on_hears p g t o w Clearing (Ack to c k) i h sh me said by set =
       let u = with_operation t (op (record o { work = w }) d Clearing) in
       let q : Pair = pair_of s (with_station d p u) g in
       let P : StationStep → Type 0 = Heeds d s u (with_station d p u) in
       by_test P (c == 0) _ _
-      (λ e. let r = h.job to c k refl (omega arith) (accepting c e) in let b = cleared_can q c k i.facts (omega arith) (omega arith) (accepting c e) h.truth r.0 r.1 r.2 in on_cleared d s ne p g u i b.0 b.1 (sees_clear p.opening (clear_job q i.facts refl)))
+      (λ e. let r = h.job to c k refl (omega arith) (accepting c e) in let b = cleared_can q c k i.facts (omega arith) (omega arith) (accepting c e) h.truth r.0 r.1 r.2 in on_cleared d s ne p g u i b.0 b.1 (sees_cleared p.opening (clear_job q i.facts refl) ((set to c k refl).1 refl (eq_true c 0 e))))
       (λ _. by_test P ((c == 3) || (c == 14)) _ _
       (λ e. let r = h.job to c k refl (omega arith) (refusing c e) in let b = cleared_can q c k i.facts (omega arith) (omega arith) (refusing c e) h.truth r.0 r.1 r.2 in
       on_ended d s ne p g u c i b.0 b.1 (end_acked d s p.sent p.cancelled p.opening c (some_job q i.facts b.1) (ended_by p w to c k b.1 me said (h.verdict to c k refl (omega arith) (refusing c e)))))
       (λ _. rested p g u i refl))
-  on_hears p g t o w Listing_items (Ack to c k) i h sh me said by =
+  on_hears p g t o w Listing_items (Ack to c k) i h sh me said by set =
       let u = with_operation t (op (record o { work = w }) d Listing_items) in
       let q : Pair = pair_of s (with_station d p u) g in
       by_test (Heeds d s u (with_station d p u)) ((c == 3) || (c == 14)) _ _
       (λ e. let r = h.job to c k refl (omega arith) (refusing c e) in let b = cleared_can q c k i.facts (omega arith) (omega arith) (refusing c e) h.truth r.0 r.1 r.2 in
       on_ended d s ne p g u c i b.0 b.1 (end_acked d s p.sent p.cancelled p.opening c (some_job q i.facts b.1) (ended_by p w to c k b.1 me said (h.verdict to c k refl (omega arith) (refusing c e)))))
       (λ _. rested p g u i refl)
-  on_hears p g t o w Listing_items (Count to n k) i h sh me said by =
+  on_hears p g t o w Listing_items (Count to n k) i h sh me said by set =
       let u = with_operation t (op (record o { work = w }) d Listing_items) in
       by_test (Heeds d s u (with_station d p u)) (k == o.kind) _ _
       (λ _. let c = h.count to n k refl refl in let now : g.now_shown ≤ p.station_last = (let z = c.1 in omega arith) in let y = sh (omega arith) c.0 now in let x = i.download (omega arith) c.0 in on_counted p g t (record o { work = w }) n i c.0 c.1 y.1 x.0)
       (λ _. rested p g u i refl)
-  on_hears p g t o w Getting (Give to seq k x) i h sh me said by =
+  on_hears p g t o w Getting (Give to seq k x) i h sh me said by set =
       let u = with_operation t (op (record o { work = w }) d Getting) in
       by_test (Heeds d s u (with_station d p u)) ((k == o.kind) && (seq == length o.got)) _ _
       (λ e. let some : 0 < g.now_shown = i.facts.getting_listed refl in let late : g.now_shown < p.station_last = h.item refl in let far : 4 < 6 = omega arith in let y = sh far some late in let at : seq ≡ length o.got = eq_true seq (length o.got) (both_true (k == o.kind) (seq == length o.got) e).1 in
       on_item_got p g t (record o { work = w }) x i (subst (λ n. slice_get (shown_of p.opening) n ≡ Some x) at y.1) (i.download far some).0)
       (λ _. rested p g u i refl)
-  on_hears p g t o w Getting (Ack to c k) i h sh me said by =
+  on_hears p g t o w Getting (Ack to c k) i h sh me said by set =
       let u = with_operation t (op (record o { work = w }) d Getting) in
       let q : Pair = pair_of s (with_station d p u) g in
       by_test (Heeds d s u (with_station d p u)) (c == 0) _ _
       (λ _. rested p g u i refl)
       (λ _. let b = getting_can q i.facts refl in on_ended d s ne p g u c i b.0 b.1 (end_acked d s p.sent p.cancelled p.opening c (some_job q i.facts b.1) (ended_by p w to c k b.1 me said (getting_began q i.facts refl))))
-  on_hears p g t o w f x i h sh me said by = rested p g (with_operation t (op (record o { work = w }) d f)) i refl
+  on_hears p g t o w f x i h sh me said by set = rested p g (with_operation t (op (record o { work = w }) d f)) i refl
 
   -- a cancel of the station's own, if it was marked in the store
   marked : (p : Part) (g : Moments) (t : StationState) (o : Operation) (f : Phase) → phase_number f < 3 → (let u = with_operation t (op o d f) in Inv d s (with_station d (record p { cancelled = true }) u) g → Heeds d s u (with_station d (record p { cancelled = true }) u) (becomes u (record o { terminating = true; drone = d; phase = f })))
@@ -458,7 +468,7 @@ module _ (d s : Stream) (ne : d ≢ s) where
         me = refl;
         inv = record {
           facts = side.marks_terminating_facts q i.facts r;
-          truths = truths_keep d s q (marks_terminating q) j j (keeps_truth d s q (marks_terminating q) j (record { drone_next = omega arith; station_next = omega arith; shows = λ a b. (a, refl); drone = λ u x. side.marks_terminating_drone q u x i.facts r; station = λ ck k n y u x. side.marks_terminating_station q ck k n y u x i.facts r })) p.sent i.truths;
+          truths = truths_keep d s q (marks_terminating q) j j (keeps_truth d s q (marks_terminating q) j (record { drone_next = omega arith; station_next = omega arith; shows = λ a b. (a, refl); again = again_same _ _ refl refl refl (omega arith); drone = λ u x. side.marks_terminating_drone q u x i.facts r; station = λ ck k n y u x. side.marks_terminating_station q ck k n y u x i.facts r })) p.sent i.truths;
           upload = i.upload;
           operation = record { means = i.operation.means; numbered = i.operation.numbered; coded = i.operation.coded; terminates = terminates_cancelled o.work true; gathers = i.operation.gathers; final = i.operation.final; cancel = i.operation.cancel };
           for_drone = i.for_drone;
@@ -540,7 +550,7 @@ module _ (d s : Stream) (ne : d ≢ s) where
         inv =
             station_said d s ne v g g u (Ping everyone t.boot n) (pings q) i refl
             (side.pings_facts q i.facts)
-            (record { drone_next = omega arith; station_next = omega arith; shows = λ a b. (a, refl); drone = λ u x. side.pings_drone q u x i.facts; station = λ ck k n l u x. side.pings_station q ck k n l u x i.facts })
+            (record { drone_next = omega arith; station_next = omega arith; shows = λ a b. (a, refl); again = again_same _ _ refl refl refl (omega arith); drone = λ u x. side.pings_drone q u x i.facts; station = λ ck k n l u x. side.pings_station q ck k n l u x i.facts })
             (ping_new q n i.facts refl refl (omega arith)) tt (omega arith)
             (op_sends d s p.sent _ p.transaction p.opening p.cancelled t.pings t.pings o' Pinging o.idle o.asked o.final_sent (Some n) o.total o.got i.operation used tt (λ e. final_more d s p.sent _ p.transaction (i.operation.final e)) tt)
             i.since_count (λ x. inr (i.count x)) (λ x. ((i.asked x).0, inr (i.asked x).1)) (λ ph. absurd (omega arith));
@@ -567,7 +577,7 @@ module _ (d s : Stream) (ne : d ≢ s) where
         inv =
             station_said d s ne v g (record g { last_count = p.station_next }) (with_operation t (Some (idle_again o'))) (Count (node_of d) (length o.plan) o.kind) (counts q) i refl
             (side.counts_facts q i.facts refl a)
-            (record { drone_next = omega arith; station_next = omega arith; shows = λ a b. (a, refl); drone = λ u x. side.counts_drone q u x i.facts refl a; station = λ ck k n l u x. side.counts_station q ck k n l u x i.facts refl a })
+            (record { drone_next = omega arith; station_next = omega arith; shows = λ a b. (a, refl); again = again_same _ _ refl refl refl (omega arith); drone = λ u x. side.counts_drone q u x i.facts refl a; station = λ ck k n l u x. side.counts_station q ck k n l u x i.facts refl a })
             (rw (ek, ep) (count_again q (kind_of p.opening) p.transaction.kind (length p.transaction.plan) (slice_get p.transaction.plan) i.facts refl))
             refl (omega arith)
             (op_sends d s p.sent _ p.transaction p.opening p.cancelled t.pings t.pings o' Sending (o.idle + 1) o.asked o.final_sent o.number o.total o.got i.operation i.operation.numbered tt (λ e. final_more d s p.sent _ p.transaction (i.operation.final e)) tt)
@@ -591,7 +601,7 @@ module _ (d s : Stream) (ne : d ≢ s) where
         inv =
             station_said d s ne v g g (with_operation t (Some (idle_again o'))) (Request (node_of d) (length o.got) o.kind) (pings q) i refl
             (side.pings_facts q i.facts)
-            (record { drone_next = omega arith; station_next = omega arith; shows = λ a b. (a, refl); drone = λ u x. side.pings_drone q u x i.facts; station = λ ck k n l u x. side.pings_station q ck k n l u x i.facts })
+            (record { drone_next = omega arith; station_next = omega arith; shows = λ a b. (a, refl); again = again_same _ _ refl refl refl (omega arith); drone = λ u x. side.pings_drone q u x i.facts; station = λ ck k n l u x. side.pings_station q ck k n l u x i.facts })
             ((let z : p.station_next < p.station_next + 1 = omega arith in z), λ c. absurd (no_count q i.facts (omega arith) c)) refl (omega arith)
             (op_sends d s p.sent _ p.transaction p.opening p.cancelled t.pings t.pings o' Getting (o.idle + 1) o.asked o.final_sent o.number o.total o.got i.operation i.operation.numbered i.operation.gathers (λ e. final_more d s p.sent _ p.transaction (i.operation.final e)) tt)
             i.since_count (λ x. inr (i.count x)) (λ x. ((i.asked x).0, inr (i.asked x).1)) (λ ph. absurd (omega arith));

@@ -1,11 +1,12 @@
 -- What the abstract mission store went through, and what that says of each upload.
-use Rattle.std.specs.Prelude.{ℕ, ◌+◌, ◌≡◌, ◌<◌, ◌⊎◌, ◌==◌, ◌&&◌, Bool, true, false, if◌then◌else◌, List, [], ◌∷◌, Some}
+use Rattle.std.specs.Prelude.{ℕ, ◌+◌, ◌≡◌, ◌≢◌, ◌<◌, ◌⊎◌, ◌==◌, ◌&&◌, Bool, true, false, if◌then◌else◌, List, [], ◌∷◌, Some}
 use Rattle.mav_names.specs.declared.names.Stream.{Stream}
 use Rattle.plan_items.specs.declared.items.Item.{Item}
 use Rattle.plan_upload.specs.Addresses.{same_stream}
+use Rattle.plan_upload.specs.Plans.{every_kind}
 use Rattle.plan_upload.specs.Station.{Told, Told_installed, Told_not_installed, Told_unknown, Told_cleared, Told_got, Told_ended}
 use Rattle.plan_safety.specs.Frames.{Frame}
-use Rattle.plan_safety.specs.Store.{Store, StoreEvent, Upload_begun, Installed, Clear_begun, Cleared, Get_begun, Shown, Cancelled, Ended, Restarted, Opening, FullySent, FinalSent, CancelSent, Acked, RefusedWith, TooMany, Needs, does, first_store}
+use Rattle.plan_safety.specs.Store.{Store, StoreEvent, Upload_begun, Installed, Clear_begun, Cleared, Get_begun, Shown, Cancelled, Ended, Restarted, Opening, FullySent, FinalSent, CancelSent, AnsweredLast, A_clear, Acked, RefusedWith, TooMany, Needs, does, first_store}
 use Rattle.plan_safety.specs.World.{Nodes, World, Event, happens}
 
 -- an event, and the frames sent by then
@@ -47,6 +48,17 @@ begins_get (Shown drone kind plan station) s = false
 begins_get (Cancelled station) s = false
 begins_get (Ended station told) s = false
 begins_get (Restarted drone) s = false
+
+abbrev pub begins_clear : StoreEvent → Stream → Bool
+begins_clear (Upload_begun station drone kind plan since drone_since) s = false
+begins_clear (Installed drone kind plan station) s = false
+begins_clear (Clear_begun station drone kind drone_since) s = same_stream station s
+begins_clear (Cleared drone kind station) s = false
+begins_clear (Get_begun station drone kind drone_since) s = false
+begins_clear (Shown drone kind plan station) s = false
+begins_clear (Cancelled station) s = false
+begins_clear (Ended station told) s = false
+begins_clear (Restarted drone) s = false
 
 -- any operation begins
 abbrev pub begins : StoreEvent → Stream → Bool
@@ -143,13 +155,30 @@ GotHeld h s plan = (c : Opening) × ((store_of h).opening s ≡ Some c) × HeldS
 abbrev pub NotInstalledBy : List Step → List Frame → Stream → ℕ → Type 0
 NotInstalledBy h sent s code = let t = (store_of h).transaction s in (code ≡ 15) ⊎ RefusedWith sent t.drone s t code
 
--- why an upload was reported as "unknown": since it began the drone has started again, the last item and a cancel were
--- sent, and the drone answered code 1
+-- why an upload was reported as "unknown": since it began the drone has started again, the last item was sent, a cancel
+-- after it, and the drone answered code 1 after that cancel
 pub record UnknownBy (h : List Step) (sent : List Frame) (s : Stream) : Type 0 where
   pub restarted : RestartedSince h s ((store_of h).transaction s).drone
   pub answered : Acked sent ((store_of h).transaction s).drone s ((store_of h).transaction s).drone_since 1
   pub final_sent : FinalSent sent s ((store_of h).transaction s)
   pub cancel_sent : CancelSent sent s ((store_of h).transaction s)
+  pub answered_last : AnsweredLast sent s ((store_of h).transaction s) 1
+
+-- since the station's latest clear began the drone's plan of the kind was emptied for it
+abbrev pub EmptiedSince : List Step → Stream → Stream → ℕ → Type 0
+EmptiedSince [] s drone kind = ⊥
+EmptiedSince (x ∷ h) s drone kind =
+    (x.event ≡ Cleared drone kind s) ⊎ ((begins_clear x.event s ≡ false) × EmptiedSince h s drone kind)
+
+-- a clear of one kind is of that kind, a clear of all kinds of each
+abbrev pub IsKindOf : ℕ → ℕ → Type 0
+IsKindOf all kind = ((all ≢ every_kind) × (kind ≡ all)) ⊎ ((all ≡ every_kind) × (kind < 3))
+
+-- what a clear that was reported as "cleared" has done: each of its kinds was emptied since it began
+abbrev pub ClearedBy : List Step → Stream → Type 0
+ClearedBy h s =
+    (c : Opening) × ((store_of h).opening s ≡ Some c) × (c.job ≡ A_clear)
+    × ((kind : ℕ) → IsKindOf c.kind kind → EmptiedSince h s c.drone kind)
 
 -- why a clear or a download ended: with a code that the drone sent since it began, with 15 if it was
 -- cancelled, or with 4 if the drone's plan has more items than its kind has room for

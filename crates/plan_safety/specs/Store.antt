@@ -1,6 +1,6 @@
 -- The abstract mission store: the plans of all drones, the latest upload transaction of each station, and
 -- the clear or download that a station has open. It knows of no buffer, retry, PING, timestamp order or request.
-use Rattle.std.specs.Prelude.{ℕ, ◌+◌, ◌≡◌, ◌<◌, ◌⊎◌, Bool, true, false, ◌==◌, ◌&&◌, if◌then◌else◌, List, [], ◌∷◌, length, Option, Some, None, slice_get}
+use Rattle.std.specs.Prelude.{ℕ, ◌+◌, ◌≡◌, ◌<◌, ◌⊎◌, Bool, true, false, ◌==◌, ◌&&◌, ◌||◌, if◌then◌else◌, List, [], ◌∷◌, length, Option, Some, None, slice_get}
 use Rattle.mav_names.specs.declared.names.Stream.{Stream}
 use Rattle.plan_items.specs.declared.items.Item.{Item}
 use Rattle.plan_items.specs.declared.faults.PlanFault.{PlanFault}
@@ -39,6 +39,7 @@ pub record Opening : Type 0 where
   pub kind : ℕ
   pub job : Job
   pub drone_since : ℕ  -- the drone's next timestamp when it began
+  pub emptied : List ℕ  -- the kinds that its clear has emptied since
 
 pub record Store : Type 0 where
   pub plan : Stream → ℕ → List Item
@@ -101,6 +102,16 @@ abbrev pub FinalSent : List Frame → Stream → Transaction → Type 0
 FinalSent sent station t =
     (seq : ℕ) × (item : Item) × (seq + 1 ≡ length t.plan) × (slice_get t.plan seq ≡ Some item) × Said sent station t.since (Give (node_of t.drone) seq t.kind item)
 
+-- the station sent a cancel of the upload after the last item
+abbrev pub CancelledLast : List Frame → Stream → Transaction → Type 0
+CancelledLast sent station t =
+    SaidAfter (λ earlier. FinalSent earlier station t) sent station (Ack (node_of t.drone) 15 t.kind)
+
+-- the drone answered with this code to the station after that cancel
+abbrev pub AnsweredLast : List Frame → Stream → Transaction → ℕ → Type 0
+AnsweredLast sent station t code =
+    (kind : ℕ) × SaidAfter (λ earlier. CancelledLast earlier station t) sent t.drone (Ack (node_of station) code kind)
+
 -- the station sent a cancel
 abbrev pub CancelSent : List Frame → Stream → Transaction → Type 0
 CancelSent sent station t = Said sent station t.since (Ack (node_of t.drone) 15 t.kind)
@@ -118,9 +129,20 @@ abbrev pub MayClear : Option Opening → Stream → ℕ → Type 0
 MayClear None drone kind = ⊥
 MayClear (Some c) drone kind = (c.drone ≡ drone) × (c.job ≡ A_clear) × ((c.kind ≡ kind) ⊎ (c.kind ≡ every_kind))
 
-abbrev pub HasClear : Option Opening → Type 0
-HasClear None = ⊥
-HasClear (Some c) = c.job ≡ A_clear
+abbrev pub is_among : ℕ → List ℕ → Bool
+is_among kind [] = false
+is_among kind (k ∷ ks) = (k == kind) || is_among kind ks
+
+-- each of a clear's kinds was emptied
+abbrev pub is_emptied : ℕ → List ℕ → Bool
+is_emptied kind emptied =
+    if kind == every_kind then is_among 0 emptied && (is_among 1 emptied && is_among 2 emptied)
+    else is_among kind emptied
+
+-- a clear is open that has emptied each of its kinds
+abbrev pub HasCleared : Option Opening → Type 0
+HasCleared None = ⊥
+HasCleared (Some c) = (c.job ≡ A_clear) × (is_emptied c.kind c.emptied ≡ true)
 
 -- a download is open that was shown this plan
 abbrev pub HasGot : Option Opening → List Item → Type 0
@@ -146,11 +168,12 @@ MayEnd sent station t opening cancelled Told_installed = t.stage ≡ In_place
 -- not installed: it is fresh, and the code is one that the drone refused it with, or 15
 MayEnd sent station t opening cancelled (Told_not_installed code) =
     (t.stage ≡ Fresh) × ((code ≡ 15) ⊎ RefusedWith sent t.drone station t code)
--- unknown: the drone has started again, the last item and a cancel were sent, and it answered code 1
+-- unknown: the drone has started again, and answered code 1 after a cancel that was sent after the last item
 MayEnd sent station t opening cancelled Told_unknown =
     (t.stage ≡ Closed → ⊥) × (t.lost ≡ true) × Acked sent t.drone station t.drone_since 1 × FinalSent sent station t × CancelSent sent station t
--- cleared: a clear is open; got: a download that saw that plan; ended: by its cause
-MayEnd sent station t opening cancelled Told_cleared = HasClear opening
+    × AnsweredLast sent station t 1
+-- cleared: a clear is open that has emptied each of its kinds; got: a download that saw that plan; ended: by its cause
+MayEnd sent station t opening cancelled Told_cleared = HasCleared opening
 MayEnd sent station t opening cancelled (Told_got plan) = HasGot opening plan
 MayEnd sent station t opening cancelled (Told_ended code) = EndCause sent station cancelled opening code
 
@@ -221,7 +244,18 @@ begun drone kind plan since drone_since = record {
 }
 
 abbrev pub opened : Stream → ℕ → Job → ℕ → Opening
-opened drone kind job drone_since = record { drone = drone; kind = kind; job = job; drone_since = drone_since }
+opened drone kind job drone_since = record {
+  drone = drone;
+  kind = kind;
+  job = job;
+  drone_since = drone_since;
+  emptied = [];
+}
+
+-- a clear has emptied this kind
+abbrev pub empties : Option Opening → ℕ → Option Opening
+empties None kind = None
+empties (Some c) kind = Some (record c { emptied = kind ∷ c.emptied })
 
 -- what an event does
 abbrev pub does : Store → StoreEvent → Store
@@ -237,7 +271,10 @@ does m (Clear_begun station drone kind drone_since) = record m {
   opening = at m.opening station (Some (opened drone kind A_clear drone_since));
   cancelled = at m.cancelled station false;
 }
-does m (Cleared drone kind station) = record m { plan = at m.plan drone (with_plan (m.plan drone) kind []) }
+does m (Cleared drone kind station) = record m {
+  plan = at m.plan drone (with_plan (m.plan drone) kind []);
+  opening = at m.opening station (empties (m.opening station) kind);
+}
 does m (Get_begun station drone kind drone_since) = record m {
   opening = at m.opening station (Some (opened drone kind (A_get None) drone_since));
   cancelled = at m.cancelled station false;
