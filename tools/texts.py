@@ -1,0 +1,210 @@
+"""What the tools share: their words and mistakes, files, numbers as text, and the program's output."""
+
+import functools
+import html
+import json
+import os
+import re
+import struct
+import subprocess
+import sys
+from decimal import ROUND_HALF_EVEN, Context, Decimal
+from fractions import Fraction
+
+TOP = os.path.dirname(os.path.dirname(os.path.realpath(__file__)))
+COMMON = os.path.join(TOP, "defs", "common.json")
+NUMBER = re.compile(r"[+-]?(?:[0-9]+(?:\.[0-9]*)?|\.[0-9]+)(?:[eE][+-]?[0-9]{1,4})?")
+LONGEST_NUMBER = 400
+NAN, INFINITY = 0x7FC00000, 0x7F800000
+EXACT = Context(prec=LONGEST_NUMBER + 10, Emin=-99999, Emax=99999)
+UNUSABLE_WORDS, WRONG_FORM, UNREADABLE, UNWRITABLE = 2, 3, 4, 5
+
+
+class Mistake(Exception):
+    """Ends a tool with a status and one sentence on standard error."""
+
+    def __init__(self, status, sentence):
+        super().__init__(sentence)
+        self.status = status
+
+
+def wrong_form(place, expected):
+    """Returns the mistake of a file of the wrong form."""
+    return Mistake(WRONG_FORM, f"{place}: {expected}")
+
+
+def shown(text):
+    """Returns a text for a sentence: printable, in quotes, and not long."""
+    text = str(text)
+    return ascii(text if len(text) <= 40 else text[:37] + "..")
+
+
+def run_tool(main):
+    """Calls a tool's `main` with its words, and exits with its status."""
+    try:
+        status = main(sys.argv[1:])
+        sys.stdout.flush()
+    except Mistake as mistake:
+        print(f"bevuntri: {mistake}", file=sys.stderr)
+        status = mistake.status
+    except BrokenPipeError:
+        os.dup2(os.open(os.devnull, os.O_WRONLY), sys.stdout.fileno())
+        status = UNWRITABLE
+    except KeyboardInterrupt:
+        status = 130
+    except MemoryError:
+        print("bevuntri: memory ran out", file=sys.stderr)
+        status = 7
+    sys.exit(status)
+
+
+def words_of(page, words, valued=(), flags=(), plain=(1, 1)):
+    """Returns the options and the plain words of a tool; prints its page and exits if one word is `--help`.
+
+    Options are a dictionary by name, with a value for those in `valued` and True for those in `flags`.
+    """
+    options, rest, words = {}, [], list(words)
+    usage = page.split("\n", 1)[0]
+    while words:
+        word = words.pop(0)
+        name, is_pair, value = word.partition("=")
+        if word == "--help":
+            print(page.strip())
+            sys.exit(0)
+        elif word == "--":
+            rest += words
+            break
+        elif not word.startswith("-") or word == "-":
+            rest.append(word)
+        elif name in options or name not in (*valued, *flags) or is_pair and name in flags:
+            raise Mistake(UNUSABLE_WORDS, f"{shown(word)} isn't expected here: {usage}")
+        elif name in valued and not is_pair and (not words or words[0].startswith("-") and words[0] != "-"):
+            raise Mistake(UNUSABLE_WORDS, f"{word} expects a value after it: {usage}")
+        else:
+            options[name] = value if is_pair else words.pop(0) if name in valued else True
+    if len(rest) < plain[0]:
+        raise Mistake(UNUSABLE_WORDS, f"a word is missing: {usage}")
+    if len(rest) > plain[1]:
+        raise Mistake(UNUSABLE_WORDS, f"{shown(rest[plain[1]])} is a word too many: {usage}")
+    return options, rest
+
+
+def read_bytes(path):
+    """Returns what a file holds, `-` being standard input."""
+    try:
+        if path == "-":
+            return sys.stdin.buffer.read()
+        with open(path, "rb") as file:
+            return file.read()
+    except (OSError, ValueError) as error:
+        raise Mistake(UNREADABLE, f"{path}: can't be read: {getattr(error, 'strerror', error)}") from None
+
+
+def read_text(path):
+    try:
+        return read_bytes(path).decode("utf-8-sig")
+    except UnicodeDecodeError as error:
+        raise wrong_form(path, f"byte {error.start}: expected text in UTF-8") from None
+
+
+def read_json(path):
+    """Returns the value of a JSON file, in which each number is a Decimal."""
+    def refuse(name):
+        raise ValueError(f"{name} isn't JSON")
+    try:
+        return json.loads(read_text(path), parse_float=decimal_of, parse_int=decimal_of, parse_constant=refuse)
+    except json.JSONDecodeError as error:
+        raise wrong_form(path, f"line {error.lineno}: expected JSON: {error.msg}") from None
+    except (ValueError, RecursionError) as error:
+        reason = error if isinstance(error, ValueError) else "it is nested too deep"
+        raise wrong_form(path, f"expected JSON: {reason}") from None
+
+
+def decimal_of(text):
+    """Returns a decimal text's exact value."""
+    if len(text) > LONGEST_NUMBER or not NUMBER.fullmatch(text):
+        raise ValueError(f"{shown(text)} isn't a decimal number")
+    return EXACT.create_decimal(text)
+
+
+def scaled(degrees):
+    """Returns degrees as a whole number of units of 1e-7 degrees, rounded half to even."""
+    return int(EXACT.scaleb(degrees, 7).to_integral_value(ROUND_HALF_EVEN))
+
+
+def degrees_text(units):
+    """Returns units of 1e-7 degrees as exact decimal text."""
+    text = f"{abs(units) // 10**7}.{abs(units) % 10**7:07d}".rstrip("0").rstrip(".")
+    return "-" + text if units < 0 else text
+
+
+def word_of(number):
+    """Returns the bits of the 32-bit float that is nearest to a Decimal, with an even last bit of two."""
+    sign = 0x80000000 if number.is_signed() else 0
+    if not number or number.adjusted() < -60:
+        return sign
+    if number.adjusted() > 40:
+        return sign | INFINITY
+    exact = Fraction(abs(number))
+    guess = min(struct.unpack("<I", struct.pack("<f", min(float(exact), 3.4028234e38)))[0], INFINITY - 1)
+    near = [word for word in (guess - 1, guess, guess + 1) if word >= 0]
+    return sign | min(near, key=lambda word: (abs(float_value(word) - exact), word & 1))
+
+
+def float_value(word):
+    """Returns the exact value of a finite float's bits; 2^128 stands in for infinity."""
+    if word == INFINITY:
+        return Fraction(2**128)
+    return Fraction(struct.unpack("<f", struct.pack("<I", word))[0])
+
+
+@functools.lru_cache(maxsize=65536)
+def float_text(word):
+    """Returns the shortest decimal text that reads as the float of these bits, or `nan`, `inf`, `-inf`."""
+    value = struct.unpack("<f", struct.pack("<I", word))[0]
+    if value != value or value in (float("inf"), float("-inf")):
+        return str(value).replace("-nan", "nan")
+    near = max(abs(value) * 1.2e-7, 1.5e-45)
+    texts = (f"{value:.{digits}g}" for digits in range(1, 10))
+    return next(text for text in texts
+                if abs(float(text) - value) <= near and word_of(Decimal(text)) == word)
+
+
+def program_words(words):
+    """Returns the words that run the program: BEVUNTRI_PROGRAM, or the launcher."""
+    return [os.environ.get("BEVUNTRI_PROGRAM") or os.path.join(TOP, "bin", "bevuntri"), *words]
+
+
+def start_program(words, **pipes):
+    try:
+        return subprocess.Popen(program_words(words), stdout=subprocess.PIPE, **pipes)
+    except OSError as error:
+        raise Mistake(1, f"{program_words([])[0]} can't be run: {error.strerror}") from None
+
+
+def output_of(words, allowed=(0,), stdin=b""):
+    """Returns the lines that the program prints, and its status, which has to be one of the allowed."""
+    process = start_program(words, stdin=subprocess.PIPE)
+    lines = process.communicate(stdin)[0].decode("utf-8", "replace").split("\n")
+    if process.returncode not in allowed:
+        last = next((line for line in reversed(lines) if line), "no text")
+        raise Mistake(process.returncode, f"{' '.join(words[:2])} ends with {shown(last)}")
+    return lines[:-1], process.returncode
+
+
+def types_of(definitions):
+    """Returns the types of all fields, by the names of message and field, that `dialect` prints."""
+    words = ["dialect", "--defs=" + definitions] if definitions else ["dialect"]
+    types, fields = {}, {}
+    for line in output_of(words)[0]:
+        if line.startswith(" "):
+            _, kind, name = line.split()
+            fields[name] = kind
+        elif " len " in line:
+            fields = types.setdefault(line.split()[1], {})
+    return types
+
+
+def escaped(text):
+    """Returns a text for XML and HTML, in elements and in quotes."""
+    return html.escape("".join(char if char.isprintable() else "\N{REPLACEMENT CHARACTER}" for char in str(text)))
