@@ -15,6 +15,7 @@ TOP = os.path.dirname(os.path.dirname(os.path.realpath(__file__)))
 COMMON = os.path.join(TOP, "defs", "common.json")
 NUMBER = re.compile(r"[+-]?(?:[0-9]+(?:\.[0-9]*)?|\.[0-9]+)(?:[eE][+-]?[0-9]{1,4})?")
 LONGEST_NUMBER = 400
+LARGEST_TEXT = 1 << 24
 NAN, INFINITY = 0x7FC00000, 0x7F800000
 EXACT = Context(prec=LONGEST_NUMBER + 10, Emin=-99999, Emax=99999)
 UNUSABLE_WORDS, WRONG_FORM, UNREADABLE, UNWRITABLE = 2, 3, 4, 5
@@ -52,14 +53,11 @@ def run_tool(main):
         status = UNWRITABLE
     except KeyboardInterrupt:
         status = 130
-    except MemoryError:
-        print("bevuntri: memory ran out", file=sys.stderr)
-        status = 7
     sys.exit(status)
 
 
 def words_of(page, words, valued=(), flags=(), plain=(1, 1)):
-    """Returns the options and the plain words of a tool; prints its page and exits if one word is `--help`.
+    """Returns the options and the plain words of a tool; prints its page and exits at `--help`.
 
     Options are a dictionary by name, with a value for those in `valued` and True for those in `flags`.
     """
@@ -78,41 +76,41 @@ def words_of(page, words, valued=(), flags=(), plain=(1, 1)):
             rest.append(word)
         elif name in options or name not in (*valued, *flags) or is_pair and name in flags:
             raise Mistake(UNUSABLE_WORDS, f"{shown(word)} isn't expected here: {usage}")
-        elif name in valued and not is_pair and (not words or words[0].startswith("-") and words[0] != "-"):
+        elif name in valued and not is_pair and (not words or re.match("-.", words[0])):
             raise Mistake(UNUSABLE_WORDS, f"{word} expects a value after it: {usage}")
         else:
             options[name] = value if is_pair else words.pop(0) if name in valued else True
-    if len(rest) < plain[0]:
-        raise Mistake(UNUSABLE_WORDS, f"a word is missing: {usage}")
-    if len(rest) > plain[1]:
-        raise Mistake(UNUSABLE_WORDS, f"{shown(rest[plain[1]])} is a word too many: {usage}")
+    if not plain[0] <= len(rest) <= plain[1]:
+        wrong = "one is missing"
+        if len(rest) > plain[1]:
+            wrong = f"{shown(rest[plain[1]])} is one too many"
+        raise Mistake(UNUSABLE_WORDS, f"of the words {wrong}: {usage}")
     return options, rest
 
 
-def read_bytes(path):
-    """Returns what a file holds, `-` being standard input."""
-    try:
-        if path == "-":
-            return sys.stdin.buffer.read()
-        with open(path, "rb") as file:
-            return file.read()
-    except (OSError, ValueError) as error:
-        raise Mistake(UNREADABLE, f"{path}: can't be read: {getattr(error, 'strerror', error)}") from None
-
-
 def read_text(path):
+    """Returns the text of a file, `-` being standard input."""
     try:
-        return read_bytes(path).decode("utf-8-sig")
+        with open(0 if path == "-" else path, "rb", closefd=path != "-") as file:
+            data = file.read(LARGEST_TEXT + 1)
+    except (OSError, ValueError) as error:
+        reason = getattr(error, "strerror", error)
+        raise Mistake(UNREADABLE, f"{shown(path)} can't be read: {reason}") from None
+    if len(data) > LARGEST_TEXT:
+        raise wrong_form(path, f"expected a text of at most {LARGEST_TEXT} bytes")
+    try:
+        return data.decode("utf-8-sig")
     except UnicodeDecodeError as error:
         raise wrong_form(path, f"byte {error.start}: expected text in UTF-8") from None
 
 
-def read_json(path):
-    """Returns the value of a JSON file, in which each number is a Decimal."""
+def json_of(path, text):
+    """Returns the value of a file's JSON, in which each number is a Decimal."""
     def refuse(name):
         raise ValueError(f"{name} isn't JSON")
     try:
-        return json.loads(read_text(path), parse_float=decimal_of, parse_int=decimal_of, parse_constant=refuse)
+        return json.loads(text, parse_float=decimal_of, parse_int=decimal_of,
+                          parse_constant=refuse)
     except json.JSONDecodeError as error:
         raise wrong_form(path, f"line {error.lineno}: expected JSON: {error.msg}") from None
     except (ValueError, RecursionError) as error:
@@ -146,7 +144,7 @@ def word_of(number):
     if number.adjusted() > 40:
         return sign | INFINITY
     exact = Fraction(abs(number))
-    guess = min(struct.unpack("<I", struct.pack("<f", min(float(exact), 3.4028234e38)))[0], INFINITY - 1)
+    guess = struct.unpack("<I", struct.pack("<f", min(float(exact), 3.4028234e38)))[0]
     near = [word for word in (guess - 1, guess, guess + 1) if word >= 0]
     return sign | min(near, key=lambda word: (abs(float_value(word) - exact), word & 1))
 
@@ -166,8 +164,9 @@ def float_text(word):
         return str(value).replace("-nan", "nan")
     near = max(abs(value) * 1.2e-7, 1.5e-45)
     texts = (f"{value:.{digits}g}" for digits in range(1, 10))
-    return next(text for text in texts
+    text = next(text for text in texts
                 if abs(float(text) - value) <= near and word_of(Decimal(text)) == word)
+    return format(Decimal(text), "f") if 1e-5 <= abs(value) < 1e16 else text
 
 
 def program_words(words):
@@ -207,4 +206,4 @@ def types_of(definitions):
 
 def escaped(text):
     """Returns a text for XML and HTML, in elements and in quotes."""
-    return html.escape("".join(char if char.isprintable() else "\N{REPLACEMENT CHARACTER}" for char in str(text)))
+    return html.escape("".join(char if char.isprintable() else "\ufffd" for char in str(text)))
