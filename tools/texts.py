@@ -207,3 +207,45 @@ def types_of(definitions):
 def escaped(text):
     """Returns a text for XML and HTML, in elements and in quotes."""
     return html.escape("".join(char if char.isprintable() else "\ufffd" for char in str(text)))
+
+
+VALUE = r'"[^"]*"|\[[^\]]*\]|[^ ]+'
+FIELD = re.compile(f" ([A-Za-z0-9_]+)=({VALUE})")
+FRAME = re.compile(
+    r"([0-9]+) (?:([0-9]+) )?([A-Z0-9_]+) ([0-9]+)\.([0-9]+) #([0-9]+)( v1)?"
+    rf"((?: [A-Za-z0-9_]+=(?:{VALUE}))*)(?: signed ([0-9]+) ([0-9]+)(?: (good|bad))?)?")
+
+
+def log_blocks(path, definitions):
+    """Yields what `log show` prints of a telemetry log, as blocks of whole lines of bytes."""
+    try:
+        with open(path, "rb"):
+            pass
+    except (OSError, ValueError) as error:
+        reason = getattr(error, "strerror", error)
+        raise Mistake(UNREADABLE, f"{shown(path)} can't be read: {reason}") from None
+    defs = ["--defs=" + definitions] if definitions else []
+    process = start_program(["log", "show", *defs, "--", path])
+    rest = last = b""
+    while block := process.stdout.read(1 << 20):
+        whole, newline, rest = (rest + block).rpartition(b"\n")
+        last = whole[whole.rfind(b"\n") + 1:] if newline else last
+        yield whole + newline
+    if process.wait():
+        raise Mistake(process.returncode, f"{path}: log show ends with {shown(last.decode())}")
+    if last.startswith(b"rows 0 "):
+        raise wrong_form(path, f"expected rows of a telemetry log, and not {shown(last.decode())}")
+
+
+def svg(width, height, title, elements):
+    """Returns a picture that stands alone, on white, so that it prints."""
+    head = (f'<svg xmlns="http://www.w3.org/2000/svg" width="{width}" height="{height}"'
+            f' viewBox="0 0 {width} {height}" font-family="sans-serif" font-size="12">'
+            f'<title>{escaped(title)}</title><rect width="100%" height="100%" fill="#ffffff"/>')
+    return "\n".join([head, *elements, "</svg>\n"])
+
+
+def label(x, y, text, **attributes):
+    """Returns a text of a picture."""
+    more = "".join(f' {name.replace("_", "-")}="{value}"' for name, value in attributes.items())
+    return f'<text x="{x:.1f}" y="{y:.1f}"{more}>{escaped(text)}</text>'

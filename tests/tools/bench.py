@@ -32,7 +32,7 @@ def same(what, came, wanted):
     if isinstance(came, bytes) and isinstance(wanted, bytes):
         pair = [side.decode(errors="backslashreplace").split("\n") for side in (wanted, came)]
         raise AssertionError(what + " differs\n" + "\n".join(list(difflib.unified_diff(*pair, "wanted", "came", n=1))[:30]))
-    raise AssertionError(f"{what}: {came!r}, and not {wanted!r}")
+    raise AssertionError(f"{what}: {came!r:.500}, and not {wanted!r:.500}")
 
 
 def prints(wanted, *words, stdin=b"", status=0):
