@@ -181,21 +181,22 @@ def start_program(words, **pipes):
         raise Mistake(1, f"{program_words([])[0]} can't be run: {error.strerror}") from None
 
 
-def output_of(words, allowed=(0,), stdin=b""):
-    """Returns the lines that the program prints, and its status, which has to be one of the allowed."""
+def output_of(words, place="", stdin=b""):
+    """Returns the lines that the program prints; another status than 0 is a mistake at a place."""
     process = start_program(words, stdin=subprocess.PIPE)
     lines = process.communicate(stdin)[0].decode("utf-8", "replace").split("\n")
-    if process.returncode not in allowed:
+    if process.returncode:
         last = next((line for line in reversed(lines) if line), "no text")
-        raise Mistake(process.returncode, f"{' '.join(words[:2])} ends with {shown(last)}")
-    return lines[:-1], process.returncode
+        place = place or " ".join(words[1:])
+        raise Mistake(process.returncode, f"{place}: {words[0]} ends with {shown(last)}")
+    return lines[:-1]
 
 
 def types_of(definitions):
     """Returns the types of all fields, by the names of message and field, that `dialect` prints."""
     words = ["dialect", "--defs=" + definitions] if definitions else ["dialect"]
     types, fields = {}, {}
-    for line in output_of(words)[0]:
+    for line in output_of(words):
         if line.startswith(" "):
             _, kind, name = line.split()
             fields[name] = kind

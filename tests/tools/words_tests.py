@@ -5,7 +5,7 @@ import subprocess
 from bench import TOP, bevuntri, prints, refuses, same
 
 COMMANDS = ["fleet", "decode", "dialect", "route", "drone", "station", "log show", "log filter", "log make", "fence", "make"]
-TOOLS = ["plan import", "plan export", "defs", "json", "log-stats", "track"]
+TOOLS = ["plan import", "plan export", "defs", "json", "log-stats", "track", "chart", "page"]
 
 
 def test_each_command_has_a_line_and_a_page():
@@ -37,5 +37,5 @@ def test_wrong_words():
     refuses(2, "'inport'", "plan", "inport")
     for name in TOOLS:
         refuses(2, "'--nope'", *name.split(), "--nope")
-    for name in ("plan import", "plan export", "defs", "log-stats", "track"):
+    for name in ("plan import", "plan export", "defs", "log-stats", "track", "chart"):
         refuses(2, "missing", *name.split())
