@@ -107,12 +107,17 @@ class Played:
         for line in lines:
             sent, told = SENT.fullmatch(line), TOLD.fullmatch(line)
             if sent:
-                self.row += bool(self.frames) and self.frames[-1].row == self.row
+                self.row += self.is_taken()
                 self.frames.append(Frame(self.row, sent))
             elif told:
                 self.note(told[2], f"{told[1]} {told[3]}".strip(), False)
             elif line.startswith("drop ") and not shown:
                 self.note(line.split(" ")[1], "refused " + line.split(" ")[2], False)
+
+    def is_taken(self):
+        """Returns whether a frame begins, or a note stands, in this row."""
+        latest = [self.frames[-1].row] if self.frames else []
+        return self.row in latest + [row for row, _, _, _ in self.notes[-1:]]
 
     def note(self, node, text, is_line):
         """Notes a line of the scenario or of the report beside a node's line."""
