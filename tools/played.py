@@ -4,7 +4,7 @@ import re
 
 from texts import output_of, wrong_form
 
-# The number of a frame that no scenario sends: its delivery does nothing, and prints a line of its own.
+# The number of a frame that no scenario sends: its delivery only prints a line of its own.
 UNSENT = 4_000_000_000
 STATION_LINES = {"begin", "cancel", "clear", "get", "command", "params"}
 NOTED = STATION_LINES | {"tick", "noise"}

@@ -1,4 +1,4 @@
-"""What the tools share: their words and mistakes, files, numbers as text, and the program's output."""
+"""What the tools share: words, mistakes, files, numbers as text, and the program's output."""
 
 import functools
 import html
@@ -59,7 +59,7 @@ def run_tool(main):
 def words_of(page, words, valued=(), flags=(), plain=(1, 1)):
     """Returns the options and the plain words of a tool; prints its page and exits at `--help`.
 
-    Options are a dictionary by name, with a value for those in `valued` and True for those in `flags`.
+    Options are a dictionary by name, with values for those in `valued`, True for those in `flags`.
     """
     options, rest, words = {}, [], list(words)
     usage = page.split("\n", 1)[0]
@@ -137,7 +137,7 @@ def degrees_text(units):
 
 
 def word_of(number):
-    """Returns the bits of the 32-bit float that is nearest to a Decimal, with an even last bit of two."""
+    """Returns the bits of the 32-bit float that is nearest to a Decimal, the even one of two."""
     sign = 0x80000000 if number.is_signed() else 0
     if not number or number.adjusted() < -60:
         return sign
@@ -158,7 +158,7 @@ def float_value(word):
 
 @functools.lru_cache(maxsize=65536)
 def float_text(word):
-    """Returns the shortest decimal text that reads as the float of these bits, or `nan`, `inf`, `-inf`."""
+    """Returns the shortest text that reads as the float of these bits; `nan`, `inf`, `-inf`."""
     value = struct.unpack("<f", struct.pack("<I", word))[0]
     if value != value or value in (float("inf"), float("-inf")):
         return str(value).replace("-nan", "nan")
@@ -193,7 +193,7 @@ def output_of(words, place="", stdin=b""):
 
 
 def types_of(definitions):
-    """Returns the types of all fields, by the names of message and field, that `dialect` prints."""
+    """Returns the types of all fields that `dialect` prints, by message and field."""
     words = ["dialect", "--defs=" + definitions] if definitions else ["dialect"]
     types, fields = {}, {}
     for line in output_of(words):

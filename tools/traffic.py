@@ -10,8 +10,8 @@ WATCHED = ["GLOBAL_POSITION_INT", "HEARTBEAT", "MISSION_COUNT", "MISSION_ITEM_IN
 COUNTS = ("links", "read", "skipped", "admitted", "refused", "written", "dropped")
 MOST_NODES, MOST_PLANS, MOST_ITEMS, MOST_PLACES, MOST_LINKS, LAST = 256, 64, 1000, 499, 64, 20
 PORT = re.compile("port ([0-9]{1,3}) " + " ".join(f"{name} ([0-9]+)" for name in COUNTS))
-LINK = re.compile(r"link ([0-9]+) port ([0-9]+) (open|closed.*)|link refused port [0-9]+|port [0-9]+ waits")
-REFUSED = re.compile(r".* bad|.* refused [0-9]+|drop .*|link refused .*|[a-z]+ fault|lines lost .*|bad .*")
+LINK = re.compile("link ([0-9]+) port ([0-9]+) (open|closed.*)")
+REFUSED = re.compile(".* bad|.* refused [0-9]+|link refused .*|[a-z]+ fault|lines lost .*|bad .*")
 
 
 class Traffic:
@@ -37,7 +37,7 @@ class Traffic:
                 self.ports[port[1]] = dict(zip(COUNTS, map(int, port.groups()[1:])))
             elif link and link[3] == "open" and len(self.links) < MOST_LINKS:
                 self.links[link[1]] = link[2]
-            elif link and link[1]:
+            elif link:
                 self.links.pop(link[1], None)
             if REFUSED.fullmatch(line):
                 self.refusals = [line[:200], *self.refusals][:LAST]
@@ -82,23 +82,27 @@ class Traffic:
         """Takes a count or an item of a mission from one node to another."""
         if message == "MISSION_COUNT" and (pair in self.plans or len(self.plans) < MOST_PLANS):
             self.plans[pair] = {"count": int(fields["count"]), "items": {}}
-        elif pair in self.plans and int(fields["seq"]) < min(self.plans[pair]["count"], MOST_ITEMS):
-            item = [int(fields["command"]), int(fields["x"]), int(fields["y"])]
-            self.plans[pair]["items"][fields["seq"]] = item
+        elif pair in self.plans:
+            plan, seq = self.plans[pair], int(fields["seq"])
+            if seq < min(plan["count"], MOST_ITEMS):
+                plan["items"][seq] = [int(fields[name]) for name in ("command", "x", "y")]
 
     def state(self):
         """Returns what the page shows, as JSON."""
-        return json.dumps({"nodes": self.nodes, "plans": self.plans, "ports": self.ports, "links": self.links,
-                           "refusals": self.refusals, "frames": self.frames, "skipped": self.skipped})
+        return json.dumps({
+            "nodes": self.nodes, "plans": self.plans, "ports": self.ports, "links": self.links,
+            "refusals": self.refusals, "frames": self.frames, "skipped": self.skipped})
 
     def metrics(self):
         """Returns the counts in the text format of Prometheus."""
         lines = ["# TYPE bevuntri_frames_total counter", f"bevuntri_frames_total {self.frames}",
                  "# TYPE bevuntri_skipped_total counter", f"bevuntri_skipped_total {self.skipped}",
                  "# TYPE bevuntri_node_frames_total counter"]
-        lines += [f'bevuntri_node_frames_total{{node="{name}"}} {node["frames"]}' for name, node in self.nodes.items()]
+        lines += [f'bevuntri_node_frames_total{{node="{name}"}} {node["frames"]}'
+                  for name, node in self.nodes.items()]
         lines += ["# TYPE bevuntri_message_frames_total counter"]
-        lines += [f'bevuntri_message_frames_total{{message="{name}"}} {count}' for name, count in self.messages.items()]
+        lines += [f'bevuntri_message_frames_total{{message="{name}"}} {count}'
+                  for name, count in self.messages.items()]
         for name in COUNTS:
             kind = "links gauge" if name == "links" else f"{name}_total counter"
             lines += [f"# TYPE bevuntri_port_{kind}"]
