@@ -16,7 +16,8 @@ class Skipped(Exception):
 def bevuntri(*words, stdin=b"", folder=DATA):
     """Runs the launcher, and returns what it writes to both streams, and its status."""
     launcher = os.path.join(TOP, "bin", "bevuntri")
-    done = subprocess.run([launcher, *words], cwd=folder, input=stdin, capture_output=True, timeout=SECONDS, check=False)
+    done = subprocess.run([launcher, *words], cwd=folder, input=stdin, capture_output=True, timeout=SECONDS,
+                          check=False)
     return done.stdout, done.stderr.decode(), done.returncode
 
 
@@ -31,7 +32,8 @@ def same(what, came, wanted):
         return
     if isinstance(came, bytes) and isinstance(wanted, bytes):
         pair = [side.decode(errors="backslashreplace").split("\n") for side in (wanted, came)]
-        raise AssertionError(what + " differs\n" + "\n".join(list(difflib.unified_diff(*pair, "wanted", "came", n=1))[:30]))
+        lines = list(difflib.unified_diff(*pair, "wanted", "came", n=1, lineterm=""))[:30]
+        raise AssertionError("\n".join([what + " differs", *lines]))
     raise AssertionError(f"{what}: {came!r:.500}, and not {wanted!r:.500}")
 
 

@@ -1,7 +1,7 @@
 """Definitions of messages: `defs`, and the definitions that come with the program.
 
-defs/common.extra has the public check bytes, `ID CRC_EXTRA`, as MAVLINK_MESSAGE_CRCS of the C library and pymavlink have
-them. A check byte is over the names and types of a message's base fields, so it doesn't cover extension fields.
+defs/common.extra has the public check bytes, `ID CRC_EXTRA`, of MAVLINK_MESSAGE_CRCS in the C library. A check
+byte is over the names and types of a message's base fields, so it doesn't cover extension fields.
 """
 
 import json
@@ -39,7 +39,7 @@ def check_byte(message):
 
 
 def dialect(*words):
-    """Returns the id and the rest of the first line of each message, and the lines of its fields, as the program prints them."""
+    """Returns the lines that the program prints of each message, by its id."""
     program = [os.environ["BEVUNTRI_PROGRAM"], "dialect", *words]
     lines = subprocess.run(program, capture_output=True, text=True, check=True).stdout.split("\n")
     found = {}
@@ -104,4 +104,5 @@ def test_wrong_files():
         refuses(4, "'none.xml'", "defs", "none.xml", folder=folder)
         with open(os.path.join(folder, "other.xml"), "wb") as file:
             file.write(message(b"<include>x</include>" + field % (b"char", b"a")))
-        case(3, "is defined in", message(field % (b"char", b"b")).replace(b"<mavlink>", b"<mavlink><include>other.xml</include>"))
+        again = message(field % (b"char", b"b"))
+        case(3, "is defined in", again.replace(b"<mavlink>", b"<mavlink><include>other.xml</include>"))

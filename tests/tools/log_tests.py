@@ -92,7 +92,8 @@ rows 6 seconds 2.000000 skipped 0
 
 
 def test_log_stats_of_100_000_rows():
-    rows = b"".join(row(START + 1000 * at, (1 + at % 3, 1), at // 3, POSITION, position(at, at, -at)) for at in range(100_000))
+    rows = b"".join(row(START + 1000 * at, (1 + at % 3, 1), at // 3, POSITION, position(at, at, -at))
+                    for at in range(100_000))
 
     def test(folder):
         begun = time.monotonic()

@@ -1,11 +1,12 @@
 """Pictures and the page: `chart` and `page`, and what a browser makes of them where one is installed.
 
-How many frames of a scenario are lost, repeated and refused was counted by hand, from its lines and the report beside it.
+How many frames of a scenario are lost, repeated and refused was counted by hand, from it and the report beside it.
 """
 
 import contextlib
 import json
 import os
+import shlex
 import shutil
 import signal
 import subprocess
@@ -14,6 +15,7 @@ import time
 import urllib.error
 import urllib.request
 import xml.etree.ElementTree as ElementTree
+from unittest import mock
 
 from bench import DATA, TOP, Skipped, bevuntri, golden, refuses, same
 
@@ -44,10 +46,10 @@ def browser(address):
 
 
 @contextlib.contextmanager
-def page(*words):
+def page(*words, folder=DATA):
     """Serves a page at a free port, and ends it."""
     command = [os.path.join(TOP, "bin", "bevuntri"), "page", "--at", "127.0.0.1:0", *words]
-    process = subprocess.Popen(command, cwd=DATA, stdout=subprocess.PIPE, stderr=subprocess.PIPE)
+    process = subprocess.Popen(command, cwd=folder, stdout=subprocess.PIPE, stderr=subprocess.PIPE)
     try:
         yield process.stdout.readline().decode().strip()
     finally:
@@ -68,15 +70,16 @@ def state(address):
 
 
 def test_charts_of_worked_scenarios():
-    """In lost-count frame 7 comes late; in repeats it comes twice more; in flight no position of the simulator is given to
-    the station, nor are the four items reached told to it."""
-    for name, wanted in (("lost-count", (0, 0, 1)), ("repeats", (0, 2, 0)), ("flight", (13, 0, 0)), ("two-stations", (0, 0, 0))):
+    """In lost-count frame 7 comes late; in repeats it comes twice more; in flight the station is given none of the nine
+    positions and four items reached."""
+    for name, wanted in (("lost-count", (0, 0, 1)), ("repeats", (0, 2, 0)), ("flight", (13, 0, 0)),
+                         ("two-stations", (0, 0, 0))):
         picture, told, status = bevuntri("chart", f"{WORKED}/{name}.scenario")
         same(name, (told, status), ("", 0))
         same(name, tuple(classes(picture, each) for each in ("lost", "repeated", "refused")), wanted)
     picture = bevuntri("chart", f"{WORKED}/lost-count.scenario")[0]
-    for text in ("PING 1", "COUNT mission 2", "ITEM mission 0 (refused 3)", "outcome not installed 15", "refused busy 1",
-                 "install mission 1 from 255.190"):
+    for text in ("PING 1", "COUNT mission 2", "ITEM mission 0 (refused 3)", "outcome not installed 15",
+                 "refused busy 1", "install mission 1 from 255.190"):
         same(text, text in texts(picture), True)
     same("flight", "MISSION_ITEM_REACHED (lost)" in texts(bevuntri("chart", f"{WORKED}/flight.scenario")[0]), True)
 
@@ -120,7 +123,7 @@ def test_page_of_a_text():
     with page("--text", "page.text") as address:
         text, headers = fetch(address)
         same("policy", "default-src 'none'" in headers["Content-Security-Policy"], True)
-        same("nothing from outside", ("http:" in text.replace("http://www.w3.org/2000/svg", ""), "https:" in text), (False, False))
+        same("nothing from outside", "://" in text.replace("http://www.w3.org/2000/svg", ""), False)
         time.sleep(0.5)
         came = state(address)
         same("way", came["nodes"]["1.1"]["way"], [[473977420, 85455940], [473979420, 85458940], [473982420, 85453940]])
@@ -129,13 +132,38 @@ def test_page_of_a_text():
         same("links", came["links"], {"1": "1"})
         same("refusals", came["refusals"], [golden("page.text").decode().split("\n")[11]])
         metrics = fetch(address + "metrics")[0].split("\n")
-        for line in ('bevuntri_frames_total 9', 'bevuntri_node_frames_total{node="1.1"} 6', 'bevuntri_port_admitted_total{port="1"} 9',
-                     'bevuntri_message_frames_total{message="GLOBAL_POSITION_INT"} 3', 'bevuntri_port_links{port="2"} 0'):
+        for line in ('bevuntri_frames_total 9', 'bevuntri_node_frames_total{node="1.1"} 6',
+                     'bevuntri_port_admitted_total{port="1"} 9', 'bevuntri_port_links{port="2"} 0',
+                     'bevuntri_message_frames_total{message="GLOBAL_POSITION_INT"} 3'):
             same(line, line in metrics, True)
         try:
             same("another path", fetch(address + "../etc/passwd"), None)
         except urllib.error.HTTPError as error:
             same("another path", error.code, 404)
+
+
+def test_page_of_a_relay():
+    """A script stands in for the program: it prints a relay's lines, and ends or fails as it is told."""
+    script = "#!/bin/sh\nif [ \"$1\" = relay ]; then echo \"$@\" > words; cat page.text; %s; fi\nexec %s \"$@\"\n"
+    program, words = os.environ["BEVUNTRI_PROGRAM"], ["--key", "key", "tcp:127.0.0.1:1", "udp:127.0.0.1:2"]
+    with tempfile.TemporaryDirectory() as folder:
+        shutil.copy(os.path.join(DATA, "page.text"), folder)
+        name = os.path.join(folder, "program")
+
+        def stand_in(end):
+            with open(name, "w", encoding="ascii") as file:
+                file.write(script % (end, shlex.quote(program)))
+            os.chmod(name, 0o755)
+        stand_in("exec sleep 60")
+        with mock.patch.dict(os.environ, BEVUNTRI_PROGRAM=name):
+            with page(*words, folder=folder) as address:
+                time.sleep(1)
+                same("frames", state(address)["frames"], 9)
+            with open(os.path.join(folder, "words"), encoding="ascii") as file:
+                same("words", file.read(), "relay --key=key --print -- tcp:127.0.0.1:1 udp:127.0.0.1:2\n")
+            stand_in("exit 2")
+            _, told, status = bevuntri("page", "--at", "127.0.0.1:0", *words, folder=folder)
+            same("no relay", (status, told.count("\n"), "relay ends with status 2" in told), (2, 1, True))
 
 
 def test_page_in_a_browser():

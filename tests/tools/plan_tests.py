@@ -1,7 +1,7 @@
 """Plans of other ground stations: `plan import` and `plan export`.
 
-The golden files were written by hand after the MAVLink guide's page on file formats (QGC WPL 110 text) and QGroundControl's
-page on the Plan file format; the words of floats after IEEE 754.
+The golden files were written by hand after the MAVLink guide's page on file formats (QGC WPL 110 text) and
+QGroundControl's page on the Plan file format; the words of floats after IEEE 754.
 """
 
 import json
@@ -63,7 +63,8 @@ def test_sections_of_a_plan():
 
 def test_import_after_export():
     """Floats of many magnitudes, the extremes of a location, and each frame that a file has."""
-    words = ["00000001", "807fffff", "7f7fffff", "3dcccccd", "4b800001", "3a83126f", "c0490fdb", "80000000", "7fc00000", "5d5e0b6b"]
+    words = ["00000001", "807fffff", "7f7fffff", "3dcccccd", "4b800001", "3a83126f", "c0490fdb", "80000000",
+             "7fc00000", "5d5e0b6b"]
     lines = [f"item {frame} 16 {x} {y} {words[at]} {words[at - 1]} {words[at - 2]} {words[at - 3]} {words[at - 4]}\n"
              for at, (frame, x, y) in enumerate([(5, 900000000, -1800000000), (6, -900000000, 1800000000), (6, 1, -1),
                                                  (5, 473977421, 85455949), (6, 0, 7), (6, 10, 100), (5, 99, 3)] * 2)
@@ -107,8 +108,8 @@ def test_wrong_files():
         case(3, "line 1", b"[]", "import")
         case(3, "Plan", b"{}", "import")
         case(3, "items", b'{"fileType": "Plan", "mission": {"items": 7}}', "import")
-        case(3, "item 0: params", b'{"fileType": "Plan", "mission": {"items": [{"frame": 3, "command": 16, "params": [1]}]}}',
-             "import")
+        short = b'{"fileType": "Plan", "mission": {"items": [{"frame": 3, "command": 16, "params": [1]}]}}'
+        case(3, "item 0: params", short, "import")
         case(3, "line 1", b"mission\n", "export")
         case(3, "line 1", b"item 6 16 1 2147483648\n", "export")
         case(3, "line 2", b"item 6 16 1 2\nitem 6 16 1 2 3\n", "export")

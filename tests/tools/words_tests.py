@@ -4,7 +4,8 @@ import subprocess
 
 from bench import TOP, bevuntri, prints, refuses, same
 
-COMMANDS = ["fleet", "decode", "dialect", "route", "drone", "station", "log show", "log filter", "log make", "fence", "make"]
+COMMANDS = ["fleet", "decode", "dialect", "route", "drone", "station", "log show", "log filter", "log make", "fence",
+            "make"]
 TOOLS = ["plan import", "plan export", "defs", "json", "log-stats", "track", "chart", "page"]
 
 
