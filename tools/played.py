@@ -9,19 +9,21 @@ UNSENT = 4_000_000_000
 STATION_LINES = {"begin", "cancel", "clear", "get", "command", "params"}
 NOTED = STATION_LINES | {"tick", "noise"}
 NAMING = {"drone", "station"}
-MOST_FLOWS = 100_000
+MOST_FRAMES, MOST_STEPS = 2000, 40_000
 SENT = re.compile(r"([0-9]+) ([0-9]+\.[0-9]+) (.*?)(?: to ([0-9]+\.[0-9]+))?")
 TOLD = re.compile(r"(install|clear|refused|outcome|command|params|reached|captured|at|restart)"
                   r" ([0-9]+\.[0-9]+) ?(.*)")
 
 
-def steps_of(text):
-    """Returns the lines of a scenario that do something, each flow as flows of one frame."""
+def steps_of(path, text, most):
+    """Returns the lines of a scenario that do something, a flow as at most so many of one frame."""
     steps = []
     for line in text.split("\n"):
+        if len(steps) > MOST_STEPS:
+            raise wrong_form(path, f"a chart has at most {MOST_STEPS} lines and frames of flows")
         words = line.removesuffix("\r").split(" ")
         if words[0] == "flow" and len(words) == 2 and words[1].isdecimal():
-            steps += [["flow", "1"]] * min(int(words[1][:7]), MOST_FLOWS)
+            steps += [["flow", "1"]] * min(int(words[1]), most)
         elif words != [""] and not line.startswith("#"):
             steps.append(words)
     return steps
@@ -33,9 +35,8 @@ def nodes_of(steps):
             if words[0] in NAMING]
 
 
-def reports_of(path, text, steps, nodes):
+def reports_of(path, whole, steps, nodes):
     """Returns the lines of the report that each step prints, but for those that name nodes."""
-    whole = output_of(["fleet", "-"], place=path, stdin=text.encode())
     lines = []
     for words in steps:
         lines.append(" ".join(words))
@@ -76,9 +77,13 @@ class Played:
     """What happened, row by row."""
 
     def __init__(self, path, text):
-        steps = steps_of(text)
+        whole = output_of(["fleet", "-"], place=path, stdin=text.encode())
+        count = sum(map(bool, map(SENT.fullmatch, whole)))
+        if count > MOST_FRAMES:
+            raise wrong_form(path, f"{count} frames, and a chart has at most {MOST_FRAMES}")
+        steps = steps_of(path, text, count)
         self.nodes, self.row, self.frames, self.notes, self.flowed = nodes_of(steps), 1, [], [], 0
-        reports = reports_of(path, text, steps, self.nodes)
+        reports = reports_of(path, whole, steps, self.nodes)
         for words, lines in zip((words for words in steps if words[0] not in NAMING), reports):
             self.step(words, lines)
 

@@ -42,14 +42,17 @@ def shown(text):
 
 def run_tool(main):
     """Calls a tool's `main` with its words, and exits with its status."""
+    sys.stdout.reconfigure(encoding="utf-8")
     try:
         status = main(sys.argv[1:])
         sys.stdout.flush()
     except Mistake as mistake:
-        print(f"bevuntri: {mistake}", file=sys.stderr)
+        print("bevuntri: " + str(mistake).replace("\n", "\\n"), file=sys.stderr)
         status = mistake.status
-    except BrokenPipeError:
+    except OSError as error:
         os.dup2(os.open(os.devnull, os.O_WRONLY), sys.stdout.fileno())
+        if not isinstance(error, BrokenPipeError):
+            print(f"bevuntri: standard output can't be written: {error.strerror}", file=sys.stderr)
         status = UNWRITABLE
     except KeyboardInterrupt:
         status = 130
@@ -218,7 +221,10 @@ FRAME = re.compile(
 
 
 def log_blocks(path, definitions):
-    """Yields what `log show` prints of a telemetry log, as blocks of whole lines of bytes."""
+    """Yields what `log show` prints of a telemetry log, as blocks of whole lines after a line end.
+
+    Patterns that begin with that line end find their lines soonest among many of skipped bytes.
+    """
     try:
         with open(path, "rb"):
             pass
@@ -231,7 +237,7 @@ def log_blocks(path, definitions):
     while block := process.stdout.read(1 << 20):
         whole, newline, rest = (rest + block).rpartition(b"\n")
         last = whole[whole.rfind(b"\n") + 1:] if newline else last
-        yield whole + newline
+        yield b"\n" + whole + newline
     if process.wait():
         raise Mistake(process.returncode, f"{path}: log show ends with {shown(last.decode())}")
     if last.startswith(b"rows 0 "):

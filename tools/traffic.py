@@ -25,7 +25,13 @@ class Traffic:
         self.refusals, self.messages = [], {}
 
     def take(self, line):
-        """Takes one line of text."""
+        """Takes one line of text; numbers that no program prints are passed over."""
+        try:
+            self.take_line(line)
+        except ValueError:
+            pass
+
+    def take_line(self, line):
         match = FRAME.fullmatch(line)
         with self.changed:
             port, link = PORT.fullmatch(line), LINK.fullmatch(line)
@@ -60,7 +66,7 @@ class Traffic:
         fields = dict(FIELD.findall(match[8]))
         try:
             self.watch(node, name, match[3], fields)
-        except (KeyError, ValueError):
+        except KeyError:
             pass  # Definitions that name these messages and have other fields.
 
     def watch(self, node, name, message, fields):

@@ -100,6 +100,7 @@ def test_wrong_scenarios():
                 file.write(data)
             refuses(status, sentence, "chart", *words, "file", folder=folder)
         case(3, "file: fleet ends with 'bad line 2: word'", b"drone 1\nfly\n")
+        case(3, "file: fleet ends with 'bad line 1: count'", b"drone\n")
         case(3, "file: fence ends with 'bad line 1: word'", b"fly\n", "--fence")
         case(3, "UTF-8", b"\xff\x80")
         case(3, "at most 16777216 bytes", b"x" * 50_000_000)

@@ -32,6 +32,13 @@ def test_nothing_is_built_for_the_words_of_tools():
     same("without a toolchain", (done.returncode, done.stderr), (0, b""))
 
 
+def test_output_that_cannot_be_written():
+    with open("/dev/full", "wb") as full:
+        words = [TOP + "/bin/bevuntri", "help"]
+        done = subprocess.run(words, stdout=full, stderr=subprocess.PIPE, check=False, timeout=30)
+    same("status", (done.returncode, done.stderr.count(b"\n")), (5, 1))
+
+
 def test_wrong_words():
     refuses(2, "'nope'", "help", "nope")
     refuses(2, "expects the word import or export", "plan")
