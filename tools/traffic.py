@@ -8,6 +8,7 @@ from texts import FIELD, FRAME
 
 WATCHED = ["GLOBAL_POSITION_INT", "HEARTBEAT", "MISSION_COUNT", "MISSION_ITEM_INT", "STATUSTEXT"]
 COUNTS = ("links", "read", "skipped", "admitted", "refused", "written", "dropped")
+KINDS = {"0": "mission", "1": "fence", "2": "rally"}
 MOST_NODES, MOST_PLANS, MOST_ITEMS, MOST_PLACES, MOST_LINKS, LAST = 256, 64, 1000, 499, 64, 20
 PORT = re.compile("port ([0-9]{1,3}) " + " ".join(f"{name} ([0-9]+)" for name in COUNTS))
 LINK = re.compile("link ([0-9]+) port ([0-9]+) (open|closed.*)")
@@ -80,12 +81,13 @@ class Traffic:
             node["armed"] = int(fields["base_mode"]) & 128 == 128
         elif message == "STATUSTEXT":
             node["text"] = fields["text"][1:-1]
-        elif fields.get("mission_type") == "0":
+        elif fields.get("mission_type") in KINDS:
             target = f"{fields['target_system']}.{fields['target_component']}"
-            self.plan(message, f"{name} to {target}", fields)
+            kind = KINDS[fields["mission_type"]]
+            self.plan(message, f"{kind} from {name} to {target}", fields)
 
     def plan(self, message, pair, fields):
-        """Takes a count or an item of a mission from one node to another."""
+        """Takes a count or an item of a plan from one node to another."""
         if message == "MISSION_COUNT" and (pair in self.plans or len(self.plans) < MOST_PLANS):
             self.plans[pair] = {"count": int(fields["count"]), "items": {}}
         elif pair in self.plans:

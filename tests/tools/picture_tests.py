@@ -128,7 +128,7 @@ def test_page_of_a_text():
         time.sleep(0.5)
         came = state(address)
         same("way", came["nodes"]["1.1"]["way"], [[473977420, 85455940], [473979420, 85458940], [473982420, 85453940]])
-        same("plan", came["plans"], {"255.190 to 1.1": {"count": 2, "items": {
+        same("plan", came["plans"], {"mission from 255.190 to 1.1": {"count": 2, "items": {
             "0": [16, 473977420, 85455940], "1": [16, 473987420, 85459940]}}})
         same("links", came["links"], {"1": "1"})
         same("refusals", came["refusals"], [golden("page.text").decode().split("\n")[11]])

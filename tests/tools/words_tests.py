@@ -1,6 +1,8 @@
 """The words of the tools, and their pages, for which nothing is built."""
 
+import os
 import subprocess
+import sys
 
 from bench import TOP, bevuntri, prints, refuses, same
 
@@ -28,7 +30,8 @@ def test_first_words_of_the_launcher():
 
 def test_nothing_is_built_for_the_words_of_tools():
     words = [TOP + "/bin/bevuntri", "help"]
-    done = subprocess.run(words, env={"PATH": "/usr/bin:/bin"}, capture_output=True, check=False, timeout=10)
+    path = os.path.dirname(sys.executable) + ":/usr/bin:/bin"
+    done = subprocess.run(words, env={"PATH": path}, capture_output=True, check=False, timeout=30)
     same("without a toolchain", (done.returncode, done.stderr), (0, b""))
 
 
