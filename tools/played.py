@@ -9,6 +9,7 @@ UNSENT = 4_000_000_000
 STATION_LINES = {"begin", "cancel", "clear", "get", "command", "params"}
 NOTED = STATION_LINES | {"tick", "noise"}
 NAMING = {"drone", "station"}
+SILENT = NAMING | {"item", "items", "empty", "clock"}
 MOST_FRAMES, MOST_STEPS = 2000, 40_000
 SENT = re.compile(r"([0-9]+) ([0-9]+\.[0-9]+) (.*?)(?: to ([0-9]+\.[0-9]+))?")
 TOLD = re.compile(r"(install|clear|refused|outcome|command|params|reached|captured|at|restart)"
@@ -16,14 +17,18 @@ TOLD = re.compile(r"(install|clear|refused|outcome|command|params|reached|captur
 
 
 def steps_of(path, text, most):
-    """Returns the lines of a scenario that do something, a flow as at most so many of one frame."""
-    steps = []
+    """Returns the lines of a scenario that do something, a flow as at most so many of one frame.
+
+    A flow before any node is named gives nothing.
+    """
+    steps, is_named = [], False
     for line in text.split("\n"):
         if len(steps) > MOST_STEPS:
             raise wrong_form(path, f"a chart has at most {MOST_STEPS} lines and frames of flows")
         words = line.removesuffix("\r").split(" ")
+        is_named = is_named or words[0] in NAMING
         if words[0] == "flow" and len(words) == 2 and words[1].isdecimal():
-            steps += [["flow", "1"]] * min(int(words[1]), most)
+            steps += [["flow", "1"]] * min(int(words[1]), most) * is_named
         elif words != [""] and not line.startswith("#"):
             steps.append(words)
     return steps
@@ -36,11 +41,11 @@ def nodes_of(steps):
 
 
 def reports_of(path, whole, steps, nodes):
-    """Returns the lines of the report that each step prints, but for those that name nodes."""
+    """Returns the lines of the report that each step prints that isn't silent."""
     lines = []
     for words in steps:
         lines.append(" ".join(words))
-        if words[0] not in NAMING:
+        if words[0] not in SILENT:
             lines.append(f"deliver {UNSENT} {nodes[0]}")
     parted = "".join(line + "\n" for line in lines).encode()
     played = output_of(["fleet", "-"], place=f"{path}, frame by frame", stdin=parted)
@@ -84,7 +89,7 @@ class Played:
         steps = steps_of(path, text, count)
         self.nodes, self.row, self.frames, self.notes, self.flowed = nodes_of(steps), 1, [], [], 0
         reports = reports_of(path, whole, steps, self.nodes)
-        for words, lines in zip((words for words in steps if words[0] not in NAMING), reports):
+        for words, lines in zip((words for words in steps if words[0] not in SILENT), reports):
             self.step(words, lines)
 
     def given(self, words):
