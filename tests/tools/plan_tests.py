@@ -1,0 +1,119 @@
+"""Plans of other ground stations: `plan import` and `plan export`.
+
+The golden files were written by hand after the MAVLink guide's page on file formats (QGC WPL 110 text) and
+QGroundControl's page on the Plan file format; the words of floats after IEEE 754.
+"""
+
+import json
+import os
+import tempfile
+
+from bench import bevuntri, golden, prints, refuses, same
+
+MISSION, SURVEY = "mission.waypoints", "survey.plan"
+
+
+def without_comments(name):
+    return b"".join(line for line in golden(name).splitlines(True) if not line.startswith(b"#"))
+
+
+def test_import_of_a_text():
+    prints(golden("mission.items"), "plan", "import", MISSION)
+    prints(golden("mission.items"), "plan", "import", "-", stdin=golden(MISSION).replace(b"\n", b"\r\n"))
+
+
+def test_import_of_a_plan():
+    prints(golden("survey.mission"), "plan", "import", SURVEY)
+    prints(golden("survey.corners"), "plan", "import", "--fence", SURVEY)
+    prints(golden("survey.rally"), "plan", "import", SURVEY, "--rally")
+
+
+def test_strict_import():
+    refuses(1, "line 6: latitude 91 isn't from -90 to 90", "plan", "import", "--strict", MISSION)
+    refuses(1, "item 3: command 206", "plan", "import", "--strict", SURVEY)
+    refuses(1, "circle 0", "plan", "import", "--strict", "--fence", SURVEY)
+    prints(golden("survey.rally"), "plan", "import", "--strict", "--rally", SURVEY)
+
+
+def test_export_of_what_a_station_got():
+    prints(golden("station.waypoints"), "plan", "export", "station.got")
+
+
+def test_export_as_a_plan():
+    came, _, status = bevuntri("plan", "export", "--plan", "station.got")
+    plan = json.loads(came)
+    same("form", (status, plan["fileType"], plan["version"], plan["mission"]["version"]), (0, "Plan", 1, 2))
+    found = [(item["type"], item["autoContinue"], item["frame"], item["command"], item["params"])
+             for item in plan["mission"]["items"]]
+    same("items", found, [
+        ("SimpleItem", True, 3, 22, [15, 0, 0, None, 47.397742, 8.545594, 50]),
+        ("SimpleItem", True, 2, 2000, [0, 0, 1, 0, 0, 0, 0]),
+        ("SimpleItem", False, 0, 16, [0, 0, 0, 0.1, -5e-07, -180, -100]),
+    ])
+
+
+def test_sections_of_a_plan():
+    for name, flag in (("survey.corners", "geoFence"), ("survey.rally", "rallyPoints")):
+        plan = json.loads(bevuntri("plan", "export", "--plan", "-", stdin=golden(name))[0])
+        wanted = json.loads(golden(SURVEY))[flag]
+        wanted.pop("circles", None)
+        plan[flag].pop("circles", None)
+        same(flag, plan[flag], wanted)
+
+
+def test_import_after_export():
+    """Floats of many magnitudes, the extremes of a location, and each frame that a file has."""
+    words = ["00000001", "807fffff", "7f7fffff", "3dcccccd", "4b800001", "3a83126f", "c0490fdb", "80000000",
+             "7fc00000", "5d5e0b6b"]
+    lines = [f"item {frame} 16 {x} {y} {words[at]} {words[at - 1]} {words[at - 2]} {words[at - 3]} {words[at - 4]}\n"
+             for at, (frame, x, y) in enumerate([(5, 900000000, -1800000000), (6, -900000000, 1800000000), (6, 1, -1),
+                                                 (5, 473977421, 85455949), (6, 0, 7), (6, 10, 100), (5, 99, 3)] * 2)
+             if at < 10]
+    lines += ["item 2 2000 -2147483648 2147483647 " + " ".join(words[:5]) + "\n"]
+    text = "".join(lines).encode()
+    for plan in ([], ["--plan"]):
+        exported = bevuntri("plan", "export", *plan, "-", stdin=text)[0]
+        prints(text, "plan", "import", "-", stdin=exported)
+    for name, flag in (("survey.corners", "--fence"), ("survey.rally", "--rally")):
+        exported = bevuntri("plan", "export", "--plan", "-", stdin=without_comments(name))[0]
+        prints(without_comments(name), "plan", "import", flag, "-", stdin=exported)
+
+
+def test_items_lines():
+    prints(b"QGC WPL 110\n0\t0\t3\t16\t0\t0\t0\t0\t47.397742\t8.545594\t0\t1\n"
+           b"1\t0\t3\t16\t0\t0\t0\t0\t47.3977421\t8.545594\t0\t1\n", "plan", "export", "-",
+           stdin=b"items 2 6 16 473977420 85455940\n")
+
+
+def test_wrong_files():
+    with tempfile.TemporaryDirectory() as folder:
+        def case(status, sentence, data, *words):
+            with open(os.path.join(folder, "file"), "wb") as file:
+                file.write(data)
+            refuses(status, sentence, "plan", *words, "file", folder=folder)
+        for words in (["import"], ["export"], ["import", "--fence"]):
+            case(3, "file", b"\xff\xfe\x00\x80" * 100, *words)
+            case(3, "at most 16777216 bytes", b"1 " * 25_000_000, *words)
+            refuses(4, "nothing", "plan", *words, "nothing", folder=folder)
+            refuses(4, "'.'", "plan", *words, ".", folder=folder)
+        case(3, "line 1", b"", "import")
+        case(3, "line 1", b"QGC WPL 120\n", "import")
+        case(3, "line 1", b"1 " * 8_000_000, "import")
+        case(3, "line 2: expected 12 numbers", b"QGC WPL 110\n" + b"1 " * 8_000_000, "import")
+        case(3, "line 3", b"QGC WPL 110\n\n0\t0\t3\t16\t0\t0\t0\tx\t1\t1\t1\t1\n", "import")
+        case(3, "line 2", b"QGC WPL 110\n0\t0\t3\t16\t0\t0\t0\t1e99999\t1\t1\t1\t1\n", "import")
+        case(3, "line 2", b"QGC WPL 110\n0\t0\t3.5\t16\t0\t0\t0\t0\t1\t1\t1\t1\n", "import")
+        case(3, "nested", b'{"a":' + b"[" * 1_000_000, "import")
+        case(3, "JSON", b'{"fileType": "Plan", "mission": {"items": [NaN]}}', "import")
+        case(3, "line 1", b"[]", "import")
+        case(3, "Plan", b"{}", "import")
+        case(3, "items", b'{"fileType": "Plan", "mission": {"items": 7}}', "import")
+        short = b'{"fileType": "Plan", "mission": {"items": [{"frame": 3, "command": 16, "params": [1]}]}}'
+        case(3, "item 0: params", short, "import")
+        case(3, "line 1", b"mission\n", "export")
+        case(3, "line 1", b"item 6 16 1 2147483648\n", "export")
+        case(3, "line 2", b"item 6 16 1 2\nitem 6 16 1 2 3\n", "export")
+        case(3, "line 1", b"outcome 255.190 got 3\n", "export")
+        case(3, "no infinite", b"item 6 16 1 2 7f800000\n", "export", "--plan")
+        case(3, "as many corners", b"items 3 5 5001 1 2 00000000 40800000\n", "export", "--plan")
+        case(3, "no place", b"items 3 5 5001 1 2 3f800000 40400000\n", "export", "--plan")
