@@ -227,7 +227,7 @@ fn names_nothing(wanted: &Wanted) -> bool
 }
 
 // The status of a run; that of want of memory, if there is none for the words, or if they name a port or a store.
-fn status_of<S: Source, K: Sink>(
+pub(crate) fn status_of<S: Source, K: Sink>(
     alloc: Global,
     text: &str,
     inputs: &mut Inputs<S>,

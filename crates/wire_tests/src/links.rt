@@ -72,8 +72,26 @@ fn told(alloc: Global) -> Result<u64, NoMemory> {
     Ok(digits(&heard))
 }
 
+// The same of these bytes as a stream in pieces of seven.
+fn told_in_pieces(alloc: Global) -> Result<u64, NoMemory> {
+    let extras = profile_extras(alloc)?;
+    let mut endpoint = Endpoint::new(alloc, Key::new(KEY), ME, extras)?;
+    let mut heard = Vec::new(alloc);
+    let mut place = 0;
+    for _call in 0..100 {
+        let end = DATAGRAM.len().min(place + 7);
+        let (taken, one) = endpoint.receive_part(&DATAGRAM[place..end]);
+        place += taken;
+        if let Some(one) = one {
+            heard.push(one)?;
+        }
+    }
+    Ok(digits(&heard))
+}
+
 #[test]
 fn a_datagram_of_good_and_bad_frames(rt: HostRuntime) -> Result<(), Fail> {
     assert_eq!(rt; told(rt.alloc())?, 1_000_902_901_903_042);
+    assert_eq!(rt; told_in_pieces(rt.alloc())?, 1_000_902_901_903_042);
     Ok(())
 }
