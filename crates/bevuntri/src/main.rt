@@ -1,8 +1,9 @@
 //! The program: opens what the words name, and passes it to `run`.
 #![tactic(auto)]
 
-ghost use Rattle.std.specs.Prelude.{◌≡◌, map, string_bytes, length};
+ghost use Rattle.std.specs.Prelude.{◌≡◌, map, string_bytes, length, IfOk, option_map};
 ghost use Rattle.line_commands.specs.Wants.{AreThere, Wants};
+ghost use Rattle.real_files.specs.Named.{names_stdin, reads_stdin};
 
 use mav_links::Link;
 use mav_ports::{StdClock, StdSink, StdSource};
@@ -17,7 +18,12 @@ use std::thread::Threads;
 
 const NO_MEMORY: u8 = 7;
 
-fn inputs_of(rt: &HostRuntime, wanted: &Wanted) -> Result<Inputs<StdSource<Reader>>, AllocError> {
+// The inputs that the words name.
+fn inputs_of(rt: &HostRuntime, wanted: &Wanted) -> Result<Inputs<StdSource<Reader>>, AllocError>
+    ensures main { IfOk result (λ i. reads_stdin i.main.reader ≡ names_stdin (option_map string_bytes wanted.now.main)) }
+    ensures defs { IfOk result (λ i. reads_stdin i.defs.reader ≡ names_stdin (option_map string_bytes wanted.now.defs)) }
+    ensures key { IfOk result (λ i. reads_stdin i.key.reader ≡ names_stdin (option_map string_bytes wanted.now.key)) }
+{
     Ok(Inputs {
         main: open_input(rt, &wanted.main)?,
         defs: open_input(rt, &wanted.defs)?,

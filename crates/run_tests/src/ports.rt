@@ -3,6 +3,7 @@ ghost use Rattle.std.specs.Prelude.{◌≡◌, ◌<◌, [], ◌∷◌, length, S
 ghost use Rattle.mav_ports.specs.MemReads.{reads_from_start};
 ghost use Rattle.mav_ports.specs.MemWrites.{writes_from_start};
 
+use mav_links::{Link, MemLink, write_link};
 use mav_ports::{
     Clock, Got, MemSink, MemSource, Put, Sink, Source, StdClock, StdSink, StdSource, SureSink,
     SureSource, WriteFault, write_all,
@@ -118,9 +119,20 @@ fn written(alloc: Global) -> Result<bool, AllocError> {
     Ok(first && second && sink.sent() == b"hell".as_slice())
 }
 
+// The same of two writes to a boxed link, which takes at most two bytes a call.
+fn written_to_a_link(alloc: Global) -> Result<bool, AllocError> {
+    let nothing = Vec::new(alloc);
+    let link = MemLink::new(alloc, nothing, 2, Vec::new(alloc), Vec::new(alloc), 4, Vec::new(alloc))?;
+    let mut link: Box<dyn Link> = Box::new(alloc, link)?;
+    let first = write_link(&mut link, b"hel").is_ok();
+    let second = write_link(&mut link, b"lo").is_err();
+    Ok(first && second && link.sent() == b"hell".as_slice())
+}
+
 #[test]
 fn all_that_is_written_is_sent_while_there_is_room(rt: HostRuntime) -> Result<(), Fail> {
     assert!(rt; answers_to_the_end_of_room(rt.alloc())? && written(rt.alloc())?);
+    assert!(rt; written_to_a_link(rt.alloc())?);
     Ok(())
 }
 
