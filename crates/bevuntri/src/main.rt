@@ -8,7 +8,7 @@ ghost use Rattle.real_files.specs.Named.{names_stdin, reads_stdin};
 use mav_links::Link;
 use mav_ports::{StdClock, StdSink, StdSource};
 use real_files::{Reader, open_input, words_of};
-use real_ports::{open_link, open_store, wait_of};
+use real_ports::{beat_of, open_link, open_store};
 use station_cli::{Inputs, Store, Wanted, WantedFault, run, wanted};
 use std::alloc::AllocError;
 use std::io;
@@ -61,10 +61,10 @@ fn run_ports<R: Threads + Wait + Sync>(
 ) -> Result<u8, AllocError>
     requires { Wants (map string_bytes words.now) wanted.now }
 {
-    let wait = wait_of(words);
+    let beat = beat_of(words);
     let mut ports: Vec<Box<dyn Link>> = Vec::new(rt.alloc());
     for port in &wanted.ports {
-        let link = open_link(rt, port, wait)?;
+        let link = open_link(rt, port, beat)?;
         ports.push(Box::new(rt.alloc(), link)?)?;
     }
     run_stores(rt, threads, words, wanted, inputs, &mut ports)

@@ -1,4 +1,5 @@
 pub mod Datagrams
 pub mod Links
 pub mod MemLinks
+pub mod Paces
 pub mod Tallies

@@ -1,7 +1,8 @@
 // A link that its caller boxed.
 
-use crate::Link;
+use crate::{Bell, Link};
 use mav_ports::{Got, Put};
+use std::sync::Arc;
 
 /// A box is the link in it.
 impl Link for Box<dyn Link> {
@@ -17,5 +18,21 @@ impl Link for Box<dyn Link> {
 
     fn sent(&self) -> &[u8] {
         (**self).sent()
+    }
+
+    fn is_ready(&mut self) -> bool {
+        (**self).is_ready()
+    }
+
+    fn rest(&mut self) {
+        (**self).rest()
+    }
+
+    fn can_write(&mut self) -> bool {
+        (**self).can_write()
+    }
+
+    fn bell(&self) -> Option<Arc<Bell>> {
+        (**self).bell()
     }
 }

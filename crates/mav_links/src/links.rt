@@ -5,7 +5,9 @@ ghost use Rattle.mav_ports.specs.Gets.{given, GivesWithin, CountsFault, idles_af
 ghost use Rattle.mav_ports.specs.Puts.{taken, TakesWithin, CountsRefusal};
 ghost use Rattle.mav_links.specs.Links.{pauses_after};
 
+use crate::Bell;
 use mav_ports::{Got, Put};
+use std::sync::Arc;
 
 /// A source and a sink in one, with one count of faults and one of Idle answers.
 pub trait Link: Send + Drop {
@@ -42,4 +44,29 @@ pub trait Link: Send + Drop {
     /// The bytes that it was sent, if they are known; an adapter over the system gives none.
     fn sent(&self) -> &[u8]
         ensures { IfSome (state self.now).sent (λ bytes. result.now ≡ bytes) };
+
+    /// Whether a read returns without waiting. If it doesn't, the next ring of the bell ends the next rest.
+    fn is_ready(&mut self) -> bool
+        ensures kept { state self.new ≡ state self.old }
+    {
+        true
+    }
+
+    /// Waits until a read returns without waiting, or the bell rings; it may return before.
+    fn rest(&mut self)
+        ensures kept { state self.new ≡ state self.old }
+    {
+    }
+
+    /// Whether a write needn't wait until somebody is there to take it.
+    fn can_write(&mut self) -> bool
+        ensures kept { state self.new ≡ state self.old }
+    {
+        true
+    }
+
+    /// What ends its rest from another thread; none if it doesn't rest.
+    fn bell(&self) -> Option<Arc<Bell>> {
+        None
+    }
 }

@@ -2,21 +2,21 @@
 ghost use Rattle.std.specs.Prelude.{◌≡◌, None};
 ghost use Rattle.mav_links.specs.Tallies.{nothing_counted};
 
-use crate::Link;
 use crate::tallies::{Tally, put_once, read_waiting};
+use crate::{Bell, Link, Waits};
 use mav_ports::{Got, Put};
 use std::io::{Read, Write};
+use std::sync::Arc;
 
-/// A link over any stream, as a TCP connection. It says nothing of the bytes, idles if none came within the wait that
-/// the stream was given, and counts each other error as a fault. Over no stream, as one that couldn't be opened, each
-/// call fails.
+/// A link over any stream, as a TCP connection. It says nothing of the bytes, idles where a read of the stream would wait,
+/// and counts each other error as a fault. Over no stream, as one that couldn't be opened, each call fails.
 #[derive(Drop)]
-pub struct TcpLink<S: Read + Write + Drop> {
+pub struct TcpLink<S: Read + Write + Waits + Drop> {
     stream: Option<S>,
     tally: Tally,
 }
 
-impl<S: Read + Write + Drop> TcpLink<S> {
+impl<S: Read + Write + Waits + Drop> TcpLink<S> {
     pub fn new(stream: Option<S>) -> TcpLink<S>
         ensures over { result.stream ≡ stream }
         ensures counts { result.tally ≡ nothing_counted }
@@ -28,7 +28,7 @@ impl<S: Read + Write + Drop> TcpLink<S> {
     }
 }
 
-impl<S: Read + Write + Send + Drop> Link for TcpLink<S> {
+impl<S: Read + Write + Waits + Send + Drop> Link for TcpLink<S> {
     ghost state = { λ l. record { left = None; sent = None; faults = l.tally.faults; idles = l.tally.idles; pauses = None; ended = l.tally.ended } };
 
     fn read(&mut self, buf: &mut [u8]) -> Got {
@@ -54,5 +54,32 @@ impl<S: Read + Write + Send + Drop> Link for TcpLink<S> {
 
     fn sent(&self) -> &[u8] {
         &[]
+    }
+
+    fn is_ready(&mut self) -> bool {
+        match &mut self.stream {
+            Some(stream) => stream.is_ready(),
+            None => true,
+        }
+    }
+
+    fn rest(&mut self) {
+        if let Some(stream) = &mut self.stream {
+            stream.rest();
+        }
+    }
+
+    fn can_write(&mut self) -> bool {
+        match &mut self.stream {
+            Some(stream) => stream.can_write(),
+            None => true,
+        }
+    }
+
+    fn bell(&self) -> Option<Arc<Bell>> {
+        match &self.stream {
+            Some(stream) => stream.bell(),
+            None => None,
+        }
     }
 }

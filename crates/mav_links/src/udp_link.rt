@@ -1,35 +1,27 @@
 // A link over datagrams.
-ghost use Rattle.std.specs.Prelude.{◌≡◌, ◌<◌, ◌≤◌, None, length, IfOk};
+ghost use Rattle.std.specs.Prelude.{◌≡◌, ◌<◌, ◌≤◌, None, Some, length, IfOk};
 ghost use Rattle.mav_ports.specs.Gets.{GivesWithin};
 ghost use Rattle.mav_ports.specs.Puts.{TakesWithin};
 ghost use Rattle.mav_links.specs.Links.{IsNoBytes};
 ghost use Rattle.mav_links.specs.Tallies.{nothing_counted};
 
 use crate::datagrams::datagram_size;
-use crate::tallies::{Tally, waited};
-use crate::{Link, NoMemory};
+use crate::tallies::Tally;
+use crate::{Bell, Link, NoMemory, PeerSocket};
 use mav_ports::{Got, Put};
 use std::alloc::Global;
-use std::io;
-use std::io::ErrorKind;
-use std::net::{SocketAddr, UdpSocket};
+use std::sync::Arc;
+use std::time::Clock;
 
 // As many bytes as a datagram can have.
 const MOST_BYTES: usize = 65_536;
 
-// A call that a signal interrupts is made again so often.
-const MOST_REPEATS: u32 = 1_000_000;
-
-/// A link over a UDP socket: with a fixed peer, or with the latest sender as its peer, before whose first datagram
-/// what is written is dropped. Each write sends one datagram, with the first of the frames given. The part of a datagram
-/// that doesn't fit the buffer of a read is kept for the next. It says nothing of the bytes; it idles if no datagram came
-/// within the wait that the socket was given, at an empty one, and if the peer's port is closed. Each other error is
-/// counted as a fault. Over no socket each call fails.
+/// A link over a UDP socket. Each write sends one datagram, with the first of the frames given, or drops it if nobody is
+/// there to send to. The part of a datagram that doesn't fit the buffer of a read is kept for the next. It says nothing of
+/// the bytes; it idles if no byte came until Idle was due, and never fails, but over no socket at each call.
 #[derive(Drop)]
-pub struct UdpLink {
-    socket: Option<UdpSocket>,
-    fixed: Option<SocketAddr>,
-    latest: Option<SocketAddr>,
+pub struct UdpLink<C: Clock + Drop> {
+    socket: Option<PeerSocket<C>>,
     datagram: Vec<u8>,
     start: usize,
     end: usize,
@@ -38,21 +30,15 @@ pub struct UdpLink {
     ghost within: { end ≤ length datagram.items },
 }
 
-impl UdpLink {
-    /// With no fixed peer it replies to its latest sender. Allocates room for a datagram.
-    pub fn new(
-        alloc: Global,
-        socket: Option<UdpSocket>,
-        fixed: Option<SocketAddr>,
-    ) -> Result<UdpLink, NoMemory>
-        ensures over { IfOk result (λ link. (link.socket ≡ socket) × (link.fixed ≡ fixed)) }
+impl<C: Clock + Drop> UdpLink<C> {
+    /// Allocates room for a datagram.
+    pub fn new(alloc: Global, socket: PeerSocket<C>) -> Result<UdpLink<C>, NoMemory>
+        ensures over { IfOk result (λ link. link.socket ≡ Some socket) }
         ensures counts { IfOk result (λ link. link.tally ≡ nothing_counted) }
     {
         let datagram = vec![in alloc; 0; MOST_BYTES]?;
         Ok(UdpLink {
-            socket,
-            fixed,
-            latest: None,
+            socket: Some(socket),
             datagram,
             start: 0,
             end: 0,
@@ -60,24 +46,33 @@ impl UdpLink {
         })
     }
 
-    // Receives a datagram, if one comes.
+    /// Over no socket. Doesn't allocate.
+    pub fn closed(alloc: Global) -> UdpLink<C>
+        ensures over { result.socket ≡ None }
+        ensures counts { result.tally ≡ nothing_counted }
+    {
+        UdpLink {
+            socket: None,
+            datagram: Vec::new(alloc),
+            start: 0,
+            end: 0,
+            tally: Tally::new(),
+        }
+    }
+
+    // Keeps the bytes of a datagram, if one came, and returns what a read gives where none is left.
     fn receive(&mut self) -> Got
         ensures none { IsNoBytes result }
         ensures counts { self.new.tally ≡ self.old.tally }
     {
-        let Some(socket) = &self.socket else {
+        let Some(socket) = &mut self.socket else {
             return Got::Failed;
         };
-        match receive_once(socket, &mut self.datagram) {
-            Ok((count, from)) => {
-                self.start = 0;
-                self.end = count;
-                self.latest = Some(from);
-                Got::Idle
-            }
-            Err(error) if error.kind() == ErrorKind::ConnectionRefused => Got::Idle,
-            Err(error) => waited(error.kind()),
+        if let Some(count) = socket.receive(&mut self.datagram) {
+            self.start = 0;
+            self.end = count;
         }
+        Got::Idle
     }
 
     // What is left of the datagram, or else that there was none.
@@ -95,49 +90,40 @@ impl UdpLink {
         self.start += count;
         Got::Bytes(count)
     }
-}
 
-// Receives once, and again if that was interrupted.
-fn receive_once(socket: &UdpSocket, datagram: &mut [u8]) -> io::Result<(usize, SocketAddr)>
-    ensures within { IfOk result (λ received. received.0 ≤ length datagram.new) }
-{
-    for _repeat in 0..MOST_REPEATS {
-        match socket.recv_from(datagram) {
-            Err(error) if error.kind() == ErrorKind::Interrupted => {}
-            result => return result,
+    // Whether there are bytes of a datagram, of one that is there already if not of the last.
+    fn has_bytes(&mut self) -> bool
+        ensures counts { self.new.tally ≡ self.old.tally }
+    {
+        if self.start < self.end {
+            return true;
         }
+        let Some(socket) = &mut self.socket else {
+            return true;
+        };
+        let Some(count) = socket.look(&mut self.datagram) else {
+            return false;
+        };
+        self.start = 0;
+        self.end = count;
+        true
     }
-    socket.recv_from(datagram)
 }
 
-// Sends a datagram once, and again if that was interrupted.
-fn send_once(socket: &UdpSocket, bytes: &[u8], peer: SocketAddr) -> io::Result<usize> {
-    for _repeat in 0..MOST_REPEATS {
-        match socket.send_to(bytes, peer) {
-            Err(error) if error.kind() == ErrorKind::Interrupted => {}
-            result => return result,
-        }
-    }
-    socket.send_to(bytes, peer)
-}
-
-// What a send of the first frame to the peer took.
-fn send(socket: &UdpSocket, peer: Option<SocketAddr>, bytes: &[u8]) -> Put
+// What a send of the first frame took.
+fn send<C: Clock + Drop>(socket: &mut PeerSocket<C>, bytes: &[u8]) -> Put
     requires { 0 < length bytes.now }
     ensures { TakesWithin result bytes.now }
 {
-    let Some(peer) = peer else {
+    if !socket.has_peer() {
         return Put::Took(bytes.len());
-    };
-    let size = datagram_size(bytes);
-    match send_once(socket, &bytes[..size], peer) {
-        Ok(_) => Put::Took(size),
-        Err(error) if error.kind() == ErrorKind::ConnectionRefused => Put::Took(size),
-        Err(_) => Put::Failed,
     }
+    let size = datagram_size(bytes);
+    socket.send(&bytes[..size]);
+    Put::Took(size)
 }
 
-impl Link for UdpLink {
+impl<C: Clock + Send + Drop> Link for UdpLink<C> {
     ghost state = { λ l. record { left = None; sent = None; faults = l.tally.faults; idles = l.tally.idles; pauses = None; ended = l.tally.ended } };
 
     fn read(&mut self, buf: &mut [u8]) -> Got {
@@ -155,9 +141,8 @@ impl Link for UdpLink {
     }
 
     fn write(&mut self, bytes: &[u8]) -> Put {
-        let peer = self.fixed.or(self.latest);
-        let put = match &self.socket {
-            Some(socket) => send(socket, peer, bytes),
+        let put = match &mut self.socket {
+            Some(socket) => send(socket, bytes),
             None => Put::Failed,
         };
         self.tally.write(put);
@@ -166,5 +151,26 @@ impl Link for UdpLink {
 
     fn sent(&self) -> &[u8] {
         &[]
+    }
+
+    fn is_ready(&mut self) -> bool {
+        let has_bytes = self.has_bytes();
+        match &mut self.socket {
+            Some(socket) => has_bytes || socket.is_due(),
+            None => true,
+        }
+    }
+
+    fn rest(&mut self) {
+        if let Some(socket) = &mut self.socket {
+            socket.rest();
+        }
+    }
+
+    fn bell(&self) -> Option<Arc<Bell>> {
+        match &self.socket {
+            Some(socket) => socket.bell(),
+            None => None,
+        }
     }
 }

@@ -1,20 +1,31 @@
 -- What was just opened.
-use Rattle.std.specs.Prelude.{None, false, true, Bool}
+use Rattle.std.specs.Prelude.{ℕ, List, Option, None, Some, false, true, Bool}
 use Rattle.command_line.specs.declared.ports.SocketKind.{SocketKind}
 use Rattle.command_line.specs.declared.ports.SocketKind.TheVariants.{Tcp, Listen, Udp, UdpListen}
 use Rattle.command_line.specs.declared.ports.FilesKind.{FilesKind}
 use Rattle.command_line.specs.declared.ports.FilesKind.TheVariants.{File, Replay}
 use Rattle.command_line.specs.declared.ports.Target.{Target}
 use Rattle.command_line.specs.declared.ports.Target.TheVariants.{Socket as SocketTarget, Files as FilesTarget}
+use Rattle.command_line.specs.PortTexts.{target_text}
 use Rattle.mav_links.specs.Links.{LinkState}
 use Rattle.real_ports.specs.declared.links.RealLink.{RealLink}
-use Rattle.real_ports.specs.declared.links.RealLink.TheVariants.{Files, Log, Stream, Datagrams}
+use Rattle.real_ports.specs.declared.links.RealLink.TheVariants.{Unopened, Files, Log, Stream, Datagrams}
 use Rattle.real_ports.specs.declared.stores.RealStore.{RealStore}
 use Rattle.real_ports.specs.declared.stores.RealStore.TheVariants.{File as InFile, Failing}
 
 -- a link to the system, before its first call: nothing is known of its bytes, and nothing was counted
 abbrev pub just_opened : LinkState
 just_opened = record { left = None; sent = None; faults = 0; idles = 0; pauses = None; ended = false }
+
+-- whether a link was opened
+abbrev pub is_open : RealLink → Bool
+is_open (Unopened opening) = false
+is_open link = true
+
+-- the word of what a link opens at its first call, if it hasn't been opened
+abbrev pub target_of : RealLink → Option (List ℕ)
+target_of (Unopened opening) = Some (target_text opening.target)
+target_of link = None
 
 -- whether a link is what a socket of that kind has: a TCP connection, or datagrams
 abbrev pub is_of_socket : SocketKind → RealLink → Bool

@@ -1,23 +1,24 @@
-// How long a read waits for bytes.
+// When a read of a port gives Idle.
 ghost use Rattle.std.specs.Prelude.{◌≡◌, map, string_bytes};
-ghost use Rattle.std.specs.Duration.{as_nanos};
-ghost use Rattle.real_ports.specs.Waits.{wait_nanos};
+ghost use Rattle.real_ports.specs.Waits.{beat_says, beat_for};
 
+use mav_links::Beat;
 use std::time::Duration;
 
-// A router on one thread reads its ports in turn, and one with threads writes to a port only between its reads.
-const WAIT_OF_A_ROUTER_MILLISECONDS: u64 = 10;
+// A router's port gives Idle once nothing has come for so long.
+const QUIET_MILLISECONDS: u64 = 10;
 
-const WAIT_MILLISECONDS: u64 = 250;
+// A node's gives it so often, whatever comes.
+const STEADY_MILLISECONDS: u64 = 250;
 
-/// How long a read of a port that these words name waits.
-pub fn wait_of(words: &[String]) -> Duration
-    ensures { as_nanos result ≡ wait_nanos (map string_bytes words.now) }
+/// When a read gives Idle of a port that these words name.
+pub fn beat_of(words: &[String]) -> Beat
+    ensures { beat_says result ≡ beat_for (map string_bytes words.now) }
 {
     match words {
         [command, ..] if command.as_str() == "route" => {
-            Duration::from_millis(WAIT_OF_A_ROUTER_MILLISECONDS)
+            Beat::Quiet(Duration::from_millis(QUIET_MILLISECONDS))
         }
-        _ => Duration::from_millis(WAIT_MILLISECONDS),
+        _ => Beat::Steady(Duration::from_millis(STEADY_MILLISECONDS)),
     }
 }

@@ -1,7 +1,7 @@
 // Ports whose reads wait for each other: on one thread, or with a lock that is held over reads, they fail.
 use crate::threaded::route_over;
 use dialect::Dialect;
-use mav_links::{Link, TcpLink};
+use mav_links::{Link, TcpLink, Waits};
 use mav_router::NoMemory;
 use std::alloc::Global;
 use std::io::{self, Error, ErrorKind, Read, Write};
@@ -58,6 +58,9 @@ impl Write for Gate {
         Ok(())
     }
 }
+
+// It waits in its reads alone.
+impl Waits for Gate {}
 
 fn gated(own: &Arc<AtomicU64>, other: &Arc<AtomicU64>) -> Result<TcpLink<Gate>, NoMemory> {
     Ok(TcpLink::new(Some(Gate {

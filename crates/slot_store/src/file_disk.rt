@@ -3,7 +3,7 @@ ghost use Rattle.std.specs.Prelude.{◌≡◌, []};
 ghost use Rattle.slot_store.specs.Disks.{CountsDiskFault};
 
 use crate::{Disk, DiskFault};
-use std::fs::{File, OpenOptions};
+use std::fs::{File, Metadata, OpenOptions};
 use std::io::{Error, ErrorKind};
 use std::os::unix::fs::FileExt;
 use std::{fs, io};
@@ -87,13 +87,25 @@ impl Disk for FileDisk {
     }
 }
 
-// Makes the file of zeros under another name first, so that a crash leaves all of it or none.
+// Gives the file that was made beside it its name, unless another program has made one of that name meanwhile.
+fn name(rt: &HostRuntime, beside: &str, path: &str) -> io::Result<()> {
+    match fs::hard_link(rt, beside, path) {
+        Ok(()) => fs::remove_file(rt, beside),
+        Err(error) if error.kind() == ErrorKind::AlreadyExists => fs::remove_file(rt, beside),
+        // The file system may have no such links.
+        Err(_) => fs::rename(rt, beside, path),
+    }
+}
+
+// Makes the file of zeros under another name first, so that a crash leaves all of it or none. That is made anew, and never
+// through a symbolic link.
 fn make(rt: &HostRuntime, path: &str) -> io::Result<()> {
     let beside = format!(in rt.alloc(); "{path}.new")?;
-    let file = fs::create(rt, beside.as_str())?;
+    let _ = fs::remove_file(rt, beside.as_str());
+    let file = File::create_new(rt, beside.as_str())?;
     file.set_len(DISK_BYTES)?;
     file.sync_all()?;
-    fs::rename(rt, beside.as_str(), path)
+    name(rt, beside.as_str(), path)
 }
 
 // Makes the file's name durable.
@@ -103,7 +115,23 @@ fn sync_folder(rt: &HostRuntime, path: &str) -> io::Result<()> {
     File::open(rt, folder.as_str())?.sync_all()
 }
 
-// The file of that name, which is made if it doesn't exist; a fault if it has another size.
+// Takes the file for this program alone, until its end; a fault if another one has it.
+fn lock(file: &File) -> io::Result<()> {
+    match file.try_lock() {
+        Ok(()) => Ok(()),
+        Err(_) => Err(Error::from(ErrorKind::WouldBlock)),
+    }
+}
+
+fn check_form(found: &Metadata) -> io::Result<()> {
+    if found.is_file() && found.len() == DISK_BYTES {
+        Ok(())
+    } else {
+        Err(Error::from(ErrorKind::InvalidData))
+    }
+}
+
+// The file of that name, which is made if it doesn't exist; a fault if it has another size, or another program has it.
 pub(crate) fn open_or_make(rt: &HostRuntime, path: &str) -> io::Result<File> {
     let found = match fs::metadata(rt, path) {
         Err(error) if error.kind() == ErrorKind::NotFound => {
@@ -112,10 +140,10 @@ pub(crate) fn open_or_make(rt: &HostRuntime, path: &str) -> io::Result<File> {
         }
         found => found?,
     };
-    if !found.is_file() || found.len() != DISK_BYTES {
-        return Err(Error::from(ErrorKind::InvalidData));
-    }
+    check_form(&found)?;
     let file = OpenOptions::new().read(true).write(true).open(rt, path)?;
+    lock(&file)?;
+    check_form(&file.metadata()?)?;
     sync_folder(rt, path)?;
     Ok(file)
 }
