@@ -63,6 +63,14 @@ def fetch(address):
         return reply.read().decode(), reply.headers
 
 
+def status_of(request):
+    """Returns the status of a request that is refused."""
+    try:
+        return urllib.request.urlopen(request, timeout=10).status
+    except urllib.error.HTTPError as error:
+        return error.code
+
+
 def state(address):
     """Returns what the page's first event has."""
     with urllib.request.urlopen(address + "events", timeout=10) as reply:
@@ -137,10 +145,8 @@ def test_page_of_a_text():
                      'bevuntri_port_admitted_total{port="1"} 9', 'bevuntri_port_links{port="2"} 0',
                      'bevuntri_message_frames_total{message="GLOBAL_POSITION_INT"} 3'):
             same(line, line in metrics, True)
-        try:
-            same("another path", fetch(address + "../etc/passwd"), None)
-        except urllib.error.HTTPError as error:
-            same("another path", error.code, 404)
+        same("another path", status_of(address + "../etc/passwd"), 404)
+        same("another site's name", status_of(urllib.request.Request(address, headers={"Host": "example.org"})), 403)
 
 
 def test_page_of_a_relay():
