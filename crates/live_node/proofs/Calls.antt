@@ -17,14 +17,14 @@ use Rattle.mav_nodes.specs.News.{NodeEvent, shown, events_of}
 use Rattle.mav_nodes.specs.Links.{Outcome, done, after_events, and_then}
 use Rattle.mav_nodes.specs.Stores.{Serves, HasFailed, AllKept}
 use Rattle.mav_nodes.specs.Promises.{Did}
-use Rattle.mav_nodes.proofs.StoreCalls.{serves_both, failed_then, then_failed}
+use Rattle.mav_nodes.proofs.StoreCalls.{serves_both, serves_same, then_failed}
 use Rattle.node_reports.specs.Nodes.{Node, node_name}
 use Rattle.node_reports.specs.ParamLists.{params_of, HaveValues}
 use Rattle.node_reports.proofs.ListedValues.{ListsKnown}
-use Rattle.run_status.specs.declared.input_errors.InputError.TheVariants.{StampsSpent}
-use Rattle.run_status.specs.declared.live_ends.LiveEnd.TheVariants.{StoreFault}
+use Rattle.run_status.specs.declared.input_errors.InputError.TheVariants.{Bad, AtLimit, StampsSpent}
+use Rattle.run_status.specs.declared.live_ends.LiveEnd.TheVariants.{RefusedWith, NoAnswer, StoreFault, PortTurns, PortFault}
 use Rattle.run_status.specs.declared.run_ends.RunEnd.{RunEnd}
-use Rattle.run_status.specs.declared.run_ends.RunEnd.TheVariants.{Stopped, Live}
+use Rattle.run_status.specs.declared.run_ends.RunEnd.TheVariants.{Usage, Stopped, ReadFault, WriteFault, NoMemory, TurnsSpent, Live}
 use Rattle.live_node.specs.declared.nodes.LiveNode.{LiveNode}
 use Rattle.live_node.specs.declared.nodes.Due.{Due}
 use Rattle.live_node.specs.declared.nodes.Due.TheVariants.{Tick, Heartbeat, Sim}
@@ -35,7 +35,7 @@ use Rattle.live_node.specs.Calls.{LiveCall, call_does, calls_do, keeps_in, IsTim
 use Rattle.live_node.specs.Texts.{frames_text, lines_of, count_over, ending_over}
 use Rattle.live_node.specs.Ports.{SentBy, PrintedBy, FaultsBy, end_by, IsTellingEnd}
 use Rattle.live_node.specs.Parts.{CallFails}
-use Rattle.live_node.specs.Runs.{Outside, outside, Stores, Kept, Written}
+use Rattle.live_node.specs.Runs.{Outside, outside, Stores, KeptIn, KeptOver, Kept, StoredBy, Written}
 use Rattle.live_node.specs.Progress.{Said, Output, CallsStopped, due_call, counted}
 use Rattle.live_node.proofs.Endings.{sent_by, printed_by, sent_after, printed_after, whole_after}
 use Rattle.live_node.proofs.Texts.{frames-append, lines-append, count-append, ending-append}
@@ -90,29 +90,57 @@ did_does (Some d) live news h = record { node = d.node; events = d.events; does 
 
 -- ---- stores
 
+-- what a store was served later leaves what it kept
+over_on : {S : Type 0} (stores : Stores S) (before old now : S) (made : List LiveCall) → KeptOver stores before old made → Serves stores.faults stores.is_infallible old now → KeptOver stores before now made
+over_on stores before old now [] h serves = serves_both stores.faults stores.is_infallible before old now h serves
+over_on stores before old now (call ∷ made) (next, kept, more) serves = (next, kept, over_on stores next old now made more serves)
+
+-- one more call
+over_more : {S : Type 0} (stores : Stores S) (before old now : S) (made : List LiveCall) (call : LiveCall) → KeptOver stores before old made → KeptIn stores old now call → KeptOver stores before now (made ++ call ∷ [])
+over_more stores before old now [] call h kept = (now, kept_from, serves_same stores.faults stores.is_infallible now)
+  where
+    on : AllKept (HasFailed stores.faults stores.is_infallible old now) (keeps_in call) → AllKept (HasFailed stores.faults stores.is_infallible before now) (keeps_in call)
+    on (inl all) = inl all
+    on (inr failed) = inr (then_failed stores.faults stores.is_infallible before old now h failed)
+
+    kept_from : KeptIn stores before now call
+    kept_from = record { serves = serves_both stores.faults stores.is_infallible before old now h kept.serves; kept = on kept.kept }
+over_more stores before old now (x ∷ xs) call (next, first, more) kept = (next, first, over_more stores next old now xs call more kept)
+
 pub kept_on : {S : Type 0} (stores : Stores S) (before old now : S) (made : List LiveCall) → Kept stores before old made → Serves stores.faults stores.is_infallible old now → Kept stores before now made
 kept_on stores before old now made k serves = record {
   serves = serves_both stores.faults stores.is_infallible before old now k.serves serves;
-  kept = on k.kept;
+  each = over_on stores before old now made k.each serves;
 }
-  where
-    on : AllKept (HasFailed stores.faults stores.is_infallible before old) (flat_map keeps_in made) → AllKept (HasFailed stores.faults stores.is_infallible before now) (flat_map keeps_in made)
-    on (inl all) = inl all
-    on (inr failed) = inr (failed_then stores.faults stores.is_infallible before old now failed serves)
 
 pub kept_more : {S : Type 0} (stores : Stores S) (before old now : S) (made : List LiveCall) (call : LiveCall) → Kept stores before old made → Serves stores.faults stores.is_infallible old now → AllKept (HasFailed stores.faults stores.is_infallible old now) (keeps_in call) → Kept stores before now (made ++ call ∷ [])
 kept_more stores before old now made call k serves more = record {
   serves = serves_both stores.faults stores.is_infallible before old now k.serves serves;
-  kept = subst (AllKept (HasFailed stores.faults stores.is_infallible before now)) (sym keeps) (on k.kept more);
+  each = over_more stores before old now made call k.each (record { serves = serves; kept = more });
 }
-  where
-    keeps : flat_map keeps_in (made ++ call ∷ []) ≡ flat_map keeps_in made ++ keeps_in call
-    keeps = flat_map-append keeps_in made (call ∷ []) ∙ ap (λ (l : List Bool). flat_map keeps_in made ++ l) (append-nil (keeps_in call))
 
-    on : AllKept (HasFailed stores.faults stores.is_infallible before old) (flat_map keeps_in made) → AllKept (HasFailed stores.faults stores.is_infallible old now) (keeps_in call) → AllKept (HasFailed stores.faults stores.is_infallible before now) (flat_map keeps_in made ++ keeps_in call)
-    on (inr failed) h = inr (failed_then stores.faults stores.is_infallible before old now failed serves)
-    on (inl all) (inr failed) = inr (then_failed stores.faults stores.is_infallible before old now k.serves failed)
-    on (inl all) (inl these) = inl (All-append (λ kept. kept ≡ true) (flat_map keeps_in made) (keeps_in call) all these)
+-- a node whose store has what it has stored
+pub stored_by : (end : Option RunEnd) (contents : Option (List ℕ)) (node : Node) (live : LiveNode) → IsLive node live → IsKeptBy contents live → StoredBy end contents node
+stored_by None contents node live is kept = (live, is, kept)
+stored_by (Some Usage) contents node live is kept = (live, is, kept)
+stored_by (Some (Stopped (Bad place reason))) contents node live is kept = (live, is, kept)
+stored_by (Some (Stopped (AtLimit limit))) contents node live is kept = (live, is, kept)
+stored_by (Some (Stopped StampsSpent)) contents node live is kept = tt
+stored_by (Some ReadFault) contents node live is kept = (live, is, kept)
+stored_by (Some WriteFault) contents node live is kept = (live, is, kept)
+stored_by (Some NoMemory) contents node live is kept = tt
+stored_by (Some TurnsSpent) contents node live is kept = (live, is, kept)
+stored_by (Some (Live (RefusedWith code))) contents node live is kept = (live, is, kept)
+stored_by (Some (Live (NoAnswer ticks))) contents node live is kept = (live, is, kept)
+stored_by (Some (Live StoreFault)) contents node live is kept = tt
+stored_by (Some (Live (PortTurns turns))) contents node live is kept = (live, is, kept)
+stored_by (Some (Live PortFault)) contents node live is kept = (live, is, kept)
+
+-- one that was given up may have saved
+pub stored_at_fault : (fault : NodeFault) (contents : Option (List ℕ)) (node : Node) → StoredBy (Some (end_by fault)) contents node
+stored_at_fault NoStamp contents node = tt
+stored_at_fault Store contents node = tt
+stored_at_fault NoNodeMemory contents node = tt
 
 -- ---- one call
 
@@ -208,19 +236,21 @@ written_then {S} {stores} {before} {old} {now} {start} {made} {call} {was} {live
           (printed_after end first.text x y (lines_of (node_name start) 0 o.events) (lines_of t.name t.sent h.events) o.printed h.told.printed);
       time = c.stays ∙ o.time;
       kept = kept_more stores before old now made call o.kept c.serves c.kept;
+      stored = stored_by end (stores.contents now) h.node live h.is (c.stored o.stored);
       store = λ e. absurd (other e);
     }
 
 -- all was written, and then the run ended so
-abbrev pub written : {S : Type 0} (stores : Stores S) (before old now : S) (end : Option RunEnd) (start : Node) (made : List LiveCall) (live : LiveNode) (t : Teller) (first last : Outside) → Output stores before old start made live t first last → Serves stores.faults stores.is_infallible old now → (end ≡ Some (Live StoreFault) → ⊥) → Written stores before now end start made first last
-written {S} stores before old now end start made live t first last o serves other = record {
+abbrev pub written : {S : Type 0} (stores : Stores S) (before now : S) (end : Option RunEnd) (start : Node) (made : List LiveCall) (live : LiveNode) (t : Teller) (first last : Outside) → Output stores before now start made live t first last → (end ≡ Some (Live StoreFault) → ⊥) → Written stores before now end start made first last
+written {S} stores before now end start made live t first last o other = record {
   node = o.node;
   events = o.events;
   run = o.run;
   sent = sent_by end first.link.sent last.link.sent (frames_text (map shown o.events)) o.sent;
   printed = printed_by end first.text last.text (lines_of (node_name start) 0 o.events) o.printed;
   time = o.time;
-  kept = kept_on stores before old now made o.kept serves;
+  kept = o.kept;
+  stored = stored_by end (stores.contents now) o.node live o.is o.stored;
   store = λ e. absurd (other e);
 }
 
@@ -272,6 +302,7 @@ regroup stores before now end start xs ys first last e w = record {
   printed = w.printed;
   time = w.time;
   kept = subst (Kept stores before now) e w.kept;
+  stored = w.stored;
   store = w.store;
 }
 
@@ -289,6 +320,7 @@ not_called stores before old now start made call live t first last fault o serve
     printed = printed_by (Some (end_by fault)) first.text last.text (lines_of (node_name start) 0 o.events) o.printed;
     time = o.time;
     kept = subst (Kept stores before now) (sym (append-nil made)) (kept_on stores before old now made o.kept serves);
+    stored = stored_at_fault fault (stores.contents now) o.node;
     store = λ e. then_failed stores.faults stores.is_infallible before old now o.kept.serves (failed_by fault (call_does call o.node) _ fails e);
   };
   spent = λ e. spent_by fault (call_does call o.node) _ fails e;

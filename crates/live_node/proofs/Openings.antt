@@ -1,22 +1,22 @@
 -- The whole run: an opening, turns, and an end.
-use Rattle.std.proofs.Common.{◌≡◌, ℕ, List, [], ◌∷◌, Option, Some, None, refl}
+use Rattle.std.proofs.Common.{◌≡◌, ◌≤◌, ◌<◌, ℕ, List, [], ◌∷◌, Option, Some, None, refl, arith}
+use Rattle.std.specs.Prelude.{length}
 use Rattle.mav_nodes.specs.declared.faults.StartFault.{StartFault}
 use Rattle.mav_nodes.specs.declared.faults.StartFault.TheVariants.{Store, BadKept, NoMemory as NoStartMemory}
 use Rattle.mav_nodes.specs.Nodes.{DroneSide}
-use Rattle.node_reports.specs.Nodes.{Node, Drone}
+use Rattle.node_reports.specs.Nodes.{Drone}
 use Rattle.run_status.specs.declared.input_errors.InputError.TheVariants.{Bad, AtLimit, StampsSpent}
 use Rattle.run_status.specs.declared.live_ends.LiveEnd.TheVariants.{RefusedWith, NoAnswer, StoreFault, PortTurns, PortFault}
 use Rattle.run_status.specs.declared.run_ends.RunEnd.{RunEnd}
 use Rattle.run_status.specs.declared.run_ends.RunEnd.TheVariants.{Usage, Stopped, ReadFault, WriteFault, NoMemory, TurnsSpent, Live}
 use Rattle.live_node.specs.declared.nodes.LiveNode.{LiveNode}
 use Rattle.live_node.specs.declared.tellers.Teller.{Teller}
-use Rattle.live_node.specs.Nodes.{IsLive, IsKeptBy}
 use Rattle.live_node.specs.Calls.{LiveCall, Beats, IsTime}
 use Rattle.live_node.specs.Turns.{Turn}
 use Rattle.live_node.specs.Ports.{FaultsBy, SameRead, IsRunEnd}
 use Rattle.live_node.specs.Runs.{Outside, Stores, IsWhole, RunAt}
 use Rattle.live_node.specs.Progress.{Between, CallsStopped, PortEnded, TurnsTaken}
-use Rattle.live_node.specs.Drones.{IsDroneEnd, DroneEnds, DroneKeeps, DroneLived, start_end}
+use Rattle.live_node.specs.Drones.{IsDroneEnd, DroneEnds, DroneLived, start_end}
 use Rattle.live_node.proofs.Runs.{stopped_in_opening, run_over, still_self}
 
 -- an end that isn't for want of calls
@@ -33,18 +33,20 @@ cut_off (Live StoreFault) rest h = tt
 cut_off (Live (PortTurns turns)) rest h = absurd h
 cut_off (Live PortFault) rest h = tt
 
-pub drone_cut_off : (end : RunEnd) (turns : List Turn) (last : Outside) → IsRunEnd end → DroneEnds (Some end) turns last
-drone_cut_off Usage turns last h = absurd h
-drone_cut_off (Stopped error) turns last h = tt
-drone_cut_off ReadFault turns last h = absurd h
-drone_cut_off WriteFault turns last h = tt
-drone_cut_off NoMemory turns last h = tt
-drone_cut_off TurnsSpent turns last h = absurd h
-drone_cut_off (Live (RefusedWith code)) turns last h = tt
-drone_cut_off (Live (NoAnswer ticks)) turns last h = tt
-drone_cut_off (Live StoreFault) turns last h = tt
-drone_cut_off (Live (PortTurns most)) turns last h = absurd h
-drone_cut_off (Live PortFault) turns last h = tt
+pub drone_cut_off : (most : ℕ) (end : RunEnd) (turns : List Turn) (last : Outside) → IsRunEnd end → length turns ≤ most → DroneEnds most (Some end) turns last
+drone_cut_off most Usage turns last h within = absurd h
+drone_cut_off most (Stopped (Bad place reason)) turns last h within = absurd h
+drone_cut_off most (Stopped (AtLimit limit)) turns last h within = absurd h
+drone_cut_off most (Stopped StampsSpent) turns last h within = within
+drone_cut_off most ReadFault turns last h within = absurd h
+drone_cut_off most WriteFault turns last h within = within
+drone_cut_off most NoMemory turns last h within = within
+drone_cut_off most TurnsSpent turns last h within = absurd h
+drone_cut_off most (Live (RefusedWith code)) turns last h within = absurd h
+drone_cut_off most (Live (NoAnswer ticks)) turns last h within = absurd h
+drone_cut_off most (Live StoreFault) turns last h within = within
+drone_cut_off most (Live (PortTurns taken)) turns last h within = absurd h
+drone_cut_off most (Live PortFault) turns last h within = within
 
 pub drone_end : (most : ℕ) (end : RunEnd) → IsRunEnd end → IsDroneEnd most end
 drone_end most Usage h = absurd h
@@ -71,22 +73,9 @@ unstarted_counts Store port out = (refl, refl)
 unstarted_counts BadKept port out = (refl, refl)
 unstarted_counts NoStartMemory port out = refl
 
-pub drone_left : (end : RunEnd) (contents : Option (List ℕ)) (node : Node) → IsRunEnd end → DroneKeeps (Some end) contents node
-drone_left Usage contents node h = absurd h
-drone_left (Stopped error) contents node h = tt
-drone_left ReadFault contents node h = absurd h
-drone_left WriteFault contents node h = tt
-drone_left NoMemory contents node h = tt
-drone_left TurnsSpent contents node h = absurd h
-drone_left (Live (RefusedWith code)) contents node h = tt
-drone_left (Live (NoAnswer ticks)) contents node h = tt
-drone_left (Live StoreFault) contents node h = tt
-drone_left (Live (PortTurns most)) contents node h = absurd h
-drone_left (Live PortFault) contents node h = tt
-
 -- a run that stopped in its first heartbeat
-pub stopped_at_once : {S : Type 0} (stores : Stores S) (before now : S) (end : RunEnd) (start : DroneSide) (beat : ℕ) (first last : Outside) → IsRunEnd end → SameRead first.link last.link → IsTime first.time beat → CallsStopped stores before now end (Drone start) [] (Beats beat ∷ []) first last → DroneLived stores before now start (Some end) first last
-stopped_at_once stores before now end start beat first last is read timed s = record {
+pub stopped_at_once : {S : Type 0} (stores : Stores S) (before now : S) (end : RunEnd) (most : ℕ) (start : DroneSide) (beat : ℕ) (first last : Outside) → IsRunEnd end → SameRead first.link last.link → IsTime first.time beat → CallsStopped stores before now end (Drone start) [] (Beats beat ∷ []) first last → DroneLived stores before now most start (Some end) first last
+stopped_at_once stores before now end most start beat first last is read timed s = record {
   run = record {
     opening = Beats beat ∷ [];
     is_opening = (beat, refl);
@@ -96,13 +85,12 @@ stopped_at_once stores before now end start beat first last is read timed s = re
     at = stopped_in_opening stores before now end (Drone start) (Beats beat ∷ []) first last read (timed, tt) s;
     whole = cut_off end s.rest is;
   };
-  ends = drone_cut_off end [] last is;
-  stored = drone_left end (stores.contents now) s.written.node is;
+  ends = drone_cut_off most end [] last is (omega arith);
 }
 
 -- one that stopped in a turn or at a read
-pub stopped_later : {S : Type 0} (stores : Stores S) (before now : S) (end : RunEnd) (start : DroneSide) (beat : ℕ) (turns : List Turn) (first last : Outside) → IsRunEnd end → RunAt stores before now (Drone start) (Some end) (Beats beat ∷ []) turns [] first last → DroneLived stores before now start (Some end) first last
-stopped_later stores before now end start beat turns first last is run = record {
+pub stopped_later : {S : Type 0} (stores : Stores S) (before now : S) (end : RunEnd) (most : ℕ) (start : DroneSide) (beat : ℕ) (turns : List Turn) (first last : Outside) → IsRunEnd end → length turns ≤ most → RunAt stores before now (Drone start) (Some end) (Beats beat ∷ []) turns [] first last → DroneLived stores before now most start (Some end) first last
+stopped_later stores before now end most start beat turns first last is within run = record {
   run = record {
     opening = Beats beat ∷ [];
     is_opening = (beat, refl);
@@ -112,13 +100,12 @@ stopped_later stores before now end start beat turns first last is run = record 
     at = run;
     whole = cut_off end run.rest is;
   };
-  ends = drone_cut_off end turns last is;
-  stored = drone_left end (stores.contents now) run.written.node is;
+  ends = drone_cut_off most end turns last is within;
 }
 
 -- one of which no call is left
-pub drone_over : {S : Type 0} (stores : Stores S) (before now : S) (start : DroneSide) (end : Option RunEnd) (beat : ℕ) (turns : List Turn) (live : LiveNode) (t : Teller) (first last : Outside) → (end ≡ Some (Stopped StampsSpent) → ⊥) → (end ≡ Some (Live StoreFault) → ⊥) → IsWhole end [] → DroneEnds end turns last → ((node : Node) → IsLive node live → IsKeptBy (stores.contents now) live → DroneKeeps end (stores.contents now) node) → Between stores before now (Drone start) (Beats beat ∷ []) turns [] live t first last → DroneLived stores before now start end first last
-drone_over stores before now start end beat turns live t first last stamps store whole ends keeps b = record {
+pub drone_over : {S : Type 0} (stores : Stores S) (before now : S) (most : ℕ) (start : DroneSide) (end : Option RunEnd) (beat : ℕ) (turns : List Turn) (live : LiveNode) (t : Teller) (first last : Outside) → (end ≡ Some (Stopped StampsSpent) → ⊥) → (end ≡ Some (Live StoreFault) → ⊥) → IsWhole end [] → DroneEnds most end turns last → Between stores before now (Drone start) (Beats beat ∷ []) turns [] live t first last → DroneLived stores before now most start end first last
+drone_over stores before now most start end beat turns live t first last stamps store whole ends b = record {
   run = record {
     opening = Beats beat ∷ [];
     is_opening = (beat, refl);
@@ -129,13 +116,12 @@ drone_over stores before now start end beat turns live t first last stamps store
     whole = whole;
   };
   ends = ends;
-  stored = keeps b.output.node b.output.is b.output.stored;
 }
 
 -- it took all its turns
-pub turns_taken : {S : Type 0} (stores : Stores S) (before now : S) (start : DroneSide) (beat most : ℕ) (live : LiveNode) (t : Teller) (first last : Outside) → TurnsTaken stores before now (Drone start) (Beats beat ∷ []) most live t first last → DroneLived stores before now start (Some (Live (PortTurns most))) first last
+pub turns_taken : {S : Type 0} (stores : Stores S) (before now : S) (start : DroneSide) (beat most : ℕ) (live : LiveNode) (t : Teller) (first last : Outside) → TurnsTaken stores before now (Drone start) (Beats beat ∷ []) most live t first last → DroneLived stores before now most start (Some (Live (PortTurns most))) first last
 turns_taken stores before now start beat most live t first last taken =
-    drone_over stores before now start (Some (Live (PortTurns most))) beat taken.turns live t first last stamps store refl taken.number (λ node is kept. (live, is, kept)) taken.between
+    drone_over stores before now most start (Some (Live (PortTurns most))) beat taken.turns live t first last stamps store refl (refl, taken.number) taken.between
   where
     stamps : ◌≡◌ {A = Option RunEnd} (Some (Live (PortTurns most))) (Some (Stopped StampsSpent)) → ⊥
     stamps e = cc
@@ -144,9 +130,9 @@ turns_taken stores before now start beat most live t first last taken =
     store e = cc
 
 -- its port has ended
-pub port_ended : {S : Type 0} (stores : Stores S) (before now : S) (start : DroneSide) (beat : ℕ) (turns : List Turn) (live : LiveNode) (t : Teller) (first last : Outside) → PortEnded stores before now (Drone start) (Beats beat ∷ []) turns [] live t first last → DroneLived stores before now start None first last
-port_ended stores before now start beat turns live t first last ended =
-    drone_over stores before now start None beat turns live t first last stamps store refl (ended.ended, ended.spent) (λ node is kept. (live, is, kept)) ended.between
+pub port_ended : {S : Type 0} (stores : Stores S) (before now : S) (start : DroneSide) (beat most : ℕ) (turns : List Turn) (live : LiveNode) (t : Teller) (first last : Outside) → length turns < most → PortEnded stores before now (Drone start) (Beats beat ∷ []) turns [] live t first last → DroneLived stores before now most start None first last
+port_ended stores before now start beat most turns live t first last less ended =
+    drone_over stores before now most start None beat turns live t first last stamps store refl (less, ended.ended, ended.spent) ended.between
   where
     stamps : ◌≡◌ {A = Option RunEnd} None (Some (Stopped StampsSpent)) → ⊥
     stamps e = cc

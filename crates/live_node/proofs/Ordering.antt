@@ -30,7 +30,6 @@ use Rattle.live_node.specs.Orders.{refused_end, op_end, OrderFailsAt}
 use Rattle.live_node.specs.Progress.{Output, CallsStopped}
 use Rattle.live_node.proofs.Results.{because}
 use Rattle.live_node.proofs.Calls.{written, regroup}
-use Rattle.mav_nodes.proofs.StoreCalls.{serves_same}
 
 -- ---- refusals
 
@@ -144,6 +143,6 @@ not_followed stores before now end start made call live t first last o spent sto
   more = [];
   rest = call ∷ [];
   are = refl;
-  written = regroup stores before now (Some end) start made (made ++ []) first last (sym (append-nil made)) (written stores before now now (Some end) start made live t first last o (serves_same stores.faults stores.is_infallible now) (λ e. store (because e)));
+  written = regroup stores before now (Some end) start made (made ++ []) first last (sym (append-nil made)) (written stores before now (Some end) start made live t first last o (λ e. store (because e)));
   spent = spent;
 }

@@ -27,7 +27,7 @@ use Rattle.live_node.specs.Parts.{PieceFails}
 use Rattle.live_node.specs.Runs.{Outside, Stores, Kept, IsSpentAt, IsSpentCall}
 use Rattle.live_node.specs.Progress.{Output, CallsStopped, PieceStopped}
 use Rattle.live_node.proofs.Endings.{sent_by, printed_by}
-use Rattle.live_node.proofs.Calls.{kept_on}
+use Rattle.live_node.proofs.Calls.{kept_on, stored_at_fault}
 use Rattle.live_node.proofs.Lasts.{gives_up}
 
 -- the frames were heard, and then the run stopped
@@ -78,6 +78,7 @@ piece_broken {S} {stores} {before} {old} {now} {taken} {given} {piece} {start} {
       printed = printed_by (Some (end_by fault)) first.text last.text (lines_of (node_name start) 0 o.events) o.printed;
       time = o.time;
       kept = subst (Kept stores before now) (sym (append-nil made)) (kept_on stores before old now made o.kept serves);
+      stored = stored_at_fault fault (stores.contents now) o.node;
       store = λ e. then_failed stores.faults stores.is_infallible before old now o.kept.serves (by_store fault fails e);
     };
     spent = λ e. by_fault fault fails e;

@@ -24,6 +24,7 @@ use Rattle.live_node.specs.Texts.{frames_text, lines_of}
 use Rattle.live_node.specs.Ports.{SameRead}
 use Rattle.live_node.specs.Runs.{Outside, Stores, HeardIn, RunAt}
 use Rattle.live_node.specs.Progress.{Output, Between, CallsStopped}
+use Rattle.live_node.proofs.Calls.{stored_by}
 use Rattle.live_node.proofs.Endings.{sent_by, printed_by}
 use Rattle.live_node.proofs.Lasts.{heard_all, calls_at_start}
 use Rattle.live_node.proofs.Results.{because}
@@ -124,6 +125,7 @@ run_over stores before now start end opening turns rests live t first last then 
         printed = printed_by end first.text then.text (lines_of (node_name start) 0 o.events) (still.text ∙ o.printed);
         time = still.time ∙ o.time;
         kept = o.kept;
+        stored = stored_by end (stores.contents now) o.node live o.is o.stored;
         store = λ e. absurd (store e);
       };
       spent = λ e. absurd (stamps e);

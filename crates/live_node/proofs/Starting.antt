@@ -11,7 +11,6 @@ use Rattle.mav_nodes.specs.Starts.{IsStarted, StartedFrom}
 use Rattle.mav_nodes.specs.Stores.{Holds}
 use Rattle.mav_nodes.specs.Images.{IsStored, StoreHolds}
 use Rattle.mav_ports.proofs.Known.{append_known_nil}
-use Rattle.std.proofs.lemmas.List.Elements.{All-nil}
 use Rattle.mav_links.specs.Links.{LinkState}
 use Rattle.mav_nodes.specs.Stores.{Serves}
 use Rattle.mav_nodes.specs.Streams.{HasRead}
@@ -99,7 +98,7 @@ opened stores before now key sys view t link text time b serves stays stream nam
     sent = append_known_nil link.sent;
     printed = append_known_nil text;
     time = refl;
-    kept = record { serves = serves; kept = inl (All-nil (λ kept. kept ≡ true)) };
+    kept = record { serves = serves; each = serves };
     stored = subst (λ (contents : Option (List ℕ)). StoreHolds contents view) (sym stays) b.stored;
   };
   heard = stream;

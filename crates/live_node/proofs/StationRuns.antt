@@ -2,7 +2,6 @@
 use Rattle.std.proofs.Common.{◌≡◌, ◌⊎◌, inl, inr, ℕ, ◌≤◌, List, [], ◌∷◌, ◌++◌, Bool, true, false, Option, Some, None, Result, Ok, Err, refl, sym, ap, ◌∙◌, subst, arith}
 use Rattle.std.specs.Prelude.{length, nat_lt, IfErr}
 use Rattle.std.specs.Result.{result_err}
-use Rattle.std.proofs.lemmas.List.Elements.{All-nil}
 use Rattle.mav_ports.proofs.Known.{append_known_nil}
 use Rattle.mav_links.specs.Links.{LinkState}
 use Rattle.mav_names.specs.declared.names.Stream.{Stream}
@@ -48,11 +47,12 @@ may_rest allowed [] h = tt
 may_rest allowed (r ∷ rests) h = h
 
 -- a wait of which no call is left
-wait_over : {S : Type 0} (stores : Stores S) (before now : S) (plan : StationPlan) (start : Node) (opening : List LiveCall) (ended : Result (List ℕ) RunEnd) (turns : List Turn) (rests : List Rest) (live : LiveNode) (t : Teller) (first last : Outside) → (result_err ended ≡ Some (Stopped StampsSpent) → ⊥) → (result_err ended ≡ Some (Live StoreFault) → ⊥) → IsWhole (result_err ended) [] → StationEnds plan ended turns (verdict plan.ticks t.ticks t.ending) → MayRest (HasEnded last.link) rests → Awaited plan.ticks start opening turns rests → Between stores before now start opening turns rests live t first last → WaitedFor stores before now plan start opening ended first last
-wait_over stores before now plan start opening ended turns rests live t first last stamps store whole ends rested awaited b =
+wait_over : {S : Type 0} (stores : Stores S) (before now : S) (plan : StationPlan) (start : Node) (opening : List LiveCall) (ended : Result (List ℕ) RunEnd) (turns : List Turn) (rests : List Rest) (live : LiveNode) (t : Teller) (first last : Outside) → (result_err ended ≡ Some (Stopped StampsSpent) → ⊥) → (result_err ended ≡ Some (Live StoreFault) → ⊥) → IsWhole (result_err ended) [] → StationEnds plan ended turns (verdict plan.ticks t.ticks t.ending) → length turns ≤ plan.turns → MayRest (HasEnded last.link) rests → Awaited plan.ticks start opening turns rests → Between stores before now start opening turns rests live t first last → WaitedFor stores before now plan start opening ended first last
+wait_over stores before now plan start opening ended turns rests live t first last stamps store whole ends within rested awaited b =
     let o = b.output in
     record {
       turns = turns;
+      within = within;
       rests = rests;
       rested = rested;
       at = run_over stores before now start (result_err ended) opening turns rests live t first last last stamps store (still_self last) b;
@@ -64,11 +64,11 @@ wait_over stores before now plan start opening ended turns rests live t first la
     }
 
 -- by the verdict
-waited : {S : Type 0} (stores : Stores S) (before now : S) (plan : StationPlan) (start : Node) (opening : List LiveCall) (turns : List Turn) (rests : List Rest) (live : LiveNode) (t : Teller) (first last : Outside) → (verdict plan.ticks t.ticks t.ending ≡ None → length turns ≡ plan.turns) → MayRest (HasEnded last.link) rests → Awaited plan.ticks start opening turns rests → Between stores before now start opening turns rests live t first last → WaitedFor stores before now plan start opening (judged plan (verdict plan.ticks t.ticks t.ending)) first last
-waited stores before now plan start opening turns rests live t first last number rested awaited b = by_ending t.ending refl
+waited : {S : Type 0} (stores : Stores S) (before now : S) (plan : StationPlan) (start : Node) (opening : List LiveCall) (turns : List Turn) (rests : List Rest) (live : LiveNode) (t : Teller) (first last : Outside) → (verdict plan.ticks t.ticks t.ending ≡ None → length turns ≡ plan.turns) → length turns ≤ plan.turns → MayRest (HasEnded last.link) rests → Awaited plan.ticks start opening turns rests → Between stores before now start opening turns rests live t first last → WaitedFor stores before now plan start opening (judged plan (verdict plan.ticks t.ticks t.ending)) first last
+waited stores before now plan start opening turns rests live t first last number within rested awaited b = by_ending t.ending refl
   where
     over : (ended : Result (List ℕ) RunEnd) → (result_err ended ≡ Some (Stopped StampsSpent) → ⊥) → (result_err ended ≡ Some (Live StoreFault) → ⊥) → IsWhole (result_err ended) [] → StationEnds plan ended turns (verdict plan.ticks t.ticks t.ending) → WaitedFor stores before now plan start opening ended first last
-    over ended stamps store whole ends = wait_over stores before now plan start opening ended turns rests live t first last stamps store whole ends rested awaited b
+    over ended stamps store whole ends = wait_over stores before now plan start opening ended turns rests live t first last stamps store whole ends within rested awaited b
 
     Goal : Option (Result (List ℕ) RunEnd) → Type 0
     Goal said = WaitedFor stores before now plan start opening (judged plan said) first last
@@ -103,12 +103,12 @@ waited stores before now plan start opening turns rests live t first last number
 
 -- the port hadn't ended
 pub waited_turns : {S : Type 0} {stores : Stores S} {before now : S} {plan : StationPlan} {start : Node} {opening : List LiveCall} {live : LiveNode} {t : Teller} {first last : Outside} → WatchDone stores before now plan start opening live t first last → WaitedFor stores before now plan start opening (judged plan (verdict plan.ticks t.ticks t.ending)) first last
-waited_turns {S} {stores} {before} {now} {plan} {start} {opening} {live} {t} {first} {last} w = waited stores before now plan start opening w.turns [] live t first last w.number tt w.awaited w.between
+waited_turns {S} {stores} {before} {now} {plan} {start} {opening} {live} {t} {first} {last} w = waited stores before now plan start opening w.turns [] live t first last w.number w.within tt w.awaited w.between
 
 -- it had
-pub waited_rests : {S : Type 0} {stores : Stores S} {before now : S} {plan : StationPlan} {start : Node} {opening : List LiveCall} {turns : List Turn} {live : LiveNode} {t : Teller} {first last : Outside} → Outlasted stores before now plan.ticks start opening turns live t first last → WaitedFor stores before now plan start opening (judged plan (verdict plan.ticks t.ticks t.ending)) first last
-waited_rests {S} {stores} {before} {now} {plan} {start} {opening} {turns} {live} {t} {first} {last} w =
-    waited stores before now plan start opening turns w.rests live t first last (λ e. absurd (w.over e)) (may_rest (HasEnded last.link) w.rests (w.ended.ended, w.ended.spent)) w.awaited w.ended.between
+pub waited_rests : {S : Type 0} {stores : Stores S} {before now : S} {plan : StationPlan} {start : Node} {opening : List LiveCall} {turns : List Turn} {live : LiveNode} {t : Teller} {first last : Outside} → length turns ≤ plan.turns → Outlasted stores before now plan.ticks start opening turns live t first last → WaitedFor stores before now plan start opening (judged plan (verdict plan.ticks t.ticks t.ending)) first last
+waited_rests {S} {stores} {before} {now} {plan} {start} {opening} {turns} {live} {t} {first} {last} within w =
+    waited stores before now plan start opening turns w.rests live t first last (λ e. absurd (w.over e)) within (may_rest (HasEnded last.link) w.rests (w.ended.ended, w.ended.spent)) w.awaited w.ended.between
 
 station_cut_off : (plan : StationPlan) (end : RunEnd) (turns : List Turn) (said : Option (Result (List ℕ) RunEnd)) → IsRunEnd end → StationEnds plan (Err end) turns said
 station_cut_off plan Usage turns said h = absurd h
@@ -127,6 +127,7 @@ station_cut_off plan (Live PortFault) turns said h = tt
 pub watch_cut : {S : Type 0} {stores : Stores S} {before now : S} {end : RunEnd} {plan : StationPlan} {start : Node} {opening : List LiveCall} {first last : Outside} → IsRunEnd end → WatchStopped stores before now end plan start opening first last → WaitedFor stores before now plan start opening (Err end) first last
 watch_cut {S} {stores} {before} {now} {end} {plan} {start} {opening} {first} {last} is w = record {
   turns = w.turns;
+  within = w.within;
   rests = [];
   rested = tt;
   at = w.stopped;
@@ -135,9 +136,10 @@ watch_cut {S} {stores} {before} {now} {end} {plan} {start} {opening} {first} {la
   awaited = w.awaited;
 }
 
-pub outlast_cut : {S : Type 0} {stores : Stores S} {before now : S} {end : RunEnd} {plan : StationPlan} {start : Node} {opening : List LiveCall} {turns : List Turn} {first last : Outside} → IsRunEnd end → OutlastStopped stores before now end plan.ticks start opening turns first last → WaitedFor stores before now plan start opening (Err end) first last
-outlast_cut {S} {stores} {before} {now} {end} {plan} {start} {opening} {turns} {first} {last} is w = record {
+pub outlast_cut : {S : Type 0} {stores : Stores S} {before now : S} {end : RunEnd} {plan : StationPlan} {start : Node} {opening : List LiveCall} {turns : List Turn} {first last : Outside} → IsRunEnd end → length turns ≤ plan.turns → OutlastStopped stores before now end plan.ticks start opening turns first last → WaitedFor stores before now plan start opening (Err end) first last
+outlast_cut {S} {stores} {before} {now} {end} {plan} {start} {opening} {turns} {first} {last} is within w = record {
   turns = turns;
+  within = within;
   rests = w.rests;
   rested = may_rest (HasEnded last.link) w.rests w.ended;
   at = w.stopped;
@@ -198,6 +200,7 @@ stopped_in_beat stores before now end plan order start first last is read c =
         at = stopped_in_opening stores before now end start (Beats c.at ∷ Obeys order c.at ∷ []) first last read (c.timed, (c.timed, tt)) s;
         whole = cut_off end s.rest is;
       };
+      within = omega arith;
       ends = station_cut_off plan end [] _ is;
       awaited = tt;
       judged = record {
@@ -247,6 +250,7 @@ stopped_in_order stores before middle now end plan order start beat live t first
         at = stopped_in_opening stores before now end start (Beats beat ∷ Obeys order c.at ∷ []) first last read (timed, (c.timed, tt)) s;
         whole = order_cut_off end s.rest is;
       };
+      within = omega arith;
       ends = order_ends_so plan end [] _ is;
       awaited = tt;
       judged = record {
@@ -270,6 +274,7 @@ lived stores before now plan order start was events beat at r first last run acc
     at = w.at;
     whole = w.whole;
   };
+  within = w.within;
   ends = w.ends;
   awaited = w.awaited;
   judged = record {
@@ -295,7 +300,7 @@ opened_station stores before now key me boot view t link text time serves is str
     sent = append_known_nil link.sent;
     printed = append_known_nil text;
     time = refl;
-    kept = record { serves = serves; kept = inl (All-nil (λ kept. kept ≡ true)) };
+    kept = record { serves = serves; each = serves };
     stored = tt;
   };
   heard = stream;

@@ -16,7 +16,7 @@ use Rattle.live_node.specs.declared.nodes.LiveNode.{LiveNode}
 use Rattle.live_node.specs.declared.tellers.Teller.{Teller}
 use Rattle.live_node.specs.Nodes.{HasHeard, end_of}
 use Rattle.live_node.specs.Calls.{LiveCall, extras_at, AreTimed}
-use Rattle.live_node.specs.Turns.{Turn, Reads, Waits, turn_bytes, turn_events, calls_of}
+use Rattle.live_node.specs.Turns.{Turn, Reads, Waits, IsPieceLength, turn_bytes, turn_events, calls_of}
 use Rattle.live_node.specs.Ports.{SameRead}
 use Rattle.live_node.specs.Runs.{Outside, outside, Stores}
 use Rattle.live_node.specs.Progress.{Output, Opened, Between, TurnTaken, TurnCut, HeardPiece, PieceStopped, WaitDone, WaitStopped}
@@ -27,23 +27,26 @@ use Rattle.live_node.proofs.Turning.{turn_done, turn_stopped, wait_turn, came_pi
 piece_length : (size : ℕ) (buf : List ℕ) → size ≤ length buf → length (take size buf) ≡ size
 piece_length size buf within = omega (arith, length-take size buf, within)
 
--- a read gives at least one byte
-long : (size : ℕ) (buf : List ℕ) → 1 ≤ size → size ≤ length buf → 1 ≤ length (take size buf)
-long size buf least within = subst (λ (n : ℕ). 1 ≤ n) (sym (piece_length size buf within)) least
+-- a read gives at least one byte, and at most as many as it asks for
+fits : (size : ℕ) (buf : List ℕ) → 1 ≤ size → size ≤ length buf → length buf ≤ 4096 → IsPieceLength (length (take size buf))
+fits size buf least within most = record {
+  least = omega (arith, piece_length size buf within, least);
+  most = omega (arith, piece_length size buf within, within, most);
+}
 
 -- a piece was heard
-pub piece_done : {S : Type 0} {stores : Stores S} {before old now : S} {start : Node} {opening : List LiveCall} {turns : List Turn} {was live : LiveNode} {t u : Teller} {first : Outside} {o m n : LinkState} {x y : Option (List ℕ)} {p q : Option ℕ} (size : ℕ) (buf : List ℕ) → Between stores before old start opening turns [] was t first (outside o x p) → 1 ≤ size → size ≤ length buf → o.left ≡ prepend_known (take size buf) m.left → m.idles ≡ o.idles → m.pauses ≡ option_map (pauses_after (Bytes size)) o.pauses → SameRead m n → HeardPiece stores before now (extras_at start) start (calls_of opening turns []) (flat_map turn_bytes turns ++ take size buf) (flat_map turn_events turns) live u first (outside n y q) → TurnTaken stores before now start opening turns live u first (outside n y q)
-piece_done {S} {stores} {before} {old} {now} {start} {opening} {turns} {was} {live} {t} {u} {first} {o} {m} {n} {x} {y} {p} {q} size buf b least within left idles pauses same h =
+pub piece_done : {S : Type 0} {stores : Stores S} {before old now : S} {start : Node} {opening : List LiveCall} {turns : List Turn} {was live : LiveNode} {t u : Teller} {first : Outside} {o m n : LinkState} {x y : Option (List ℕ)} {p q : Option ℕ} (size : ℕ) (buf : List ℕ) → Between stores before old start opening turns [] was t first (outside o x p) → 1 ≤ size → size ≤ length buf → length buf ≤ 4096 → o.left ≡ prepend_known (take size buf) m.left → m.idles ≡ o.idles → m.pauses ≡ option_map (pauses_after (Bytes size)) o.pauses → SameRead m n → HeardPiece stores before now (extras_at start) start (calls_of opening turns []) (flat_map turn_bytes turns ++ take size buf) (flat_map turn_events turns) live u first (outside n y q) → TurnTaken stores before now start opening turns live u first (outside n y q)
+piece_done {S} {stores} {before} {old} {now} {start} {opening} {turns} {was} {live} {t} {u} {first} {o} {m} {n} {x} {y} {p} {q} size buf b least within most left idles pauses same h =
     let piece = take size buf in
     let turn = Reads piece h.events h.keeps h.clock in
     turn_done stores before old now start opening turns turn was live t u first (outside o x p) (outside n y q) b
-    (came_piece piece turn size buf o m n (record { bytes = refl; idles = λ k. refl; pauses = λ v. refl }) refl (piece_length size buf within) left idles pauses same) h.timed (long size buf least within) h.grows h.heard h.same h.output
+    (came_piece piece turn size buf o m n (record { bytes = refl; idles = λ k. refl; pauses = λ v. refl }) refl (piece_length size buf within) left idles pauses same) h.timed (fits size buf least within most) h.grows h.heard h.same h.output
 
-pub piece_cut : {S : Type 0} {stores : Stores S} {before old now : S} {end : RunEnd} {start : Node} {opening : List LiveCall} {turns : List Turn} {was : LiveNode} {t : Teller} {first : Outside} {o m n : LinkState} {x y : Option (List ℕ)} {p q : Option ℕ} (size : ℕ) (buf : List ℕ) → Between stores before old start opening turns [] was t first (outside o x p) → 1 ≤ size → size ≤ length buf → o.left ≡ prepend_known (take size buf) m.left → m.idles ≡ o.idles → m.pauses ≡ option_map (pauses_after (Bytes size)) o.pauses → SameRead m n → PieceStopped stores before now end (extras_at start) (flat_map turn_bytes turns) (flat_map turn_events turns) (take size buf) start (calls_of opening turns []) first (outside n y q) → TurnCut stores before now end start opening turns first (outside n y q)
-piece_cut {S} {stores} {before} {old} {now} {end} {start} {opening} {turns} {was} {t} {first} {o} {m} {n} {x} {y} {p} {q} size buf b least within left idles pauses same h = record {
+pub piece_cut : {S : Type 0} {stores : Stores S} {before old now : S} {end : RunEnd} {start : Node} {opening : List LiveCall} {turns : List Turn} {was : LiveNode} {t : Teller} {first : Outside} {o m n : LinkState} {x y : Option (List ℕ)} {p q : Option ℕ} (size : ℕ) (buf : List ℕ) → Between stores before old start opening turns [] was t first (outside o x p) → 1 ≤ size → size ≤ length buf → length buf ≤ 4096 → o.left ≡ prepend_known (take size buf) m.left → m.idles ≡ o.idles → m.pauses ≡ option_map (pauses_after (Bytes size)) o.pauses → SameRead m n → PieceStopped stores before now end (extras_at start) (flat_map turn_bytes turns) (flat_map turn_events turns) (take size buf) start (calls_of opening turns []) first (outside n y q) → TurnCut stores before now end start opening turns first (outside n y q)
+piece_cut {S} {stores} {before} {old} {now} {end} {start} {opening} {turns} {was} {t} {first} {o} {m} {n} {x} {y} {p} {q} size buf b least within most left idles pauses same h = record {
   turn = h.turn;
   stopped = turn_stopped stores before old now end start opening turns h.turn was t first (outside o x p) (outside n y q) b
-      (came_piece (take size buf) h.turn size buf o m n h.piece_is refl (piece_length size buf within) left idles pauses same) h.timed (h.heard (long size buf least within)) h.reads h.stopped;
+      (came_piece (take size buf) h.turn size buf o m n h.piece_is refl (piece_length size buf within) left idles pauses same) h.timed (h.heard (fits size buf least within most)) h.reads h.stopped;
 }
 
 -- the port was idle

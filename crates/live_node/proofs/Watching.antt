@@ -81,13 +81,14 @@ watch_more {S} {stores} {before} {old} {now} {plan} {start} {opening} {count} {w
   awaited = awaited_turn plan.ticks start opening w.turns taken.turn (awaits plan.ticks w.between.output none);
 }
 
-pub watch_stopped : {S : Type 0} {stores : Stores S} {before old now : S} {end : RunEnd} {plan : StationPlan} {start : Node} {opening : List LiveCall} {count : ℕ} {was : LiveNode} {t : Teller} {first last next : Outside} → (w : WatchTaken stores before old plan start opening count was t first last) → verdict plan.ticks t.ticks t.ending ≡ None → TurnStops stores before now end start opening w.turns first next → WatchStopped stores before now end plan start opening first next
-watch_stopped {S} {stores} {before} {old} {now} {end} {plan} {start} {opening} {count} {was} {t} {first} {last} {next} w none (inl cut) = record {
+pub watch_stopped : {S : Type 0} {stores : Stores S} {before old now : S} {end : RunEnd} {plan : StationPlan} {start : Node} {opening : List LiveCall} {count : ℕ} {was : LiveNode} {t : Teller} {first last next : Outside} → (w : WatchTaken stores before old plan start opening count was t first last) → count < plan.turns → verdict plan.ticks t.ticks t.ending ≡ None → TurnStops stores before now end start opening w.turns first next → WatchStopped stores before now end plan start opening first next
+watch_stopped {S} {stores} {before} {old} {now} {end} {plan} {start} {opening} {count} {was} {t} {first} {last} {next} w less none (inl cut) = record {
   turns = w.turns ++ cut.turn ∷ [];
+  within = omega (arith, length_more w.turns cut.turn count w.number, less);
   stopped = cut.stopped;
   awaited = awaited_turn plan.ticks start opening w.turns cut.turn (awaits plan.ticks w.between.output none);
 }
-watch_stopped {S} {stores} {before} {old} {now} {end} {plan} {start} {opening} {count} {was} {t} {first} {last} {next} w none (inr run) = record { turns = w.turns; stopped = run; awaited = w.awaited }
+watch_stopped {S} {stores} {before} {old} {now} {end} {plan} {start} {opening} {count} {was} {t} {first} {last} {next} w less none (inr run) = record { turns = w.turns; within = omega (arith, w.number, less); stopped = run; awaited = w.awaited }
 
 -- the verdict as its test tells it
 pub no_verdict : {A : Type 0} (said : Option A) → is_some said ≡ false → said ≡ None

@@ -1,5 +1,5 @@
 -- The run of a drone on a port.
-use Rattle.std.specs.Prelude.{ℕ, pos, ◌≡◌, ◌⊎◌, List, [], ◌∷◌, length, Option, Some, None, true}
+use Rattle.std.specs.Prelude.{ℕ, pos, ◌≡◌, ◌<◌, ◌≤◌, ◌⊎◌, List, [], ◌∷◌, length, Option, Some, None, true}
 use Rattle.mav_ports.specs.Gets.{IsSpent}
 use Rattle.plan_store.specs.MemStores.{MemStore, store_from_start}
 use Rattle.plan_image.specs.Image.{IsImageOf}
@@ -11,7 +11,7 @@ use Rattle.mav_nodes.specs.Stores.{HasFailed}
 use Rattle.mav_nodes.specs.Nodes.{DroneSide, new_drone}
 use Rattle.mav_nodes.specs.Restarts.{stored_drone}
 use Rattle.mav_nodes.specs.Starts.{StartFails}
-use Rattle.node_reports.specs.Nodes.{Node, Drone}
+use Rattle.node_reports.specs.Nodes.{Drone}
 use Rattle.run_status.specs.declared.input_errors.Place.TheVariants.{Store as StorePlace}
 use Rattle.run_status.specs.declared.input_errors.Reason.TheVariants.{Kept as KeptReason}
 use Rattle.run_status.specs.declared.input_errors.InputError.TheVariants.{Bad}
@@ -20,8 +20,6 @@ use Rattle.run_status.specs.declared.live_ends.LiveEnd.TheVariants.{StoreFault, 
 use Rattle.run_status.specs.declared.run_ends.RunEnd.{RunEnd}
 use Rattle.run_status.specs.declared.run_ends.RunEnd.TheVariants.{Stopped, WriteFault, NoMemory, Live}
 use Rattle.live_node.specs.declared.drones.DronePlan.{DronePlan}
-use Rattle.live_node.specs.declared.nodes.LiveNode.{LiveNode}
-use Rattle.live_node.specs.Nodes.{IsLive, IsKeptBy}
 use Rattle.live_node.specs.Calls.{LiveCall, Beats}
 use Rattle.live_node.specs.Turns.{Turn}
 use Rattle.live_node.specs.Runs.{Outside, Stores, stores_of, LiveRun}
@@ -68,35 +66,31 @@ IsDroneEnd most other = ⊥
 abbrev pub IsHeartbeat : List LiveCall → Type 0
 IsHeartbeat calls = (at : ℕ) × (calls ≡ Beats at ∷ [])
 
--- 0: the port has ended, and nothing is left of it; 11: so many reads gave bytes or returned Idle
-abbrev pub DroneEnds : Option RunEnd → List Turn → Outside → Type 0
-DroneEnds None turns last = (last.link.ended ≡ true) × IsSpent last.link.left
-DroneEnds (Some (Live (PortTurns most))) turns last = length turns ≡ most
-DroneEnds other turns last = Unit {0}
-
--- at 0 and 11 its store has what it has stored
-abbrev pub DroneKeeps : Option RunEnd → Option (List ℕ) → Node → Type 0
-DroneKeeps None contents node = (live : LiveNode) × IsLive node live × IsKeptBy contents live
-DroneKeeps (Some (Live (PortTurns most))) contents node = (live : LiveNode) × IsLive node live × IsKeptBy contents live
-DroneKeeps other contents node = Unit {0}
+-- how a drone ends that may make so many reads. 0: at one of them the port has ended, and nothing is left of it; 11: so many gave
+-- bytes or returned Idle; never 3, since what its store had was the drone's
+abbrev pub DroneEnds : ℕ → Option RunEnd → List Turn → Outside → Type 0
+DroneEnds most None turns last = (length turns < most) × (last.link.ended ≡ true) × IsSpent last.link.left
+DroneEnds most (Some (Stopped (Bad place reason))) turns last = ⊥
+DroneEnds most (Some (Live (PortTurns taken))) turns last = (taken ≡ most) × (length turns ≡ most)
+DroneEnds most other turns last = length turns ≤ most
 
 -- the run of a drone that has started
-pub record DroneLived {S : Type 0} (stores : Stores S) (before after : S) (start : DroneSide) (end : Option RunEnd) (first last : Outside) : Type 0 where
+pub record DroneLived {S : Type 0} (stores : Stores S) (before after : S) (most : ℕ) (start : DroneSide) (end : Option RunEnd) (first last : Outside) : Type 0 where
   pub run : LiveRun stores before after IsHeartbeat (λ link. ⊥) (Drone start) end first last
-  pub ends : DroneEnds end run.turns last
-  pub stored : DroneKeeps end (stores.contents after) run.at.written.node
+  pub ends : DroneEnds most end run.turns last
 
 -- a drone started, and ran
 pub record DroneRan {S : Type 0} (stores : Stores S) (key : List ℕ) (plan : DronePlan) (before after : S) (end : Option RunEnd) (first last : Outside) : Type 0 where
   pub start : DroneSide
   pub starts : StartsFrom key plan.sys (stores.contents before) start
-  pub lived : DroneLived stores before after start end first last
+  pub lived : DroneLived stores before after plan.turns start end first last
 
--- it didn't start: nothing was read or written
+-- it didn't start: nothing was read or written, and its store has what it had
 pub record DroneUnstarted {S : Type 0} (stores : Stores S) (plan : DronePlan) (before after : S) (end : Option RunEnd) (first last : Outside) : Type 0 where
   pub fault : StartFault
   pub end_is : end ≡ Some (start_end fault)
   pub fails : StartFails fault plan.sys (stores.contents before) (HasFailed stores.faults stores.is_infallible before after)
+  pub stays : stores.contents after ≡ stores.contents before
   pub same : last ≡ first
 
 abbrev pub DroneRuns : {S : Type 0} → Stores S → List ℕ → DronePlan → (before after : S) → Option RunEnd → (first last : Outside) → Type 0

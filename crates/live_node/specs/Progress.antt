@@ -1,5 +1,5 @@
 -- How far a run is: what came in over its turns, and what went out over its calls.
-use Rattle.std.specs.Prelude.{ℕ, ◌≡◌, ◌≤◌, ◌+◌, ◌⊎◌, Bool, true, false, List, [], ◌∷◌, ◌++◌, length, map, Option, Some, None}
+use Rattle.std.specs.Prelude.{ℕ, ◌≡◌, ◌≤◌, ◌<◌, ◌+◌, ◌⊎◌, Bool, true, false, List, [], ◌∷◌, ◌++◌, length, map, Option, Some, None}
 use Rattle.std.specs.List.{flat_map}
 use Rattle.std.specs.Option.{option_map}
 use Rattle.std.specs.Io.KnownBytes.{append_known, prepend_known}
@@ -21,7 +21,7 @@ use Rattle.live_node.specs.declared.nodes.Due.TheVariants.{Tick, Heartbeat, Sim}
 use Rattle.live_node.specs.declared.tellers.Teller.{Teller}
 use Rattle.live_node.specs.Nodes.{IsLive, HasHeard, IsKeptBy, end_of}
 use Rattle.live_node.specs.Calls.{extras_at, LiveCall, Hears, Ticks, Beats, Flies, calls_do, IsTime, AreTimed, ticks_with, ticks_over}
-use Rattle.live_node.specs.Turns.{Turn, turn_calls, turn_bytes, turn_events, idles_with, pauses_with, idles_over, pauses_over, ReadsOn, ReadFrom, AllHeard, Rest, calls_of, IsTurnTimed}
+use Rattle.live_node.specs.Turns.{Turn, turn_calls, turn_bytes, turn_events, idles_with, pauses_with, idles_over, pauses_over, ReadsOn, ReadFrom, IsPieceLength, AllHeard, Rest, calls_of, IsTurnTimed}
 use Rattle.live_node.specs.Texts.{frames_text, lines_of, count_over, ending_over, tells}
 use Rattle.live_node.specs.Ports.{SentBy, PrintedBy}
 use Rattle.live_node.specs.Runs.{Outside, Stores, Kept, Written, Timed, IsSpentAt, IsSpentCall, LastHeard, RunAt}
@@ -129,7 +129,7 @@ pub record PieceStopped {S : Type 0} (stores : Stores S) (before now : S) (end :
   pub timed : IsTurnTimed first.time turn
   pub reads : ReadsOn extras taken given turn
   pub piece_is : IsPiece piece turn
-  pub heard : 1 ≤ length piece → LastHeard (Some end) turn
+  pub heard : IsPieceLength (length piece) → LastHeard (Some end) turn
   pub stopped : TurnStopped stores before now end extras taken given start made turn first last
 
 -- a call that is due was made, or the run stopped in it
@@ -181,19 +181,27 @@ abbrev pub TurnStops : {S : Type 0} → Stores S → (before now : S) → RunEnd
 TurnStops stores before now end start opening turns first last =
     TurnCut stores before now end start opening turns first last ⊎ RunAt stores before now start (Some end) opening turns [] first last
 
--- so many turns were taken, or the port has ended within them
+-- so many turns were taken
 pub record TurnsTaken {S : Type 0} (stores : Stores S) (before now : S) (start : Node) (opening : List LiveCall) (count : ℕ) (live : LiveNode) (teller : Teller) (first last : Outside) : Type 0 where
   pub turns : List Turn
   pub number : length turns ≡ count
   pub between : Between stores before now start opening turns [] live teller first last
 
+-- the port has ended at a later read
+pub record TurnsEnded {S : Type 0} (stores : Stores S) (before now : S) (start : Node) (opening : List LiveCall) (count : ℕ) (live : LiveNode) (teller : Teller) (first last : Outside) : Type 0 where
+  pub turns : List Turn
+  pub number : length turns < count
+  pub ended : PortEnded stores before now start opening turns [] live teller first last
+
 abbrev pub TurnsRan : Bool → {S : Type 0} → Stores S → (before now : S) → Node → List LiveCall → ℕ → LiveNode → Teller → Outside → Outside → Type 0
 TurnsRan true stores before now start opening count live teller first last = TurnsTaken stores before now start opening count live teller first last
-TurnsRan false stores before now start opening count live teller first last = (turns : List Turn) × PortEnded stores before now start opening turns [] live teller first last
+TurnsRan false stores before now start opening count live teller first last = TurnsEnded stores before now start opening count live teller first last
 
 -- or the run stopped within them
-abbrev pub TurnsStopped : {S : Type 0} → Stores S → (before now : S) → RunEnd → Node → List LiveCall → (first last : Outside) → Type 0
-TurnsStopped stores before now end start opening first last = (turns : List Turn) × RunAt stores before now start (Some end) opening turns [] first last
+pub record TurnsStopped {S : Type 0} (stores : Stores S) (before now : S) (end : RunEnd) (start : Node) (opening : List LiveCall) (count : ℕ) (first last : Outside) : Type 0 where
+  pub turns : List Turn
+  pub number : length turns ≤ count
+  pub run : RunAt stores before now start (Some end) opening turns [] first last
 
 -- before the first call
 pub record Opened {S : Type 0} (stores : Stores S) (before now : S) (start : Node) (live : LiveNode) (teller : Teller) (first : Outside) : Type 0 where

@@ -18,7 +18,9 @@ use Rattle.run_status.specs.declared.input_errors.InputError.TheVariants.{Stamps
 use Rattle.run_status.specs.declared.run_ends.RunEnd.{RunEnd}
 use Rattle.run_status.specs.declared.run_ends.RunEnd.TheVariants.{Stopped, NoMemory, Live}
 use Rattle.live_node.specs.Calls.{LiveCall, extras_at, call_does, calls_do, node_hears, keeps_in, AreTimed}
-use Rattle.live_node.specs.Turns.{Turn, Breaks, turn_bytes, turn_events, idles_over, pauses_over, ReadFrom, IsHeard, AllHeard, Rest, calls_of, last_calls, AreTurnsTimed, AreRestsTimed}
+use Rattle.live_node.specs.declared.nodes.LiveNode.{LiveNode}
+use Rattle.live_node.specs.Nodes.{IsLive, IsKeptBy}
+use Rattle.live_node.specs.Turns.{Turn, Breaks, turn_bytes, turn_events, idles_over, pauses_over, ReadFrom, IsPieceLength, IsHeard, AllHeard, Rest, calls_of, last_calls, AreTurnsTimed, AreRestsTimed}
 use Rattle.live_node.specs.Texts.{frames_text, lines_of}
 use Rattle.live_node.specs.Ports.{SentBy, PrintedBy, FaultsBy}
 
@@ -52,10 +54,27 @@ pub record Stores (S : Type 0) : Type 1 where
 abbrev pub stores_of : {S : Type 0} → (S → ℕ) → (S → Type 0) → (S → Option (List ℕ)) → Stores S
 stores_of faults is_infallible contents = record { faults = faults; is_infallible = is_infallible; contents = contents }
 
--- the store kept all that these calls changed, or a call of it has failed
+-- the store kept all that a call changed, or a call of the store failed in it
+pub record KeptIn {S : Type 0} (stores : Stores S) (before now : S) (call : LiveCall) : Type 0 where
+  pub serves : Serves stores.faults stores.is_infallible before now
+  pub kept : AllKept (HasFailed stores.faults stores.is_infallible before now) (keeps_in call)
+
+-- the same of each of these calls, with the store as it was before that call and after it
+abbrev pub KeptOver : {S : Type 0} → Stores S → (before now : S) → List LiveCall → Type 0
+KeptOver stores before now [] = Serves stores.faults stores.is_infallible before now
+KeptOver {S} stores before now (call ∷ calls) = (next : S) × KeptIn stores before next call × KeptOver stores next now calls
+
 pub record Kept {S : Type 0} (stores : Stores S) (before now : S) (made : List LiveCall) : Type 0 where
   pub serves : Serves stores.faults stores.is_infallible before now
-  pub kept : AllKept (HasFailed stores.faults stores.is_infallible before now) (flat_map keeps_in made)
+  pub each : KeptOver stores before now made
+
+-- what a store has at the end of a run: what the node has stored with the calls that were made. At 7, 10 and 13 the call may
+-- have saved at which the node was given up
+abbrev pub StoredBy : Option RunEnd → Option (List ℕ) → Node → Type 0
+StoredBy (Some (Stopped StampsSpent)) contents node = Unit {0}
+StoredBy (Some NoMemory) contents node = Unit {0}
+StoredBy (Some (Live StoreFault)) contents node = Unit {0}
+StoredBy other contents node = (live : LiveNode) × IsLive node live × IsKeptBy contents live
 
 -- these calls were made; of their frames and lines was written what a run writes that ends so
 pub record Written {S : Type 0} (stores : Stores S) (before now : S) (end : Option RunEnd) (start : Node) (made : List LiveCall) (first last : Outside) : Type 0 where
@@ -66,6 +85,7 @@ pub record Written {S : Type 0} (stores : Stores S) (before now : S) (end : Opti
   pub printed : PrintedBy end first.text last.text (lines_of (node_name start) 0 events)
   pub time : last.time ≡ first.time
   pub kept : Kept stores before now made
+  pub stored : StoredBy end (stores.contents now) node
   -- 10: a call of the store has failed
   pub store : end ≡ Some (Live StoreFault) → HasFailed stores.faults stores.is_infallible before now
 
@@ -110,7 +130,7 @@ GivesUp other = ⊥
 
 -- what the last turn read was heard, or the node was given up at it
 abbrev pub LastHeard : Option RunEnd → Turn → Type 0
-LastHeard end (Breaks piece clock) = (1 ≤ length piece) × GivesUp end
+LastHeard end (Breaks piece clock) = IsPieceLength (length piece) × GivesUp end
 LastHeard end turn = IsHeard turn
 
 -- all that was read was heard, but for such a last turn

@@ -113,6 +113,7 @@ pub record OrderJudged (start : Node) (order : Order) (end : Option RunEnd) (mad
 -- the run of a station that has started, up to the bytes that its operation gave
 pub record StationLived {S : Type 0} (stores : Stores S) (before after : S) (plan : StationPlan) (order : Order) (start : Node) (ended : Result (List ℕ) RunEnd) (first last : Outside) : Type 0 where
   pub run : LiveRun stores before after (IsOrdered order) HasEnded start (result_err ended) first last
+  pub within : length run.turns ≤ plan.turns
   pub ends : StationEnds plan ended run.turns (verdict plan.ticks (ticks_over 0 run.at.made) (ending_over None run.at.written.events))
   pub awaited : Awaited plan.ticks start run.opening run.turns run.rests
   pub judged : OrderJudged start order (result_err ended) run.at.made

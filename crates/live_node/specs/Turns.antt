@@ -64,9 +64,14 @@ ReadFrom extras taken given [] = Unit {0}
 ReadFrom extras taken given (turn ∷ turns) =
     ReadsOn extras taken given turn × ReadFrom extras (taken ++ turn_bytes turn) (given ++ turn_events turn) turns
 
--- what a turn read was heard: a read gives at least one byte
+-- a read that gives bytes gives at least one, and at most as many as it asks for
+pub record IsPieceLength (bytes : ℕ) : Type 0 where
+  pub least : 1 ≤ bytes
+  pub most : bytes ≤ 4096
+
+-- what a turn read was heard
 abbrev pub IsHeard : Turn → Type 0
-IsHeard (Reads piece events keeps clock) = 1 ≤ length piece
+IsHeard (Reads piece events keeps clock) = IsPieceLength (length piece)
 IsHeard (Waits tick beat sim) = Unit {0}
 IsHeard (Breaks piece clock) = ⊥
 

@@ -36,11 +36,13 @@ pub record WatchDone {S : Type 0} (stores : Stores S) (before now : S) (plan : S
   pub turns : List Turn
   pub between : Between stores before now start opening turns [] live teller first last
   pub awaited : Awaited plan.ticks start opening turns []
+  pub within : length turns ≤ plan.turns
   pub number : verdict plan.ticks teller.ticks teller.ending ≡ None → length turns ≡ plan.turns
 
 -- the port has ended before
 pub record WatchEnded {S : Type 0} (stores : Stores S) (before now : S) (plan : StationPlan) (start : Node) (opening : List LiveCall) (live : LiveNode) (teller : Teller) (first last : Outside) : Type 0 where
   pub turns : List Turn
+  pub within : length turns ≤ plan.turns
   pub ended : PortEnded stores before now start opening turns [] live teller first last
   pub awaited : Awaited plan.ticks start opening turns []
 
@@ -51,6 +53,7 @@ Watched false stores before now plan start opening live teller first last = Watc
 -- or the run stopped
 pub record WatchStopped {S : Type 0} (stores : Stores S) (before now : S) (end : RunEnd) (plan : StationPlan) (start : Node) (opening : List LiveCall) (first last : Outside) : Type 0 where
   pub turns : List Turn
+  pub within : length turns ≤ plan.turns
   pub stopped : RunAt stores before now start (Some end) opening turns [] first last
   pub awaited : Awaited plan.ticks start opening turns []
 
@@ -71,6 +74,7 @@ pub record OutlastStopped {S : Type 0} (stores : Stores S) (before now : S) (end
 -- the wait is over
 pub record WaitedFor {S : Type 0} (stores : Stores S) (before now : S) (plan : StationPlan) (start : Node) (opening : List LiveCall) (ended : Result (List ℕ) RunEnd) (first last : Outside) : Type 0 where
   pub turns : List Turn
+  pub within : length turns ≤ plan.turns
   pub rests : List Rest
   pub rested : MayRest (HasEnded last.link) rests
   pub at : RunAt stores before now start (result_err ended) opening turns rests first last

@@ -52,7 +52,7 @@ fn run_turns<L: Link, K: Sink, C: Clock, S: Keeper>(
     ensures did { (before : S) (start : Node) (opening : List LiveCall) (first : Outside) → Between (stores_of S.faults S.is_infallible S.contents) before keeper.old start opening [] [] live.old teller.old first (outside (L.state link.old) (K.sent out.old) (C.always clock.old))
         → MatchResult result
         (λ goes_on. TurnsRan goes_on (stores_of S.faults S.is_infallible S.contents) before keeper.new start opening turns live.new teller.new first (outside (L.state link.new) (K.sent out.new) (C.always clock.new)))
-        (λ end. TurnsStopped (stores_of S.faults S.is_infallible S.contents) before keeper.new end start opening first (outside (L.state link.new) (K.sent out.new) (C.always clock.new))) }
+        (λ end. TurnsStopped (stores_of S.faults S.is_infallible S.contents) before keeper.new end start opening turns first (outside (L.state link.new) (K.sent out.new) (C.always clock.new))) }
     ensures ends { Ends IsRunEnd result (outside (L.state link.old) (K.sent out.old) (C.always clock.old)) (outside (L.state link.new) (K.sent out.new) (C.always clock.new)) (K.faults out.old) (K.faults out.new) }
 {
     let mut buf = [0u8; PIECE_BYTES];
@@ -77,7 +77,7 @@ fn run_live<L: Link, K: Sink, C: Clock, S: Keeper>(
     keeper: &mut S,
 ) -> Result<(), RunEnd>
     ensures ran { (before : S) (start : DroneSide) → Opened (stores_of S.faults S.is_infallible S.contents) before keeper.old (StateDrone start) live.old teller.old (outside (L.state link.old) (K.sent out.old) (C.always clock.old))
-        → DroneLived (stores_of S.faults S.is_infallible S.contents) before keeper.new start (result_err result) (outside (L.state link.old) (K.sent out.old) (C.always clock.old)) (outside (L.state link.new) (K.sent out.new) (C.always clock.new)) }
+        → DroneLived (stores_of S.faults S.is_infallible S.contents) before keeper.new turns start (result_err result) (outside (L.state link.old) (K.sent out.old) (C.always clock.old)) (outside (L.state link.new) (K.sent out.new) (C.always clock.new)) }
     ensures ends { Ends (IsDroneEnd turns) result (outside (L.state link.old) (K.sent out.old) (C.always clock.old)) (outside (L.state link.new) (K.sent out.new) (C.always clock.new)) (K.faults out.old) (K.faults out.new) }
 {
     match call(live, teller, Due::Heartbeat, link, out, clock, keeper) {

@@ -1,5 +1,5 @@
 // The turns of a live node.
-ghost use Rattle.std.specs.Prelude.{◌≡◌, ◌<◌, ◌++◌, [], ℕ, List, length, MatchResult};
+ghost use Rattle.std.specs.Prelude.{◌≡◌, ◌<◌, ◌≤◌, ◌++◌, [], ℕ, List, length, MatchResult};
 ghost use Rattle.mav_frame.specs.declared.events.Event.{Event};
 ghost use Rattle.mav_sign.specs.Streams.{reader_of};
 ghost use Rattle.node_reports.specs.Nodes.{Node};
@@ -105,7 +105,8 @@ pub(crate) fn turn<L: Link, K: Sink, C: Clock, S: Keeper>(
     clock: &mut C,
     keeper: &mut S,
 ) -> Result<bool, RunEnd>
-    requires { 0 < length buf.old }
+    requires least { 0 < length buf.old }
+    requires most { length buf.old ≤ 4096 }
     ensures did { (before : S) (start : Node) (opening : List LiveCall) (turns : List Turn) (first : Outside) → Between (stores_of S.faults S.is_infallible S.contents) before keeper.old start opening turns [] live.old teller.old first (outside (L.state link.old) (K.sent out.old) (C.always clock.old))
         → MatchResult result
         (λ goes_on. Turned goes_on (stores_of S.faults S.is_infallible S.contents) before keeper.new start opening turns live.new teller.new first (outside (L.state link.new) (K.sent out.new) (C.always clock.new)))

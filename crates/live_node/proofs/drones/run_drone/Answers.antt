@@ -19,7 +19,7 @@ returns-in-Ok g c =
 
 pub returns-in-Err : goal.returns-in-Err
 returns-in-Err g c = rw c.start_end.ensures (record {
-  runs = inr (record { fault = c.in-Err.fault; end_is = refl; fails = c.in-Err.ensures.fault; same = refl });
+  runs = inr (record { fault = c.in-Err.fault; end_is = refl; fails = c.in-Err.ensures.fault; stays = c.in-Err.ensures.stays; same = refl });
   end = unstarted_end c.args.plan.turns c.in-Err.fault;
   faults = unstarted_counts c.in-Err.fault _ _;
 })

@@ -6,13 +6,17 @@ pub returns-in-Ok-false-clause-did : goal.returns-in-Ok-false-clause-did
 returns-in-Ok-false-clause-did g c =
     λ before start opening first b.
     let t = c.turns.invariant.taken before start opening first b in
-    (t.turns, (rw c.in-Ok-false.field-0-test at c.in-Ok-false.ensures.did) before start opening t.turns first t.between)
+    record {
+      turns = t.turns;
+      number = omega (arith, t.number, c.turns-test.true);
+      ended = (rw c.in-Ok-false.field-0-test at c.in-Ok-false.ensures.did) before start opening t.turns first t.between;
+    }
 
 pub returns-in-Err-clause-did : goal.returns-in-Err-clause-did
 returns-in-Err-clause-did g c =
     λ before start opening first b.
     let t = c.turns.invariant.taken before start opening first b in
-    stopped_after t.turns (c.in-Err.ensures.did before start opening t.turns first t.between)
+    stopped_after t.turns c.turns._at c.args.turns t.number (omega (arith, c.turns-test.true)) (c.in-Err.ensures.did before start opening t.turns first t.between)
 
 pub turns-preserved : goal.turns-preserved
 turns-preserved g c = record {

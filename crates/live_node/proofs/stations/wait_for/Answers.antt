@@ -11,14 +11,14 @@ returns-in-Ok-clause-waited g c =
     let watched = rw c.in-Ok-false.field-0-test at c.in-Ok-false.ensures.did in
     rw c.judge-in-Ok.ensures (λ before start opening first b.
     let w = watched before start opening first b in
-    waited_rests (c.in-Ok.ensures.did before start opening w.turns first w.ended w.awaited))
+    waited_rests w.within (c.in-Ok.ensures.did before start opening w.turns first w.ended w.awaited))
 
 pub returns-in-Err-outlast-clause-waited : goal.returns-in-Err-outlast-clause-waited
 returns-in-Err-outlast-clause-waited g c =
     let watched = rw c.in-Ok-false.field-0-test at c.in-Ok-false.ensures.did in
     λ before start opening first b.
     let w = watched before start opening first b in
-    outlast_cut c.in-Err-outlast.ensures.ends.end (c.in-Err-outlast.ensures.did before start opening w.turns first w.ended w.awaited)
+    outlast_cut c.in-Err-outlast.ensures.ends.end w.within (c.in-Err-outlast.ensures.did before start opening w.turns first w.ended w.awaited)
 
 pub returns-in-Err-clause-waited : goal.returns-in-Err-clause-waited
 returns-in-Err-clause-waited g c = λ before start opening first b. watch_cut c.in-Err.ensures.ends.end (c.in-Err.ensures.did before start opening first b)

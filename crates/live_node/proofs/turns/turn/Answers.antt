@@ -1,4 +1,4 @@
-use Rattle.std.proofs.Common.{[], inl, inr, refl}
+use Rattle.std.proofs.Common.{[], inl, inr, refl, arith}
 use Rattle.std.specs.List.{flat_map}
 use Rattle.live_node.specs.Calls.{extras_at}
 use Rattle.live_node.specs.Turns.{turn_bytes, turn_events, calls_of}
@@ -13,7 +13,7 @@ returns-in-Ok-clause-did g c =
     let e = c.in-Bytes.ensures in
     λ before start opening turns first b.
     let o = output_read _ before _ start (calls_of opening turns []) _ _ first _ (outside (g.L.Link.state c.read.new.self) (g.K.Sink.sent c.args.out.now) (g.C.Clock.always c.args.clock.now)) e.faults e.sent refl refl b.output in
-    piece_done c.in-Bytes.count c.read.new.buf b e.within.0 e.within.1 e.bytes e.idles e.pauses c.hear.ensures.unread
+    piece_done c.in-Bytes.count c.read.new.buf b e.within.0 e.within.1 (omega (arith, c.requires.most, c.read.auto.buf)) e.bytes e.idles e.pauses c.hear.ensures.unread
     (c.in-Ok.ensures.did before start (calls_of opening turns []) first (extras_at start) (flat_map turn_bytes turns) (flat_map turn_events turns) o b.input.same b.input.heard)
 
 pub returns-in-Err-clause-did : goal.returns-in-Err-clause-did
@@ -21,7 +21,7 @@ returns-in-Err-clause-did g c =
     let e = c.in-Bytes.ensures in
     λ before start opening turns first b.
     let o = output_read _ before _ start (calls_of opening turns []) _ _ first _ (outside (g.L.Link.state c.read.new.self) (g.K.Sink.sent c.args.out.now) (g.C.Clock.always c.args.clock.now)) e.faults e.sent refl refl b.output in
-    inl (piece_cut c.in-Bytes.count c.read.new.buf b e.within.0 e.within.1 e.bytes e.idles e.pauses c.hear.ensures.unread
+    inl (piece_cut c.in-Bytes.count c.read.new.buf b e.within.0 e.within.1 (omega (arith, c.requires.most, c.read.auto.buf)) e.bytes e.idles e.pauses c.hear.ensures.unread
     (c.in-Err.ensures.did before start (calls_of opening turns []) first (extras_at start) (flat_map turn_bytes turns) (flat_map turn_events turns) o b.input.same b.input.heard))
 
 pub returns-in-Ok-wait-clause-did : goal.returns-in-Ok-wait-clause-did
