@@ -55,8 +55,7 @@ pub trait Link: Send + Drop {
     /// Waits until a read returns without waiting, or the bell rings; it may return before.
     fn rest(&mut self)
         ensures kept { state self.new ≡ state self.old }
-    {
-    }
+    {}
 
     /// Whether a write needn't wait until somebody is there to take it.
     fn can_write(&mut self) -> bool

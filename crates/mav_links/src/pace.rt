@@ -43,7 +43,9 @@ impl<C: Clock + Drop> Pace<C> {
 
     /// The time now; that of the last Idle, if the clock has none.
     pub(crate) fn now(&self) -> Duration {
-        self.clock.monotonic().unwrap_or(self.since.unwrap_or(Duration::ZERO))
+        self.clock
+            .monotonic()
+            .unwrap_or(self.since.unwrap_or(Duration::ZERO))
     }
 
     /// How long it is until Idle is due.

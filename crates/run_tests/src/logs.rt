@@ -23,7 +23,8 @@ const LOG: [u8; 50] = [
     0x2F, 0x49,
 ];
 
-const SHOWN: &[u8] = b"0 1000000 HEARTBEAT 1.1 #0 type=2 autopilot=3 base_mode=81 custom_mode=0 system_status=4 mavlink_version=3\n29 1001000 MISSION_CURRENT 1.1 #1 seq=0\nrows 2 skipped 0\n";
+const SHOWN: &[u8] =
+    b"0 1000000 HEARTBEAT 1.1 #0 type=2 autopilot=3 base_mode=81 custom_mode=0 system_status=4 mavlink_version=3\n29 1001000 MISSION_CURRENT 1.1 #1 seq=0\nrows 2 skipped 0\n";
 
 fn is_made(alloc: Global, room: usize, status: u8) -> Result<bool, AllocError> {
     let mut main = SureSource::new(CAPTURE.to_vec(alloc)?);

@@ -122,7 +122,15 @@ fn written(alloc: Global) -> Result<bool, AllocError> {
 // The same of two writes to a boxed link, which takes at most two bytes a call.
 fn written_to_a_link(alloc: Global) -> Result<bool, AllocError> {
     let nothing = Vec::new(alloc);
-    let link = MemLink::new(alloc, nothing, 2, Vec::new(alloc), Vec::new(alloc), 4, Vec::new(alloc))?;
+    let link = MemLink::new(
+        alloc,
+        nothing,
+        2,
+        Vec::new(alloc),
+        Vec::new(alloc),
+        4,
+        Vec::new(alloc),
+    )?;
     let mut link: Box<dyn Link> = Box::new(alloc, link)?;
     let first = write_link(&mut link, b"hel").is_ok();
     let second = write_link(&mut link, b"lo").is_err();
