@@ -117,7 +117,15 @@ fn link_of(alloc: Global, frame: &[u8; 21], port: &FailingPort) -> Result<MemLin
     }
     let read_fails = port.read_fails.to_vec(alloc)?;
     let write_fails = port.write_fails.to_vec(alloc)?;
-    MemLink::new(alloc, bytes, 21, read_fails, Vec::new(alloc), 4096, write_fails)
+    MemLink::new(
+        alloc,
+        bytes,
+        21,
+        read_fails,
+        Vec::new(alloc),
+        4096,
+        write_fails,
+    )
 }
 
 fn links_of(alloc: Global, ports: &[FailingPort; 3]) -> Result<Vec<Box<dyn Link>>, AllocError> {
