@@ -99,8 +99,9 @@ fn is_whole_piece(before: u64, after: u64) -> bool {
     after - before.min(after) >= PIECE as u64
 }
 
-// Writes what waits for the port after a read, unless that gave a whole piece and not too many writes in a row were put off.
-// `before` is the count of bytes before the read. Returns how many writes in a row are put off now.
+// Ends the rest of the other ports after a read that gave bytes, and writes what waits for the port, unless the read gave a
+// whole piece and not too many writes in a row were put off. `before` is the count of bytes before the read. Returns how
+// many writes in a row are put off now.
 fn write_or_put_off<'a, R: Wait, L: Link>(
     rt: &R,
     crew: &Crew<'a, '_>,
@@ -111,11 +112,51 @@ fn write_or_put_off<'a, R: Wait, L: Link>(
     requires ready { IsReady crew.now.turn.now crew.now.rules.now part.old }
     ensures { KeepsOn L.state crew.now.turn.now crew.now.rules.now part.old part.new }
 {
+    if part.side.lane.read > before {
+        crew.signals.ring_others(part.port);
+    }
     if put_off < MOST_PUT_OFF && is_whole_piece(before, part.side.lane.read) {
         return put_off + 1;
     }
     write_part(rt, crew, part);
     0
+}
+
+// Whether a read of the port returns without waiting. If it doesn't, the others end the port's next rest once they have
+// something for it.
+fn is_ready<'a, L: Link>(crew: &Crew<'a, '_>, part: &mut Part<'a, L>) -> bool
+    requires ready { IsReady crew.now.turn.now crew.now.rules.now part.old }
+    ensures { KeepsOn L.state crew.now.turn.now crew.now.rules.now part.old part.new }
+{
+    let _ = crew;
+    part.side.link.is_ready()
+}
+
+// Waits until a read of the port returns without waiting, or something waits for it.
+fn rest<'a, L: Link>(crew: &Crew<'a, '_>, part: &mut Part<'a, L>)
+    requires ready { IsReady crew.now.turn.now crew.now.rules.now part.old }
+    ensures { KeepsOn L.state crew.now.turn.now crew.now.rules.now part.old part.new }
+{
+    let _ = crew;
+    part.side.link.rest();
+}
+
+// Writes what waits for the port until a read of it returns without waiting.
+fn write_until_ready<'a, R: Wait, L: Link>(rt: &R, crew: &Crew<'a, '_>, part: &mut Part<'a, L>)
+    requires ready { IsReady crew.now.turn.now crew.now.rules.now part.old }
+    ensures { KeepsOn L.state crew.now.turn.now crew.now.rules.now part.old part.new }
+{
+    for _ in rt.forever() {
+        if !is_live(&part.side.lane) || crew.signals.is_stopped() {
+            return;
+        }
+        if is_ready(crew, part) {
+            return;
+        }
+        write_part(rt, crew, part);
+        rest(crew, part);
+    }
+    unreachable!()
 }
 
 // Reads a port at most so many times, and writes what waits for it.
@@ -127,6 +168,7 @@ fn read_turns<'a, R: Wait, L: Link>(rt: &R, crew: &Crew<'a, '_>, part: &mut Part
     let mut put_off = 0;
     for turned in 0..crew.turns {
         let _ = turned;
+        write_until_ready(rt, crew, part);
         if !is_live(&part.side.lane) {
             return Halt::Done;
         }

@@ -1,6 +1,7 @@
 // What threads tell each other; no contract speaks of it.
-use std::sync::Wait;
+use mav_links::{Bell, Link};
 use std::sync::atomic::{AtomicBool, AtomicU64, Ordering};
+use std::sync::{Arc, Wait};
 use std::time::Duration;
 
 // How long a thread that only writes waits between two looks, in microseconds.
@@ -9,22 +10,52 @@ const PAUSE_MICROS: u64 = 1000;
 // How many looks it waits for threads that haven't begun: where none can be made, they begin after it.
 const PATIENCE: u32 = 1000;
 
-/// How many threads have begun, how many of them still read, and whether one had a fault.
+/// How many threads have begun, how many of them still read, whether one had a fault, and what ends the rest of each port.
 #[derive(Drop)]
 pub(crate) struct Signals {
     threads: u64,
     begun: AtomicU64,
     reading: AtomicU64,
     stopped: AtomicBool,
+    bells: [Option<Arc<Bell>>; 8],
+}
+
+// The bell of the port at a place, if there is one.
+fn bell_at<L: Link>(ports: &[L], at: usize) -> Option<Arc<Bell>> {
+    match ports.get(at) {
+        Some(port) => port.bell(),
+        None => None,
+    }
 }
 
 impl Signals {
-    pub(crate) fn new(threads: u64) -> Signals {
+    /// Of a thread for each port, of which there are at most eight.
+    pub(crate) fn new<L: Link>(ports: &[L]) -> Signals {
         Signals {
-            threads,
+            threads: ports.len() as u64,
             begun: AtomicU64::new(0),
             reading: AtomicU64::new(0),
             stopped: AtomicBool::new(false),
+            bells: [
+                bell_at(ports, 0),
+                bell_at(ports, 1),
+                bell_at(ports, 2),
+                bell_at(ports, 3),
+                bell_at(ports, 4),
+                bell_at(ports, 5),
+                bell_at(ports, 6),
+                bell_at(ports, 7),
+            ],
+        }
+    }
+
+    /// Ends the rest of each port but one: something may wait for them.
+    pub(crate) fn ring_others(&self, port: u8) {
+        for (at, bell) in self.bells.iter().enumerate() {
+            match bell {
+                Some(bell) if at != usize::from(port.saturating_sub(1)) => bell.ring(),
+                _ => {}
+            }
         }
     }
 

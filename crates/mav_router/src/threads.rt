@@ -111,7 +111,7 @@ fn route_seated<'a, R: Threads + Wait + Sync>(
     requires turns { turns ≤ 1_000_000_000 }
     ensures { HasEnded result false state rules.now turns ports.old.items ports.new.items }
 {
-    let signals = Signals::new(ports.len() as u64);
+    let signals = Signals::new(ports.as_slice());
     let mut seats = seats;
     let crew = Crew {
         turn: &turn,
