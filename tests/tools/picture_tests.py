@@ -140,7 +140,7 @@ def test_page_of_a_text():
             "0": [16, 473977420, 85455940], "1": [16, 473987420, 85459940]}}})
         same("links", came["links"], {"1": "1"})
         same("refusals", came["refusals"], [golden("page.text").decode().split("\n")[11]])
-        metrics = fetch(address + "metrics")[0].split("\n")
+        metrics = fetch(address + "metrics?from=here")[0].split("\n")
         for line in ('bevuntri_frames_total 9', 'bevuntri_node_frames_total{node="1.1"} 6',
                      'bevuntri_port_admitted_total{port="1"} 9', 'bevuntri_port_links{port="2"} 0',
                      'bevuntri_message_frames_total{message="GLOBAL_POSITION_INT"} 3'):
