@@ -148,7 +148,7 @@ def word_of(number):
         return sign
     if number.adjusted() > 40:
         return sign | INFINITY
-    exact = Fraction(abs(number))
+    exact = abs(Fraction(number))  # That of a Decimal is rounded to 28 digits.
     guess = struct.unpack("<I", struct.pack("<f", min(float(exact), 3.4028234e38)))[0]
     near = [word for word in (guess - 1, guess, guess + 1) if word >= 0]
     return sign | min(near, key=lambda word: (abs(float_value(word) - exact), word & 1))

@@ -54,6 +54,16 @@ def test_import_of_pictures():
            stdin=b"QGC WPL 110\n0 0 2 2000 0 0 1 0 inf 0 0 1\n")
 
 
+def test_numbers_of_many_digits():
+    """Halfway between two floats the even one is taken, and right above halfway the upper one; degrees alike."""
+    half = "1.000000059604644775390625"
+    lines = [f"QGC WPL 110\n0 0 0 16 {half} {half}{'0' * 20}1 0 0 0.00000005 -0.00000005{'0' * 40}1 0 1\n",
+             f"0 0 0 16 0 0 0 0 90.{'0' * 40}1 0 0 1\n"]
+    prints(b"item 5 16 0 -1 00000000 3f800000 3f800001 00000000 00000000\n"
+           b"# line 3: latitude 90." + b"0" * 40 + b"1 isn't from -90 to 90\n",
+           "plan", "import", "-", stdin="".join(lines).encode())
+
+
 def test_strict_import():
     refuses(1, "line 6: latitude 91 isn't from -90 to 90", "plan", "import", "--strict", MISSION)
     refuses(1, "item 3: command 206", "plan", "import", "--strict", SURVEY)
