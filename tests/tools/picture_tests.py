@@ -149,6 +149,18 @@ def test_page_of_a_text():
         same("another site's name", status_of(urllib.request.Request(address, headers={"Host": "example.org"})), 403)
 
 
+def test_page_of_a_fifo():
+    """Each of two writers is read."""
+    with tempfile.TemporaryDirectory() as folder:
+        os.mkfifo(os.path.join(folder, "frames"))
+        with page("--text", "frames", folder=folder) as address:
+            for count in (9, 18):
+                with open(os.path.join(folder, "frames"), "wb") as fifo:
+                    fifo.write(golden("page.text"))
+                time.sleep(0.5)
+                same("frames", state(address)["frames"], count)
+
+
 def test_page_of_a_relay():
     """A script stands in for the program: it prints a relay's lines, and ends or fails as it is told."""
     script = "#!/bin/sh\nif [ \"$1\" = relay ]; then echo \"$@\" > words; cat page.text; %s; fi\nexec %s \"$@\"\n"
