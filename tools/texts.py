@@ -83,6 +83,8 @@ def words_of(page, words, valued=(), flags=(), plain=(1, 1)):
             raise Mistake(UNUSABLE_WORDS, f"{word} expects a value after it: {usage}")
         else:
             options[name] = value if is_pair else words.pop(0) if name in valued else True
+            if not options[name]:
+                raise Mistake(UNUSABLE_WORDS, f"{name} expects a value that isn't empty: {usage}")
     if not plain[0] <= len(rest) <= plain[1]:
         wrong = "one is missing"
         if len(rest) > plain[1]:
@@ -146,7 +148,7 @@ def word_of(number):
         return sign
     if number.adjusted() > 40:
         return sign | INFINITY
-    exact = Fraction(abs(number))
+    exact = abs(Fraction(number))  # That of a Decimal is rounded to 28 digits.
     guess = struct.unpack("<I", struct.pack("<f", min(float(exact), 3.4028234e38)))[0]
     near = [word for word in (guess - 1, guess, guess + 1) if word >= 0]
     return sign | min(near, key=lambda word: (abs(float_value(word) - exact), word & 1))
@@ -239,7 +241,10 @@ def log_blocks(path, definitions):
         last = whole[whole.rfind(b"\n") + 1:] if newline else last
         yield b"\n" + whole + newline
     if process.wait():
-        raise Mistake(process.returncode, f"{path}: log show ends with {shown(last.decode())}")
+        # The log could be opened, and no form of it is refused.
+        of_definitions = (b"bad definitions", b"limit bytes 16777216", b"read fault")
+        place = "--defs=" + definitions if defs and last.startswith(of_definitions) else path
+        raise Mistake(process.returncode, f"{place}: log show ends with {shown(last.decode())}")
     if last.startswith(b"rows 0 "):
         raise wrong_form(path, f"expected rows of a telemetry log, and not {shown(last.decode())}")
 

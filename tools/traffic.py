@@ -92,7 +92,7 @@ class Traffic:
             self.plans[pair] = {"count": int(fields["count"]), "items": {}}
         elif pair in self.plans:
             plan, seq = self.plans[pair], int(fields["seq"])
-            if seq < min(plan["count"], MOST_ITEMS):
+            if 0 <= seq < min(plan["count"], MOST_ITEMS):
                 plan["items"][seq] = [int(fields[name]) for name in ("command", "x", "y")]
 
     def state(self):

@@ -141,6 +141,11 @@ def test_wrong_logs():
             for words in (["log-stats"], ["track"], ["track", "--svg"]):
                 refuses(3, "log: expected rows of a telemetry log", *words, "log", folder=folder)
         with_file(data, test)
+    def test_definitions(folder):
+        refuses(3, "--defs=log: log show ends with 'bad definitions: json'", "log-stats", "--defs", "log", "log",
+                folder=folder)
+        refuses(4, "--defs=nothing: log show", "log-stats", "--defs", "nothing", "log", folder=folder)
+    with_file(FLIGHT, test_definitions)
     for name in ("log-stats", "track"):
         refuses(4, "'nothing'", name, "nothing")
         refuses(4, "'.'", name, ".")

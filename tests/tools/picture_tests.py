@@ -140,13 +140,25 @@ def test_page_of_a_text():
             "0": [16, 473977420, 85455940], "1": [16, 473987420, 85459940]}}})
         same("links", came["links"], {"1": "1"})
         same("refusals", came["refusals"], [golden("page.text").decode().split("\n")[11]])
-        metrics = fetch(address + "metrics")[0].split("\n")
+        metrics = fetch(address + "metrics?from=here")[0].split("\n")
         for line in ('bevuntri_frames_total 9', 'bevuntri_node_frames_total{node="1.1"} 6',
                      'bevuntri_port_admitted_total{port="1"} 9', 'bevuntri_port_links{port="2"} 0',
                      'bevuntri_message_frames_total{message="GLOBAL_POSITION_INT"} 3'):
             same(line, line in metrics, True)
         same("another path", status_of(address + "../etc/passwd"), 404)
         same("another site's name", status_of(urllib.request.Request(address, headers={"Host": "example.org"})), 403)
+
+
+def test_page_of_a_fifo():
+    """Each of two writers is read."""
+    with tempfile.TemporaryDirectory() as folder:
+        os.mkfifo(os.path.join(folder, "frames"))
+        with page("--text", "frames", folder=folder) as address:
+            for count in (9, 18):
+                with open(os.path.join(folder, "frames"), "wb") as fifo:
+                    fifo.write(golden("page.text"))
+                time.sleep(0.5)
+                same("frames", state(address)["frames"], count)
 
 
 def test_page_of_a_relay():

@@ -28,6 +28,42 @@ def test_import_of_a_plan():
     prints(golden("survey.rally"), "plan", "import", SURVEY, "--rally")
 
 
+def test_import_of_a_text_with_a_fence():
+    """Mission Planner has fences and rally points in the same form, behind a home."""
+    text = (b"QGC WPL 110\n0 1 0 16 0 0 0 0 1 2 3 1\n1 0 3 5001 3 0 0 0 1 2 0 1\n2 0 3 5001 3 0 0 0 1.5 2 0 1\n"
+            b"3 0 3 5001 3 0 0 0 1 2.5 0 1\n4 0 3 5002 2 0 0 0 1 2 0 1\n5 0 2 5001 3 0 0 0 1 2 0 1\n"
+            b"6 0 3 5100 0 0 0 0 -1 -2 40 1\n")
+    corner = b" 00000000 40400000 00000000 00000000 00000000\n"
+    prints(b"# line 2: command 16 isn't 5000, 5001 or 5002\nitem 6 5001 10000000 20000000" + corner
+           + b"item 6 5001 15000000 20000000" + corner + b"item 6 5001 10000000 25000000" + corner
+           + b"# line 6: the first parameter of a corner isn't a whole number from 3 to 70\n"
+           b"# line 7: command 5001 needs a location, and frame 2 has none\n"
+           b"# line 8: command 5100 isn't 5000, 5001 or 5002\n", "plan", "import", "--fence", "-", stdin=text)
+    came = bevuntri("plan", "import", "--rally", "-", stdin=text)[0]
+    same("rally", came.split(b"\n")[-2], b"item 6 5100 -10000000 -20000000 42200000" + b" 00000000" * 4)
+
+
+def test_import_of_pictures():
+    """QGroundControl has null for what a picture doesn't use, also for x and y."""
+    picture = b'{"fileType": "Plan", "mission": {"items": [{"type": "SimpleItem", "frame": 2, "command": 2000, ' \
+        b'"params": [0, 0, 1, null, null, null, null], "autoContinue": true}]}}'
+    item = b"item 2 2000 0 0 7fc00000 00000000 00000000 3f800000 7fc00000\n"
+    prints(item, "plan", "import", "-", stdin=picture)
+    prints(item, "plan", "import", "-", stdin=b"QGC WPL 110\n0 0 2 2000 0 0 1 nan nan NaN nan 1\n")
+    prints(b"# line 2: latitude is no number\n", "plan", "import", "-",
+           stdin=b"QGC WPL 110\n0 0 2 2000 0 0 1 0 inf 0 0 1\n")
+
+
+def test_numbers_of_many_digits():
+    """Halfway between two floats the even one is taken, and right above halfway the upper one; degrees alike."""
+    half = "1.000000059604644775390625"
+    lines = [f"QGC WPL 110\n0 0 0 16 {half} {half}{'0' * 20}1 0 0 0.00000005 -0.00000005{'0' * 40}1 0 1\n",
+             f"0 0 0 16 0 0 0 0 90.{'0' * 40}1 0 0 1\n"]
+    prints(b"item 5 16 0 -1 00000000 3f800000 3f800001 00000000 00000000\n"
+           b"# line 3: latitude 90." + b"0" * 40 + b"1 isn't from -90 to 90\n",
+           "plan", "import", "-", stdin="".join(lines).encode())
+
+
 def test_strict_import():
     refuses(1, "line 6: latitude 91 isn't from -90 to 90", "plan", "import", "--strict", MISSION)
     refuses(1, "item 3: command 206", "plan", "import", "--strict", SURVEY)
@@ -74,9 +110,12 @@ def test_import_after_export():
     for plan in ([], ["--plan"]):
         exported = bevuntri("plan", "export", *plan, "-", stdin=text)[0]
         prints(text, "plan", "import", "-", stdin=exported)
-    for name, flag in (("survey.corners", "--fence"), ("survey.rally", "--rally")):
-        exported = bevuntri("plan", "export", "--plan", "-", stdin=without_comments(name))[0]
-        prints(without_comments(name), "plan", "import", flag, "-", stdin=exported)
+    names = ("survey.mission", "survey.corners", "survey.rally")
+    whole = b"".join(map(without_comments, names))
+    for name, flag in zip(names, ([], ["--fence"], ["--rally"])):
+        for plan, lines in (([], without_comments(name)), (["--plan"], without_comments(name)), (["--plan"], whole)):
+            exported = bevuntri("plan", "export", *plan, "-", stdin=lines)[0]
+            prints(without_comments(name), "plan", "import", *flag, "-", stdin=exported)
 
 
 def test_items_lines():
@@ -116,4 +155,7 @@ def test_wrong_files():
         case(3, "line 1", b"outcome 255.190 got 3\n", "export")
         case(3, "no infinite", b"item 6 16 1 2 7f800000\n", "export", "--plan")
         case(3, "as many corners", b"items 3 5 5001 1 2 00000000 40800000\n", "export", "--plan")
+        case(3, "one return point", b"item 6 5000 1 2\nitems 3 5 5001 1 2 00000000 40400000\n", "export", "--plan")
+        case(3, "corner 0: expected 2 or 3 numbers",
+             b'{"fileType": "Plan", "geoFence": {"polygons": [{"polygon": [[1], 2, 3]}]}}', "import", "--fence")
         case(3, "no place", b"items 3 5 5001 1 2 3f800000 40400000\n", "export", "--plan")

@@ -23,6 +23,14 @@ def test_each_command_has_a_line_and_a_page():
         prints(bevuntri("help", *name.split())[0], *name.split(), "--help")
 
 
+def test_pages_tell_each_form():
+    page = bevuntri("help", "station")[0].decode()
+    for form in ("64 hexadecimal digits", "udp:HOST:NUMBER", "upload KIND", "file remove NAME"):
+        same(form, form in page, True)
+    page, told, status = bevuntri("chart", "--fence", "--help")
+    same("chart --fence", (page[:29], told, status), (b"bevuntri chart --fence FILE: ", "", 0))
+
+
 def test_first_words_of_the_launcher():
     prints(bevuntri("help")[0], "--help")
     prints(bevuntri("version")[0], "--version")
@@ -48,5 +56,8 @@ def test_wrong_words():
     refuses(2, "'inport'", "plan", "inport")
     for name in TOOLS:
         refuses(2, "'--nope'", *name.split(), "--nope")
+    for name in ("json", "log-stats", "page"):
+        refuses(2, "--defs expects a value", name, "--defs=")
+    refuses(2, "256.0.0.1:0", "page", "--text", "page.text", "--at", "256.0.0.1:0")
     for name in ("plan import", "plan export", "defs", "log-stats", "track", "chart"):
         refuses(2, "missing", *name.split())
