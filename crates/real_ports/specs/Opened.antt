@@ -1,5 +1,5 @@
 -- What was just opened.
-use Rattle.std.specs.Prelude.{ℕ, List, Option, None, Some, false, true, Bool}
+use Rattle.std.specs.Prelude.{ℕ, ◌≡◌, List, Option, None, Some, false, true, Bool}
 use Rattle.command_line.specs.declared.ports.SocketKind.{SocketKind}
 use Rattle.command_line.specs.declared.ports.SocketKind.TheVariants.{Tcp, Listen, Udp, UdpListen}
 use Rattle.command_line.specs.declared.ports.FilesKind.{FilesKind}
@@ -45,6 +45,11 @@ is_of_files kind link = false
 abbrev pub is_of_target : Target → RealLink → Bool
 is_of_target (SocketTarget socket) link = is_of_socket socket.kind link
 is_of_target (FilesTarget files) link = is_of_files files.kind link
+
+-- a link after its opening: of what it was to be opened from, and as it was if that was done before
+abbrev pub IsOpenedFrom : RealLink → RealLink → Type 0
+IsOpenedFrom (Unopened opening) now = is_of_target opening.target now ≡ true
+IsOpenedFrom old now = now ≡ old
 
 -- whether a store is over a file
 abbrev pub is_in_file : RealStore → Bool

@@ -1,6 +1,6 @@
 // A link to the outside world.
 ghost use Rattle.std.specs.Prelude.{◌≡◌, true};
-ghost use Rattle.real_ports.specs.Opened.{is_open};
+ghost use Rattle.real_ports.specs.Opened.{is_open, IsOpenedFrom};
 
 use crate::Opening;
 use log_replay::Replay;
@@ -36,6 +36,7 @@ impl RealLink {
     fn open(&mut self)
         ensures kept { ⟦<RealLink as Link>⟧.state self.new ≡ ⟦<RealLink as Link>⟧.state self.old }
         ensures open { is_open self.new ≡ true }
+        ensures from { IsOpenedFrom self.old self.new }
     {
         let opened = match self {
             RealLink::Unopened(opening) => opening.open(),
