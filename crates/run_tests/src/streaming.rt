@@ -53,7 +53,7 @@ impl<'a> Write for Telling<'a> {
     }
 }
 
-fn following(is_written: &AtomicBool) -> StdSource<Following<'_>> {
+fn scenario_before(is_written: &AtomicBool) -> StdSource<Following<'_>> {
     StdSource::new(Some(Following {
         calls: 0,
         is_written,
@@ -63,9 +63,9 @@ fn following(is_written: &AtomicBool) -> StdSource<Following<'_>> {
 fn status_of_following(alloc: Global) -> u8 {
     let is_written = AtomicBool::new(false);
     let mut inputs = Inputs {
-        main: following(&is_written),
-        defs: following(&is_written),
-        key: following(&is_written),
+        main: scenario_before(&is_written),
+        defs: scenario_before(&is_written),
+        key: scenario_before(&is_written),
     };
     let mut out = StdSink::new(Telling {
         is_written: &is_written,
