@@ -1,5 +1,6 @@
 // The calls over logs that end with a status of their own, and the reader of rows in small pieces, which no command of
 // the program makes.
+ghost use Rattle.std.specs.Prelude.{◌<◌};
 
 use dialect::Dialect;
 use log_rows::{LogNext, LogReader, put_row};
@@ -71,7 +72,9 @@ fn append_next(reader: &mut LogReader, rows: &mut Vec<u8>) -> Result<usize, Allo
 }
 
 // Whether the rows that are read in pieces of this size are those of the log.
-fn is_read_back(alloc: Global, size: usize) -> Result<bool, AllocError> {
+fn is_read_back(alloc: Global, size: usize) -> Result<bool, AllocError>
+    requires { 0 < size }
+{
     let mut reader = LogReader::new(Dialect::profile(alloc)?.extras().copy()?);
     let mut rows = Vec::new(alloc);
     for piece in LOG.chunks(size) {

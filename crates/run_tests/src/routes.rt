@@ -31,7 +31,7 @@ struct FailingPort {
 // Such ports, and an output with room for so many bytes; the status, and what was written to the output.
 #[derive(Clone, Copy)]
 struct FailingRun {
-    ports: [FailingPort; 3],
+    ports: &'static [FailingPort],
     room: usize,
     status: u8,
     output: &'static [u8],
@@ -40,7 +40,7 @@ struct FailingRun {
 static RUNS: [FailingRun; 3] = [
     // The second port fails at its third write, after two frames; it isn't read a third time.
     FailingRun {
-        ports: [
+        ports: &[
             FailingPort {
                 read_fails: &[],
                 write_fails: &[],
@@ -63,7 +63,7 @@ static RUNS: [FailingRun; 3] = [
     },
     // The first port fails at its second read, the second at its first write, and the third goes on to its end.
     FailingRun {
-        ports: [
+        ports: &[
             FailingPort {
                 read_fails: &[1],
                 write_fails: &[],
@@ -86,7 +86,7 @@ static RUNS: [FailingRun; 3] = [
     },
     // A port fails at its first read, and the output inside the first line.
     FailingRun {
-        ports: [
+        ports: &[
             FailingPort {
                 read_fails: &[0],
                 write_fails: &[],
@@ -128,10 +128,12 @@ fn link_of(alloc: Global, frame: &[u8; 21], port: &FailingPort) -> Result<MemLin
     )
 }
 
-fn links_of(alloc: Global, ports: &[FailingPort; 3]) -> Result<Vec<Box<dyn Link>>, AllocError> {
+fn links_of(alloc: Global, ports: &[FailingPort]) -> Result<Vec<Box<dyn Link>>, AllocError> {
     let mut links: Vec<Box<dyn Link>> = Vec::new(alloc);
-    for at in 0..3 {
-        links.push(Box::new(alloc, link_of(alloc, &FRAMES[at], &ports[at])?)?)?;
+    for (at, port) in ports.iter().enumerate() {
+        if let Some(frame) = FRAMES.get(at) {
+            links.push(Box::new(alloc, link_of(alloc, frame, port)?)?)?;
+        }
     }
     Ok(links)
 }
@@ -151,22 +153,21 @@ fn was_sent(link: &Box<dyn Link>, ports: &[usize]) -> bool {
     left.is_empty()
 }
 
-fn were_sent(links: &[Box<dyn Link>], ports: &[FailingPort; 3]) -> bool {
-    match links {
-        [first, second, third] => {
-            was_sent(first, ports[0].sent)
-                && was_sent(second, ports[1].sent)
-                && was_sent(third, ports[2].sent)
+fn were_sent(links: &[Box<dyn Link>], ports: &[FailingPort]) -> bool {
+    for (at, port) in ports.iter().enumerate() {
+        match links.get(at) {
+            Some(link) if was_sent(link, port.sent) => {}
+            _ => return false,
         }
-        _ => false,
     }
+    links.len() == ports.len()
 }
 
 fn is_met(alloc: Global, wanted: &FailingRun) -> Result<bool, AllocError> {
     let mut out = SureSink::with_room(alloc, wanted.room)?;
-    let mut links = links_of(alloc, &wanted.ports)?;
+    let mut links = links_of(alloc, wanted.ports)?;
     let status = status_over(alloc, WORDS, &mut out, &mut links)?;
-    let is_written = out.sent() == wanted.output && were_sent(&links, &wanted.ports);
+    let is_written = out.sent() == wanted.output && were_sent(&links, wanted.ports);
     Ok(status == wanted.status && is_written)
 }
 
