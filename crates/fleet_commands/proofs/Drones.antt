@@ -16,7 +16,7 @@ use Rattle.mav_frame.specs.FinalParse.{final_parse}
 use Rattle.mav_messages.specs.declared.messages.Message.{Message}
 use Rattle.mav_sign.specs.declared.admission.Admit.{Admit}
 use Rattle.mav_sign.specs.declared.admission.Admit.TheVariants.{Admitted, Unsigned, BadSignature, BelowFloor, NotLater, TooOld, TooManyStreams}
-use Rattle.mav_sign.specs.History.{Entry, tried, started, last_of, low_of, streams_of, local_of, next_in, answer_to, stamp_answer, block_answer, answer_after, unless_below, unless_old}
+use Rattle.mav_sign.specs.History.{Entry, tried, started, last_of, low_of, next_in, answer_to, stamp_answer, block_answer, answer_after, unless_below, unless_old}
 use Rattle.mav_sign.specs.History as history
 use Rattle.mav_sign.specs.Signing.{Verifies, signature_of}
 use Rattle.mav_sign.specs.Endpoints.{frames_of}

@@ -16,7 +16,7 @@ use Rattle.mav_sign.proofs.Histories.{admitted_more, admitted_same, greatest_of_
 use Rattle.command_proto.specs.declared.commands.Command.{Command}
 use Rattle.command_proto.specs.declared.commands.LastCommand.{LastCommand}
 use Rattle.command_proto.specs.declared.executor.Ready.{Ready}
-use Rattle.command_proto.specs.Executor.{ExecutorState, ExecutorStep, executor_step, command_comes, ignores, does, verdict_on, repeats, has_no_room, last_in}
+use Rattle.command_proto.specs.Executor.{ExecutorState, ExecutorStep, executor_step, command_comes, ignores, repeats, has_no_room, last_in}
 use Rattle.command_proto.specs.Executor as executor
 use Rattle.command_proto.proofs.Repetitions.{undone, done_is_last, others_stay, done_once}
 use Rattle.mav_nodes.specs.Payloads.{plan_in, service_in}

@@ -1,5 +1,5 @@
 -- The law: each command once.
-use Rattle.std.proofs.Common.{◌≡◌, ℕ, ◌<◌, ◌⊎◌, inl, inr, Bool, true, if◌then◌else◌, List, [], Option, Some, None, refl, sym, ap, subst, arith, ◌∙◌}
+use Rattle.std.proofs.Common.{◌≡◌, ℕ, ◌<◌, ◌⊎◌, inl, inr, Bool, true, if◌then◌else◌, List, [], Some, None, refl, sym, ap, subst, arith, ◌∙◌}
 use Rattle.mav_names.specs.declared.names.Name.{Name}
 use Rattle.mav_names.specs.Addresses.{same_name, node_of}
 use Rattle.mav_frame.specs.Packet.{Packet}

@@ -12,7 +12,7 @@ use Rattle.mav_messages.specs.declared.messages.Message.{Message}
 use Rattle.mav_messages.specs.declared.messages.Message.TheVariants.{CommandAck as Acknowledges}
 use Rattle.mav_sign.specs.declared.admission.Admit.{Admit}
 use Rattle.mav_sign.specs.declared.admission.Admit.TheVariants.{Admitted, Unsigned, BadSignature, BelowFloor, NotLater, TooOld, TooManyStreams}
-use Rattle.mav_sign.specs.History.{Entry, tried, previous_in, answer_to}
+use Rattle.mav_sign.specs.History.{tried, answer_to}
 use Rattle.mav_sign.specs.History as history
 use Rattle.mav_sign.specs.Endpoints.{frames_of}
 use Rattle.mav_frame.specs.FinalParse.{final_parse}

@@ -1,5 +1,5 @@
 -- Each frame at which a drone does a command has that drone as its target.
-use Rattle.std.proofs.Common.{◌≡◌, ℕ, zero, suc, Bool, true, false, if◌then◌else◌, List, [], ◌∷◌, ◌++◌, slice_get, Option, Some, None, refl, subst, ◌∙◌}
+use Rattle.std.proofs.Common.{◌≡◌, ℕ, zero, suc, true, List, [], ◌∷◌, ◌++◌, slice_get, Option, Some, None, refl, subst, ◌∙◌}
 use Rattle.mav_names.specs.declared.names.Name.{Name}
 use Rattle.mav_names.specs.declared.names.Stream.{Stream}
 use Rattle.mav_names.specs.Addresses.{is_for_node}
@@ -18,7 +18,7 @@ use Rattle.mav_nodes.specs.Payloads.{plan_in, service_in}
 use Rattle.fleet_invariants.proofs.Lists.{some_is, nowhere}
 use Rattle.fleet_invariants.proofs.Tests.{by_test}
 use Rattle.fleet_commands.specs.Lines.{order_in}
-use Rattle.fleet_commands.specs.Done.{Moment, hears_message, hears_frame, hears_tried, step_at, frame_done, commands_done}
+use Rattle.fleet_commands.specs.Done.{Moment, hears_message, hears_frame, step_at, frame_done, commands_done}
 
 -- the frame is a command for this node
 abbrev pub IsFor : Name → Packet → Type 0

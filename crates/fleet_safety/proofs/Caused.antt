@@ -20,7 +20,7 @@ use Rattle.plan_upload.specs.Addresses.{node_of, same_name}
 use Rattle.plan_upload.specs.Kinds.{clear_number}
 use Rattle.plan_upload.specs.Refusals.{upload_refusal, refusal}
 use Rattle.plan_safety.specs.World as world
-use Rattle.plan_safety.specs.World.{Begins, Clears, Gets, Cancels, Drone_ticks, Station_ticks, To_drone, To_station, Speaks, Drone_waits, Station_waits}
+use Rattle.plan_safety.specs.World.{Begins, Clears, Gets, Cancels, Drone_ticks, To_drone, To_station, Speaks, Drone_waits, Station_waits}
 use Rattle.plan_safety.proofs.Keys.{by_test, bool_split, name_eq}
 use Rattle.drone_sim.specs.Sim.{armed}
 use Rattle.mav_nodes.specs.News.{NodeEvent}

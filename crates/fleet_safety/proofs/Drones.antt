@@ -14,7 +14,7 @@ use Rattle.plan_safety.specs.Frames.{Frame}
 use Rattle.plan_safety.specs.Store.{StoreEvent, at}
 use Rattle.plan_safety.specs.History.{steps_of, final}
 use Rattle.plan_safety.specs.World as world
-use Rattle.plan_safety.specs.World.{Nodes, Distinct, World, DroneNode, Drone_waits, Drone_ticks, To_drone, Speaks, happens, quiet, frame_of, drone_news, drone_does}
+use Rattle.plan_safety.specs.World.{Nodes, Distinct, World, DroneNode, Drone_waits, Drone_ticks, To_drone, Speaks, happens, quiet, frame_of, drone_news}
 use Rattle.plan_safety.proofs.Keys.{by_test, at_same, at_apart}
 use Rattle.plan_safety.proofs.Fleet.{All, Owner, harmless_at}
 use Rattle.plan_safety.proofs.DroneShape.{Shape, shape}
@@ -30,11 +30,11 @@ use Rattle.mav_messages.specs.Plans.{message_of_plan, plan_of}
 use Rattle.mav_sign.specs.declared.admission.Admit.{Admit}
 use Rattle.mav_sign.specs.declared.admission.Admit.TheVariants.{Admitted, Unsigned, BadSignature, BelowFloor, NotLater, TooOld, TooManyStreams}
 use Rattle.mav_sign.specs.Signing.{Verifies}
-use Rattle.mav_sign.specs.History.{Entry, Stamped, tried, stamped, next_in, answer_to, block_answer, stamp_answer, greatest_stamp}
+use Rattle.mav_sign.specs.History.{Entry, tried, stamped, next_in, answer_to, block_answer, stamp_answer, greatest_stamp}
 use Rattle.mav_sign.specs.History as signed
 use Rattle.drone_sim.specs.Sim.{armed}
 use Rattle.mav_nodes.specs.News.{NodeEvent, Sends, Drops}
-use Rattle.mav_nodes.specs.Links.{Link, Done, Outcome, done, after_events, sends, sends_all}
+use Rattle.mav_nodes.specs.Links.{Link, Outcome, done, after_events, sends, sends_all}
 use Rattle.mav_nodes.specs.Links as links
 use Rattle.mav_nodes.specs.Payloads.{plan_in, service_in}
 use Rattle.mav_nodes.specs.Services.{ServiceStep, DroneServices, drone_serves, drone_notes, drone_flies}

@@ -9,7 +9,7 @@ use Rattle.plan_safety.specs.Frames.{Frame}
 use Rattle.plan_safety.specs.Store.{StoreEvent, Upload_begun, Installed, Clear_begun, Cleared, Get_begun, Shown, Cancelled, Ended, Restarted}
 use Rattle.plan_safety.specs.History.{Step, step, steps_of, history}
 use Rattle.plan_safety.specs.World as world
-use Rattle.plan_safety.specs.World.{Nodes, World, drone_news, outcome_news, cancel_news, clears}
+use Rattle.plan_safety.specs.World.{Nodes, World, drone_news, outcome_news, cancel_news}
 use Rattle.plan_safety.proofs.Keys.{by_test}
 use Rattle.fleet_safety.specs.Actions.{Order, cancelled}
 use Rattle.fleet_safety.specs.Safe.{order_of, orders_in}

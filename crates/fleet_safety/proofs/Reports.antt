@@ -12,7 +12,7 @@ use Rattle.plan_upload.specs.Station.{Told}
 use Rattle.plan_safety.specs.Frames.{Frame}
 use Rattle.plan_safety.specs.Store.{StoreEvent, with_plan}
 use Rattle.plan_safety.specs.World as world
-use Rattle.plan_safety.specs.World.{Nodes, World, happens, drone_news, outcome_news, frame_of, clears}
+use Rattle.plan_safety.specs.World.{Nodes, World, happens, drone_news, outcome_news}
 use Rattle.plan_safety.specs.History.{Step, final, steps_of, history}
 use Rattle.plan_safety.proofs.Keys.{by_test, number_same}
 use Rattle.plan_safety.proofs.DroneShape.{Shape, EventOf, plans_after}

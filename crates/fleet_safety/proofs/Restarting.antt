@@ -31,7 +31,7 @@ use Rattle.fleet_invariants.specs.Laws.{EveryCallKeeps}
 use Rattle.fleet_invariants.proofs.Lists.{set_there, set_twice}
 use Rattle.fleet_invariants.proofs.Moves.{Steady, Moves, steady_of, sound_of}
 use Rattle.fleet_invariants.proofs.Restarting.{sound_counted, moves_anew, starts_anew}
-use Rattle.fleet_safety.specs.Reporting.{ProtocolEvent, reported, step_reported}
+use Rattle.fleet_safety.specs.Reporting.{ProtocolEvent, step_reported}
 use Rattle.fleet_safety.specs.Reporting as report
 use Rattle.fleet_safety.specs.Actions.{Action, restarted_at, restarted as actions_restarted, beaten, at_drone, if_drone, to_drone}
 use Rattle.fleet_safety.proofs.Names.{SameRole, kept, set_kept}

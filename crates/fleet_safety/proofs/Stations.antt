@@ -32,7 +32,7 @@ use Rattle.mav_messages.specs.Plans.{message_of_plan, plan_of}
 use Rattle.mav_sign.specs.declared.admission.Admit.{Admit}
 use Rattle.mav_sign.specs.declared.admission.Admit.TheVariants.{Admitted, Unsigned, BadSignature, BelowFloor, NotLater, TooOld, TooManyStreams}
 use Rattle.mav_sign.specs.Signing.{Verifies}
-use Rattle.mav_sign.specs.History.{Entry, Stamped, tried, stamped, next_in, answer_to, block_answer, stamp_answer, greatest_stamp}
+use Rattle.mav_sign.specs.History.{Entry, tried, stamped, next_in, answer_to, block_answer, stamp_answer, greatest_stamp}
 use Rattle.mav_sign.specs.History as signed
 use Rattle.mav_nodes.specs.News.{NodeEvent, Sends, Drops}
 use Rattle.mav_nodes.specs.Links.{Link, Done, Outcome, done, after_events, and_then, sends, sends_all}

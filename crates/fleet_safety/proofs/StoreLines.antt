@@ -13,7 +13,7 @@ use Rattle.plan_safety.specs.Frames.{Frame}
 use Rattle.plan_safety.specs.Store.{StoreEvent, Upload_begun, Installed, Clear_begun, Cleared, Get_begun, Shown, Cancelled, Ended, Restarted, at}
 use Rattle.plan_safety.specs.History.{Step, step, steps_of, history}
 use Rattle.plan_safety.specs.World as world
-use Rattle.plan_safety.specs.World.{Nodes, World, DroneNode, StationNode, happens, quiet, where_drone, where_station, unless_refused, drone_sends, station_sends, drone_does, station_does, station_calls, station_steps, drone_admits, station_admits, to_drone, to_station, drone_news, outcome_news, drone_takes, station_takes, tick_answer, clear_number, cancel_news}
+use Rattle.plan_safety.specs.World.{Nodes, World, DroneNode, StationNode, happens, quiet, where_drone, where_station, unless_refused, drone_sends, station_sends, drone_does, station_does, station_calls, to_drone, to_station, drone_news, outcome_news, drone_takes, station_takes, tick_answer, clear_number, cancel_news}
 use Rattle.plan_safety.proofs.Keys.{by_test}
 use Rattle.fleet_safety.specs.Reporting as report
 use Rattle.fleet_safety.specs.Reporting.{ProtocolEvent, change_reported, changes_reported, end_reported, ends_reported, frame_reported, frames_reported, refusal_reported, call_refused, refused_reported, step_reported, reported_in, reported, plan_lines, steps_reported}

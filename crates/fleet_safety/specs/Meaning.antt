@@ -8,7 +8,7 @@ use Rattle.plan_upload.specs.Station.{Told, Told_installed, Told_not_installed, 
 use Rattle.plan_safety.specs.Frames.{Frame}
 use Rattle.plan_safety.specs.Store.{StoreEvent, Installed, Ended}
 use Rattle.plan_safety.specs.World.{Nodes}
-use Rattle.plan_safety.specs.History.{Step, step, store_of, installs as installs_upload, uploads, tally, Installation, GotHeld, NotInstalledBy, UnknownBy, ClearedBy, EndedBy}
+use Rattle.plan_safety.specs.History.{Step, step, installs as installs_upload, uploads, tally, Installation, GotHeld, NotInstalledBy, UnknownBy, ClearedBy, EndedBy}
 use Rattle.fleet_report.specs.Events as report
 use Rattle.fleet_safety.specs.Actions.{Action}
 use Rattle.fleet_safety.specs.Safe.{Upload, upload, uploads_by, report_of, orders_of, history_of, steps_in}

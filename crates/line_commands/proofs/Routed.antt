@@ -79,7 +79,7 @@ pub unrouted : {A : Type 0} (state : A → LinkState) (asked : Asked) (ports : L
 unrouted state asked ports key known end refusals before after is same = inr (record {
   journal = [];
   why = NoRoom;
-  halted = record { links = refl; run = record { legal = tt; stopped = stops_as _ state _ NoRoom [] ports ports (nothing_routed state _ ports) } };
+  halted = record { links = refl; run = record { legal = tt; stopped = stops_as _ state _ _ NoRoom [] ports ports (nothing_routed state _ _ ports) } };
   wrote = inl (ap Some is, refl, same ∙ append_known_nil before);
 })
 

@@ -1,11 +1,9 @@
 -- One more call.
-use Rattle.std.proofs.Common.{◌≡◌, inl, inr, ℕ, List, [], ◌∷◌, ◌++◌, Bool, true, Option, Some, None, Result, Ok, Err, refl, sym, ap, ◌∙◌, subst, append_assoc}
+use Rattle.std.proofs.Common.{◌≡◌, inl, inr, ℕ, List, [], ◌∷◌, ◌++◌, true, Option, Some, None, Result, Ok, Err, refl, sym, ap, ◌∙◌, subst, append_assoc}
 use Rattle.std.specs.Prelude.{map, IfErr, MatchResult}
 use Rattle.std.specs.Result.{result_err}
-use Rattle.std.specs.List.{flat_map}
 use Rattle.std.proofs.lemmas.List.{append-nil}
-use Rattle.std.proofs.lemmas.List.Elements.{All-append, All-nil}
-use Rattle.std.proofs.lemmas.Grind.{flat_map-append}
+use Rattle.std.proofs.lemmas.List.Elements.{All-nil}
 use Rattle.std.specs.Io.KnownBytes.{append_known}
 use Rattle.mav_names.specs.declared.names.Name.{Name}
 use Rattle.mav_links.specs.Links.{LinkState}
@@ -35,6 +33,7 @@ use Rattle.live_node.specs.Calls.{LiveCall, call_does, calls_do, keeps_in, IsTim
 use Rattle.live_node.specs.Texts.{frames_text, lines_of, count_over, ending_over}
 use Rattle.live_node.specs.Ports.{SentBy, PrintedBy, FaultsBy, end_by, IsTellingEnd}
 use Rattle.live_node.specs.Parts.{CallFails}
+use Rattle.live_node.specs.GivenUp.{StoreIs, CallLeaves}
 use Rattle.live_node.specs.Runs.{Outside, outside, Stores, KeptIn, KeptOver, Kept, StoredBy, Written}
 use Rattle.live_node.specs.Progress.{Said, Output, CallsStopped, due_call, counted}
 use Rattle.live_node.proofs.Endings.{sent_by, printed_by, sent_after, printed_after, whole_after}
@@ -221,24 +220,26 @@ not_store end (inl e) h = cc
 not_store end (inr (inl e)) h = cc
 not_store end (inr (inr e)) h = cc
 
--- a call was made, and then the run stopped while its news were written
-pub written_then : {S : Type 0} {stores : Stores S} {before old now : S} {start : Node} {made : List LiveCall} {call : LiveCall} {was live : LiveNode} {t u : Teller} {first : Outside} {l m : LinkState} {x y : Option (List ℕ)} {z w : Option ℕ} {news : List News} {values : List Param} {end : Option RunEnd} (c : Called stores before old now start made call was live t u first l m x y z w news values end) → (end ≡ Some (Live StoreFault) → ⊥) → Written stores before now end start (made ++ call ∷ []) first (outside m y w)
-written_then {S} {stores} {before} {old} {now} {start} {made} {call} {was} {live} {t} {u} {first} {l} {m} {x} {y} {z} {w} {news} {values} {end} c other =
+-- a call was made, and then the run stopped while its news were written; its store has what the node has stored
+written_left : {S : Type 0} {stores : Stores S} {before old now : S} {start : Node} {made : List LiveCall} {call : LiveCall} {was live : LiveNode} {t u : Teller} {first : Outside} {l m : LinkState} {x y : Option (List ℕ)} {z w : Option ℕ} {news : List News} {values : List Param} {end : Option RunEnd} (c : Called stores before old now start made call was live t u first l m x y z w news values end) → (end ≡ Some (Live StoreFault) → ⊥) → (v : Written stores before now end start (made ++ call ∷ []) first (outside m y w)) × StoreIs (stores.contents now) v.node
+written_left {S} {stores} {before} {old} {now} {start} {made} {call} {was} {live} {t} {u} {first} {l} {m} {x} {y} {z} {w} {news} {values} {end} c other =
     let o = c.output in
     let h = heard c in
-    let lines = lines_told t (node_name start) o.events h.events o.name o.count in
-    record {
-      node = h.node;
-      events = o.events ++ h.events;
-      run = h.run;
-      sent = subst (SentBy end first.link.sent m.sent) (sym (frames-append o.events h.events)) (sent_after end first.link.sent l.sent m.sent (frames_text (map shown o.events)) (frames_text (map shown h.events)) o.sent h.told.sent);
-      printed = subst (PrintedBy end first.text y) (ap (λ (more : List ℕ). lines_of (node_name start) 0 o.events ++ more) lines ∙ sym (lines-append (node_name start) 0 o.events h.events))
-          (printed_after end first.text x y (lines_of (node_name start) 0 o.events) (lines_of t.name t.sent h.events) o.printed h.told.printed);
-      time = c.stays ∙ o.time;
-      kept = kept_more stores before old now made call o.kept c.serves c.kept;
-      stored = stored_by end (stores.contents now) h.node live h.is (c.stored o.stored);
-      store = λ e. absurd (other e);
-    }
+    let lines = lines_told t (node_name start) o.events h.events o.name o.count in (
+      record {
+        node = h.node;
+        events = o.events ++ h.events;
+        run = h.run;
+        sent = subst (SentBy end first.link.sent m.sent) (sym (frames-append o.events h.events)) (sent_after end first.link.sent l.sent m.sent (frames_text (map shown o.events)) (frames_text (map shown h.events)) o.sent h.told.sent);
+        printed = subst (PrintedBy end first.text y) (ap (λ (more : List ℕ). lines_of (node_name start) 0 o.events ++ more) lines ∙ sym (lines-append (node_name start) 0 o.events h.events))
+            (printed_after end first.text x y (lines_of (node_name start) 0 o.events) (lines_of t.name t.sent h.events) o.printed h.told.printed);
+        time = c.stays ∙ o.time;
+        kept = kept_more stores before old now made call o.kept c.serves c.kept;
+        stored = stored_by end (stores.contents now) h.node live h.is (c.stored o.stored);
+        store = λ e. absurd (other e);
+      },
+      record { live = live; is = h.is; kept = c.stored o.stored },
+    )
 
 -- all was written, and then the run ended so
 abbrev pub written : {S : Type 0} (stores : Stores S) (before now : S) (end : Option RunEnd) (start : Node) (made : List LiveCall) (live : LiveNode) (t : Teller) (first last : Outside) → Output stores before now start made live t first last → (end ≡ Some (Live StoreFault) → ⊥) → Written stores before now end start made first last
@@ -255,13 +256,17 @@ written {S} stores before now end start made live t first last o other = record 
 }
 
 pub call_stopped : {S : Type 0} {stores : Stores S} {before old now : S} {start : Node} {made : List LiveCall} {call : LiveCall} {was live : LiveNode} {t u : Teller} {first : Outside} {l m : LinkState} {x y : Option (List ℕ)} {z w : Option ℕ} {news : List News} {values : List Param} {end : Option RunEnd} (c : Called stores before old now start made call was live t u first l m x y z w news values end) → (why : RunEnd) → end ≡ Some why → IsTellingEnd why → CallsStopped stores before now why start made (call ∷ []) first (outside m y w)
-call_stopped {S} {stores} {before} {old} {now} {start} {made} {call} {was} {live} {t} {u} {first} {l} {m} {x} {y} {z} {w} {news} {values} {end} c why e telling = record {
-  more = call ∷ [];
-  rest = [];
-  are = refl;
-  written = subst (λ (how : Option RunEnd). Written stores before now how start (made ++ call ∷ []) first (outside m y w)) e (written_then c (λ failed. not_store why telling (sym e ∙ failed)));
-  spent = λ spent. absurd (not_spent why telling spent);
-}
+call_stopped {S} {stores} {before} {old} {now} {start} {made} {call} {was} {live} {t} {u} {first} {l} {m} {x} {y} {z} {w} {news} {values} {end} c why e telling =
+    let both = subst (λ (how : Option RunEnd). (v : Written stores before now how start (made ++ call ∷ []) first (outside m y w)) × StoreIs (stores.contents now) v.node) e
+    (written_left c (λ failed. not_store why telling (sym e ∙ failed))) in
+    record {
+      more = call ∷ [];
+      rest = [];
+      are = refl;
+      written = both.0;
+      spent = λ spent. absurd (not_spent why telling spent);
+      leaves = λ up. both.1;
+    }
 
 -- a call's news were written, or the run stopped there
 pub told_by : {S A : Type 0} {stores : Stores S} {before old now : S} {start : Node} {made : List LiveCall} {was live : LiveNode} {t u : Teller} {first : Outside} {l m : LinkState} {x y : Option (List ℕ)} {z w : Option ℕ} {news : List News} {values : List Param} (call : LiveCall) (r : Result A RunEnd) (Told : A → Type 0) (Cut : RunEnd → Type 0) (p q : ℕ) → Called stores before old now start made call was live t u first l m x y z w news values (result_err r) → IfErr r IsTellingEnd → FaultsBy (result_err r) l.faults m.faults p q → ((a : A) → Output stores before now start (made ++ call ∷ []) live u first (outside m y w) → Told a) → ((end : RunEnd) → IsTellingEnd end → CallsStopped stores before now end start made (call ∷ []) first (outside m y w) → Cut end) → MatchResult r Told Cut
@@ -307,8 +312,8 @@ regroup stores before now end start xs ys first last e w = record {
 }
 
 -- a call wasn't made, since the node failed
-pub not_called : {S : Type 0} (stores : Stores S) (before old now : S) (start : Node) (made : List LiveCall) (call : LiveCall) (live : LiveNode) (t : Teller) (first last : Outside) (fault : NodeFault) → (o : Output stores before old start made live t first last) → Serves stores.faults stores.is_infallible old now → CallFails fault (call_does call o.node) (HasFailed stores.faults stores.is_infallible old now) → CallsStopped stores before now (end_by fault) start made (call ∷ []) first last
-not_called stores before old now start made call live t first last fault o serves fails = record {
+pub not_called : {S : Type 0} (stores : Stores S) (before old now : S) (start : Node) (made : List LiveCall) (call : LiveCall) (live : LiveNode) (t : Teller) (first last : Outside) (fault : NodeFault) → (o : Output stores before old start made live t first last) → Serves stores.faults stores.is_infallible old now → CallFails fault (call_does call o.node) (HasFailed stores.faults stores.is_infallible old now) → CallLeaves (stores.contents now) o.node (call ∷ []) → CallsStopped stores before now (end_by fault) start made (call ∷ []) first last
+not_called stores before old now start made call live t first last fault o serves fails left = record {
   more = [];
   rest = call ∷ [];
   are = refl;
@@ -324,6 +329,7 @@ not_called stores before old now start made call live t first last fault o serve
     store = λ e. then_failed stores.faults stores.is_infallible before old now o.kept.serves (failed_by fault (call_does call o.node) _ fails e);
   };
   spent = λ e. spent_by fault (call_does call o.node) _ fails e;
+  leaves = λ up. left;
 }
 
 -- a call that is due changes no plan

@@ -4,6 +4,7 @@ pub mod Endings
 pub mod Texts
 pub mod Tellings
 pub mod Known
+pub mod GivenUp
 pub mod Calls
 pub mod Waits
 pub mod Lasts

@@ -30,6 +30,7 @@ use Rattle.live_node.specs.Orders.{refused_end, op_end, OrderFailsAt}
 use Rattle.live_node.specs.Progress.{Output, CallsStopped}
 use Rattle.live_node.proofs.Results.{because}
 use Rattle.live_node.proofs.Calls.{written, regroup}
+use Rattle.live_node.specs.GivenUp.{CallLeaves}
 
 -- ---- refusals
 
@@ -138,11 +139,12 @@ not_refused end (inr (inr e)) h = cc
 
 -- ---- a call that wasn't made
 
-abbrev pub not_followed : {S : Type 0} (stores : Stores S) (before now : S) (end : RunEnd) (start : Node) (made : List LiveCall) (call : LiveCall) (live : LiveNode) (t : Teller) (first last : Outside) → (o : Output stores before now start made live t first last) → (end ≡ Stopped StampsSpent → call_does call o.node ≡ None) → (end ≡ Live StoreFault → ⊥) → CallsStopped stores before now end start made (call ∷ []) first last
-not_followed stores before now end start made call live t first last o spent store = record {
+abbrev pub not_followed : {S : Type 0} (stores : Stores S) (before now : S) (end : RunEnd) (start : Node) (made : List LiveCall) (call : LiveCall) (live : LiveNode) (t : Teller) (first last : Outside) → (o : Output stores before now start made live t first last) → (end ≡ Stopped StampsSpent → call_does call o.node ≡ None) → (end ≡ Live StoreFault → ⊥) → CallLeaves (stores.contents now) o.node (call ∷ []) → CallsStopped stores before now end start made (call ∷ []) first last
+not_followed stores before now end start made call live t first last o spent store left = record {
   more = [];
   rest = call ∷ [];
   are = refl;
   written = regroup stores before now (Some end) start made (made ++ []) first last (sym (append-nil made)) (written stores before now (Some end) start made live t first last o (λ e. store (because e)));
   spent = spent;
+  leaves = λ up. left;
 }

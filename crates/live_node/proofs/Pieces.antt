@@ -7,7 +7,7 @@ use Rattle.mav_sign.specs.Endpoints.{frames_of}
 use Rattle.mav_nodes.specs.declared.faults.NodeFault.{NodeFault}
 use Rattle.mav_nodes.specs.declared.faults.NodeFault.TheVariants.{StampsSpent as NoStamp, Store, NoMemory as NoNodeMemory}
 use Rattle.mav_nodes.specs.News.{shown}
-use Rattle.mav_nodes.specs.Stores.{Serves, HasFailed}
+use Rattle.mav_nodes.specs.Stores.{Serves, HasFailed, AllKept}
 use Rattle.mav_nodes.proofs.StoreCalls.{then_failed}
 use Rattle.mav_nodes.specs.Streams.{GrowsBy}
 use Rattle.node_reports.specs.Nodes.{Node, Drone, Station, node_name}
@@ -24,11 +24,13 @@ use Rattle.live_node.specs.Turns.{Reads, Breaks}
 use Rattle.live_node.specs.Texts.{frames_text, lines_of}
 use Rattle.live_node.specs.Ports.{end_by}
 use Rattle.live_node.specs.Parts.{PieceFails}
+use Rattle.live_node.specs.GivenUp.{PieceLeaves}
 use Rattle.live_node.specs.Runs.{Outside, Stores, Kept, IsSpentAt, IsSpentCall}
 use Rattle.live_node.specs.Progress.{Output, CallsStopped, PieceStopped}
 use Rattle.live_node.proofs.Endings.{sent_by, printed_by}
 use Rattle.live_node.proofs.Calls.{kept_on, stored_at_fault}
 use Rattle.live_node.proofs.Lasts.{gives_up}
+use Rattle.live_node.proofs.GivenUp.{read_leaves}
 
 -- the frames were heard, and then the run stopped
 pub piece_stopped : {S : Type 0} {stores : Stores S} {before now : S} {end : RunEnd} {extras : List (ℕ × ℕ)} {taken : List ℕ} {given : List Event} {piece : List ℕ} {start : Node} {made : List LiveCall} {first last : Outside} (at : ℕ) (events : List Event) (keeps : List Bool) → IsTime first.time at → GrowsBy extras (taken ++ piece) given events → CallsStopped stores before now end start made (Hears (frames_of events) keeps at ∷ []) first last → PieceStopped stores before now end extras taken given piece start made first last
@@ -44,6 +46,7 @@ piece_stopped {S} {stores} {before} {now} {end} {extras} {taken} {given} {piece}
     calls = s.are;
     written = s.written;
     spent = λ e. here s.written.node s.rest (s.spent e);
+    leaves = λ up. read_leaves stores before now extras (made ++ s.more) s.written.node taken given piece events keeps at s.rest (s.leaves up);
   };
 }
   where
@@ -59,8 +62,8 @@ node_extras (Station n) (LiveDrone v) is = absurd is
 node_extras (Station n) (LiveStation v) is = sym is.link.end.extras
 
 -- the node was given up at them
-pub piece_broken : {S : Type 0} {stores : Stores S} {before old now : S} {taken : List ℕ} {given : List Event} {piece : List ℕ} {start : Node} {made : List LiveCall} {live : LiveNode} {t : Teller} {first last : Outside} {extras : List (ℕ × ℕ)} (at : ℕ) (fault : NodeFault) → IsTime first.time at → (o : Output stores before old start made live t first last) → (end_of live).endpoint.extras ≡ extras → HasHeard taken given live → Serves stores.faults stores.is_infallible old now → PieceFails fault at piece live (HasFailed stores.faults stores.is_infallible old now) → PieceStopped stores before now (end_by fault) extras taken given piece start made first last
-piece_broken {S} {stores} {before} {old} {now} {taken} {given} {piece} {start} {made} {live} {t} {first} {last} {extras} at fault timed o same heard serves fails = record {
+pub piece_broken : {S : Type 0} {stores : Stores S} {before old now : S} {taken : List ℕ} {given : List Event} {piece : List ℕ} {start : Node} {made : List LiveCall} {live : LiveNode} {t : Teller} {first last : Outside} {extras : List (ℕ × ℕ)} (at : ℕ) (fault : NodeFault) → IsTime first.time at → (o : Output stores before old start made live t first last) → (end_of live).endpoint.extras ≡ extras → HasHeard taken given live → Serves stores.faults stores.is_infallible old now → PieceFails fault at piece live (HasFailed stores.faults stores.is_infallible old now) → PieceLeaves at piece (AllKept (HasFailed stores.faults stores.is_infallible old now)) (stores.contents now) live → PieceStopped stores before now (end_by fault) extras taken given piece start made first last
+piece_broken {S} {stores} {before} {old} {now} {taken} {given} {piece} {start} {made} {live} {t} {first} {last} {extras} at fault timed o same heard serves fails left = record {
   turn = Breaks piece at;
   timed = timed;
   reads = tt;
@@ -82,6 +85,11 @@ piece_broken {S} {stores} {before} {old} {now} {taken} {given} {piece} {start} {
       store = λ e. then_failed stores.faults stores.is_infallible before old now o.kept.serves (by_store fault fails e);
     };
     spent = λ e. by_fault fault fails e;
+    leaves = λ up events grows. record {
+      old = old;
+      kept = subst (Kept stores before old) (sym (append-nil made)) o.kept;
+      given = left o.node taken given events o.is heard (subst (λ (x : List (ℕ × ℕ)). GrowsBy x (taken ++ piece) given events) (sym (node_extras o.node live o.is ∙ same)) grows);
+    };
   };
 }
   where

@@ -12,7 +12,8 @@ use Rattle.live_node.specs.Nodes.{end_of}
 use Rattle.live_node.specs.Calls.{extras_at, LiveCall}
 use Rattle.live_node.specs.Turns.{Turn, turn_bytes, turn_events, Rest, rest_calls, calls_of}
 use Rattle.live_node.specs.Ports.{SameRead}
-use Rattle.live_node.specs.Runs.{Outside, Stores, HeardIn, IsSpentCall, RunsOutIn, RunAt}
+use Rattle.live_node.specs.Runs.{Outside, Stores, HeardIn, IsSpentCall, RunsOutIn, LeavesIn, RunAt}
+use Rattle.live_node.specs.GivenUp.{CallLeaves}
 use Rattle.live_node.specs.Progress.{WaitDone, WaitStopped, PortEnded}
 use Rattle.live_node.proofs.Lasts.{last_of_rests, calls_with_rest, rests_timed}
 use Rattle.live_node.proofs.Readers.{heard_same, extras_same}
@@ -66,6 +67,7 @@ rest_stopped {S} {stores} {before} {old} {now} {end} {start} {opening} {turns} {
       pauses = read.pauses ∙ b.input.pauses;
       written = s.written;
       spent = λ e. spent rests r s.written.node s.rest (s.spent (because e));
+      leaves = λ up. leaves rests r (made ++ s.more) s.written.node s.rest (s.leaves up);
     }
   where
     heard : (xs : List Rest) (x : Rest) → HeardIn (Some end) turns (xs ++ x ∷ [])
@@ -75,3 +77,7 @@ rest_stopped {S} {stores} {before} {old} {now} {end} {start} {opening} {turns} {
     spent : (xs : List Rest) (x : Rest) (node : Node) (rest : List LiveCall) → IsSpentCall node rest → RunsOutIn (extras_at start) turns (xs ++ x ∷ []) node rest
     spent [] x node rest h = h
     spent (y ∷ ys) x node rest h = h
+
+    leaves : (xs : List Rest) (x : Rest) (calls : List LiveCall) (node : Node) (rest : List LiveCall) → CallLeaves (stores.contents now) node rest → LeavesIn stores before now (extras_at start) turns (xs ++ x ∷ []) calls node rest
+    leaves [] x calls node rest h = h
+    leaves (y ∷ ys) x calls node rest h = h

@@ -29,6 +29,7 @@ use Rattle.live_node.proofs.Endings.{sent_by, printed_by}
 use Rattle.live_node.proofs.Lasts.{heard_all, calls_at_start}
 use Rattle.live_node.proofs.Results.{because}
 use Rattle.live_node.proofs.Waits.{output_regroup}
+use Rattle.live_node.proofs.GivenUp.{over_leaves}
 
 pub no_pauses : (p : Option Pauses) → p ≡ option_map (pauses_over []) p
 no_pauses None = refl
@@ -65,6 +66,7 @@ stopped_in_opening stores before now end start opening first last read timed s =
   pauses = read.pauses ∙ no_pauses first.link.pauses;
   written = s.written;
   spent = λ e. s.spent (because e);
+  leaves = λ up. s.leaves up;
 }
 
 -- ---- reads that gave nothing
@@ -129,6 +131,7 @@ run_over stores before now start end opening turns rests live t first last then 
         store = λ e. absurd (store e);
       };
       spent = λ e. absurd (stamps e);
+      leaves = λ up. over_leaves stores before now (extras_at start) (calls_of opening turns rests) o.node turns rests b.input.all (record { live = live; is = o.is; kept = o.stored });
     }
 
 -- a fault of the port is neither want of a timestamp nor a fault of the store

@@ -1,5 +1,5 @@
 -- A drone at its start, by what its store has.
-use Rattle.std.proofs.Common.{◌≡◌, ◌⊎◌, inl, inr, ℕ, List, [], ◌∷◌, true, Option, Some, None, refl, sym, ap, ◌∙◌, subst, arith}
+use Rattle.std.proofs.Common.{◌≡◌, ◌⊎◌, inl, inr, ℕ, List, [], ◌∷◌, Option, Some, None, refl, sym, ap, ◌∙◌, subst, arith}
 use Rattle.std.specs.Prelude.{IfSome, max}
 use Rattle.plan_image.specs.Plans.{Plans}
 use Rattle.plan_image.specs.Image.{IsImageOf, IsImage}

@@ -24,6 +24,7 @@ use Rattle.live_node.specs.Progress.{Input, Output, Between, TurnTaken, TurnStop
 use Rattle.live_node.proofs.Results.{because}
 use Rattle.live_node.proofs.Lasts.{all_more, heard_then, last_of_more, calls_with_turn, turns_timed}
 use Rattle.live_node.proofs.Waits.{output_regroup}
+use Rattle.live_node.proofs.GivenUp.{left_in, wait_leaves}
 
 -- the last turn reads on after all bytes and events before it
 pub read_more : (extras : List (ℕ × ℕ)) (taken : List ℕ) (given : List Event) (turns : List Turn) (turn : Turn) → ReadFrom extras taken given turns → ReadsOn extras (taken ++ flat_map turn_bytes turns) (given ++ flat_map turn_events turns) turn → ReadFrom extras taken given (turns ++ turn ∷ [])
@@ -123,6 +124,7 @@ turn_stopped stores before old now end start opening turns turn was t first last
       pauses = c.pauses;
       written = s.written;
       spent = λ e. spent_in (extras_at start) turns turn s.written.node s.rest (s.spent (because e));
+      leaves = λ up. left_in stores before now (extras_at start) (made ++ s.more) s.written.node turns turn s.rest (s.leaves up);
     }
 
 -- calls of a wait that were made in part are those of its turn
@@ -133,6 +135,7 @@ wait_turn stores before now end extras taken given start made tick beat sim firs
   calls = s.are;
   written = s.written;
   spent = λ e. at s.written.node s.rest (s.spent e);
+  leaves = λ up. wait_leaves stores before now extras (made ++ s.more) s.written.node taken given tick beat sim s.rest (s.leaves up);
 }
   where
     at : (node : Node) (rest : List LiveCall) → IsSpentCall node rest → IsSpentAt extras taken given (Waits tick beat sim) node rest

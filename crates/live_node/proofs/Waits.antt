@@ -7,6 +7,7 @@ use Rattle.live_node.specs.declared.tellers.Teller.{Teller}
 use Rattle.live_node.specs.Calls.{LiveCall}
 use Rattle.live_node.specs.Runs.{Outside, Stores, IsSpentCall}
 use Rattle.live_node.specs.Progress.{Output, CallsStopped}
+use Rattle.live_node.proofs.GivenUp.{leaves_more}
 use Rattle.live_node.proofs.Calls.{regroup}
 
 pub spent_more : (node : Node) (rest more : List LiveCall) → IsSpentCall node rest → IsSpentCall node (rest ++ more)
@@ -21,6 +22,7 @@ more_to_come stores before now end start made calls more first last s = record {
   are = sym (append_assoc s.more s.rest more) ∙ ap (λ (l : List LiveCall). l ++ more) s.are;
   written = s.written;
   spent = λ e. spent_more s.written.node s.rest more (s.spent e);
+  leaves = λ up. leaves_more (stores.contents now) s.written.node s.rest more (s.leaves up);
 }
 
 -- calls were made before these
@@ -31,6 +33,7 @@ made_before stores before now end start made earlier calls first last s = record
   are = append_assoc earlier s.more s.rest ∙ ap (λ (l : List LiveCall). earlier ++ l) s.are;
   written = regroup stores before now (Some end) start ((made ++ earlier) ++ s.more) (made ++ (earlier ++ s.more)) first last (append_assoc made earlier s.more) s.written;
   spent = s.spent;
+  leaves = s.leaves;
 }
 
 pub output_regroup : {S : Type 0} (stores : Stores S) (before now : S) (start : Node) (xs ys : List LiveCall) (live : LiveNode) (t : Teller) (first last : Outside) → xs ≡ ys → Output stores before now start xs live t first last → Output stores before now start ys live t first last

@@ -1,6 +1,7 @@
 pub mod Nodes
 pub mod Calls
 pub mod Parts
+pub mod GivenUp
 pub mod Turns
 pub mod Texts
 pub mod Ports

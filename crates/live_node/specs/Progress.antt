@@ -24,7 +24,8 @@ use Rattle.live_node.specs.Calls.{extras_at, LiveCall, Hears, Ticks, Beats, Flie
 use Rattle.live_node.specs.Turns.{Turn, turn_calls, turn_bytes, turn_events, idles_with, pauses_with, idles_over, pauses_over, ReadsOn, ReadFrom, IsPieceLength, AllHeard, Rest, calls_of, IsTurnTimed}
 use Rattle.live_node.specs.Texts.{frames_text, lines_of, count_over, ending_over, tells}
 use Rattle.live_node.specs.Ports.{SentBy, PrintedBy}
-use Rattle.live_node.specs.Runs.{Outside, Stores, Kept, Written, Timed, IsSpentAt, IsSpentCall, LastHeard, RunAt}
+use Rattle.live_node.specs.Runs.{Outside, Stores, Kept, Written, Timed, IsSpentAt, IsSpentCall, GivesUp, LeavesAt, LastHeard, RunAt}
+use Rattle.live_node.specs.GivenUp.{CallLeaves}
 
 -- the lines of a call's news were written; or it stopped so
 pub record Prints (end : Option RunEnd) (events : List NodeEvent) (old new : Teller) (text_old text_new : Option (List ℕ)) : Type 0 where
@@ -97,6 +98,7 @@ pub record CallsStopped {S : Type 0} (stores : Stores S) (before now : S) (end :
   pub are : more ++ rest ≡ calls
   pub written : Written stores before now (Some end) start (made ++ more) first last
   pub spent : end ≡ Stopped StampsSpent → IsSpentCall written.node rest
+  pub leaves : GivesUp (Some end) → CallLeaves (stores.contents now) written.node rest
 
 -- the calls of a turn were made in part
 pub record TurnStopped {S : Type 0} (stores : Stores S) (before now : S) (end : RunEnd) (extras : List (ℕ × ℕ)) (taken : List ℕ) (given : List Event) (start : Node) (made : List LiveCall) (turn : Turn) (first last : Outside) : Type 0 where
@@ -105,6 +107,7 @@ pub record TurnStopped {S : Type 0} (stores : Stores S) (before now : S) (end : 
   pub calls : more ++ rest ≡ turn_calls turn
   pub written : Written stores before now (Some end) start (made ++ more) first last
   pub spent : end ≡ Stopped StampsSpent → IsSpentAt extras taken given turn written.node rest
+  pub leaves : GivesUp (Some end) → LeavesAt stores before now extras taken given turn (made ++ more) written.node rest
 
 -- a turn that read this piece
 pub record IsPiece (piece : List ℕ) (turn : Turn) : Type 0 where

@@ -1,5 +1,5 @@
 -- The run of a live node: its calls, and what was read and written.
-use Rattle.std.specs.Prelude.{ℕ, ◌≡◌, ◌≤◌, Bool, List, [], ◌∷◌, ◌++◌, length, map, Option, Some, None, IfErr}
+use Rattle.std.specs.Prelude.{ℕ, ◌≡◌, Bool, List, [], ◌∷◌, ◌++◌, length, map, Option, Some, None, IfErr}
 use Rattle.std.specs.List.{flat_map}
 use Rattle.std.specs.Option.{option_map}
 use Rattle.std.specs.Result.{result_err}
@@ -20,7 +20,8 @@ use Rattle.run_status.specs.declared.run_ends.RunEnd.TheVariants.{Stopped, NoMem
 use Rattle.live_node.specs.Calls.{LiveCall, extras_at, call_does, calls_do, node_hears, keeps_in, AreTimed}
 use Rattle.live_node.specs.declared.nodes.LiveNode.{LiveNode}
 use Rattle.live_node.specs.Nodes.{IsLive, IsKeptBy}
-use Rattle.live_node.specs.Turns.{Turn, Breaks, turn_bytes, turn_events, idles_over, pauses_over, ReadFrom, IsPieceLength, IsHeard, AllHeard, Rest, calls_of, last_calls, AreTurnsTimed, AreRestsTimed}
+use Rattle.live_node.specs.GivenUp.{NodeGivenUp, CallLeaves}
+use Rattle.live_node.specs.Turns.{Turn, Reads, Waits, Breaks, turn_bytes, turn_events, idles_over, pauses_over, ReadFrom, IsPieceLength, IsHeard, AllHeard, Rest, calls_of, last_calls, AreTurnsTimed, AreRestsTimed}
 use Rattle.live_node.specs.Texts.{frames_text, lines_of}
 use Rattle.live_node.specs.Ports.{SentBy, PrintedBy, FaultsBy}
 
@@ -68,8 +69,8 @@ pub record Kept {S : Type 0} (stores : Stores S) (before now : S) (made : List L
   pub serves : Serves stores.faults stores.is_infallible before now
   pub each : KeptOver stores before now made
 
--- what a store has at the end of a run: what the node has stored with the calls that were made. At 7, 10 and 13 the call may
--- have saved at which the node was given up
+-- what a store has at the end of a run: what the node has stored with the calls that were made. At 7, 10 and 13 the node was given
+-- up in a call that may have saved: `LeavesIn` says what it left
 abbrev pub StoredBy : Option RunEnd → Option (List ℕ) → Node → Type 0
 StoredBy (Some (Stopped StampsSpent)) contents node = Unit {0}
 StoredBy (Some NoMemory) contents node = Unit {0}
@@ -120,6 +121,34 @@ abbrev pub RunsOutIn : List (ℕ × ℕ) → List Turn → List Rest → Node �
 RunsOutIn extras turns (r ∷ rests) node rest = IsSpentCall node rest
 RunsOutIn extras [] [] node rest = IsSpentCall node rest
 RunsOutIn extras (turn ∷ turns) [] node rest = SpentIn extras (turn ∷ turns) node rest
+
+-- a node that is given up at a piece leaves this in its store, which kept before what the calls made say
+pub record PieceLeft {S : Type 0} (stores : Stores S) (before now : S) (made : List LiveCall) (clock : ℕ) (events : List Event) (node : Node) : Type 0 where
+  pub old : S
+  pub kept : Kept stores before old made
+  pub given : NodeGivenUp clock (AllKept (HasFailed stores.faults stores.is_infallible old now)) (stores.contents now) (frames_of events) node
+
+-- one that is given up in a turn, or whose news weren't written
+abbrev pub LeavesAt : {S : Type 0} → Stores S → (before now : S) → List (ℕ × ℕ) → List ℕ → List Event → Turn → List LiveCall → Node → List LiveCall → Type 0
+LeavesAt stores before now extras taken given turn made node (call ∷ rest) = CallLeaves (stores.contents now) node (call ∷ rest)
+LeavesAt stores before now extras taken given (Reads piece events keeps clock) made node [] = CallLeaves (stores.contents now) node []
+LeavesAt stores before now extras taken given (Waits tick beat sim) made node [] = CallLeaves (stores.contents now) node []
+LeavesAt stores before now extras taken given (Breaks piece clock) made node [] =
+    (events : List Event) → GrowsBy extras (taken ++ piece) given events → PieceLeft stores before now made clock events node
+
+-- the same in the last turn
+pub record LeftIn {S : Type 0} (stores : Stores S) (before now : S) (extras : List (ℕ × ℕ)) (turns : List Turn) (made : List LiveCall) (node : Node) (rest : List LiveCall) : Type 0 where
+  pub turn : Turn
+  pub taken : List ℕ
+  pub given : List Event
+  pub last : LastTurn turns turn taken given
+  pub left : LeavesAt stores before now extras taken given turn made node rest
+
+-- the same in the opening, in the last turn, or in the times that passed after the port's end
+abbrev pub LeavesIn : {S : Type 0} → Stores S → (before now : S) → List (ℕ × ℕ) → List Turn → List Rest → List LiveCall → Node → List LiveCall → Type 0
+LeavesIn stores before now extras turns (r ∷ rests) made node rest = CallLeaves (stores.contents now) node rest
+LeavesIn stores before now extras [] [] made node rest = CallLeaves (stores.contents now) node rest
+LeavesIn stores before now extras (turn ∷ turns) [] made node rest = LeftIn stores before now extras (turn ∷ turns) made node rest
 
 -- a node is given up for want of a timestamp or of memory, or by its store
 abbrev pub GivesUp : Option RunEnd → Type 0
@@ -182,6 +211,8 @@ pub record RunAt {S : Type 0} (stores : Stores S) (before after : S) (start : No
   pub written : Written stores before after end start made first last
   -- 13: the next call is one for which no timestamp is left
   pub spent : end ≡ Some (Stopped StampsSpent) → RunsOutIn (extras_at start) turns rests written.node rest
+  -- 7, 10 and 13: what a node leaves in its store that is given up
+  pub leaves : GivesUp end → LeavesIn stores before after (extras_at start) turns rests made written.node rest
 
 -- one run: an opening, turns, which are what the port gave, in order, and the times that passed after the port's end
 pub record LiveRun {S : Type 0} (stores : Stores S) (before after : S) (IsOpening : List LiveCall → Type 0) (may_rest : LinkState → Type 0) (start : Node) (end : Option RunEnd) (first last : Outside) : Type 0 where

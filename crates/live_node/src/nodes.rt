@@ -1,17 +1,20 @@
 // A drone or a station, over a stream.
-ghost use Rattle.std.specs.Prelude.{◌≡◌, ◌++◌, ℕ, List, [], Some, false, IfOk, IfErr, OnOk};
+ghost use Rattle.std.specs.Prelude.{◌≡◌, ◌∷◌, ◌++◌, ℕ, List, [], Some, false, IfOk, IfErr, OnOk};
 ghost use Rattle.std.specs.declared.option.Option.{Option};
 ghost use Rattle.mav_frame.specs.declared.events.Event.{Event};
 ghost use Rattle.mav_sign.specs.Streams.{reader_of};
 ghost use Rattle.mav_nodes.specs.Stores.{Serves, HasFailed, AllKept};
 ghost use Rattle.mav_nodes.specs.Promises.{Did};
 ghost use Rattle.mav_nodes.specs.Images.{StoreHolds};
+ghost use Rattle.mav_nodes.specs.GivenUp.{DroneGivenUp};
+ghost use Rattle.mav_sign.specs.Endpoints.{frames_of};
 ghost use Rattle.mav_nodes.specs.Nodes.{DroneSide, StationSide, IsDrone, IsStation};
-ghost use Rattle.mav_nodes.specs.Streams.{HasRead, DronePart, StationPart, DronePartFails, StationPartFails};
+ghost use Rattle.mav_nodes.specs.Streams.{HasRead, GrowsBy, DronePart, StationPart, DronePartFails, StationPartFails};
 ghost use Rattle.node_reports.specs.Nodes.{Node};
 ghost use Rattle.node_reports.specs.ParamLists.{params_of};
 ghost use Rattle.live_node.specs.Nodes.{IsLive, HasHeard, IsKeptBy, end_of};
-ghost use Rattle.live_node.specs.Calls.{call_does, node_obeys};
+ghost use Rattle.live_node.specs.Calls.{LiveCall, call_does, node_obeys};
+ghost use Rattle.live_node.specs.GivenUp.{CallLeaves, PieceLeaves};
 ghost use Rattle.live_node.specs.Orders.{node_refuses, order_end, OrderFailsAt};
 ghost use Rattle.run_status.specs.declared.live_ends.LiveEnd.TheVariants.{StoreFault};
 ghost use Rattle.run_status.specs.declared.run_ends.RunEnd.TheVariants.{Live};
@@ -48,6 +51,9 @@ fn drone_part<S: Keeper>(
     ensures done { IfOk result (λ news. (node : DroneSide) (taken : List ℕ) (given : List Event) → IsDrone node drone.old → HasRead taken given drone.old.link
         → DronePart clock node (taken ++ piece.now) given (AllKept (HasFailed S.faults S.is_infallible keeper.old keeper.new)) drone.new news.items) }
     ensures stored { OnOk result (StoreHolds (S.contents keeper.old) drone.old → StoreHolds (S.contents keeper.new) drone.new) }
+    ensures given { IfErr result (λ fault. StoreHolds (S.contents keeper.old) drone.old → (node : DroneSide) (taken : List ℕ) (given events : List Event) → IsDrone node drone.old → HasRead taken given drone.old.link
+        → GrowsBy drone.old.link.endpoint.extras (taken ++ piece.now) given events
+        → DroneGivenUp clock (AllKept (HasFailed S.faults S.is_infallible keeper.old keeper.new)) (S.contents keeper.new) (frames_of events) node) }
     ensures serves { Serves S.faults S.is_infallible keeper.old keeper.new }
     ensures fault { IfErr result (λ fault. DronePartFails fault clock drone.old piece.now (AllKept (HasFailed S.faults S.is_infallible keeper.old keeper.new)) (HasFailed S.faults S.is_infallible keeper.old keeper.new)) }
 {
@@ -88,6 +94,8 @@ impl LiveNode {
         ensures done { IfOk result (λ news. (node : Node) (taken : List ℕ) (given : List Event) → IsLive node self.old → HasHeard taken given self.old
             → PieceHeard clock node (taken ++ piece.now) given (AllKept (HasFailed S.faults S.is_infallible keeper.old keeper.new)) self.new news.items) }
         ensures stored { OnOk result (IsKeptBy (S.contents keeper.old) self.old → IsKeptBy (S.contents keeper.new) self.new) }
+        ensures given { IfErr result (λ fault. IsKeptBy (S.contents keeper.old) self.old
+            → PieceLeaves clock piece.now (AllKept (HasFailed S.faults S.is_infallible keeper.old keeper.new)) (S.contents keeper.new) self.old) }
         ensures serves { Serves S.faults S.is_infallible keeper.old keeper.new }
         ensures fault { IfErr result (λ fault. PieceFails fault clock piece.now self.old (HasFailed S.faults S.is_infallible keeper.old keeper.new)) }
     {
@@ -109,6 +117,8 @@ impl LiveNode {
             → Did (call_does (due_call due clock) node) (λ after. IsLive after self.new) [] news.items) }
         ensures reader { reader_of (end_of self.new).endpoint ≡ reader_of (end_of self.old).endpoint }
         ensures stored { OnOk result (IsKeptBy (S.contents keeper.old) self.old → IsKeptBy (S.contents keeper.new) self.new) }
+        ensures given { IfErr result (λ fault. IsKeptBy (S.contents keeper.old) self.old → (node : Node) (call : LiveCall) → IsLive node self.old
+            → CallLeaves (S.contents keeper.new) node (call ∷ [])) }
         ensures serves { Serves S.faults S.is_infallible keeper.old keeper.new }
         ensures fault { IfErr result (λ fault. (node : Node) → IsLive node self.old
             → CallFails fault (call_does (due_call due clock) node) (HasFailed S.faults S.is_infallible keeper.old keeper.new)) }
@@ -136,6 +146,7 @@ impl LiveNode {
         ensures reader { reader_of (end_of self.new).endpoint ≡ reader_of (end_of self.old).endpoint }
         ensures stored { OnOk result ((contents : Option (List ℕ)) → IsKeptBy contents self.old → IsKeptBy contents self.new) }
         ensures fault { IfErr result (λ fault. (node : Node) → IsLive node self.old → OrderFailsAt clock order node fault) }
+        ensures given { IfErr result (λ fault. (node : Node) (contents : Option (List ℕ)) (call : LiveCall) → IsLive node self.old → CallLeaves contents node (call ∷ [])) }
         ensures unstored { IfErr result (λ fault. order_end fault ≡ Live StoreFault → ⊥) }
     {
         match self {

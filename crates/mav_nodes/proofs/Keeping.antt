@@ -22,6 +22,10 @@ kept_so kept f (inr h) = inr (f h)
 pub none_yet : (failed : Type 0) → AllKept failed []
 none_yet failed = inl (All-nil (λ kept. kept ≡ true))
 
+pub all_so : {F G : Type 0} (keeps : List Bool) → (F → G) → AllKept F keeps → AllKept G keeps
+all_so keeps f (inl all) = inl all
+all_so keeps f (inr h) = inr (f h)
+
 -- one step more
 pub one_more : {F G : Type 0} (keeps : List Bool) (kept : Bool) → (F → G) → AllKept F keeps → IsKept kept G → AllKept G (keeps ++ kept ∷ [])
 one_more keeps kept f (inl all) (inl h) = inl (All-push (λ k. k ≡ true) keeps kept all h)

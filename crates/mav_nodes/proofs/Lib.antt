@@ -13,5 +13,7 @@ mod Flown
 mod Leads
 mod Growing
 mod Parts
+mod GivenUp
+mod Datagrams
 pub mod Bounds
 pub mod Sendings

@@ -1,5 +1,5 @@
 -- A piece of a stream, frame by frame: what was heard so far.
-use Rattle.std.proofs.Common.{◌≡◌, ℕ, ◌+◌, ◌-◌, ◌<◌, ◌≤◌, Bool, false, List, [], ◌∷◌, ◌++◌, length, take, drop, slice_range, Option, Some, None, inl, inr, refl, sym, ap, ◌∙◌, subst, arith, append_assoc, length-take}
+use Rattle.std.proofs.Common.{◌≡◌, ℕ, ◌+◌, ◌-◌, ◌<◌, ◌≤◌, Bool, true, false, List, [], ◌∷◌, ◌++◌, length, take, drop, slice_range, Option, Some, None, inl, inr, refl, sym, ap, ◌∙◌, subst, arith, append_assoc, length-take}
 use Rattle.std.specs.Prelude.{map}
 use Rattle.std.proofs.lemmas.List.{append-nil, map-append, take-append-drop}
 use Rattle.mav_frame.specs.Packet.{Packet}
@@ -14,14 +14,17 @@ use Rattle.mav_nodes.specs.declared.faults.NodeFault.TheVariants.{StampsSpent, S
 use Rattle.mav_nodes.specs.declared.news.News.{News}
 use Rattle.mav_nodes.specs.News.{NodeEvent, Shown, shown, events_of}
 use Rattle.mav_nodes.specs.Links.{Link, LinkView, IsLink, Outcome, after_events, and_then}
-use Rattle.mav_nodes.specs.Stores.{IsKept, AllKept}
-use Rattle.mav_nodes.specs.Steps.{Side, IsNode, Rules, hears, hears_all, hears_keeping}
+use Rattle.mav_names.specs.declared.names.Stream.{Stream}
+use Rattle.plan_items.specs.declared.messages.PlanMsg.{PlanMsg}
+use Rattle.mav_nodes.specs.Stores.{GivenUp, IsKept, AllKept}
+use Rattle.mav_nodes.specs.Steps.{Side, IsNode, CoreStep, Rules, hears, hears_all, hears_keeping}
 use Rattle.plan_upload.specs.Station.{StationState}
 use Rattle.mav_nodes.specs.Services.{StationServices}
 use Rattle.mav_nodes.specs.Nodes.{StationSide, StationView, station_rules}
-use Rattle.mav_nodes.specs.Promises.{Did, NodeDid, StationDid, SpentKeeping, FailsKeeping}
+use Rattle.mav_nodes.specs.Promises.{Did, NodeDid, StationDid, SpentKeeping, FailsKeeping, AtFrame, GivenUpIn}
 use Rattle.mav_nodes.specs.Streams.{HasRead, GrowsBy, NodePart, StationPart, PartFails}
-use Rattle.mav_nodes.proofs.Keeping.{none_yet, one_more, kept_so, keeps_all}
+use Rattle.mav_nodes.proofs.Cores.{Keeps, hears_keep}
+use Rattle.mav_nodes.proofs.Keeping.{none_yet, all_so, one_more, kept_so, keeps_all}
 use Rattle.mav_nodes.proofs.Leads.{behind_none, behind_twice, part_length}
 use Rattle.mav_nodes.proofs.Growing.{frames_first, one_frame, no_frame, bytes_on, holds_taken, frame_takes}
 
@@ -64,8 +67,9 @@ module _ {Core Services : Type 0} (rules : Bool → Rules Core Services) (clock 
     pub events : List NodeEvent
     pub said : events_of news ≡ map shown events
     pub leads : (more : List Bool) (others : List Packet) → hears_keeping rules clock (keeps ++ more) (packets ++ others) start ≡ after_events events (hears_keeping rules clock more others node)
+    pub extras : node.link.extras ≡ start.link.extras
 
-  heard_at_first : (start : Side Core Services) (Is : Side Core Services → Type 0) (failed : Type 0) (news : List News) → news ≡ [] → Is start → Heard start [] Is failed news
+  pub heard_at_first : (start : Side Core Services) (Is : Side Core Services → Type 0) (failed : Type 0) (news : List News) → news ≡ [] → Is start → Heard start [] Is failed news
   heard_at_first start Is failed news none is = record {
     keeps = [];
     is_kept = none_yet failed;
@@ -74,6 +78,7 @@ module _ {Core Services : Type 0} (rules : Bool → Rules Core Services) (clock 
     events = [];
     said = ap events_of none;
     leads = λ more others. sym (behind_none (hears_keeping rules clock more others start));
+    extras = refl;
   }
 
   here : (start : Side Core Services) (packets others : List Packet) (Is : Side Core Services → Type 0) (failed : Type 0) (news : List News) (packet : Packet) (kept : Bool) (more : List Bool) → (h : Heard start packets Is failed news)
@@ -82,10 +87,10 @@ module _ {Core Services : Type 0} (rules : Bool → Rules Core Services) (clock 
       (λ i. hears_keeping rules clock (append_assoc h.keeps (kept ∷ []) more i) (append_assoc packets (packet ∷ []) others i) start)
       ∙ h.leads (kept ∷ more) (packet ∷ others)
 
-  goes_on : (start : Side Core Services) (packets : List Packet) (first : Outcome (Side Core Services)) (Is : Side Core Services → Type 0) (failed : Type 0) (news after : List News) (events : List NodeEvent) (keeps : List Bool) → AllKept failed keeps → events_of news ≡ map shown events
+  goes_on : (start : Side Core Services) (packets : List Packet) (first : Outcome (Side Core Services)) (extras : List (ℕ × ℕ)) (Is : Side Core Services → Type 0) (failed : Type 0) (news after : List News) (events : List NodeEvent) (keeps : List Bool) → AllKept failed keeps → extras ≡ start.link.extras → Keeps (rules true) clock first extras → events_of news ≡ map shown events
       → ((more : List Bool) (others : List Packet) → hears_keeping rules clock (keeps ++ more) (packets ++ others) start ≡ after_events events (and_then first (hears_keeping rules clock more others))) → Did first Is news after → Heard start packets Is failed after
-  goes_on start packets None Is failed news after events keeps all said e did = absurd did
-  goes_on start packets (Some d) Is failed news after events keeps all said e did = record {
+  goes_on start packets None extras Is failed news after events keeps all same kept said e did = absurd did
+  goes_on start packets (Some d) extras Is failed news after events keeps all same kept said e did = record {
     keeps = keeps;
     is_kept = all;
     node = d.node;
@@ -93,16 +98,17 @@ module _ {Core Services : Type 0} (rules : Bool → Rules Core Services) (clock 
     events = events ++ d.events;
     said = did.1 ∙ (ap (λ (l : List Shown). l ++ map shown d.events) said ∙ sym (map-append shown events d.events));
     leads = λ more others. e more others ∙ behind_twice events d.events (hears_keeping rules clock more others d.node);
+    extras = kept ∙ same;
   }
 
   -- one frame more
-  heard_on : (start : Side Core Services) (packets : List Packet) (Is Now : Side Core Services → Type 0) (failed now_failed : Type 0) (news after : List News) (packet : Packet) (kept : Bool) → (h : Heard start packets Is failed news)
+  pub heard_on : (start : Side Core Services) (packets : List Packet) (Is Now : Side Core Services → Type 0) (failed now_failed : Type 0) (news after : List News) (packet : Packet) (kept : Bool) → (h : Heard start packets Is failed news)
       → (failed → now_failed) → IsKept kept now_failed → Did (hears (rules kept) clock packet h.node) Now news after → Heard start (packets ++ packet ∷ []) Now now_failed after
   heard_on start packets Is Now failed now_failed news after packet kept h f is_kept did =
-      goes_on start (packets ++ packet ∷ []) (hears (rules kept) clock packet h.node) Now now_failed news after h.events (h.keeps ++ kept ∷ []) (one_more h.keeps kept f h.is_kept is_kept) h.said (λ more others. here start packets others Is failed news packet kept more h) did
+      goes_on start (packets ++ packet ∷ []) (hears (rules kept) clock packet h.node) h.node.link.extras Now now_failed news after h.events (h.keeps ++ kept ∷ []) (one_more h.keeps kept f h.is_kept is_kept) h.extras (hears_keep (rules kept) clock packet h.node) h.said (λ more others. here start packets others Is failed news packet kept more h) did
 
   -- a frame whose reply has no timestamp left
-  heard_to_none : (start : Side Core Services) (packets others : List Packet) (Is : Side Core Services → Type 0) (failed here_failed now_failed : Type 0) (news : List News) (packet : Packet) → (h : Heard start packets Is failed news)
+  pub heard_to_none : (start : Side Core Services) (packets others : List Packet) (Is : Side Core Services → Type 0) (failed here_failed now_failed : Type 0) (news : List News) (packet : Packet) → (h : Heard start packets Is failed news)
       → (failed → now_failed) → (here_failed → now_failed) → SpentKeeping (λ kept. IsKept kept here_failed) (λ kept. hears (rules kept) clock packet h.node)
       → SpentKeeping (AllKept now_failed) (λ keeps. hears_keeping rules clock keeps ((packets ++ packet ∷ []) ++ others) start)
   heard_to_none start packets others Is failed here_failed now_failed news packet h f g spent = record {
@@ -113,7 +119,25 @@ module _ {Core Services : Type 0} (rules : Bool → Rules Core Services) (clock 
         ∙ ap (λ (o : Outcome (Side Core Services)). after_events h.events (and_then o (hears_keeping rules clock [] others))) spent.none;
   }
 
-  heard_whole : (start : Side Core Services) (packets : List Packet) (Is : Side Core Services → Type 0) (failed : Type 0) (news : List News) (h : Heard start packets Is failed news) → Did (hears_keeping rules clock (h.keeps ++ []) packets start) Is [] news
+  -- the node is given up at the next frame
+  pub heard_given : (taken : Bool → Core → Stream → PlanMsg → CoreStep Core) (stored : Core → ℕ → List ℕ → Type 0) (contents : Option (List ℕ)) (start : Side Core Services) (packets others all : List Packet) (end : LinkView) (view : Core) (services : Services) (failed now_failed : Type 0) (news : List News) (packet : Packet)
+      → (h : Heard start packets (λ n. IsNode n end view services) failed news) → all ≡ (packets ++ packet ∷ []) ++ others → (failed → now_failed) → GivenUp contents stored end.low (AtFrame taken h.node.link packet view) → GivenUpIn taken stored rules clock (AllKept now_failed) contents all start
+  heard_given taken stored contents start packets others all end view services failed now_failed news packet h are f given = record {
+    before = packets;
+    packet = packet;
+    after = others;
+    are = are ∙ append_assoc packets (packet ∷ []) others;
+    keeps = h.keeps ++ [];
+    is_kept = subst (AllKept now_failed) (sym (append-nil h.keeps)) (all_so h.keeps f h.is_kept);
+    here = h.node;
+    events = h.events ++ [];
+    heard = ap (λ (l : List Packet). hears_keeping rules clock (h.keeps ++ []) l start) (sym (append-nil packets)) ∙ h.leads [] [];
+    given =
+        subst (λ (low : Option ℕ). GivenUp contents stored low (AtFrame taken h.node.link packet h.node.core)) h.is.link.low
+        (subst (λ (core : Core). GivenUp contents stored end.low (AtFrame taken h.node.link packet core)) h.is.core given);
+  }
+
+  pub heard_whole : (start : Side Core Services) (packets : List Packet) (Is : Side Core Services → Type 0) (failed : Type 0) (news : List News) (h : Heard start packets Is failed news) → Did (hears_keeping rules clock (h.keeps ++ []) packets start) Is [] news
   heard_whole start packets Is failed news h =
       let e : hears_keeping rules clock (h.keeps ++ []) packets start ≡ after_events h.events (hears_keeping rules clock [] [] h.node) = ap (λ (l : List Packet). hears_keeping rules clock (h.keeps ++ []) l start) (sym (append-nil packets)) ∙ h.leads [] [] in
       subst (λ (o : Outcome (Side Core Services)). Did o Is [] news) (sym e) (h.is, h.said ∙ ap (map shown) (sym (append-nil h.events)))
@@ -164,6 +188,15 @@ module _ {Core Services : Type 0} (rules : Bool → Rules Core Services) (clock 
         let all : frames_of others ≡ (frames_of so.events ++ packet ∷ []) ++ first.0 = first.1 ∙ ap (λ (l : List Packet). l ++ first.0) (one_frame so.events r.events packet r.frames) in
         subst (λ (packets : List Packet). SpentKeeping (AllKept now_failed) (λ keeps. hears_keeping rules clock keeps packets start)) (sym all)
         (heard_to_none start (frames_of so.events) first.0 (λ n. IsNode n end view services) failed here_failed now_failed news packet so.heard f g spent)
+
+    -- the node is given up at a frame that was read
+    pub part_given : (taken_by : Bool → Core → Stream → PlanMsg → CoreStep Core) (stored : Core → ℕ → List ℕ → Type 0) (contents : Option (List ℕ)) (now_failed : Type 0) (more : List ℕ) (packet : Packet) (others : List Event) → ReadTo end.endpoint.extras now (given ++ so.events) (Some packet) (reader_of mid.endpoint) → GrowsBy extras (now ++ more) given others
+        → (failed → now_failed) → GivenUp contents stored end.low (AtFrame taken_by so.heard.node.link packet view) → GivenUpIn taken_by stored rules clock (AllKept now_failed) contents (frames_of others) start
+    part_given taken_by stored contents now_failed more packet others r grows f left =
+        let begun = subst (λ (e : List (ℕ × ℕ)). BeginsIncremental e false (given ++ (so.events ++ r.events)) mid.endpoint.held now) (same_next r) ((read_next r).incremental refl) in
+        let first = frames_first extras now more mid.endpoint.held given (so.events ++ r.events) others begun grows in
+        let all : frames_of others ≡ (frames_of so.events ++ packet ∷ []) ++ first.0 = first.1 ∙ ap (λ (l : List Packet). l ++ first.0) (one_frame so.events r.events packet r.frames) in
+        heard_given taken_by stored contents start (frames_of so.events) first.0 (frames_of others) end view services failed now_failed news packet so.heard all f left
 
     -- all was read
     pub part_whole : extras ≡ start.link.extras → ReadTo end.endpoint.extras now (given ++ so.events) None (reader_of mid.endpoint) → ((link : Link) → IsLink link end → IsLink link mid) → NodePart rules clock start now given (AllKept failed) mid view services news

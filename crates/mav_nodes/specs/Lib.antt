@@ -10,6 +10,7 @@ pub mod Steps
 pub mod Nodes
 pub mod Restarts
 pub mod Images
+pub mod GivenUp
 pub mod Starts
 pub mod Promises
 pub mod Cores

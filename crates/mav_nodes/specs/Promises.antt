@@ -1,5 +1,5 @@
 -- What calls promise of a node: its state after them, and the news that they append.
-use Rattle.std.specs.Prelude.{ℕ, ◌≡◌, List, [], ◌++◌, map, true, false, Option, Some, None, IfNone}
+use Rattle.std.specs.Prelude.{ℕ, ◌≡◌, ◌⊎◌, Bool, List, [], ◌∷◌, ◌++◌, map, true, false, Option, Some, None, IfNone, IfSome}
 use Rattle.mav_frame.specs.Packet.{Packet, SignatureBlock}
 use Rattle.mav_sign.specs.declared.admission.Admit.{Admit}
 use Rattle.mav_sign.specs.declared.admission.Admit.TheVariants.{Admitted}
@@ -11,10 +11,12 @@ use Rattle.mav_nodes.specs.declared.link.Tried.TheVariants.{Plan, Service, Other
 use Rattle.plan_items.specs.declared.messages.PlanMsg.{PlanMsg}
 use Rattle.mav_messages.specs.declared.messages.Message.{Message}
 use Rattle.mav_nodes.specs.Payloads.{plan_in, service_in}
-use Rattle.mav_nodes.specs.News.{shown, events_of}
-use Rattle.mav_nodes.specs.Links.{Link, LinkView, IsLink, Outcome}
-use Rattle.mav_nodes.specs.Stores.{Serves}
-use Rattle.mav_nodes.specs.Steps.{Side, IsNode}
+use Rattle.mav_names.specs.declared.names.Stream.{Stream}
+use Rattle.mav_nodes.specs.News.{NodeEvent, shown, events_of}
+use Rattle.mav_nodes.specs.Links.{Link, LinkView, IsLink, Outcome, done}
+use Rattle.mav_nodes.specs.LowBounds.{stored_low}
+use Rattle.mav_nodes.specs.Stores.{Serves, IsRaised, GivenUp}
+use Rattle.mav_nodes.specs.Steps.{Side, IsNode, CoreStep, Rules, hears_keeping}
 use Rattle.plan_upload.specs.Station.{StationState}
 use Rattle.mav_nodes.specs.Services.{StationServices}
 use Rattle.mav_nodes.specs.Nodes.{DroneSide, StationSide, DroneView, StationView, IsStation, IsAccepted, station_obeys, order_refusal, order_plan, order_fault, command_refusal, params_refusal, file_refusal}
@@ -47,10 +49,12 @@ FailsKeeping {I} {A} StampsSpent Is does kept failed = (a : A) → Is a → Spen
 FailsKeeping Store Is does kept failed = failed
 FailsKeeping NoMemory Is does kept failed = Unit {0}
 
--- what a call of a link that ends so does beside: if it doesn't fail, its store has what is to be stored; nothing is read; and what
--- any call does to a store
-pub record LinkKeeps {Store : Type 0} (fault : Option NodeFault) (Held Holds : Type 0) (old new : LinkView) (faults : Store → ℕ) (is_infallible : Store → Type 0) (before now : Store) : Type 0 where
+-- what a call of a link that ends so does beside: if it doesn't fail, its store has what is to be stored, and else what a node
+-- leaves that is given up; the low bound doesn't fall; nothing is read; and what any call does to a store
+pub record LinkKeeps {Store : Type 0} (fault : Option NodeFault) (Held Holds Leaves : Type 0) (old new : LinkView) (faults : Store → ℕ) (is_infallible : Store → Type 0) (before now : Store) : Type 0 where
   pub stored : IfNone fault (Held → Holds)
+  pub given : IfSome fault (λ _. Held → Leaves)
+  pub raised : IsRaised old.low new.low
   pub reader : reader_of new.endpoint ≡ reader_of old.endpoint
   pub serves : Serves faults is_infallible before now
 
@@ -75,6 +79,31 @@ IsAnswer answer packet block tried = tried ≡ Dropped answer
 -- the same after the history of a link
 abbrev pub IsTried : Link → Packet → Tried → Type 0
 IsTried link packet tried = IsAnswer (answer_to link.key link.history packet) packet packet.block tried
+
+-- the core after the plan message of an admitted frame, of which the store kept what it changed, or didn't
+pub record TookPlan {Core : Type 0} (taken : Bool → Core → Stream → PlanMsg → CoreStep Core) (link : Link) (packet : Packet) (core after : Core) : Type 0 where
+  pub kept : Bool
+  pub from : Stream
+  pub message : PlanMsg
+  pub tried : IsTried link packet (Plan from message)
+  pub is : after ≡ (taken kept core from message).core
+
+-- a core before a frame, or after it
+abbrev pub AtFrame : {Core : Type 0} → (Bool → Core → Stream → PlanMsg → CoreStep Core) → Link → Packet → (core after : Core) → Type 0
+AtFrame taken link packet core after = (after ≡ core) ⊎ TookPlan taken link packet core after
+
+-- what the store has of a node that is given up at one of these frames: those before it were heard
+pub record GivenUpIn {Core Services : Type 0} (taken : Bool → Core → Stream → PlanMsg → CoreStep Core) (stored : Core → ℕ → List ℕ → Type 0) (rules : Bool → Rules Core Services) (clock : ℕ) (kept : List Bool → Type 0) (contents : Option (List ℕ)) (packets : List Packet) (node : Side Core Services) : Type 0 where
+  pub before : List Packet
+  pub packet : Packet
+  pub after : List Packet
+  pub are : packets ≡ before ++ packet ∷ after
+  pub keeps : List Bool
+  pub is_kept : kept keeps
+  pub here : Side Core Services
+  pub events : List NodeEvent
+  pub heard : hears_keeping rules clock keeps before node ≡ done here events
+  pub given : GivenUp contents stored (stored_low here.link.history) (AtFrame taken here.link packet here.core)
 
 -- the same of a node, of a drone and of a station
 abbrev pub NodeDid : {Core Services : Type 0} → Outcome (Side Core Services) → LinkView → Core → Services → List News → List News → Type 0

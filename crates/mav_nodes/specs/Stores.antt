@@ -1,5 +1,5 @@
 -- What the store of a node holds, and what a call of the node does to it.
-use Rattle.std.specs.Prelude.{ℕ, ◌≡◌, ◌≤◌, ◌⊎◌, Bool, true, List, [], Option, Some, None, IfSome, All}
+use Rattle.std.specs.Prelude.{ℕ, ◌≡◌, ◌≤◌, ◌⊎◌, Bool, true, List, [], Option, Some, None, IfSome, All, unwrap_or}
 use Rattle.plan_items.specs.declared.messages.PlanMsg.{PlanMsg}
 use Rattle.mav_ports.specs.Counts.{Rose}
 use Rattle.plan_store.specs.declared.keepers.KeepFault.{KeepFault}
@@ -28,6 +28,20 @@ AreStored stored (Some low) bytes = stored low bytes
 abbrev pub StoredBefore : Option PlanMsg → Option (List ℕ) → (ℕ → List ℕ → Type 0) → Option ℕ → Type 0
 StoredBefore None contents stored low = Holds contents stored low
 StoredBefore (Some answer) contents stored low = HoldsNearly contents stored low
+
+-- a low bound after another: the same, or one that was raised
+abbrev pub IsRaised : Option ℕ → Option ℕ → Type 0
+IsRaised old new = (new ≡ old) ⊎ ((bound : ℕ) × (new ≡ Some bound) × (unwrap_or old 0 ≤ bound))
+
+-- the contents are what is stored with this low bound, or with a later one
+abbrev pub HoldsFrom : Option (List ℕ) → (ℕ → List ℕ → Type 0) → Option ℕ → Type 0
+HoldsFrom contents stored low = Holds contents stored low ⊎ ((bound : ℕ) × (unwrap_or low 0 ≤ bound) × IfSome contents (stored bound))
+
+-- what the store has of a node that is given up: what is stored of one of these cores with this low bound, or with a later one
+pub record GivenUp {Core : Type 0} (contents : Option (List ℕ)) (stored : Core → ℕ → List ℕ → Type 0) (low : Option ℕ) (MayBe : Core → Type 0) : Type 0 where
+  pub core : Core
+  pub may_be : MayBe core
+  pub holds : HoldsFrom contents (stored core) low
 
 -- what any call does to a store: its count of faults doesn't fall, and one that can't fail stays so
 pub record Serves {Store : Type 0} (faults : Store → ℕ) (is_infallible : Store → Type 0) (before now : Store) : Type 0 where

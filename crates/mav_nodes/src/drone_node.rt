@@ -1,13 +1,16 @@
 // A drone as a node.
-ghost use Rattle.std.specs.Prelude.{◌≡◌, ◌++◌, ℕ, List, Bool, Some, [], length, IfOk, IfErr, OnOk, IfSome};
+ghost use Rattle.std.specs.Prelude.{◌≡◌, ◌++◌, ℕ, List, Bool, false, Some, [], length, IfOk, IfErr, OnOk, IfSome};
 ghost use Rattle.mav_nodes.specs.Stores.{Serves, HasFailed, AllKept};
-ghost use Rattle.mav_nodes.specs.Images.{StoreHolds};
+ghost use Rattle.mav_nodes.specs.Images.{StoreHolds, StoreHoldsFrom};
+ghost use Rattle.mav_nodes.specs.GivenUp.{DroneGivenUp};
 ghost use Rattle.mav_nodes.specs.Nodes.{DroneSide, IsDrone, new_drone, drone_receives, drone_receives_keeping, drone_ticks, drone_beats, drone_sims};
 ghost use Rattle.mav_nodes.specs.Promises.{DroneDid, DroneDidKeeping, Fails, FailsKeeping};
 ghost use Rattle.mav_nodes.specs.Restarts.{stored_drone};
 ghost use Rattle.mav_nodes.specs.Services.{new_drone_services};
 ghost use Rattle.mav_nodes.specs.Starts.{IsStarted, StartedFrom, StartFails};
-ghost use Rattle.mav_nodes.specs.Streams.{HasRead, DronePart, DronePartFails};
+ghost use Rattle.mav_nodes.specs.Streams.{HasRead, GrowsBy, DronePart, DronePartFails};
+ghost use Rattle.mav_frame.specs.FinalParse.{final_parse};
+ghost use Rattle.mav_sign.specs.Endpoints.{frames_of};
 ghost use Rattle.mav_frame.specs.declared.events.Event.{Event};
 ghost use Rattle.mav_sign.specs.Streams.{reader_of};
 
@@ -216,6 +219,8 @@ impl DroneNode {
         ensures infallible { IfOk result (λ news. (node : DroneSide) → IsDrone node self.old → K.is_infallible keeper.old
             → DroneDid (drone_receives clock datagram.now node) self.new [] news.items) }
         ensures stored { OnOk result (StoreHolds (K.contents keeper.old) self.old → StoreHolds (K.contents keeper.new) self.new) }
+        ensures given { IfErr result (λ fault. StoreHolds (K.contents keeper.old) self.old → (node : DroneSide) → IsDrone node self.old
+            → DroneGivenUp clock (AllKept (HasFailed K.faults K.is_infallible keeper.old keeper.new)) (K.contents keeper.new) (frames_of (final_parse node.link.extras false datagram.now)) node) }
         ensures reader { reader_of self.new.link.endpoint ≡ reader_of self.old.link.endpoint }
         ensures serves { Serves K.faults K.is_infallible keeper.old keeper.new }
         ensures fault { IfErr result (λ fault. FailsKeeping fault (λ (node : DroneSide). IsDrone node self.old)
@@ -249,6 +254,9 @@ impl DroneNode {
         ensures done { IfOk result (λ part. (node : DroneSide) (taken : List ℕ) (given : List Event) → IsDrone node self.old → HasRead taken given self.old.link
             → DronePart clock node (taken ++ piece.now) given (AllKept (HasFailed K.faults K.is_infallible keeper.old keeper.new)) self.new part.1.items) }
         ensures stored { OnOk result (StoreHolds (K.contents keeper.old) self.old → StoreHolds (K.contents keeper.new) self.new) }
+        ensures given { IfErr result (λ fault. StoreHolds (K.contents keeper.old) self.old → (node : DroneSide) (taken : List ℕ) (given events : List Event) → IsDrone node self.old → HasRead taken given self.old.link
+            → GrowsBy self.old.link.endpoint.extras (taken ++ piece.now) given events
+            → DroneGivenUp clock (AllKept (HasFailed K.faults K.is_infallible keeper.old keeper.new)) (K.contents keeper.new) (frames_of events) node) }
         ensures serves { Serves K.faults K.is_infallible keeper.old keeper.new }
         ensures fault { IfErr result (λ fault. DronePartFails fault clock self.old piece.now (AllKept (HasFailed K.faults K.is_infallible keeper.old keeper.new)) (HasFailed K.faults K.is_infallible keeper.old keeper.new)) }
     {
@@ -268,6 +276,7 @@ impl DroneNode {
         ensures done { IfOk result (λ news. (node : DroneSide) → IsDrone node self.old
             → DroneDid (drone_ticks clock node) self.new [] news.items) }
         ensures stored { OnOk result (StoreHolds (K.contents keeper.old) self.old → StoreHolds (K.contents keeper.new) self.new) }
+        ensures given { IfErr result (λ fault. StoreHolds (K.contents keeper.old) self.old → StoreHoldsFrom (K.contents keeper.new) self.old) }
         ensures reader { reader_of self.new.link.endpoint ≡ reader_of self.old.link.endpoint }
         ensures serves { Serves K.faults K.is_infallible keeper.old keeper.new }
         ensures fault { IfErr result (λ fault. Fails fault (λ (node : DroneSide). IsDrone node self.old) (λ (node : DroneSide). drone_ticks clock node)
@@ -289,6 +298,7 @@ impl DroneNode {
         ensures done { IfOk result (λ news. (node : DroneSide) → IsDrone node self.old
             → DroneDid (drone_sims clock node) self.new [] news.items) }
         ensures stored { OnOk result (StoreHolds (K.contents keeper.old) self.old → StoreHolds (K.contents keeper.new) self.new) }
+        ensures given { IfErr result (λ fault. StoreHolds (K.contents keeper.old) self.old → StoreHoldsFrom (K.contents keeper.new) self.old) }
         ensures reader { reader_of self.new.link.endpoint ≡ reader_of self.old.link.endpoint }
         ensures serves { Serves K.faults K.is_infallible keeper.old keeper.new }
         ensures fault { IfErr result (λ fault. Fails fault (λ (node : DroneSide). IsDrone node self.old) (λ (node : DroneSide). drone_sims clock node)
@@ -317,6 +327,7 @@ impl DroneNode {
         ensures done { IfOk result (λ news. (node : DroneSide) → IsDrone node self.old
             → DroneDid (drone_beats clock node) self.new [] news.items) }
         ensures stored { OnOk result (StoreHolds (K.contents keeper.old) self.old → StoreHolds (K.contents keeper.new) self.new) }
+        ensures given { IfErr result (λ fault. StoreHolds (K.contents keeper.old) self.old → StoreHoldsFrom (K.contents keeper.new) self.old) }
         ensures reader { reader_of self.new.link.endpoint ≡ reader_of self.old.link.endpoint }
         ensures serves { Serves K.faults K.is_infallible keeper.old keeper.new }
         ensures fault { IfErr result (λ fault. Fails fault (λ (node : DroneSide). IsDrone node self.old) (λ (node : DroneSide). drone_beats clock node)

@@ -15,7 +15,7 @@ ghost use Rattle.mav_sign.specs.Signing.{verified};
 ghost use Rattle.mav_sign.specs.Streams.{reader_of, ReadTo};
 ghost use Rattle.mav_frame.specs.declared.events.Event.{Event};
 ghost use Rattle.mav_nodes.specs.LowBounds.{bound_for, raised, raised_for, raised_if};
-ghost use Rattle.mav_nodes.specs.Stores.{Holds, HoldsNearly, StoredBefore, Serves, HasFailed, HasFailedAt};
+ghost use Rattle.mav_nodes.specs.Stores.{Holds, HoldsNearly, StoredBefore, Serves, HasFailed, HasFailedAt, HoldsFrom, IsRaised};
 ghost use Rattle.mav_nodes.specs.Links.{Link as LinkState, IsEnd, IsLink, new_link, started_link, tries, sends, sends_all};
 ghost use Rattle.mav_nodes.specs.News.{NodeEvent, shown};
 ghost use Rattle.mav_nodes.specs.Steps.{answers};
@@ -250,6 +250,8 @@ impl Link {
         ensures stored { OnOk result (Holds (K.contents keeper.old) (C.stored core.now) self.old.low → Holds (K.contents keeper.new) (C.stored core.now) self.new.low) }
         ensures settled { OnOk result (1 ≤ stamp → HoldsNearly (K.contents keeper.old) (C.stored core.now) self.old.low → Holds (K.contents keeper.new) (C.stored core.now) self.new.low) }
         ensures endpoint { self.new.endpoint ≡ self.old.endpoint }
+        ensures raised { IsRaised self.old.low self.new.low }
+        ensures given { IfErr result (λ fault. HoldsNearly (K.contents keeper.old) (C.stored core.now) self.old.low → HoldsFrom (K.contents keeper.new) (C.stored core.now) self.new.low) }
         ensures serves { Serves K.faults K.is_infallible keeper.old keeper.new }
         ensures fault { IfErr result (λ fault. HasFailedAt fault K.faults K.is_infallible keeper.old keeper.new) }
     {
@@ -273,6 +275,8 @@ impl Link {
         ensures low { OnOk result (self.new ≡ record self.old { low = raised_if self.old.low answer frame.now.block }) }
         ensures stored { OnOk result (Holds (K.contents keeper.old) (C.stored core.now) self.old.low → Holds (K.contents keeper.new) (C.stored core.now) self.new.low) }
         ensures endpoint { self.new.endpoint ≡ self.old.endpoint }
+        ensures raised { IsRaised self.old.low self.new.low }
+        ensures given { IfErr result (λ fault. HoldsNearly (K.contents keeper.old) (C.stored core.now) self.old.low → HoldsFrom (K.contents keeper.new) (C.stored core.now) self.new.low) }
         ensures serves { Serves K.faults K.is_infallible keeper.old keeper.new }
         ensures fault { IfErr result (λ fault. HasFailedAt fault K.faults K.is_infallible keeper.old keeper.new) }
     {
@@ -293,7 +297,7 @@ impl Link {
         requires { verifies ≡ verified self.old.endpoint.key frame.now frame.now.block }
         ensures answer { IfOk result (λ answer. (link : LinkState) → IsLink link self.old → answer ≡ answer_to link.key link.history frame.now) }
         ensures link { OnOk result ((link : LinkState) → IsLink link self.old → IsLink (tries frame.now link) self.new) }
-        ensures keeps { LinkKeeps (result_err result) (Holds (K.contents keeper.old) (C.stored core.now) self.old.low) (Holds (K.contents keeper.new) (C.stored core.now) self.new.low) self.old self.new K.faults K.is_infallible keeper.old keeper.new }
+        ensures keeps { LinkKeeps (result_err result) (Holds (K.contents keeper.old) (C.stored core.now) self.old.low) (Holds (K.contents keeper.new) (C.stored core.now) self.new.low) (HoldsFrom (K.contents keeper.new) (C.stored core.now) self.new.low) self.old self.new K.faults K.is_infallible keeper.old keeper.new }
         ensures fault { IfErr result (λ fault. HasFailedAt fault K.faults K.is_infallible keeper.old keeper.new) }
     {
         let answer = self.endpoint.test_judged(frame, verifies);
@@ -315,7 +319,7 @@ impl Link {
         requires { verifies ≡ verified self.old.endpoint.key frame.now frame.now.block }
         ensures tried { IfOk result (λ tried. (link : LinkState) → IsLink link self.old → IsTried link frame.now tried) }
         ensures link { OnOk result ((link : LinkState) → IsLink link self.old → IsLink (tries frame.now link) self.new) }
-        ensures keeps { LinkKeeps (result_err result) (Holds (K.contents keeper.old) (C.stored core.now) self.old.low) (Holds (K.contents keeper.new) (C.stored core.now) self.new.low) self.old self.new K.faults K.is_infallible keeper.old keeper.new }
+        ensures keeps { LinkKeeps (result_err result) (Holds (K.contents keeper.old) (C.stored core.now) self.old.low) (Holds (K.contents keeper.new) (C.stored core.now) self.new.low) (HoldsFrom (K.contents keeper.new) (C.stored core.now) self.new.low) self.old self.new K.faults K.is_infallible keeper.old keeper.new }
         ensures fault { IfErr result (λ fault. HasFailedAt fault K.faults K.is_infallible keeper.old keeper.new) }
     {
         let answer = self.admit(frame, verifies, core, keeper)?;
@@ -333,7 +337,7 @@ impl Link {
     ) -> Result<(), NodeFault>
         ensures sent { OnOk result ((link : LinkState) → IsLink link self.old
             → LinkDid (sends clock message.now link) self.new news.old.items news.new.items) }
-        ensures keeps { LinkKeeps (result_err result) (HoldsNearly (K.contents keeper.old) (C.stored core.now) self.old.low) (Holds (K.contents keeper.new) (C.stored core.now) self.new.low) self.old self.new K.faults K.is_infallible keeper.old keeper.new }
+        ensures keeps { LinkKeeps (result_err result) (HoldsNearly (K.contents keeper.old) (C.stored core.now) self.old.low) (Holds (K.contents keeper.new) (C.stored core.now) self.new.low) (HoldsFrom (K.contents keeper.new) (C.stored core.now) self.new.low) self.old self.new K.faults K.is_infallible keeper.old keeper.new }
         ensures fault { IfErr result (λ fault. Fails fault (λ (link : LinkState). IsLink link self.old) (λ (link : LinkState). sends clock message.now link)
             (HasFailed K.faults K.is_infallible keeper.old keeper.new)) }
     {
@@ -372,7 +376,7 @@ impl Link {
     ) -> Result<(), NodeFault>
         ensures sent { OnOk result ((link : LinkState) → IsLink link self.old
             → LinkDid (answers clock answer link) self.new news.old.items news.new.items) }
-        ensures keeps { LinkKeeps (result_err result) (StoredBefore answer (K.contents keeper.old) (C.stored core.now) self.old.low) (Holds (K.contents keeper.new) (C.stored core.now) self.new.low) self.old self.new K.faults K.is_infallible keeper.old keeper.new }
+        ensures keeps { LinkKeeps (result_err result) (StoredBefore answer (K.contents keeper.old) (C.stored core.now) self.old.low) (Holds (K.contents keeper.new) (C.stored core.now) self.new.low) (HoldsFrom (K.contents keeper.new) (C.stored core.now) self.new.low) self.old self.new K.faults K.is_infallible keeper.old keeper.new }
         ensures fault { IfErr result (λ fault. Fails fault (λ (link : LinkState). IsLink link self.old) (λ (link : LinkState). answers clock answer link)
             (HasFailed K.faults K.is_infallible keeper.old keeper.new)) }
     {
@@ -396,7 +400,7 @@ impl Link {
     ) -> Result<(), NodeFault>
         ensures sent { OnOk result ((link : LinkState) → IsLink link self.old
             → LinkDid (sends_all clock messages.now link) self.new news.old.items news.new.items) }
-        ensures keeps { LinkKeeps (result_err result) (Holds (K.contents keeper.old) (C.stored core.now) self.old.low) (Holds (K.contents keeper.new) (C.stored core.now) self.new.low) self.old self.new K.faults K.is_infallible keeper.old keeper.new }
+        ensures keeps { LinkKeeps (result_err result) (Holds (K.contents keeper.old) (C.stored core.now) self.old.low) (Holds (K.contents keeper.new) (C.stored core.now) self.new.low) (HoldsFrom (K.contents keeper.new) (C.stored core.now) self.new.low) self.old self.new K.faults K.is_infallible keeper.old keeper.new }
         ensures fault { IfErr result (λ fault. Fails fault (λ (link : LinkState). IsLink link self.old) (λ (link : LinkState). sends_all clock messages.now link)
             (HasFailed K.faults K.is_infallible keeper.old keeper.new)) }
     {
@@ -420,7 +424,7 @@ impl Link {
         ensures said { OnOk result ((link : LinkState) (first last : List NodeEvent) → IsLink link self.old
             → said_of_plans step.plans ≡ map shown first → said_of_outcome step.outcome ≡ map shown last
             → LinkDid (says clock first step.answer last link) self.new news.old.items news.new.items) }
-        ensures keeps { LinkKeeps (result_err result) (StoredBefore step.answer (K.contents keeper.old) (C.stored core.now) self.old.low) (Holds (K.contents keeper.new) (C.stored core.now) self.new.low) self.old self.new K.faults K.is_infallible keeper.old keeper.new }
+        ensures keeps { LinkKeeps (result_err result) (StoredBefore step.answer (K.contents keeper.old) (C.stored core.now) self.old.low) (Holds (K.contents keeper.new) (C.stored core.now) self.new.low) (HoldsFrom (K.contents keeper.new) (C.stored core.now) self.new.low) self.old self.new K.faults K.is_infallible keeper.old keeper.new }
         ensures fault { IfErr result (λ fault. (first last : List NodeEvent)
             → Fails fault (λ (link : LinkState). IsLink link self.old) (λ (link : LinkState). says clock first step.answer last link)
             (HasFailed K.faults K.is_infallible keeper.old keeper.new)) }

@@ -75,7 +75,8 @@ pub(crate) trait Core {
 
     fn wait(&mut self) -> Step
         ensures step { IsStep (waited self.old) self.new result }
-        ensures stored { (low : ℕ) → (b : List ℕ) → stored self.old low b → stored self.new low b };
+        ensures stored { (low : ℕ) → (b : List ℕ) → stored self.old low b → stored self.new low b }
+        ensures same { (low : ℕ) → (b : List ℕ) → stored self.new low b → stored self.old low b };
 }
 
 /// Reports what was done to the plans.

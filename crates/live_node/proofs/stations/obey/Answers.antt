@@ -38,7 +38,7 @@ returns-in-Err-clause-did g c = λ before start made first o.
     rw c.order_end.ensures (record {
       at = at;
       timed = on_time _ _ at o.time c.now-now.ensures.answer;
-      stopped = not_followed _ before _ _ start made (Obeys c.args.order at) _ _ first _ (output_later _ _ c.now-now.ensures.stays o) f.spent c.in-Err.ensures.unstored;
+      stopped = not_followed _ before _ _ start made (Obeys c.args.order at) _ _ first _ (output_later _ _ c.now-now.ensures.stays o) f.spent c.in-Err.ensures.unstored (c.in-Err.ensures.given o.node _ (Obeys c.args.order at) o.is);
       refused = λ e. (f.refused e, refl);
       accepted = λ long. absurd (omega (arith, long));
     })

@@ -17,5 +17,5 @@ returns-in-Err-clause-did g c = λ before start made first o.
     record {
       at = at;
       timed = on_time _ _ at o.time c.now-now.ensures.answer;
-      stopped = rw c.end_by.ensures (not_called _ before _ _ start made (due_call c.args.due at) _ _ first _ c.in-Err.fault (output_later _ _ c.now-now.ensures.stays o) c.call.ensures.serves (c.in-Err.ensures.fault o.node o.is));
+      stopped = rw c.end_by.ensures (not_called _ before _ _ start made (due_call c.args.due at) _ _ first _ c.in-Err.fault (output_later _ _ c.now-now.ensures.stays o) c.call.ensures.serves (c.in-Err.ensures.fault o.node o.is) (c.in-Err.ensures.given o.stored o.node (due_call c.args.due at) o.is));
     }

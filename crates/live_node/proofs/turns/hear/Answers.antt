@@ -29,4 +29,4 @@ returns-in-Ok-clause-did g c = λ before start made first extras taken given o k
 pub returns-in-Err-clause-did : goal.returns-in-Err-clause-did
 returns-in-Err-clause-did g c = λ before start made first extras taken given o known heard.
     let at = c.now-now.result in
-    rw c.end_by.ensures (piece_broken at c.in-Err.fault (on_time _ _ at o.time c.now-now.ensures.answer) (output_later _ _ c.now-now.ensures.stays o) known heard c.part.ensures.serves c.in-Err.ensures.fault)
+    rw c.end_by.ensures (piece_broken at c.in-Err.fault (on_time _ _ at o.time c.now-now.ensures.answer) (output_later _ _ c.now-now.ensures.stays o) known heard c.part.ensures.serves c.in-Err.ensures.fault (c.in-Err.ensures.given o.stored))

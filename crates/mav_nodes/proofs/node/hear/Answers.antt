@@ -10,7 +10,8 @@ use Rattle.mav_nodes.specs.Promises.{NodeDid, IsTried, Fails}
 use Rattle.mav_nodes.proofs.Cores.{if_ok, if_err, hears_plan, hears_service, hears_other, hears_dropped}
 use Rattle.std.proofs.lemmas.Result.{err_from_is_err_and}
 use Rattle.mav_nodes.specs.declared.faults.NodeFault.{NodeFault}
-use Rattle.mav_nodes.proofs.StoreCalls.{then_failed, keeps_then, keeps_on}
+use Rattle.mav_nodes.proofs.StoreCalls.{then_failed, raised_twice, keeps_then, keeps_on, keeps_so}
+use Rattle.mav_nodes.proofs.GivenUp.{unchanged, took}
 use Rattle.mav_nodes.proofs.Keeping.{kept_so, store_fails, frame_fails, served_fails}
 use Rattle.mav_nodes.proofs.node.hear.Goals as goal
 
@@ -75,7 +76,7 @@ returns-in_err-serve-in-Service g c =
     rw p.1 (record {
       done = tt;
       unkept = tt;
-      keeps = rw p.2 (keeps_then c.in_ok-from.ensures.keeps (λ h. h) c.in_err-serve-in-Service.ensures.keeps);
+      keeps = rw p.2 (keeps_then c.in_ok-from.ensures.keeps (λ h. h) (λ left node is. unchanged (g.K.Keeper.contents c.serve.new.keeper) g.C.Core.stored g.C.Core.taken c.args.core.now node.link c.args.frame.now c.args.link.now.low c.serve.new.link.low (raised_twice c.args.link.now.low c.hear.new.self.low c.serve.new.link.low c.in_ok-from.ensures.keeps.raised c.in_err-serve-in-Service.ensures.keeps.raised) left) c.in_err-serve-in-Service.ensures.keeps);
       fault = served_fails one (λ (kept : Bool) (node : Side g.row.C.Denot g.row.V.Denot). hears (rules_of g.C.Core.taken g.V.Services.noted g.V.Services.served kept) c.args.clock frame node)
           (λ node. IsNode node c.args.link.now c.args.core.now c.args.services.now) (λ node. IsNode node c.hear.new.self c.args.core.now c.args.services.now) (HasFailed faults sure then now) (HasFailed faults sure c.args.keeper.now now) p.0
           (then_failed faults sure c.args.keeper.now then now c.hear.ensures.keeps.serves)
@@ -93,7 +94,7 @@ returns-in_err-from g c =
     rw (p.1, p.2) (record {
       done = tt;
       unkept = tt;
-      keeps = c.in_err-from.ensures.keeps;
+      keeps = keeps_so (λ left node is. unchanged (g.K.Keeper.contents c.hear.new.keeper) g.C.Core.stored g.C.Core.taken c.args.core.now node.link c.args.frame.now c.args.link.now.low c.hear.new.self.low (c.in_err-from.ensures.keeps.raised) left) c.in_err-from.ensures.keeps;
       fault = store_fails _ (λ (node : Side g.row.C.Denot g.row.V.Denot). IsNode node c.args.link.now c.args.core.now c.args.services.now) (λ (kept : Bool) (node : Side g.row.C.Denot g.row.V.Denot). hears (rules_of g.C.Core.taken g.V.Services.noted g.V.Services.served kept) c.args.clock c.args.frame.now node) (λ (kept : Bool). IsKept kept (HasFailed faults sure old now)) faults sure old now (HasFailed faults sure old now) (λ failed. failed) c.in_err-from.ensures.fault;
     })
 
@@ -102,13 +103,17 @@ returns-in-Plan-clause-unkept g c =
     if_ok c.take.result (λ kept is. kept_so kept (then_failed g.K.Keeper.faults g.K.Keeper.is_infallible c.args.keeper.now c.hear.new.keeper c.take.new.keeper c.hear.ensures.keeps.serves) is) c.take.ensures.unkept
 
 pub returns-in-Plan-clause-keeps : goal.returns-in-Plan-clause-keeps
-returns-in-Plan-clause-keeps g c = keeps_then c.in_ok-from.ensures.keeps (λ h. h) c.take.ensures.keeps
+returns-in-Plan-clause-keeps g c =
+    keeps_then c.in_ok-from.ensures.keeps (λ h. h)
+    (λ left node is. took (g.K.Keeper.contents c.take.new.keeper) g.C.Core.stored g.C.Core.taken c.args.core.now node.link c.args.frame.now c.args.link.now.low c.hear.new.self.low c.in-Plan.from c.in-Plan.message (subst (IsTried node.link c.args.frame.now) c.in-Plan.is (c.in_ok-from.ensures.tried node.link is.link)) c.in_ok-from.ensures.keeps.raised left) c.take.ensures.keeps
 
 pub returns-in_ok-serve-in-Service-clause-unkept : goal.returns-in_ok-serve-in-Service-clause-unkept
 returns-in_ok-serve-in-Service-clause-unkept g c = inl refl
 
 pub returns-in_ok-serve-in-Service-clause-keeps : goal.returns-in_ok-serve-in-Service-clause-keeps
-returns-in_ok-serve-in-Service-clause-keeps g c = keeps_then c.in_ok-from.ensures.keeps (λ h. h) c.in_ok-serve-in-Service.ensures.keeps
+returns-in_ok-serve-in-Service-clause-keeps g c =
+    keeps_then c.in_ok-from.ensures.keeps (λ h. h)
+    (λ left node is. unchanged (g.K.Keeper.contents c.serve.new.keeper) g.C.Core.stored g.C.Core.taken c.args.core.now node.link c.args.frame.now c.args.link.now.low c.serve.new.link.low (raised_twice c.args.link.now.low c.hear.new.self.low c.serve.new.link.low c.in_ok-from.ensures.keeps.raised c.in_ok-serve-in-Service.ensures.keeps.raised) left) c.in_ok-serve-in-Service.ensures.keeps
 
 pub returns-in_err-tell_dropped-in-Dropped : goal.returns-in_err-tell_dropped-in-Dropped
 returns-in_err-tell_dropped-in-Dropped g c =
@@ -116,7 +121,7 @@ returns-in_err-tell_dropped-in-Dropped g c =
     rw (p.1, p.2, c.in_err-tell_dropped-in-Dropped.ensures.fault) (record {
       done = tt;
       unkept = tt;
-      keeps = keeps_on c.in_ok-from.ensures.keeps;
+      keeps = keeps_on c.in_ok-from.ensures.keeps (λ held node is. unchanged (g.K.Keeper.contents c.hear.new.keeper) g.C.Core.stored g.C.Core.taken c.args.core.now node.link c.args.frame.now c.args.link.now.low c.hear.new.self.low c.in_ok-from.ensures.keeps.raised (inl held));
       fault = tt;
     })
 
@@ -124,10 +129,12 @@ pub returns-in-Other-clause-unkept : goal.returns-in-Other-clause-unkept
 returns-in-Other-clause-unkept g c = inl refl
 
 pub returns-in-Other-clause-keeps : goal.returns-in-Other-clause-keeps
-returns-in-Other-clause-keeps g c = c.in_ok-from.ensures.keeps
+returns-in-Other-clause-keeps g c =
+    keeps_on c.in_ok-from.ensures.keeps (λ held node is. unchanged (g.K.Keeper.contents c.hear.new.keeper) g.C.Core.stored g.C.Core.taken c.args.core.now node.link c.args.frame.now c.args.link.now.low c.hear.new.self.low c.in_ok-from.ensures.keeps.raised (inl held))
 
 pub returns-in_ok-tell_dropped-in-Dropped-clause-unkept : goal.returns-in_ok-tell_dropped-in-Dropped-clause-unkept
 returns-in_ok-tell_dropped-in-Dropped-clause-unkept g c = inl refl
 
 pub returns-in_ok-tell_dropped-in-Dropped-clause-keeps : goal.returns-in_ok-tell_dropped-in-Dropped-clause-keeps
-returns-in_ok-tell_dropped-in-Dropped-clause-keeps g c = c.in_ok-from.ensures.keeps
+returns-in_ok-tell_dropped-in-Dropped-clause-keeps g c =
+    keeps_on c.in_ok-from.ensures.keeps (λ held node is. unchanged (g.K.Keeper.contents c.hear.new.keeper) g.C.Core.stored g.C.Core.taken c.args.core.now node.link c.args.frame.now c.args.link.now.low c.hear.new.self.low c.in_ok-from.ensures.keeps.raised (inl held))

@@ -1,17 +1,17 @@
-use Rattle.std.proofs.Common.{◌≡◌, ℕ, ◌+◌, ◌-◌, ◌≤◌, ◌++◌, Bool, List, length, take, drop, sym, ◌∙◌, arith, subst}
+use Rattle.std.proofs.Common.{◌≡◌, ℕ, ◌+◌, ◌-◌, ◌≤◌, ◌++◌, Bool, List, Option, length, take, drop, sym, ◌∙◌, arith, subst}
 use Rattle.std.proofs.lemmas.List.{take_all}
 use Rattle.std.proofs.lemmas.Result.{err_from_is_err_and}
 use Rattle.mav_frame.specs.Packet.{Packet}
 use Rattle.mav_nodes.specs.declared.faults.NodeFault.{NodeFault}
-use Rattle.mav_nodes.specs.Stores.{Holds, IsKept, AllKept, HasFailed}
+use Rattle.mav_nodes.specs.Stores.{Holds, GivenUp, IsKept, AllKept, HasFailed}
 use Rattle.mav_nodes.specs.Steps.{Side, hears, hears_keeping, IsNode}
 use Rattle.mav_nodes.specs.Cores.{rules_of}
-use Rattle.mav_nodes.specs.Promises.{NodeDid, SpentKeeping, FailsKeeping}
+use Rattle.mav_nodes.specs.Promises.{NodeDid, SpentKeeping, FailsKeeping, AtFrame}
 use Rattle.mav_nodes.specs.Streams.{NodePart, GrowsBy}
 use Rattle.mav_nodes.proofs.StoreCalls.{serves_same, serves_both, failed_then, then_failed}
 use Rattle.mav_nodes.proofs.Keeping.{kept_so}
 use Rattle.mav_nodes.proofs.Leads.{part_length}
-use Rattle.mav_nodes.proofs.Parts.{read_at, fewer_left, node_read, part_at_first, part_on, part_to_none, part_whole, part_fails, cut_at}
+use Rattle.mav_nodes.proofs.Parts.{read_at, fewer_left, node_read, part_at_first, part_on, part_to_none, part_given, part_whole, part_fails, cut_at}
 use Rattle.mav_nodes.proofs.node.part.Goals as goal
 
 pub reading-init : goal.reading-init
@@ -107,3 +107,32 @@ reading-smaller g c =
     let r = c.reading in
     let piece = c.args.piece.now in
     fewer_left piece r.place c.read-size.result.0 r.link c.read-size.new.self c.hear.new.link c.read-size.result.1 c.in-Some.frame (omega (arith, c.read-size.ensures.count, part_length piece r.place)) r.invariant.within c.in-Some.is c.read-size.ensures.read c.hear.ensures.keeps.reader
+
+pub returns-in_err-hear-clause-given : goal.returns-in_err-hear-clause-given
+returns-in_err-hear-clause-given g c =
+    let p = err_from_is_err_and c.from_residual.result c.from_residual.ensures.1 in
+    let r = c.reading in
+    let faults = g.K.Keeper.faults in
+    let sure = g.K.Keeper.is_infallible in
+    let old = c.args.keeper.now in
+    let then = r.keeper in
+    let now = c.hear.new.keeper in
+    let piece = c.args.piece.now in
+    let place = r.place in
+    let size = c.read-size.result.0 in
+    let mid = c.read-size.new.self in
+    let frame = c.in-Some.frame in
+    let contents = g.K.Keeper.contents now in
+    let stored = g.C.Core.stored in
+    let few : size ≤ length piece - place = omega (arith, c.read-size.ensures.count, part_length piece place) in
+    let rules = rules_of g.C.Core.taken g.V.Services.noted g.V.Services.served in
+    rw p.1 (λ held node taken given events is read grows.
+    let so = r.invariant.heard node taken given is read in
+    let to = read_at taken piece place size (given ++ so.events) r.link mid c.read-size.result.1 _ few c.in-Some.is (c.read-size.ensures.read (taken ++ take place piece) (given ++ so.events) so.read) in
+    let rest = drop (place + size) piece in
+    let more = subst (λ (bytes : List ℕ). GrowsBy c.args.link.now.endpoint.extras bytes given events) (cut_at taken piece (place + size)) grows in
+    let at_mid = subst (λ low. Holds (g.K.Keeper.contents then) (g.C.Core.stored r.core) low) (sym c.read-size.ensures.low) (r.invariant.stored held) in
+    let left = c.in_err-hear.ensures.keeps.given at_mid so.heard.node (node_read so.heard.node r.link mid r.core r.services c.read-size.ensures.link so.heard.is) in
+    part_given rules c.args.clock c.args.link.now.endpoint.extras node (taken ++ take place piece) (taken ++ take (place + size) piece) given (HasFailed faults sure old then) r.link mid r.core r.services r.news.items so g.C.Core.taken stored contents (HasFailed faults sure old now) rest frame events to more (λ failed. failed_then faults sure old then now failed c.hear.ensures.keeps.serves)
+    (subst (λ (packet : Packet). GivenUp contents stored r.link.low (AtFrame g.C.Core.taken so.heard.node.link packet r.core)) (c.raw-raw.ensures ∙ c.of-bytes.ensures)
+    (subst (λ (low : Option ℕ). GivenUp contents stored low (AtFrame g.C.Core.taken so.heard.node.link c.raw-raw.result r.core)) c.read-size.ensures.low left)))

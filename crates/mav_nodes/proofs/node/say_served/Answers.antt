@@ -1,4 +1,4 @@
-use Rattle.std.proofs.Common.{◌++◌, List, sym, ap, ◌∙◌, subst}
+use Rattle.std.proofs.Common.{◌++◌, List, inl, sym, ap, ◌∙◌, subst}
 use Rattle.std.proofs.lemmas.List.{map-append}
 use Rattle.std.proofs.lemmas.Result.{err_from_is_err_and}
 use Rattle.mav_messages.specs.declared.messages.Message.{Message}
@@ -34,6 +34,6 @@ returns g c =
           answered_all c.args.clock node.link node.core c.args.core.now step c.args._services.now c.send_all.new.self one two three core served.services
           (subst (λ (ms : List Message). LinkDid (sends_all c.args.clock ms node.link) c.send_all.new.self one two) (c.deref.ensures.value ∙ served.answers) (c.in_ok-send_all.ensures.sent node.link is))
           (ap events_of told ∙ (map-append said_by two c.args.served.last.items ∙ ap (λ (l : List Shown). events_of two ++ l) served.last))) c.tell_all.ensures.told;
-      keeps = keeps_on c.in_ok-send_all.ensures.keeps;
+      keeps = keeps_on c.in_ok-send_all.ensures.keeps inl;
       fault = if_err c.tell_all.result (λ fault is step served. fails_for_memory fault _ _ _ is) c.tell_all.ensures.fault;
     }

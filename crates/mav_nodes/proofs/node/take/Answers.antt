@@ -1,14 +1,14 @@
-use Rattle.std.proofs.Common.{◌≡◌, ℕ, Bool, List, Option, Some, None, refl, sym, ap, ◌∙◌, subst}
+use Rattle.std.proofs.Common.{◌≡◌, ◌⊎◌, ℕ, Bool, true, List, Option, Some, None, inl, inr, refl, sym, ap, ◌∙◌, subst}
 use Rattle.plan_items.specs.declared.messages.PlanMsg.{PlanMsg}
 use Rattle.mav_nodes.specs.Steps.{Side, steps_noted, IsNode}
 use Rattle.std.proofs.lemmas.Result.{err_from_is_err_and}
 use Rattle.mav_nodes.specs.declared.faults.NodeFault.{NodeFault}
 use Rattle.mav_nodes.specs.Links.{Link, IsLink}
-use Rattle.mav_nodes.specs.Stores.{Holds, HoldsNearly, StoredBefore, HasFailed, IsKept}
+use Rattle.mav_nodes.specs.Stores.{Holds, HoldsNearly, GivenUp, StoredBefore, HasFailed, IsKept}
 use Rattle.mav_nodes.specs.Cores.{IsStep, says}
 use Rattle.mav_nodes.specs.Promises.{Fails}
 use Rattle.mav_nodes.proofs.Cores.{stepped}
-use Rattle.mav_nodes.proofs.StoreCalls.{failed_then, then_failed, serves_both}
+use Rattle.mav_nodes.proofs.StoreCalls.{failed_then, then_failed, serves_both, raised_same, from_raised}
 use Rattle.mav_nodes.proofs.Keeping.{kept_so, store_fails, step_fails}
 use Rattle.mav_nodes.proofs.node.take.Goals as goal
 
@@ -21,6 +21,15 @@ stored_before {Core} contents stored view core given answer low same is silent n
     by_answer None f = f refl
     by_answer (Some message) f = nearly
 
+-- a step that the store keeps is one of its steps
+taken_given : {Core : Type 0} (contents : Option (List ℕ)) (stored : Core → ℕ → List ℕ → Type 0) (taken : Bool → Core) (core : Core) (low : Option ℕ)
+    → GivenUp contents stored low (λ after. (after ≡ core) ⊎ (after ≡ taken true)) → GivenUp contents stored low (λ after. (after ≡ core) ⊎ ((kept : Bool) × (after ≡ taken kept)))
+taken_given {Core} contents stored taken core low h = record { core = h.core; may_be = by_core h.may_be; holds = h.holds }
+  where
+    by_core : (h.core ≡ core) ⊎ (h.core ≡ taken true) → (h.core ≡ core) ⊎ ((kept : Bool) × (h.core ≡ taken kept))
+    by_core (inl e) = inl e
+    by_core (inr e) = inr (true, e)
+
 pub returns-in_err-kept : goal.returns-in_err-kept
 returns-in_err-kept g c =
     let p = err_from_is_err_and c.from_residual.result c.from_residual.ensures.1 in
@@ -31,7 +40,15 @@ returns-in_err-kept g c =
     rw (p.1, p.2) (record {
       done = tt;
       unkept = tt;
-      keeps = record { stored = tt; reader = refl; serves = c.save_step.ensures.serves };
+      keeps = record {
+        stored = tt;
+        given = λ held. taken_given (g.K.Keeper.contents now) g.C.Core.stored (λ kept. (g.C.Core.taken kept c.args.core.now c.args.from c.args.message.now).core) c.args.core.now c.args.link.now.low
+            (subst (λ (low : Option ℕ). GivenUp (g.K.Keeper.contents now) g.C.Core.stored low (λ after. (after ≡ c.args.core.now) ⊎ (after ≡ (g.C.Core.taken true c.args.core.now c.args.from c.args.message.now).core))) c.low.ensures.low
+            (c.in_err-kept.ensures.given (subst (Holds (g.K.Keeper.contents old) (g.C.Core.stored c.args.core.now)) (sym c.low.ensures.low) held)));
+        raised = raised_same c.args.link.now.low;
+        reader = refl;
+        serves = c.save_step.ensures.serves;
+      };
       fault = store_fails _ (λ (node : Side g.row.C.Denot g.row.V.Denot). IsNode node c.args.link.now c.args.core.now c.args.services.now) (λ (kept : Bool) (node : Side g.row.C.Denot g.row.V.Denot). steps_noted g.V.Services.noted c.args.clock node.link node.services (g.C.Core.taken kept node.core c.args.from c.args.message.now)) (λ (kept : Bool). IsKept kept (HasFailed faults sure old now)) faults sure old now (HasFailed faults sure old now) (λ failed. failed) c.in_err-kept.ensures.fault;
     })
 
@@ -64,6 +81,33 @@ pub returns-clause-unkept : goal.returns-clause-unkept
 returns-clause-unkept g c =
     kept_so c.in_ok-kept.kept (λ failed. failed_then g.K.Keeper.faults g.K.Keeper.is_infallible c.args.keeper.now c.save_step.new.keeper c.say.new.keeper failed c.say.ensures.keeps.serves) c.in_ok-kept.ensures.unkept
 
+pub returns-in_err-say-clause-keeps : goal.returns-in_err-say-clause-keeps
+returns-in_err-say-clause-keeps g c =
+    let p = err_from_is_err_and c.from_residual-in_err-say.result c.from_residual-in_err-say.ensures.1 in
+    let faults = g.K.Keeper.faults in
+    let sure = g.K.Keeper.is_infallible in
+    let contents = g.K.Keeper.contents c.save_step.new.keeper in
+    let now = g.K.Keeper.contents c.say.new.keeper in
+    let step = c.take-step.result in
+    let core = c.take-step.new.self in
+    let did = g.C.Core.taken c.in_ok-kept.kept c.args.core.now c.args.from c.args.message.now in
+    let said = c.in_err-say.ensures.keeps in
+    rw (p.1, p.2) (record {
+      stored = tt;
+      given = λ held.
+          let before = subst (Holds (g.K.Keeper.contents c.args.keeper.now) (g.C.Core.stored c.args.core.now)) (sym c.low.ensures.low) held in
+          record {
+            core = core;
+            may_be = inr (c.in_ok-kept.kept, c.take-step.ensures.core);
+            holds = from_raised now (g.C.Core.stored core) c.args.link.now.low c.say.new.self.low said.raised
+                (said.given (subst (λ (low : Option ℕ). StoredBefore step.answer contents (g.C.Core.stored core) low) c.low.ensures.low
+                (stored_before contents g.C.Core.stored core did.core step.answer did.answer c.low.result c.take-step.ensures.core c.take-step.ensures.answer (λ none. c.in_ok-kept.ensures.silent none before) (c.in_ok-kept.ensures.nearly before))));
+          };
+      raised = said.raised;
+      reader = said.reader;
+      serves = serves_both faults sure c.args.keeper.now c.save_step.new.keeper c.say.new.keeper c.save_step.ensures.serves said.serves;
+    })
+
 pub returns-clause-keeps : goal.returns-clause-keeps
 returns-clause-keeps g c =
     let faults = g.K.Keeper.faults in
@@ -77,6 +121,8 @@ returns-clause-keeps g c =
           let before = subst (Holds (g.K.Keeper.contents c.args.keeper.now) (g.C.Core.stored c.args.core.now)) (sym c.low.ensures.low) held in
           said.stored (subst (λ (low : Option ℕ). StoredBefore step.answer contents (g.C.Core.stored c.take-step.new.self) low) c.low.ensures.low
           (stored_before contents g.C.Core.stored c.take-step.new.self did.core step.answer did.answer c.low.result c.take-step.ensures.core c.take-step.ensures.answer (λ none. c.in_ok-kept.ensures.silent none before) (c.in_ok-kept.ensures.nearly before)));
+      given = tt;
+      raised = said.raised;
       reader = said.reader;
       serves = serves_both faults sure c.args.keeper.now c.save_step.new.keeper c.say.new.keeper c.save_step.ensures.serves said.serves;
     }

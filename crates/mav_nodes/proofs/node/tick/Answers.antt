@@ -8,6 +8,7 @@ use Rattle.mav_nodes.specs.Cores.{IsStep, says}
 use Rattle.mav_nodes.specs.Promises.{LinkDid, Fails}
 use Rattle.mav_nodes.proofs.Cores.{stepped}
 use Rattle.mav_nodes.proofs.Keeping.{tick_fails}
+use Rattle.mav_nodes.proofs.StoreCalls.{same_held, held_before, from_so, from_raised}
 use Rattle.mav_nodes.proofs.node.tick.Goals as goal
 
 pub returns-in_err-say-clause-fault : goal.returns-in_err-say-clause-fault
@@ -28,3 +29,19 @@ returns-clause-done g c =
     let step = subst (λ (core : g.row.C.Denot). IsStep (waited core) c.wait-step.new.self given) is.core c.wait-step.ensures.step in
     let said = c.in_ok-say.ensures.said node.link did.first did.last is.link step.first step.last in
     stepped c.args.clock node.link node.services c.args._services.now did c.wait-step.new.self given c.say.new.self [] after is.services step (subst (λ (before : List News). LinkDid (says c.args.clock did.first given.answer did.last node.link) c.say.new.self before after) c.new-news.ensures.items said)
+
+pub returns-in_err-say-clause-keeps : goal.returns-in_err-say-clause-keeps
+returns-in_err-say-clause-keeps g c =
+    let p = err_from_is_err_and c.from_residual.result c.from_residual.ensures.1 in
+    let low = c.args.link.now.low in
+    let said = c.in_err-say.ensures.keeps in
+    rw (p.1, p.2) (record {
+      stored = tt;
+      given = λ held.
+          let now = same_held (g.K.Keeper.contents c.args.keeper.now) (g.C.Core.stored c.args.core.now) (g.C.Core.stored c.wait-step.new.self) low c.wait-step.ensures.stored held in
+          from_so (g.K.Keeper.contents c.say.new.keeper) (g.C.Core.stored c.wait-step.new.self) (g.C.Core.stored c.args.core.now) low c.wait-step.ensures.same
+          (from_raised (g.K.Keeper.contents c.say.new.keeper) (g.C.Core.stored c.wait-step.new.self) low c.say.new.self.low said.raised (said.given (held_before (g.K.Keeper.contents c.args.keeper.now) (g.C.Core.stored c.wait-step.new.self) low c.wait-step.result.answer now)));
+      raised = said.raised;
+      reader = said.reader;
+      serves = said.serves;
+    })

@@ -1,20 +1,15 @@
-use Rattle.std.proofs.Common.{◌≡◌, ◌⊎◌, ◌<◌, ℕ, List, [], Option, Some, None, Result, Ok, Err, true, inl, inr, false, refl, arith, ◌^◌}
+use Rattle.std.proofs.Common.{◌≡◌, ◌⊎◌, ◌<◌, ℕ, List, [], Option, Some, None, Result, Ok, Err, true, inl, inr, false, refl, sym, subst, arith, ◌^◌}
 use Rattle.std.specs.Prelude.{IfSome, unwrap_or}
 use Rattle.std.proofs.lemmas.Result.{err_from_is_err_and}
 use Rattle.mav_ports.specs.Counts.{Rose}
-use Rattle.plan_store.specs.Keeps.{replace_known}
+use Rattle.plan_store.specs.Keeps.{replace_known, KeptOrReplaced}
 use Rattle.plan_store.specs.declared.keepers.KeepFault.{KeepFault}
 use Rattle.plan_store.specs.declared.keepers.KeepFault.TheVariants.{Store as KeptStore, NoMemory as KeptNoMemory}
 use Rattle.plan_store.specs.declared.saves.Stored.{Stored}
 use Rattle.plan_store.specs.declared.saves.Stored.TheVariants.{New, Old}
-use Rattle.mav_nodes.specs.Stores.{Holds, HoldsNearly, AreStored, HasFailedAt, fault_of}
-use Rattle.mav_nodes.proofs.StoreCalls.{serves_same}
+use Rattle.mav_nodes.specs.Stores.{Holds, HoldsNearly, GivenUp, AreStored, HasFailedAt, fault_of}
+use Rattle.mav_nodes.proofs.StoreCalls.{serves_same, same_held, replaced, nearly_from}
 use Rattle.mav_nodes.proofs.stores.save_step.Goals as goal
-
--- what a store has of bytes that were saved
-replaced : (contents now : Option (List ℕ)) (P : List ℕ → Type 0) (bytes : List ℕ) → now ≡ replace_known contents bytes → P bytes → IfSome now P
-replaced None now P bytes e h = rw e tt
-replaced (Some kept) now P bytes e h = rw e h
 
 new_held : (contents now : Option (List ℕ)) (stored : ℕ → List ℕ → Type 0) (low : Option ℕ) (bytes : List ℕ) → now ≡ replace_known contents bytes → stored (unwrap_or low 0) bytes → HoldsNearly now stored low
 new_held contents now stored None bytes e h = replaced contents now (λ b. (b ≡ []) ⊎ stored 0 b) bytes e (inr h)
@@ -24,15 +19,23 @@ old_held : (contents now : Option (List ℕ)) (before after : ℕ → List ℕ �
 old_held contents now before after None bytes e h f = replaced contents now (λ b. b ≡ []) bytes e h
 old_held contents now before after (Some low) bytes e h f = replaced contents now (after low) bytes e (f low bytes h)
 
-same_held : (contents : Option (List ℕ)) (before after : ℕ → List ℕ → Type 0) (low : Option ℕ) → ((n : ℕ) (b : List ℕ) → before n b → after n b) → Holds contents before low → Holds contents after low
-same_held contents before after None f h = h
-same_held None before after (Some low) f h = tt
-same_held (Some kept) before after (Some low) f h = f low kept h
-
 nearly : (contents : Option (List ℕ)) (stored : ℕ → List ℕ → Type 0) (low : Option ℕ) → Holds contents stored low → HoldsNearly contents stored low
 nearly None stored None h = tt
 nearly (Some kept) stored None h = inl h
 nearly contents stored (Some low) h = h
+
+-- a save of what a step changes failed
+step_given : {Core : Type 0} (contents now : Option (List ℕ)) (stored : Core → ℕ → List ℕ → Type 0) (core after : Core) (bytes : List ℕ) (low : Option ℕ) → KeptOrReplaced contents now bytes → stored after (unwrap_or low 0) bytes → Holds contents (stored core) low → GivenUp now stored low (λ c. (c ≡ core) ⊎ (c ≡ after))
+step_given contents now stored core after bytes low (inl e) is held = record {
+  core = core;
+  may_be = inl refl;
+  holds = inl (subst (λ (c : Option (List ℕ)). Holds c (stored core) low) (sym e) held);
+}
+step_given contents now stored core after bytes low (inr e) is held = record {
+  core = after;
+  may_be = inr refl;
+  holds = nearly_from now (stored after) low (new_held contents now (stored after) low bytes e is);
+}
 
 bound_fits : (low : Option ℕ) → IfSome low (λ n. n < 2 ^ 48) → unwrap_or low 0 < 2 ^ 48
 bound_fits None h = omega arith
@@ -62,12 +65,12 @@ image_after-requires g c = rw c.unwrap_or.ensures (bound_fits c.args.low c.requi
 pub returns-in_err-new : goal.returns-in_err-new
 returns-in_err-new g c =
     let p = err_from_is_err_and c.from_residual.result c.from_residual.ensures.1 in
-    rw (p.1, p.2) (record { nearly = tt; silent = tt; unkept = tt; serves = serves_same g.K.Keeper.faults g.K.Keeper.is_infallible c.args.keeper.now; fault = tt })
+    rw (p.1, p.2) (record { nearly = tt; silent = tt; given = λ held. record { core = c.args.core.now; may_be = inl refl; holds = inl held }; unkept = tt; serves = serves_same g.K.Keeper.faults g.K.Keeper.is_infallible c.args.keeper.now; fault = tt })
 
 pub returns-in_err-old : goal.returns-in_err-old
 returns-in_err-old g c =
     let p = err_from_is_err_and c.from_residual-in_err-old.result c.from_residual-in_err-old.ensures.1 in
-    rw (p.1, p.2) (record { nearly = tt; silent = tt; unkept = tt; serves = serves_same g.K.Keeper.faults g.K.Keeper.is_infallible c.args.keeper.now; fault = tt })
+    rw (p.1, p.2) (record { nearly = tt; silent = tt; given = λ held. record { core = c.args.core.now; may_be = inl refl; holds = inl held }; unkept = tt; serves = serves_same g.K.Keeper.faults g.K.Keeper.is_infallible c.args.keeper.now; fault = tt })
 
 pub returns-in_default : goal.returns-in_default
 returns-in_default g c =
@@ -75,6 +78,7 @@ returns-in_default g c =
     record {
       nearly = λ h. nearly (g.K.Keeper.contents c.args.keeper.now) (g.C.Core.stored (g.C.Core.taken true c.args.core.now c.args.from c.args.message.now).core) c.args.low (held h);
       silent = λ none. held;
+      given = tt;
       unkept = inl refl;
       serves = serves_same g.K.Keeper.faults g.K.Keeper.is_infallible c.args.keeper.now;
       fault = tt;
@@ -89,6 +93,7 @@ returns-in_err-save_or_load g c =
     rw (p.1, p.2) (record {
       nearly = tt;
       silent = tt;
+      given = λ held. step_given (g.K.Keeper.contents c.args.keeper.now) (g.K.Keeper.contents then) g.C.Core.stored c.args.core.now (g.C.Core.taken true c.args.core.now c.args.from c.args.message.now).core c.in-Some.new.items c.args.low (rw c.deref-2.ensures.value at c.save_or_load.ensures.either) (rw (c.unwrap_or.ensures, c.in-Some.is) at c.in_ok-new.ensures.bytes) held;
       unkept = tt;
       serves = record { count = c.save_or_load.ensures.count; infallible = λ h. (c.save_or_load.ensures.infallible h).0 };
       fault = fails_so faults sure c.args.keeper.now then c.save_or_load.result c.in_err-save_or_load.field-0.0 c.in_err-save_or_load.was c.save_or_load.ensures.fault c.save_or_load.ensures.infallible;
@@ -101,6 +106,7 @@ returns-in-New g c =
     record {
       nearly = λ h. new_held (g.K.Keeper.contents c.args.keeper.now) (g.K.Keeper.contents c.save_or_load.new.keeper) (g.C.Core.stored (g.C.Core.taken true c.args.core.now c.args.from c.args.message.now).core) c.args.low c.in-Some.new.items (rw c.deref-2.ensures.value at (c.save_or_load.ensures.new is)) (rw (c.unwrap_or.ensures, c.in-Some.is) at c.in_ok-new.ensures.bytes);
       silent = λ none. absurd (c.in_ok-new.ensures.changed some true none);
+      given = tt;
       unkept = inl refl;
       serves = record { count = c.save_or_load.ensures.count; infallible = λ h. (c.save_or_load.ensures.infallible h).0 };
       fault = tt;
@@ -113,6 +119,7 @@ returns g c =
     record {
       nearly = λ h. nearly _ _ c.args.low (old_held (g.K.Keeper.contents c.args.keeper.now) (g.K.Keeper.contents c.save_or_load.new.keeper) (g.C.Core.stored c.args.core.now) (g.C.Core.stored (g.C.Core.taken false c.args.core.now c.args.from c.args.message.now).core) c.args.low c.in_ok-old.old.items (rw c.deref.ensures.value at (c.save_or_load.ensures.old is)) c.in_ok-old.ensures c.image_after.ensures.unkept);
       silent = λ none. absurd (c.in_ok-new.ensures.changed some false none);
+      given = tt;
       unkept = inr (record { count = c.save_or_load.ensures.old_rose is; fallible = λ h. not_old c.save_or_load.result is (c.save_or_load.ensures.infallible h).1 });
       serves = record { count = c.save_or_load.ensures.count; infallible = λ h. (c.save_or_load.ensures.infallible h).0 };
       fault = tt;

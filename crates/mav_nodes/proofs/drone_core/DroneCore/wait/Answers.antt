@@ -9,3 +9,9 @@ returns-clause-stored c = λ low bytes is.
     let d = c.args.self.now in
     let still = ticks_still d in
     subst (λ (e : DroneState). IsStored e low bytes) (sym c.tick.ensures.drone) (same_image d (drone_tick d).drone low bytes still.sys still.plans is)
+
+pub returns-clause-same : goal.returns-clause-same
+returns-clause-same c = λ low bytes is.
+    let d = c.args.self.now in
+    let still = ticks_still d in
+    same_image (drone_tick d).drone d low bytes (sym still.sys) (sym still.plans) (subst (λ (e : DroneState). IsStored e low bytes) c.tick.ensures.drone is)

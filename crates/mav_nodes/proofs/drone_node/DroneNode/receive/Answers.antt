@@ -9,7 +9,7 @@ use Rattle.mav_nodes.specs.Steps.{IsNode}
 use Rattle.mav_nodes.proofs.Cores.{if_ok, if_err}
 use Rattle.mav_nodes.proofs.Keeping.{keeps_all}
 use Rattle.mav_nodes.proofs.Ends.{sure_did, sure_fails, fails_keeping_so, on_ok}
-use Rattle.mav_nodes.proofs.StoreCalls.{kept_ok}
+use Rattle.mav_nodes.proofs.StoreCalls.{kept_ok, given_up}
 use Rattle.mav_nodes.proofs.drone_node.DroneNode.receive.Goals as goal
 
 pub returns-clause-done : goal.returns-clause-done
@@ -50,3 +50,7 @@ returns-clause-infallible_fault g c =
     let bytes = c.bytes.result.now in
     sure_fails fault (λ (node : DroneSide). IsNode node c.self.inside.link c.self.inside.drone c.self.inside.services) (λ (keeps : List Bool) (node : DroneSide). drone_receives_keeping c.args.clock keeps bytes node) _ (λ (node : DroneSide). IsDrone node c.args.self.now) (λ (node : DroneSide). drone_receives c.args.clock bytes node) (λ failed. failed.fallible sure)
     (λ node is. (node, subst (IsDrone node) (sym c.self.view_is) is, λ keeps all none. sym (keeps_all drone_rules_keeping c.args.clock keeps (frames_of (final_parse node.link.extras false bytes)) node all) ∙ none)) h) c.receive.ensures.fault)
+
+pub returns-clause-given : goal.returns-clause-given
+returns-clause-given g c =
+    rw (sym c.bytes.ensures) (if_err c.receive.result (λ fault left held node is. left (subst (StoreHolds (g.K.Keeper.contents c.args.keeper.now)) (sym c.self.view_is) held) node (subst (IsDrone node) (sym c.self.view_is) is)) (given_up c.receive.result c.receive.ensures.keeps))

@@ -10,6 +10,8 @@ use Rattle.mav_nodes.specs.Steps.{serves}
 use Rattle.mav_nodes.specs.Cores.{IsServed}
 use Rattle.mav_nodes.specs.Promises.{NodeDid, Fails}
 use Rattle.mav_nodes.specs.Nodes.{DroneSide, IsDrone, drone_sims}
+use Rattle.mav_nodes.specs.Images.{IsStored, StoreHolds, StoreHoldsFrom}
+use Rattle.mav_nodes.proofs.StoreCalls.{from_raised}
 use Rattle.mav_nodes.proofs.Ends.{fails_so}
 use Rattle.mav_nodes.proofs.drone_node.DroneNode.sim.Goals as goal
 
@@ -40,3 +42,13 @@ returns-clause-done g c =
     let served = subst (λ (v : DroneServices). IsServed (drone_flies node.core v) c.fly.new.self c.in_ok-served.served) inside.services one in
     let did = c.in_ok-say_served.ensures.done node step inside.link inside.core served in
     subst (λ (before : List News). NodeDid (serves c.args.clock node.link node.core step) c.say_served.new.link c.self.inside.drone c.fly.new.self before c.say_served.new.news.items) c.new-news.ensures.items did
+
+pub returns-in_err-say_served-clause-given : goal.returns-in_err-say_served-clause-given
+returns-in_err-say_served-clause-given g c =
+    let p = err_from_is_err_and c.from_residual-in_err-say_served.result c.from_residual-in_err-say_served.ensures.1 in
+    let inside = c.self.inside in
+    let keeps = c.in_err-say_served.ensures.keeps in
+    let now = g.K.Keeper.contents c.say_served.new.keeper in
+    rw p.1 (λ held.
+    subst (StoreHoldsFrom now) c.self.view_is
+    (from_raised now (IsStored inside.drone) inside.link.low c.say_served.new.link.low keeps.raised (keeps.given (subst (StoreHolds (g.K.Keeper.contents c.args.keeper.now)) (sym c.self.view_is) held))))

@@ -9,7 +9,8 @@ use Rattle.mav_sign.specs.Endpoints.{EndpointState, after_frame}
 use Rattle.mav_sign.specs.Streams.{reader_of}
 use Rattle.mav_nodes.specs.Links.{Link, LinkView, IsEnd, IsLink, tries}
 use Rattle.mav_nodes.specs.LowBounds.{raised_if, raised_at}
-use Rattle.mav_nodes.specs.Stores.{Holds}
+use Rattle.mav_nodes.specs.Stores.{Holds, IsRaised}
+use Rattle.mav_nodes.proofs.SendsAll.{held_nearly}
 use Rattle.mav_nodes.proofs.link.Link.admit.Goals as goal
 
 -- the verdict of an endpoint
@@ -46,7 +47,13 @@ returns-in_err-raise_for g c =
     rw (p.1, p.2) (record {
       answer = tt;
       link = tt;
-      keeps = record { stored = tt; reader = ap reader_of c.raise_for.ensures.endpoint; serves = c.raise_for.ensures.serves };
+      keeps = record {
+        stored = tt;
+        given = λ held. c.in_err-raise_for.ensures.given (held_nearly (g.K.Keeper.contents c.args.keeper.now) (g.C.Core.stored c.args.core.now) c.args.self.now.low held);
+        raised = c.raise_for.ensures.raised;
+        reader = ap reader_of c.raise_for.ensures.endpoint;
+        serves = c.raise_for.ensures.serves;
+      };
       fault = c.in_err-raise_for.ensures.fault;
     })
 
@@ -70,6 +77,8 @@ returns g c =
       link = λ link is. tried_so link frame old raised c.self-2.inside.endpoint c.keep_verdict.new.self c.self-2.inside.low is view low (c.in_ok-raise_for.ensures.low ∙ ap (λ (a : Admit). record old { low = raised_if old.low a frame.block }) (answer link is)) c.keep_verdict.ensures.same c.keep_verdict.ensures.history;
       keeps = record {
         stored = λ held. subst (Holds (g.K.Keeper.contents c.raise_for.new.keeper) (g.C.Core.stored c.args.core.now)) (sym low) (c.in_ok-raise_for.ensures.stored held);
+        given = tt;
+        raised = subst (IsRaised old.low) (sym low) c.raise_for.ensures.raised;
         reader = ap reader_of c.keep_verdict.ensures.same ∙ (ap reader_of view ∙ ap reader_of c.raise_for.ensures.endpoint);
         serves = c.raise_for.ensures.serves;
       };

@@ -1,4 +1,4 @@
-use Rattle.std.proofs.Common.{◌++◌, List, ap, ◌∙◌, refl}
+use Rattle.std.proofs.Common.{◌++◌, List, inl, ap, ◌∙◌, refl}
 use Rattle.std.proofs.lemmas.Result.{err_from_is_err_and}
 use Rattle.mav_nodes.specs.Links.{Link, Outcome, IsLink, after_events}
 use Rattle.mav_nodes.specs.News.{Shown, events_of}
@@ -7,7 +7,7 @@ use Rattle.mav_nodes.specs.Stores.{HasFailed}
 use Rattle.mav_nodes.specs.Cores.{ends, says}
 use Rattle.mav_nodes.proofs.Cores.{if_err, fails_for_memory, said_in_turn}
 use Rattle.mav_nodes.proofs.Ends.{on_ok, fails_so}
-use Rattle.mav_nodes.proofs.StoreCalls.{serves_same, keeps_on}
+use Rattle.mav_nodes.proofs.StoreCalls.{serves_same, before_from, raised_same, keeps_on}
 use Rattle.mav_nodes.proofs.link.Link.say.Goals as goal
 
 pub returns-in_err-tell_plans : goal.returns-in_err-tell_plans
@@ -15,7 +15,13 @@ returns-in_err-tell_plans g c =
     let p = err_from_is_err_and c.from_residual.result c.from_residual.ensures.1 in
     rw (p.1, p.2, c.in_err-tell_plans.ensures.fault) (record {
       said = tt;
-      keeps = record { stored = tt; reader = refl; serves = serves_same g.K.Keeper.faults g.K.Keeper.is_infallible c.args.keeper.now };
+      keeps = record {
+        stored = tt;
+        given = before_from (g.K.Keeper.contents c.args.keeper.now) (g.C.Core.stored c.args.core.now) c.args.self.now.low c.args.step.answer;
+        raised = raised_same c.args.self.now.low;
+        reader = refl;
+        serves = serves_same g.K.Keeper.faults g.K.Keeper.is_infallible c.args.keeper.now;
+      };
       fault = λ first last. tt;
     })
 
@@ -40,6 +46,6 @@ returns g c =
     record {
       said = on_ok c.tell_outcome.result (λ told link first last is plans outcome.
           said_in_turn c.args.clock link first last c.args.step.answer c.answer.new.self one two three four (c.in_ok-tell_plans.ensures.told ∙ ap (λ (l : List Shown). events_of one ++ l) plans) (c.in_ok-answer.ensures.sent link is) (told ∙ ap (λ (l : List Shown). events_of three ++ l) outcome)) c.tell_outcome.ensures.told;
-      keeps = keeps_on c.in_ok-answer.ensures.keeps;
+      keeps = keeps_on c.in_ok-answer.ensures.keeps inl;
       fault = if_err c.tell_outcome.result (λ fault is first last. fails_for_memory fault _ _ _ is) c.tell_outcome.ensures.fault;
     }

@@ -1,4 +1,4 @@
-use Rattle.std.proofs.Common.{◌≡◌, ℕ, Bool, true, false, if◌then◌else◌, List, Option, None, Result, Ok, Err, refl, sym, ap, ◌∙◌, subst}
+use Rattle.std.proofs.Common.{◌≡◌, ℕ, Bool, true, false, if◌then◌else◌, List, Option, None, Result, Ok, Err, inl, refl, sym, ap, ◌∙◌, subst}
 use Rattle.std.specs.Prelude.{nat_lt}
 use Rattle.std.proofs.lemmas.List.Sums.{fold_push}
 use Rattle.std.proofs.lemmas.Result.{err_from_is_err_and}
@@ -14,11 +14,11 @@ use Rattle.mav_nodes.specs.declared.news.News.{News}
 use Rattle.mav_nodes.specs.News.{NodeEvent}
 use Rattle.mav_nodes.specs.Links.{Link, LinkView, IsEnd, IsLink, Outcome, done, sent_at, sends}
 use Rattle.mav_nodes.specs.LowBounds.{raised, raised_at, stored_low}
-use Rattle.mav_nodes.specs.Stores.{Holds, HasFailed, HasFailedAt}
+use Rattle.mav_nodes.specs.Stores.{Holds, IsRaised, HasFailed, HasFailedAt}
 use Rattle.mav_nodes.specs.Promises.{Fails, Did, LinkDid}
 use Rattle.mav_nodes.proofs.Cores.{if_err}
 use Rattle.mav_nodes.proofs.Ends.{on_ok, fails_so}
-use Rattle.mav_nodes.proofs.StoreCalls.{serves_same, keeps_on}
+use Rattle.mav_nodes.proofs.StoreCalls.{serves_same, nearly_from, raised_same, keeps_on}
 use Rattle.mav_nodes.proofs.link.Link.send.Goals as goal
 
 -- no timestamp is left
@@ -58,7 +58,13 @@ returns-in_err-stamp g c =
     let p = err_from_is_err_and c.from_residual.result c.from_residual.ensures.1 in
     rw (p.1, p.2) (record {
       sent = tt;
-      keeps = record { stored = tt; reader = refl; serves = serves_same g.K.Keeper.faults g.K.Keeper.is_infallible c.args.keeper.now };
+      keeps = record {
+        stored = tt;
+        given = nearly_from (g.K.Keeper.contents c.args.keeper.now) (g.C.Core.stored c.args.core.now) c.args.self.now.low;
+        raised = raised_same c.args.self.now.low;
+        reader = refl;
+        serves = serves_same g.K.Keeper.faults g.K.Keeper.is_infallible c.args.keeper.now;
+      };
       fault = λ link is. none_left c.args.clock c.args.message.now link _ (c.in_err-stamp.ensures.answer link.history (subst (λ (e : EndpointState). Represents e.stamps link.history) (sym (ap (λ (v : LinkView). v.endpoint) c.self.view_is)) is.end.history));
     })
 
@@ -67,7 +73,7 @@ returns-in_err-raise g c =
     let p = err_from_is_err_and c.from_residual-in_err-raise.result c.from_residual-in_err-raise.ensures.1 in
     rw (p.1, p.2) (record {
       sent = tt;
-      keeps = record { stored = tt; reader = ap reader_of c.raise.ensures.endpoint; serves = c.raise.ensures.serves };
+      keeps = record { stored = tt; given = c.in_err-raise.ensures.given; raised = c.raise.ensures.raised; reader = ap reader_of c.raise.ensures.endpoint; serves = c.raise.ensures.serves };
       fault = fails_at g.K.Keeper.faults g.K.Keeper.is_infallible c.args.keeper.now c.raise.new.keeper (λ (link : Link). IsLink link c.args.self.now) (λ (link : Link). sends c.args.clock c.args.message.now link) _ c.in_err-raise.ensures.fault;
     })
 
@@ -82,10 +88,12 @@ returns g c =
     record {
       sent = on_ok c.transmit.result (λ did link is.
           link_sent c.args.clock c.args.message.now link old bound c.transmit.new.self c.in_ok-stamp.stamp c.args.news.now.items c.transmit.new.news.items is (c.in_ok-stamp.ensures.answer link.history (subst (λ (e : EndpointState). Represents e.stamps link.history) (sym view) is.end.history)) c.in_ok-raise.ensures.low c.transmit.ensures.low (did link (subst (IsEnd link) (sym end) is.end))) c.transmit.ensures.sent;
-      keeps = keeps_on (record {
+      keeps = keeps_on {K = Unit {0}} (record {
         stored = λ held. subst (Holds (g.K.Keeper.contents c.raise.new.keeper) (g.C.Core.stored c.args.core.now)) (sym c.transmit.ensures.low) (c.in_ok-raise.ensures.settled c.in_ok-stamp.ensures.some held);
+        given = tt;
+        raised = subst (IsRaised old.low) (sym c.transmit.ensures.low) c.raise.ensures.raised;
         reader = c.transmit.ensures.reader ∙ ap reader_of c.raise.ensures.endpoint;
         serves = c.raise.ensures.serves;
-      });
+      }) inl;
       fault = if_err c.transmit.result (λ fault. fails_so fault (λ (link : Link). IsEnd link bound.endpoint) (λ (link : Link). sends c.args.clock c.args.message.now link) ⊥ (λ (link : Link). IsLink link old) (λ (link : Link). sends c.args.clock c.args.message.now link) (HasFailed faults sure c.args.keeper.now c.raise.new.keeper) (λ never. absurd never) (λ link is. (link, subst (IsEnd link) (sym end) is.end, λ none. none))) c.transmit.ensures.fault;
     }
