@@ -1,14 +1,19 @@
 // A bell that ends the wait of a port.
 
-use mio::{Registry, Token, Waker};
+use mio::event::Source;
+use mio::{Interest, Registry, Token, Waker};
 use std::io;
 use std::sync::atomic::{AtomicBool, Ordering};
+
+// The sockets of other ports.
+const OTHERS: Token = Token(2);
 
 /// Ends the wait of a port in another thread: something waits to be written to it.
 #[derive(Drop)]
 pub struct Bell {
     waker: Waker,
     is_expected: AtomicBool,
+    registry: Registry,
 }
 
 impl Bell {
@@ -16,6 +21,7 @@ impl Bell {
         Ok(Bell {
             waker: Waker::new(registry, token)?,
             is_expected: AtomicBool::new(false),
+            registry: registry.try_clone()?,
         })
     }
 
@@ -24,6 +30,14 @@ impl Bell {
         if self.is_expected.swap(false, Ordering::SeqCst) {
             let _ = self.waker.wake();
         }
+    }
+
+    /// What happens at another port's socket ends the waits too.
+    pub(crate) fn hears<S: Source>(&self, source: &mut S)
+        ensures kept { S.keeps source.old source.new }
+    {
+        let interest = Interest::READABLE | Interest::WRITABLE;
+        let _ = self.registry.register(source, OTHERS, interest);
     }
 
     /// The port is about to wait: the next ring ends its wait.

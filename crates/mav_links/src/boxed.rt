@@ -28,11 +28,15 @@ impl Link for Box<dyn Link> {
         (**self).rest()
     }
 
-    fn can_write(&mut self) -> bool {
-        (**self).can_write()
+    fn room(&mut self) -> usize {
+        (**self).room()
     }
 
     fn bell(&self) -> Option<Arc<Bell>> {
         (**self).bell()
+    }
+
+    fn wakes(&mut self, bell: Arc<Bell>) {
+        (**self).wakes(bell)
     }
 }

@@ -2,7 +2,7 @@
 ghost use Rattle.std.specs.Prelude.{◌≡◌};
 ghost use Rattle.std.specs.Io.{ReadsAtMost, WritesAtMost};
 
-use crate::Watch;
+use crate::{Bell, Watch};
 use mio::net::{TcpListener, TcpStream};
 use std::io::{Error, ErrorKind, Read, Write};
 use std::net::Shutdown;
@@ -32,7 +32,22 @@ impl Connection {
     pub(crate) fn watched_by(&mut self, watch: &mut Watch) -> io::Result<()> {
         match self {
             Connection::Listening(listener) => watch.add(listener),
-            Connection::Connected(stream) => watch.add(stream),
+            Connection::Connected(stream) => watch.add_stream(stream),
+        }
+    }
+
+    pub(crate) fn heard_by(&mut self, bell: &Bell) {
+        match self {
+            Connection::Listening(listener) => bell.hears(listener),
+            Connection::Connected(stream) => bell.hears(stream),
+        }
+    }
+
+    /// Whether a write takes some kilobytes at once, or fails.
+    pub(crate) fn has_room(&mut self, watch: &mut Watch) -> bool {
+        match self {
+            Connection::Listening(_) => false,
+            Connection::Connected(stream) => watch.has_room(stream),
         }
     }
 
@@ -43,7 +58,7 @@ impl Connection {
         };
         let (mut stream, _) = listener.accept()?;
         stream.set_nodelay(true)?;
-        watch.add(&mut stream)?;
+        watch.add_stream(&mut stream)?;
         Ok(Some(stream))
     }
 

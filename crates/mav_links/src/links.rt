@@ -57,15 +57,22 @@ pub trait Link: Send + Drop {
         ensures kept { state self.new ≡ state self.old }
     {}
 
-    /// Whether a write needn't wait until somebody is there to take it.
-    fn can_write(&mut self) -> bool
+    /// How many bytes writes take now without waiting; none if a write would wait.
+    fn room(&mut self) -> usize
         ensures kept { state self.new ≡ state self.old }
     {
-        true
+        usize::MAX
     }
 
     /// What ends its rest from another thread; none if it doesn't rest.
     fn bell(&self) -> Option<Arc<Bell>> {
         None
+    }
+
+    /// From now on what would end its own rest ends that of the bell's port too.
+    fn wakes(&mut self, bell: Arc<Bell>)
+        ensures kept { state self.new ≡ state self.old }
+    {
+        let _bell = bell;
     }
 }

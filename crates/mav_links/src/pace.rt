@@ -7,6 +7,9 @@ use std::time::{Clock, Duration};
 
 const MOST_SECONDS_TO_WRITE: u64 = 5;
 
+// A port that rests until nothing has come for a while may be so late: the Idle answers that are due then come at once.
+const MOST_MILLIS_LATE: u64 = 40;
+
 /// When a read gives Idle.
 #[derive(Clone, Copy)]
 pub enum Beat {
@@ -29,6 +32,15 @@ fn time_left(span: Duration, since: Duration, now: Duration) -> Duration
     ensures { as_nanos result ≡ nanos_left (as_nanos span) (as_nanos since) (as_nanos now) }
 {
     span.saturating_sub(now.saturating_sub(since))
+}
+
+// When a span begins after one that began then: at its end, unless that is still to come, or long ago.
+fn next_since(span: Duration, since: Duration, now: Duration) -> Duration {
+    let late = Duration::from_millis(MOST_MILLIS_LATE);
+    since
+        .saturating_add(span)
+        .max(now.saturating_sub(late))
+        .min(now)
 }
 
 impl<C: Clock + Drop> Pace<C> {
@@ -79,8 +91,21 @@ impl<C: Clock + Drop> Pace<C> {
         }
     }
 
-    /// Idle was given.
+    /// How long its port may rest: where Idle comes once nothing has come, a little longer than until it is due.
+    pub(crate) fn left_to_rest(&mut self) -> Duration {
+        let left = self.left();
+        match self.beat {
+            Beat::Steady(_) => left,
+            Beat::Quiet(_) => left.saturating_add(Duration::from_millis(MOST_MILLIS_LATE)),
+        }
+    }
+
+    /// Idle was given. Where it comes once nothing has come, the next one is due a span after it was due.
     pub(crate) fn idled(&mut self) {
-        self.since = Some(self.now());
+        let now = self.now();
+        self.since = Some(match self.beat {
+            Beat::Steady(_) => now,
+            Beat::Quiet(span) => next_since(span, self.since.unwrap_or(now), now),
+        });
     }
 }

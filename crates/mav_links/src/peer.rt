@@ -156,10 +156,15 @@ impl<C: Clock + Drop> PeerSocket<C> {
     }
 
     pub(crate) fn rest(&mut self) {
-        self.watch.wait(self.pace.left());
+        self.watch.rest(self.pace.left_to_rest());
     }
 
     pub(crate) fn bell(&self) -> Option<Arc<Bell>> {
         self.watch.bell()
+    }
+
+    pub(crate) fn wakes(&mut self, bell: Arc<Bell>) {
+        bell.hears(&mut self.socket);
+        self.watch.wakes(bell);
     }
 }

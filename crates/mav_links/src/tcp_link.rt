@@ -69,10 +69,10 @@ impl<S: Read + Write + Waits + Send + Drop> Link for TcpLink<S> {
         }
     }
 
-    fn can_write(&mut self) -> bool {
+    fn room(&mut self) -> usize {
         match &mut self.stream {
-            Some(stream) => stream.can_write(),
-            None => true,
+            Some(stream) => stream.room(),
+            None => usize::MAX,
         }
     }
 
@@ -80,6 +80,12 @@ impl<S: Read + Write + Waits + Send + Drop> Link for TcpLink<S> {
         match &self.stream {
             Some(stream) => stream.bell(),
             None => None,
+        }
+    }
+
+    fn wakes(&mut self, bell: Arc<Bell>) {
+        if let Some(stream) = &mut self.stream {
+            stream.wakes(bell);
         }
     }
 }

@@ -173,4 +173,10 @@ impl<C: Clock + Send + Drop> Link for UdpLink<C> {
             None => None,
         }
     }
+
+    fn wakes(&mut self, bell: Arc<Bell>) {
+        if let Some(socket) = &mut self.socket {
+            socket.wakes(bell);
+        }
+    }
 }

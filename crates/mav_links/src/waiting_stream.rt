@@ -5,18 +5,23 @@ use crate::{Bell, Connection, Pace, Waits, Watch};
 use std::io;
 use std::io::{Error, ErrorKind, Read, Write};
 use std::sync::Arc;
-use std::time::Clock;
+use std::time::{Clock, Duration};
 
 /// A call looks so often whether it can be made.
 pub(crate) const MOST_LOOKS: u32 = 1_000_000;
 
-/// A TCP connection. A read in which no byte comes until Idle is due gives `WouldBlock`, and a write that the peer doesn't
-/// take for five seconds fails; while its one client hasn't come, a write waits for it. It shuts its writing side down
-/// before it closes, so that its peer reads the end after all that was written.
+// The system has room for so many bytes, with what it keeps beside them, once a third of its room is free.
+const ROOM: usize = 8192;
+
+/// A TCP connection. A read in which no byte comes until Idle is due gives `WouldBlock`, and a write of which the peer
+/// takes no byte for five seconds fails, or one after looks that found no room for so long; while its one client
+/// hasn't come, a write waits for it. It shuts its writing side down before it closes, so that its peer reads the end
+/// after all that was written.
 pub struct WaitingStream<C: Clock + Drop> {
     connection: Connection,
     watch: Watch,
     pace: Pace<C>,
+    full_since: Option<Duration>,
 }
 
 impl<C: Clock + Drop> WaitingStream<C> {
@@ -32,6 +37,7 @@ impl<C: Clock + Drop> WaitingStream<C> {
             connection,
             watch,
             pace,
+            full_since: None,
         })
     }
 
@@ -77,7 +83,11 @@ impl<C: Clock + Drop> Read for WaitingStream<C> {
 impl<C: Clock + Drop> Write for WaitingStream<C> {
     fn write(&mut self, bytes: &[u8]) -> io::Result<usize> {
         self.await_client();
-        let since = self.pace.now();
+        let now = self.pace.now();
+        let since = self.full_since.take().unwrap_or(now);
+        if self.pace.left_to_write(since).is_zero() {
+            return Err(Error::from(ErrorKind::TimedOut));
+        }
         for _look in 0..MOST_LOOKS {
             let call = self.connection.write(bytes);
             if !would_wait(&call) {
@@ -110,15 +120,33 @@ impl<C: Clock + Drop> Waits for WaitingStream<C> {
     }
 
     fn rest(&mut self) {
-        self.watch.wait(self.pace.left());
+        self.watch.rest(self.pace.left_to_rest());
     }
 
-    fn can_write(&mut self) -> bool {
-        self.is_connected()
+    fn room(&mut self) -> usize {
+        if !self.is_connected() {
+            return 0;
+        }
+        if self.connection.has_room(&mut self.watch) {
+            self.full_since = None;
+            return ROOM;
+        }
+        let now = self.pace.now();
+        let since = *self.full_since.get_or_insert(now);
+        if self.pace.left_to_write(since).is_zero() {
+            ROOM
+        } else {
+            0
+        }
     }
 
     fn bell(&self) -> Option<Arc<Bell>> {
         self.watch.bell()
+    }
+
+    fn wakes(&mut self, bell: Arc<Bell>) {
+        self.connection.heard_by(&bell);
+        self.watch.wakes(bell);
     }
 }
 
@@ -128,6 +156,7 @@ impl<C: Clock + Drop> Drop for WaitingStream<C> {
             connection,
             watch: _watch,
             pace: _pace,
+            full_since: _full_since,
         } = self;
         connection.end_writing();
     }

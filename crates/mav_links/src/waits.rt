@@ -13,13 +13,18 @@ pub trait Waits {
     /// Waits until a read returns without waiting, the bell rings, or a while is over.
     fn rest(&mut self) {}
 
-    /// Whether a write needn't wait until somebody is there to take it.
-    fn can_write(&mut self) -> bool {
-        true
+    /// How many bytes writes take now without waiting; none if a write would wait.
+    fn room(&mut self) -> usize {
+        usize::MAX
     }
 
     /// What ends its rest from another thread.
     fn bell(&self) -> Option<Arc<Bell>> {
         None
+    }
+
+    /// What ends its rest ends that of the bell's port too.
+    fn wakes(&mut self, bell: Arc<Bell>) {
+        let _bell = bell;
     }
 }

@@ -2,6 +2,7 @@
 
 use crate::bells::Bell;
 use mio::event::Source;
+use mio::net::TcpStream;
 use mio::{Events, Interest, Poll, Token};
 use std::alloc::Global;
 use std::io;
@@ -17,12 +18,21 @@ const BELL: Token = Token(1);
 // A wait ends at any of them.
 const MOST_EVENTS: usize = 4;
 
+// So often a rest looks before it sleeps, if the last one ended by something that happened: more may come at once.
+const LOOKS: u32 = 64;
+
+// So many other ports may rest until something happens at this one.
+const MOST_OTHERS: usize = 8;
+
 /// What the port in one thread waits for: that its socket can be read or written, or that its bell rings.
 #[derive(Drop)]
 pub struct Watch {
     poll: Poll,
+    room: Poll,
     events: Events,
     bell: Arc<Bell>,
+    others: Vec<Arc<Bell>>,
+    looks: u32,
 }
 
 impl Watch {
@@ -32,8 +42,11 @@ impl Watch {
         let bell = Bell::new(poll.registry(), BELL)?;
         Ok(Watch {
             poll,
+            room: Poll::new(net)?,
             events: Events::with_capacity(alloc, MOST_EVENTS)?,
             bell: Arc::new(alloc, bell)?,
+            others: Vec::with_capacity(alloc, MOST_OTHERS)?,
+            looks: 0,
         })
     }
 
@@ -43,6 +56,34 @@ impl Watch {
     {
         let interest = Interest::READABLE | Interest::WRITABLE;
         self.poll.registry().register(source, SOURCE, interest)
+    }
+
+    /// Looks at whether a stream has room too, and has the waits of the others end by it.
+    pub(crate) fn add_stream(&mut self, stream: &mut TcpStream) -> io::Result<()> {
+        self.room
+            .registry()
+            .register(stream, SOURCE, Interest::WRITABLE)?;
+        for bell in &self.others {
+            bell.hears(stream);
+        }
+        self.add(stream)
+    }
+
+    /// Whether a write to the stream takes some bytes at once, or fails.
+    pub(crate) fn has_room(&mut self, stream: &mut TcpStream) -> bool {
+        let looks = self
+            .room
+            .registry()
+            .reregister(stream, SOURCE, Interest::WRITABLE);
+        let looked = self.room.poll(&mut self.events, Some(Duration::ZERO));
+        looks.is_err() || looked.is_err() || !self.events.is_empty()
+    }
+
+    /// What happens at its socket ends the waits of the bell's port too, also if the socket comes later.
+    pub(crate) fn wakes(&mut self, bell: Arc<Bell>) {
+        if self.others.len() < MOST_OTHERS {
+            let _ = self.others.push(bell);
+        }
     }
 
     /// What ends its wait from another thread; none if there is no memory.
@@ -58,6 +99,22 @@ impl Watch {
     /// Waits until something happens, at most so long.
     pub fn wait(&mut self, most: Duration) {
         let _ = self.poll.poll(&mut self.events, Some(most));
+    }
+
+    // The same, and whether something happened.
+    fn sees(&mut self, most: Duration) -> bool {
+        let looked = self.poll.poll(&mut self.events, Some(most));
+        looked.is_ok() && !self.events.is_empty()
+    }
+
+    /// The same for a port that passes on what comes: it sleeps only once nothing has happened for a moment.
+    pub(crate) fn rest(&mut self, most: Duration) {
+        for _look in 0..self.looks {
+            if self.sees(Duration::ZERO) {
+                return;
+            }
+        }
+        self.looks = if self.sees(most) { LOOKS } else { 0 };
     }
 }
 

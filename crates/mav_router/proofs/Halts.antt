@@ -37,14 +37,14 @@ halted_by (Full entries) (Some untaken) ports journal c = (c.0, c.1, (untaken.po
     own false e = absurd cc
 
 -- one thread's run is one of any number of threads
-pub halted : {A : Type 0} (state : A → LinkState) (rules : Rules) (why : SwitchFault) (journal : List Entry) (before after : List A) → RouteStopped state rules why journal before after → RouteHalted state rules why journal before after
-halted state rules why journal before after s = record {
+pub halted : {A : Type 0} (state : A → LinkState) (rules : Rules) (most : ℕ) (why : SwitchFault) (journal : List Entry) (before after : List A) → RouteStopped state rules most why journal before after → RouteHalted state rules most why journal before after
+halted state rules most why journal before after s = record {
   untaken = untaken_at s.untaken;
   cause = halted_by why s.untaken _ journal s.cause;
-  ports = λ k b c is_b is_c. subst (λ (f : List Packet). PartRun rules journal (k + 1) f (state b) (state c)) (listed_at s.untaken (k + 1)) (s.ports k b c is_b is_c);
+  ports = λ k b c is_b is_c. subst (λ (f : List Packet). PartRun rules journal most (k + 1) f (state b) (state c)) (listed_at s.untaken (k + 1)) (s.ports k b c is_b is_c);
 }
 
 -- a run on one thread stops as one with threads may
-pub stops_as : {A : Type 0} (one : Bool) (state : A → LinkState) (rules : Rules) (why : SwitchFault) (journal : List Entry) (before after : List A) → RouteStopped state rules why journal before after → StopsBy one state rules why journal before after
-stops_as true state rules why journal before after s = s
-stops_as false state rules why journal before after s = halted state rules why journal before after s
+pub stops_as : {A : Type 0} (one : Bool) (state : A → LinkState) (rules : Rules) (most : ℕ) (why : SwitchFault) (journal : List Entry) (before after : List A) → RouteStopped state rules most why journal before after → StopsBy one state rules most why journal before after
+stops_as true state rules most why journal before after s = s
+stops_as false state rules most why journal before after s = halted state rules most why journal before after s

@@ -1,5 +1,5 @@
 -- What the threads of all ports did together, once their seats are back.
-use Rattle.std.proofs.Common.{All, ◌⊎◌, inl, inr, ◌≡◌, ◌∙◌, ◌<◌, ◌≤◌, ℕ, zero, suc, ◌+◌, ◌-◌, ◌==◌, arith, Bool, true, false, if◌then◌else◌, List, [], ◌∷◌, ◌++◌, length, map, take, replicate, get_or, filter, sum_by, slice_get, slice_index, option_map, Option, Some, None, IsSome, refl, ap, sym, subst}
+use Rattle.std.proofs.Common.{All, ◌⊎◌, inl, inr, ◌≡◌, ◌∙◌, ◌<◌, ◌≤◌, ℕ, zero, suc, ◌+◌, ◌^◌, ◌-◌, ◌==◌, arith, Bool, true, false, if◌then◌else◌, List, [], ◌∷◌, ◌++◌, length, map, take, replicate, get_or, filter, sum_by, slice_get, slice_index, option_map, Option, Some, None, IsSome, refl, ap, sym, subst}
 use Rattle.std.proofs.lemmas.List.Sums.{sum_by-cons}
 use Rattle.std.proofs.lemmas.List.{get_or-replicate, length-map}
 use Rattle.std.proofs.lemmas.Option.{get_or_from_slice_get, slice_get_past, slice_get-map}
@@ -172,22 +172,27 @@ part_done state rules turns journal first part side few small within begins same
     drained (turned p.1)
 
 -- a port of a run that stopped, where the thread had no fault
-pub part_run_so_far : {A : Type 0} (state : A → LinkState) (rules : Rules) (journal : List Entry) (first : LinkState) (part : Part A) → part.side.taken ≤ length (entries_in part.seat.seen) → IsPrefix (entries_in part.seat.seen) journal → frames_from part.port journal ≡ frames_from part.port (entries_in part.seat.own) → PartSoFar state rules first part → PartRun rules journal part.port [] first (state part.side.link)
-part_run_so_far state rules journal first part within begins same p = record {
-  input = part_input rules journal part.port first (state part.side.link) part.side.lane (input_kept rules (entries_in part.seat.own) journal part.port first (state part.side.link) part.side.lane same p.input);
+pub part_run_so_far : {A : Type 0} (state : A → LinkState) (rules : Rules) (most : ℕ) (journal : List Entry) (first : LinkState) (part : Part A) → part.side.lane.turns ≤ most → most + 1 < 2 ^ 64 → part.side.taken ≤ length (entries_in part.seat.seen) → IsPrefix (entries_in part.seat.seen) journal → frames_from part.port journal ≡ frames_from part.port (entries_in part.seat.own) → PartSoFar state rules first part → PartRun rules journal most part.port [] first (state part.side.link)
+part_run_so_far state rules most journal first part few small within begins same p = record {
+  input = part_input rules journal most part.port first (state part.side.link) part.side.lane few small (input_kept rules (entries_in part.seat.own) journal part.port first (state part.side.link) part.side.lane same p.input);
   output = part_output_of rules journal (entries_in part.seat.seen) part.port part.side.taken first (state part.side.link) part.side.lane within begins p.output;
 }
 
 -- where the switch didn't take a frame
-pub part_run_stopped : {A : Type 0} (state : A → LinkState) (rules : Rules) (journal : List Entry) (first : LinkState) (part : Part A) → part.side.taken ≤ length (entries_in part.seat.seen) → IsPrefix (entries_in part.seat.seen) journal → frames_from part.port journal ≡ frames_from part.port (entries_in part.seat.own) → PartStopped state rules first part → (frame : Option Packet) × IsSome frame × PartRun rules journal part.port (listed frame) first (state part.side.link)
-part_run_stopped state rules journal first part within begins same p =
+pub part_run_stopped : {A : Type 0} (state : A → LinkState) (rules : Rules) (most : ℕ) (journal : List Entry) (first : LinkState) (part : Part A) → part.side.lane.turns ≤ most → most + 1 < 2 ^ 64 → part.side.taken ≤ length (entries_in part.seat.seen) → IsPrefix (entries_in part.seat.seen) journal → frames_from part.port journal ≡ frames_from part.port (entries_in part.seat.own) → PartStopped state rules first part → (frame : Option Packet) × IsSome frame × PartRun rules journal most part.port (listed frame) first (state part.side.link)
+part_run_stopped state rules most journal first part few small within begins same p =
     let s = p.input in
-    let i = s.input in (
+    let i = s.input most few small in (
       Some s.frame,
       refl,
       record {
         input = record {
           bytes = i.bytes;
+          turns = i.turns;
+          pieces = i.pieces;
+          joined = i.joined;
+          idles = i.idles;
+          turned = i.turned;
           left = i.left;
           ended = i.ended;
           begun = record { events = i.begun.events; rest = i.begun.rest; begins = i.begun.begins; entries = ap (λ (l : List Packet). l ++ s.frame ∷ []) same ∙ i.begun.entries };
@@ -198,11 +203,11 @@ part_run_stopped state rules journal first part within begins same p =
     )
 
 -- and however it ended
-pub part_run_ended : {A : Type 0} (halt : Halt) (state : A → LinkState) (rules : Rules) (turns : ℕ) (journal : List Entry) (first : LinkState) (part : Part A) → part.side.taken ≤ length (entries_in part.seat.seen) → IsPrefix (entries_in part.seat.seen) journal → frames_from part.port journal ≡ frames_from part.port (entries_in part.seat.own) → PartEnds halt state rules turns first part → (frame : Option Packet) × PartRun rules journal part.port (listed frame) first (state part.side.link) × ((why : SwitchFault) → halt ≡ Fault why → IsSome frame)
-part_run_ended Done state rules turns journal first part within begins same p = (None, part_run_so_far state rules journal first part within begins same p.0, λ why e. absurd cc)
-part_run_ended Stopped state rules turns journal first part within begins same p = (None, part_run_so_far state rules journal first part within begins same p, λ why e. absurd cc)
-part_run_ended (Fault fault) state rules turns journal first part within begins same p =
-    let s = part_run_stopped state rules journal first part within begins same p.0 in
+pub part_run_ended : {A : Type 0} (halt : Halt) (state : A → LinkState) (rules : Rules) (turns : ℕ) (journal : List Entry) (first : LinkState) (part : Part A) → turns + 1 < 2 ^ 64 → part.side.taken ≤ length (entries_in part.seat.seen) → IsPrefix (entries_in part.seat.seen) journal → frames_from part.port journal ≡ frames_from part.port (entries_in part.seat.own) → PartEnds halt state rules turns first part → (frame : Option Packet) × PartRun rules journal turns part.port (listed frame) first (state part.side.link) × ((why : SwitchFault) → halt ≡ Fault why → IsSome frame)
+part_run_ended Done state rules turns journal first part small within begins same p = (None, part_run_so_far state rules turns journal first part p.1.most small within begins same p.0, λ why e. absurd cc)
+part_run_ended Stopped state rules turns journal first part small within begins same p = (None, part_run_so_far state rules turns journal first part p.1 small within begins same p.0, λ why e. absurd cc)
+part_run_ended (Fault fault) state rules turns journal first part small within begins same p =
+    let s = part_run_stopped state rules turns journal first part p.1.1 small within begins same p.0 in
     (s.0, s.2, λ why e. s.1)
 
 -- a switch that was full is still full
@@ -250,15 +255,15 @@ each_chosen {X} d (suc n) P each =
     at x xs first rest (suc k) l = rest k (omega (arith, l))
 
 -- the run of a port with a frame that wasn't taken, or with none, which can't be after a fault
-abbrev pub HaltsWith : {A : Type 0} → (A → LinkState) → Rules → SwitchFault → List Entry → List A → List A → List (Side A) → ℕ → Option Packet → Type 0
-HaltsWith {A} state rules why journal before after sides k frame =
-    ((b c : A) → slice_get before k ≡ Some b → slice_get after k ≡ Some c → PartRun rules journal (k + 1) (listed frame) (state b) (state c))
+abbrev pub HaltsWith : {A : Type 0} → (A → LinkState) → Rules → ℕ → SwitchFault → List Entry → List A → List A → List (Side A) → ℕ → Option Packet → Type 0
+HaltsWith {A} state rules most why journal before after sides k frame =
+    ((b c : A) → slice_get before k ≡ Some b → slice_get after k ≡ Some c → PartRun rules journal most (k + 1) (listed frame) (state b) (state c))
     × ((side : Side A) → slice_get sides k ≡ Some side → side.halt ≡ Fault why → IsSome frame)
 
 -- a run stopped at one of the ports, or memory was out
-pub halted_together : {A : Type 0} (state : A → LinkState) (rules : Rules) (why : SwitchFault) (journal : List Entry) (before after : List A) (sides : List (Side A)) → length sides ≡ length before → ((k : ℕ) → k < length before → (frame : Option Packet) × HaltsWith state rules why journal before after sides k frame) → ((why ≡ NoMemory) ⊎ (HasFault sides why × IsSwitchFault why journal)) → RouteHalted state rules why journal before after
-halted_together {A} state rules why journal before after sides long each fault =
-    let chosen = each_chosen {X = Option Packet} None (length before) (HaltsWith state rules why journal before after sides) each in
+pub halted_together : {A : Type 0} (state : A → LinkState) (rules : Rules) (most : ℕ) (why : SwitchFault) (journal : List Entry) (before after : List A) (sides : List (Side A)) → length sides ≡ length before → ((k : ℕ) → k < length before → (frame : Option Packet) × HaltsWith state rules most why journal before after sides k frame) → ((why ≡ NoMemory) ⊎ (HasFault sides why × IsSwitchFault why journal)) → RouteHalted state rules most why journal before after
+halted_together {A} state rules most why journal before after sides long each fault =
+    let chosen = each_chosen {X = Option Packet} None (length before) (HaltsWith state rules most why journal before after sides) each in
     record {
       untaken = λ port. get_or chosen.0 (port - 1) None;
       cause = elim fault [
@@ -268,7 +273,7 @@ halted_together {A} state rules why journal before after sides long each fault =
             caused why (λ port. get_or chosen.0 (port - 1) None) f.0.at within f.1 (subst (λ (k : ℕ). IsSome (get_or chosen.0 k None)) (sym (before_next f.0.at)) ((chosen.1 f.0.at within).1 f.0.side f.0.there f.0.fault))
       ];
       ports = λ k b c is_b is_c.
-          subst (λ (j : ℕ). PartRun rules journal (k + 1) (listed (get_or chosen.0 j None)) (state b) (state c)) (sym (before_next k)) ((chosen.1 k (index_within before k b is_b)).0 b c is_b is_c);
+          subst (λ (j : ℕ). PartRun rules journal most (k + 1) (listed (get_or chosen.0 j None)) (state b) (state c)) (sym (before_next k)) ((chosen.1 k (index_within before k b is_b)).0 b c is_b is_c);
     }
   where
     before_next : (k : ℕ) → k + 1 - 1 ≡ k
@@ -279,9 +284,9 @@ halted_together {A} state rules why journal before after sides long each fault =
     caused (Full entries) untaken at within is some = (is.0, is.1, (at + 1, omega arith, omega (arith, within), some))
 
 -- the same from the parts at the end of their threads
-pub parts_halted : {A : Type 0} (state : A → LinkState) (lock : Lock SwitchEvent) (rules : Rules) (turns : ℕ) (why : SwitchFault) (journal : List Entry) (before after : List A) (parts : List (Part A)) → length journal ≤ 1000000 → length parts ≡ length before → ((k : ℕ) (p : Part A) → slice_get parts k ≡ Some p → (p.port ≡ k + 1) × IsReady lock rules p) → All (Continues (history_of rules journal)) (map (λ (p : Part A). p.seat) parts) → length (history_of rules journal) ≡ 1 + sum_by (λ (s : Participant SwitchEvent). length s.own) (map (λ (p : Part A). p.seat) parts) → ((k : ℕ) (b : A) (p : Part A) → slice_get before k ≡ Some b → slice_get parts k ≡ Some p → PartEnds p.side.halt state rules turns (state b) p) → ((k : ℕ) (c : A) (p : Part A) → slice_get after k ≡ Some c → slice_get parts k ≡ Some p → state c ≡ state p.side.link) → ((why ≡ NoMemory) ⊎ HasFault (map (λ (p : Part A). p.side) parts) why) → RouteHalted state rules why journal before after
-parts_halted {A} state lock rules turns why journal before after parts small long ready begins whole ends links fault =
-    halted_together state rules why journal before after (map (λ (p : Part A). p.side) parts) (length-map parts (λ (p : Part A). p.side) ∙ long) each
+pub parts_halted : {A : Type 0} (state : A → LinkState) (lock : Lock SwitchEvent) (rules : Rules) (turns : ℕ) (why : SwitchFault) (journal : List Entry) (before after : List A) (parts : List (Part A)) → turns + 1 < 2 ^ 64 → length journal ≤ 1000000 → length parts ≡ length before → ((k : ℕ) (p : Part A) → slice_get parts k ≡ Some p → (p.port ≡ k + 1) × IsReady lock rules p) → All (Continues (history_of rules journal)) (map (λ (p : Part A). p.seat) parts) → length (history_of rules journal) ≡ 1 + sum_by (λ (s : Participant SwitchEvent). length s.own) (map (λ (p : Part A). p.seat) parts) → ((k : ℕ) (b : A) (p : Part A) → slice_get before k ≡ Some b → slice_get parts k ≡ Some p → PartEnds p.side.halt state rules turns (state b) p) → ((k : ℕ) (c : A) (p : Part A) → slice_get after k ≡ Some c → slice_get parts k ≡ Some p → state c ≡ state p.side.link) → ((why ≡ NoMemory) ⊎ HasFault (map (λ (p : Part A). p.side) parts) why) → RouteHalted state rules turns why journal before after
+parts_halted {A} state lock rules turns why journal before after parts turns_small small long ready begins whole ends links fault =
+    halted_together state rules turns why journal before after (map (λ (p : Part A). p.side) parts) (length-map parts (λ (p : Part A). p.side) ∙ long) each
     (elim fault [ inl e ↦ inl e | inr f ↦ inr (f, faulted f) ])
   where
     side_at : (parts : List (Part A)) (k : ℕ) (s : Side A) → slice_get (map (λ (p : Part A). p.side) parts) k ≡ Some s → (p : Part A) × (slice_get parts k ≡ Some p) × (p.side ≡ s)
@@ -296,9 +301,9 @@ parts_halted {A} state lock rules turns why journal before after parts small lon
         let own = own_frames lock rules parts journal ready begins whole f.at p.0 p.1 in
         let halt : p.0.side.halt ≡ Fault why = ap (λ (s : Side A). s.halt) p.2 ∙ f.fault in
         let stopped = subst (λ (h : Halt). PartEnds h state rules turns (state b.0) p.0) halt (ends f.at b.0 p.0 b.1 p.1) in
-        full_is_full why (entries_in p.0.seat.seen) journal own.1 small stopped.1
+        full_is_full why (entries_in p.0.seat.seen) journal own.1 small stopped.1.0
 
-    each : (k : ℕ) → k < length before → (frame : Option Packet) × HaltsWith state rules why journal before after (map (λ (p : Part A). p.side) parts) k frame
+    each : (k : ℕ) → k < length before → (frame : Option Packet) × HaltsWith state rules turns why journal before after (map (λ (p : Part A). p.side) parts) k frame
     each k within =
         let b = element before k within in
         let part = element parts k (omega (arith, long, within)) in
@@ -306,13 +311,13 @@ parts_halted {A} state lock rules turns why journal before after parts small lon
         let r = ready k p part.1 in
         let own = own_frames lock rules parts journal ready begins whole k p part.1 in
         let same = subst (λ (n : ℕ). frames_from n journal ≡ frames_from n (entries_in p.seat.own)) (sym r.0) own.0 in
-        let run = part_run_ended p.side.halt state rules turns journal (state b.0) p r.1.taken own.1 same (ends k b.0 p b.1 part.1) in (
+        let run = part_run_ended p.side.halt state rules turns journal (state b.0) p turns_small r.1.taken own.1 same (ends k b.0 p b.1 part.1) in (
           run.0,
           (
             (λ x c is_x is_c.
-                subst (λ (n : ℕ). PartRun rules journal n (listed run.0) (state x) (state c)) r.0
-                (subst (λ (l : LinkState). PartRun rules journal p.port (listed run.0) (state x) l) (sym (links k c p is_c part.1))
-                (subst (λ (y : A). PartRun rules journal p.port (listed run.0) (state y) (state p.side.link)) (some_is b.0 x (sym b.1 ∙ is_x)) run.1))),
+                subst (λ (n : ℕ). PartRun rules journal turns n (listed run.0) (state x) (state c)) r.0
+                (subst (λ (l : LinkState). PartRun rules journal turns p.port (listed run.0) (state x) l) (sym (links k c p is_c part.1))
+                (subst (λ (y : A). PartRun rules journal turns p.port (listed run.0) (state y) (state p.side.link)) (some_is b.0 x (sym b.1 ∙ is_x)) run.1))),
             (λ side is_side halt.
                 let at = side_at parts k side is_side in
                 let same_part = some_is p at.0 (sym part.1 ∙ at.1) in

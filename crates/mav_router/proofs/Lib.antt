@@ -18,3 +18,5 @@ pub mod Admissions
 pub mod Outgoing
 pub mod Buffers
 pub mod Keeping
+pub mod TurnSteps
+pub mod WritingNow

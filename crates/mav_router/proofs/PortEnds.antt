@@ -1,5 +1,5 @@
 -- What a port's run is at its start and its end.
-use Rattle.std.proofs.Common.{◌⊎◌, inl, inr, ◌≡◌, ◌∙◌, ◌<◌, ◌≤◌, ℕ, zero, suc, ◌+◌, ◌*◌, arith, length-append, length-take, Bool, false, true, List, [], ◌∷◌, ◌++◌, length, take, drop, get_or, Option, Some, None, Err, refl, ap, sym, subst, slice_get, slice_index, ◌-◌, append_assoc}
+use Rattle.std.proofs.Common.{◌⊎◌, inl, inr, ◌≡◌, ◌∙◌, ◌<◌, ◌≤◌, ℕ, zero, suc, ◌+◌, ◌^◌, ◌*◌, arith, length-append, length-take, Bool, false, true, List, [], ◌∷◌, ◌++◌, length, take, drop, get_or, Option, Some, None, Err, refl, ap, sym, subst, slice_get, slice_index, ◌-◌, append_assoc}
 use Rattle.std.proofs.lemmas.Option.{get_or_from_slice_get, slice_get_cases, slice_get_past}
 use Rattle.std.proofs.lemmas.List.{append-nil}
 use Rattle.std.specs.Io.KnownBytes.{prepend_known}
@@ -16,7 +16,7 @@ use Rattle.link_table.specs.Routing.{has_port}
 use Rattle.mav_router.specs.declared.entries.SwitchFault.{SwitchFault}
 use Rattle.mav_router.specs.declared.entries.SwitchFault.TheVariants.{Full, NoMemory}
 use Rattle.mav_router.specs.Faults.{IsSwitchFault, StopsRound, RouteStopped, CausedBy, Untaken, PartRun, beyond_at}
-use Rattle.mav_router.proofs.RunSteps.{part_run, given_and_waiting, index_within}
+use Rattle.mav_router.proofs.RunSteps.{AllWithin, part_run, given_and_waiting, index_within}
 use Rattle.mav_router.proofs.Journals.{element}
 use Rattle.mav_frame.specs.declared.events.Event.{Event}
 use Rattle.mav_stream.specs.Held.{Held, nothing_held}
@@ -242,39 +242,44 @@ caused_by : (why : SwitchFault) (journal : List Entry) (untaken : Untaken) (port
 caused_by NoMemory journal untaken ports is from to = tt
 caused_by (Full entries) journal untaken ports is from to = (is.0, is.1, from, to)
 
-pub route_stopped : {A : Type 0} (state : A → LinkState) (rules : Rules) (why : SwitchFault) (journal : List Entry) (links last : List A) (d : A) → IsSwitchFault why journal → length last ≡ length links → (s : StopsRound state rules journal (λ j. state (get_or links j d)) last) → RouteStopped state rules why journal links last
-route_stopped {A} state rules why journal links last d is long s = record {
+pub route_stopped : {A : Type 0} (state : A → LinkState) (rules : Rules) (most : ℕ) (why : SwitchFault) (journal : List Entry) (links last : List A) (d : A) → IsSwitchFault why journal → length last ≡ length links → (s : StopsRound state rules journal most (λ j. state (get_or links j d)) last) → RouteStopped state rules most why journal links last
+route_stopped {A} state rules most why journal links last d is long s = record {
   untaken = Some s.untaken;
   cause = caused_by why journal s.untaken (length links) is s.from (let to = s.to in omega (arith, to, long));
   ports = λ k b c is_b is_c.
-      subst (λ (x : A). PartRun rules journal (k + 1) (beyond_at (Some s.untaken) (k + 1)) (state x) (state c)) (get_or_from_slice_get links k b d is_b) (s.ports k c is_c);
+      subst (λ (x : A). PartRun rules journal most (k + 1) (beyond_at (Some s.untaken) (k + 1)) (state x) (state c)) (get_or_from_slice_get links k b d is_b) (s.ports k c is_c);
 }
 
 -- memory was out after a whole run
-pub route_halted : {A : Type 0} (state : A → LinkState) (rules : Rules) (switch : SwitchState) (links last : List A) (lanes : List Lane) (d : A) → length lanes ≡ length last → RunSoFar state rules switch (λ j. state (get_or links j d)) last lanes → RouteStopped state rules NoMemory switch.journal links last
-route_halted {A} state rules switch links last lanes d long run = record {
+pub route_halted : {A : Type 0} (state : A → LinkState) (rules : Rules) (most : ℕ) (switch : SwitchState) (links last : List A) (lanes : List Lane) (d : A) → length lanes ≡ length last → most + 1 < 2 ^ 64 → AllWithin lanes most → RunSoFar state rules switch (λ j. state (get_or links j d)) last lanes → RouteStopped state rules most NoMemory switch.journal links last
+route_halted {A} state rules most switch links last lanes d long small all run = record {
   untaken = None;
   cause = tt;
   ports = λ k b c is_b is_c.
       let lane = element lanes k (omega (arith, long, index_within last k c is_c)) in
-      subst (λ (x : A). PartRun rules switch.journal (k + 1) [] (state x) (state c)) (get_or_from_slice_get links k b d is_b)
-      (part_run rules switch (k + 1) (state (get_or links k d)) (state c) lane.0 (run k c lane.0 is_c lane.1));
+      subst (λ (x : A). PartRun rules switch.journal most (k + 1) [] (state x) (state c)) (get_or_from_slice_get links k b d is_b)
+      (part_run rules switch most (k + 1) (state (get_or links k d)) (state c) lane.0 (all k lane.0 lane.1) small (run k c lane.0 is_c lane.1));
 }
 
 -- or before it
-pub nothing_routed : {A : Type 0} (state : A → LinkState) (rules : Rules) (links : List A) → RouteStopped state rules NoMemory [] links links
-nothing_routed {A} state rules links = record {
+pub nothing_routed : {A : Type 0} (state : A → LinkState) (rules : Rules) (most : ℕ) (links : List A) → RouteStopped state rules most NoMemory [] links links
+nothing_routed {A} state rules most links = record {
   untaken = None;
   cause = tt;
   ports = λ k b c is_b is_c.
       let same : b ≡ c = some_is b c (sym is_b ∙ is_c) in
-      subst (λ (x : A). PartRun rules [] (k + 1) [] (state b) (state x)) same (nothing_at rules (k + 1) (state b));
+      subst (λ (x : A). PartRun rules [] most (k + 1) [] (state b) (state x)) same (nothing_at rules (k + 1) (state b));
 }
   where
-    nothing_at : (rules : Rules) (port : ℕ) (first : LinkState) → PartRun rules [] port [] first first
+    nothing_at : (rules : Rules) (port : ℕ) (first : LinkState) → PartRun rules [] most port [] first first
     nothing_at rules port first = record {
       input = record {
         bytes = [];
+        turns = [];
+        pieces = λ k d less. absurd (omega (arith, less));
+        joined = refl;
+        idles = refl;
+        turned = omega arith;
         left = prepend_none first.left;
         ended = false;
         begun = record { events = []; rest = []; begins = refl; entries = refl };
@@ -289,10 +294,10 @@ unrouted {A} one state rules most links after fault is none same = record {
   links = ap length same;
   routed = tt;
   stopped =
-      subst (λ (f : SwitchFault). HasStopped one state rules links after f fault.journal) (sym is)
-      (subst (λ (j : List Entry). HasStopped one state rules links after NoMemory j) (sym none)
-      (subst (λ (l : List A). HasStopped one state rules links l NoMemory []) (sym same)
-      (record { legal = tt; stopped = stops_as one state rules NoMemory [] links links (nothing_routed state rules links) })));
+      subst (λ (f : SwitchFault). HasStopped one state rules most links after f fault.journal) (sym is)
+      (subst (λ (j : List Entry). HasStopped one state rules most links after NoMemory j) (sym none)
+      (subst (λ (l : List A). HasStopped one state rules most links l NoMemory []) (sym same)
+      (record { legal = tt; stopped = stops_as one state rules most NoMemory [] links links (nothing_routed state rules most links) })));
 }
 
 -- a lane that is new had no turn

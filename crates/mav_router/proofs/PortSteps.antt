@@ -171,11 +171,16 @@ on_err (Ok a) f p = p
 on_err (Err e) f p = f p
 
 -- a frame among the bytes read wasn't taken
-pub stopped_read : (rules : Rules) (before after : List Entry) (port : ℕ) (first now new : LinkState) (lane : Lane) (got : List ℕ) (ended : Bool) → ended ≡ false → (i : Input rules before port first now lane) → now.left ≡ prepend_known got new.left → StopsReading ended rules port (i.bytes ++ got) after → StopsInput rules after port first new
-stopped_read rules before after port first now new lane got ended live i left stop = record {
+pub stopped_read : (rules : Rules) (before after : List Entry) (port turns : ℕ) (first now new : LinkState) (lane : Lane) (got : List ℕ) (ended : Bool) → ended ≡ false → (i : Input rules before port first now lane) → 0 < length got → length got ≤ 4096 → turns ≡ min (lane.turns + 1) (2 ^ 64 - 1) → new.idles ≡ now.idles → now.left ≡ prepend_known got new.left → StopsReading ended rules port (i.bytes ++ got) after → StopsInput rules after turns port first new
+stopped_read rules before after port turns first now new lane got ended live i some few turn idle left stop = record {
   frame = stop.frame;
-  input = record {
+  input = λ most within small. record {
     bytes = i.bytes ++ got;
+    turns = i.turns ++ got ∷ [];
+    pieces = pieces_more i.turns got i.pieces few;
+    joined = ap (λ (b : List ℕ). b ++ got) i.joined ∙ flat_map_more (λ (piece : List ℕ). piece) [] i.turns got;
+    idles = idle ∙ (i.idles ∙ (sym (idles_at_bytes got (idles_over i.turns first.idles) some) ∙ sym (fold-append idles_after_turn first.idles i.turns (got ∷ []))));
+    turned = (let so_far = i.turned in let one_more = length-append i.turns (got ∷ []) in omega (arith, so_far, one_more, turn, within, small));
     left = i.left ∙ (ap (prepend_known i.bytes) left ∙ prepend_known_twice new.left i.bytes got);
     ended = ended;
     begun = stop.begun;
@@ -183,11 +188,16 @@ stopped_read rules before after port first now new lane got ended live i left st
   };
 }
 
-pub stopped_ended : (rules : Rules) (before after : List Entry) (port : ℕ) (first now new : LinkState) (lane : Lane) (ended : Bool) → (i : Input rules before port first now lane) → now.left ≡ prepend_known [] new.left → IsSpent new.left → StopsReading ended rules port i.bytes after → StopsInput rules after port first new
-stopped_ended rules before after port first now new lane ended i left spent stop = record {
+pub stopped_ended : (rules : Rules) (before after : List Entry) (port : ℕ) (first now new : LinkState) (lane : Lane) (ended : Bool) → (i : Input rules before port first now lane) → new.idles ≡ now.idles → now.left ≡ prepend_known [] new.left → IsSpent new.left → StopsReading ended rules port i.bytes after → StopsInput rules after lane.turns port first new
+stopped_ended rules before after port first now new lane ended i idle left spent stop = record {
   frame = stop.frame;
-  input = record {
+  input = λ most within small. record {
     bytes = i.bytes;
+    turns = i.turns;
+    pieces = i.pieces;
+    joined = i.joined;
+    idles = idle ∙ i.idles;
+    turned = (let so_far = i.turned in omega (arith, so_far, within, small));
     left = i.left ∙ ap (prepend_known i.bytes) (left ∙ prepend_none new.left);
     ended = ended;
     begun = stop.begun;

@@ -12,7 +12,7 @@ use Rattle.mav_router.specs.Journal.{Rules, SwitchState, Grows, frames_from, fra
 use Rattle.mav_router.specs.Faults.{PartInput, PartOutput, PartRun, StopsInput, StopsRound, Untaken, beyond_at}
 use Rattle.mav_router.proofs.Journals.{element}
 use Rattle.mav_router.proofs.Readings.{begins_by}
-use Rattle.mav_router.specs.Runs.{Input, Output, PortSoFar, RunSoFar, IsDrained, HadTurns, AllTurned, PartTurned}
+use Rattle.mav_router.specs.Runs.{Input, Output, PortSoFar, RunSoFar, IsDrained, HadTurns, AllTurned}
 
 pub get_set_other : {A : Type 0} (xs : List A) (at k : ℕ) (x : A) → (k ≡ at → ⊥) → slice_get (set xs at x) k ≡ slice_get xs k
 get_set_other [] at k x apart = refl
@@ -56,7 +56,7 @@ pub output_kept : (before after : SwitchState) (port : ℕ) (first now : LinkSta
 output_kept before after port first now lane same o = subst (λ (f : List Packet). Output f first now lane) (sym same) o
 
 -- a number is another one, or not
-same_or : (k at : ℕ) → (k ≡ at) ⊎ (k ≡ at → ⊥)
+pub same_or : (k at : ℕ) → (k ≡ at) ⊎ (k ≡ at → ⊥)
 same_or zero zero = inl refl
 same_or zero (suc at) = inr (λ e. omega (arith, e))
 same_or (suc k) zero = inr (λ e. omega (arith, e))
@@ -98,21 +98,7 @@ index_within [] k x e = absurd (let wrong : ◌≡◌ {A = Option _} None (Some 
 index_within (y ∷ xs) zero x e = omega arith
 index_within (y ∷ xs) (suc k) x e = let w = index_within xs k x e in omega (arith, w)
 
--- a turn of one port
-pub read_turned : (lanes : List Lane) (turns at : ℕ) (new old : Lane) → slice_get lanes at ≡ Some old → turns + 1 < 2 ^ 64 → PartTurned lanes turns at → ((n : ℕ) → n + 1 < 2 ^ 64 → HadTurns old n → HadTurns new (n + 1)) → PartTurned (set lanes at new) turns (at + 1)
-read_turned lanes turns at new old is_old few before turn k lane is =
-    elim (same_or k at) [
-      | inl e ↦
-          let to_lane = get_set_at lanes at new lane (subst (λ (j : ℕ). slice_get (set lanes at new) j ≡ Some lane) e is) in
-          (λ _. subst (λ (l : Lane). HadTurns l (turns + 1)) to_lane (turn turns few ((before at old is_old).1 (omega arith))), λ past. absurd (omega (arith, e, past)))
-      | inr apart ↦
-          let b = before k lane (sym (get_set_other lanes at k new apart) ∙ is) in
-          (λ w. b.0 (below k at w apart), λ past. b.1 (omega (arith, past)))
-    ]
-  where
-    below : (k at : ℕ) → k < at + 1 → (k ≡ at → ⊥) → k < at
-    below k at w apart = grind (arith)
-
+-- a step at one port that changes no count of turns
 pub write_turned : (lanes : List Lane) (turns at : ℕ) (new old : Lane) → slice_get lanes at ≡ Some old → AllTurned lanes turns → ((n : ℕ) → HadTurns old n → HadTurns new n) → AllTurned (set lanes at new) turns
 write_turned lanes turns at new old is_old before turn k lane is =
     elim (same_or k at) [
@@ -122,14 +108,19 @@ write_turned lanes turns at new old is_old before turn k lane is =
       | inr apart ↦ before k lane (sym (get_set_other lanes at k new apart) ∙ is)
     ]
 
--- the end of a round
-pub round_turned : (lanes : List Lane) (turns at : ℕ) → length lanes ≤ at → PartTurned lanes turns at → AllTurned lanes (turns + 1)
-round_turned lanes turns at past before k lane is = (before k lane is).0 (omega (arith, past, index_within lanes k lane is))
+-- no port had more turns than this
+abbrev pub AllWithin : List Lane → ℕ → Type 0
+AllWithin lanes most = (k : ℕ) (lane : Lane) → slice_get lanes k ≡ Some lane → lane.turns ≤ most
 
 -- what a port has so far, without what the router keeps of it
-pub part_input : (rules : Rules) (journal : List Entry) (port : ℕ) (first now : LinkState) (lane : Lane) → Input rules journal port first now lane → PartInput rules journal port [] first now
-part_input rules journal port first now lane i = record {
+pub part_input : (rules : Rules) (journal : List Entry) (most port : ℕ) (first now : LinkState) (lane : Lane) → lane.turns ≤ most → most + 1 < 2 ^ 64 → Input rules journal port first now lane → PartInput rules journal most port [] first now
+part_input rules journal most port first now lane within small i = record {
   bytes = i.bytes;
+  turns = i.turns;
+  pieces = i.pieces;
+  joined = i.joined;
+  idles = i.idles;
+  turned = (let so_far = i.turned in omega (arith, so_far, within, small));
   left = i.left;
   ended = lane.ended;
   begun = record {
@@ -161,15 +152,15 @@ part_output switch port first now lane o =
       front = sym (append_assoc o.written o.rest waiting) ∙ (ap (λ (b : List ℕ). b ++ waiting) o.front ∙ sym (given_and_waiting switch port));
     }
 
-pub part_run : (rules : Rules) (switch : SwitchState) (port : ℕ) (first now : LinkState) (lane : Lane) → PortSoFar rules switch port first now lane → PartRun rules switch.journal port [] first now
-part_run rules switch port first now lane p = record {
-  input = part_input rules switch.journal port first now lane p.input;
+pub part_run : (rules : Rules) (switch : SwitchState) (most port : ℕ) (first now : LinkState) (lane : Lane) → lane.turns ≤ most → most + 1 < 2 ^ 64 → PortSoFar rules switch port first now lane → PartRun rules switch.journal most port [] first now
+part_run rules switch most port first now lane within small p = record {
+  input = part_input rules switch.journal most port first now lane within small p.input;
   output = part_output switch port first now lane p.output;
 }
 
 -- the switch didn't take a frame at one port
-pub stopped_round : {A : Type 0} (state : A → LinkState) (rules : Rules) (old new : SwitchState) (first : ℕ → LinkState) (links : List A) (lanes : List Lane) (at : ℕ) (link : A) (lane : Lane) → length lanes ≡ length links → at < length links → RunSoFar state rules old first links lanes → Grows (at + 1) old new → Output (given_to new (at + 1)) (first at) (state link) lane → (s : StopsInput rules new.journal (at + 1) (first at) (state link)) → StopsRound state rules new.journal first (set links at link)
-stopped_round {A} state rules old new first links lanes at link lane long within run grows out stop =
+pub stopped_round : {A : Type 0} (state : A → LinkState) (rules : Rules) (old new : SwitchState) (first : ℕ → LinkState) (links : List A) (lanes : List Lane) (most at : ℕ) (link : A) (lane : Lane) → length lanes ≡ length links → at < length links → most + 1 < 2 ^ 64 → AllWithin lanes most → lane.turns ≤ most → RunSoFar state rules old first links lanes → Grows (at + 1) old new → Output (given_to new (at + 1)) (first at) (state link) lane → (s : StopsInput rules new.journal lane.turns (at + 1) (first at) (state link)) → StopsRound state rules new.journal most first (set links at link)
+stopped_round {A} state rules old new first links lanes most at link lane long within small all own_turns run grows out stop =
     let untaken : Untaken = record { port = at + 1; frame = stop.frame } in
     let own : (at + 1 == at + 1) ≡ true = same (at + 1) in
     record {
@@ -180,17 +171,17 @@ stopped_round {A} state rules old new first links lanes at link lane long within
           elim (same_or k at) [
             | inl e ↦
                 let to_link = get_set_at links at link l (subst (λ (j : ℕ). slice_get (set links at link) j ≡ Some l) e is) in
-                subst (λ (j : ℕ). PartRun rules new.journal (j + 1) (beyond_at (Some untaken) (j + 1)) (first j) (state l)) (sym e)
-                (subst (λ (x : A). PartRun rules new.journal (at + 1) (beyond_at (Some untaken) (at + 1)) (first at) (state x)) to_link
-                (subst (λ (b : Bool). PartRun rules new.journal (at + 1) (if b then stop.frame ∷ [] else []) (first at) (state link)) (sym own)
-                (record { input = stop.input; output = part_output new (at + 1) (first at) (state link) lane out })))
+                subst (λ (j : ℕ). PartRun rules new.journal most (j + 1) (beyond_at (Some untaken) (j + 1)) (first j) (state l)) (sym e)
+                (subst (λ (x : A). PartRun rules new.journal most (at + 1) (beyond_at (Some untaken) (at + 1)) (first at) (state x)) to_link
+                (subst (λ (b : Bool). PartRun rules new.journal most (at + 1) (if b then stop.frame ∷ [] else []) (first at) (state link)) (sym own)
+                (record { input = stop.input most own_turns small; output = part_output new (at + 1) (first at) (state link) lane out })))
             | inr apart ↦
                 let is_link = sym (get_set_other links at k link apart) ∙ is in
                 let other = element lanes k (omega (arith, long, index_within links k l is_link)) in
                 let p = run k l other.0 is_link other.1 in
                 let not_own : (at + 1 == k + 1) ≡ false = differs (at + 1) (k + 1) (λ e. apart (omega (arith, e))) in
-                subst (λ (b : Bool). PartRun rules new.journal (k + 1) (if b then stop.frame ∷ [] else []) (first k) (state l)) (sym not_own)
-                (part_run rules new (k + 1) (first k) (state l) other.0 (record {
+                subst (λ (b : Bool). PartRun rules new.journal most (k + 1) (if b then stop.frame ∷ [] else []) (first k) (state l)) (sym not_own)
+                (part_run rules new most (k + 1) (first k) (state l) other.0 (all k other.0 other.1) small (record {
                   input = input_kept rules old.journal new.journal (k + 1) (first k) (state l) other.0 (grows.others (k + 1) (λ e. apart (omega (arith, e)))) p.input;
                   output = output_kept old new (k + 1) (first k) (state l) other.0 (grows.given (k + 1)) p.output;
                 }))

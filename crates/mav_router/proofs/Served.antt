@@ -1,5 +1,5 @@
 -- From the jobs of all ports to the end of a run.
-use Rattle.std.proofs.Common.{All, false, ◌⊎◌, ◌≡◌, ◌∙◌, ◌<◌, ◌≤◌, ℕ, ◌+◌, arith, List, [], length, map, replicate, sum_by, slice_get, Some, ap, sym, subst}
+use Rattle.std.proofs.Common.{All, false, ◌⊎◌, ◌≡◌, ◌∙◌, ◌<◌, ◌≤◌, ℕ, ◌+◌, ◌^◌, arith, List, [], length, map, replicate, sum_by, slice_get, Some, ap, sym, subst}
 use Rattle.std.proofs.lemmas.List.{length-map, length-replicate}
 use Rattle.std.proofs.lemmas.Option.{get_or_from_slice_get}
 use Rattle.std.proofs.lemmas.Simd.{map-map}
@@ -179,12 +179,12 @@ routed {A} state rules turns journal before after old new ends few small legal h
           (subst (λ (x : PortEnd). PortRun rules journal turns part.0.port (state b) (state n.0.link) x) (image_is (λ (x : Side A). end_by x.lane turns) new ends k n.0 e ends_are n.1 is_e) run));
     }
 
-pub stopped : {A : Type 0} (state : A → LinkState) (rules : Rules) (turns : ℕ) (why : SwitchFault) (journal : List Entry) (before after : List A) (sides : List (Side A)) → length journal ≤ 1000000 → IsJournal rules [] journal → ((why ≡ NoMemory) ⊎ HasFault sides why) → after ≡ map (λ (s : Side A). s.link) sides → HasClosed state rules turns journal before sides → HasStopped false state rules before after why journal
-stopped {A} state rules turns why journal before after sides small legal fault after_are c =
+pub stopped : {A : Type 0} (state : A → LinkState) (rules : Rules) (turns : ℕ) (why : SwitchFault) (journal : List Entry) (before after : List A) (sides : List (Side A)) → turns ≤ 1000000000 → length journal ≤ 1000000 → IsJournal rules [] journal → ((why ≡ NoMemory) ⊎ HasFault sides why) → after ≡ map (λ (s : Side A). s.link) sides → HasClosed state rules turns journal before sides → HasStopped false state rules turns before after why journal
+stopped {A} state rules turns why journal before after sides few small legal fault after_are c =
     let s = c.served in
     record {
       legal = legal;
-      stopped = parts_halted state c.lock rules turns why journal before after s.parts small s.count s.ready (begins_of state rules turns journal before sides c) (whole_of state rules turns journal before sides c) s.ends
+      stopped = parts_halted state c.lock rules turns why journal before after s.parts (omega (arith, few)) small s.count s.ready (begins_of state rules turns journal before sides c) (whole_of state rules turns journal before sides c) s.ends
           (λ k x p is_x is_p. ap state (sym (image_is (λ (y : Side A). y.link) sides after k p.side x after_are (mapped_at (λ (q : Part A). q.side) s.parts sides k p s.of_sides is_p) is_x)))
           (subst (λ (l : List (Side A)). (why ≡ NoMemory) ⊎ HasFault l why) (sym s.of_sides) fault);
     }

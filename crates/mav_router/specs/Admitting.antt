@@ -1,9 +1,11 @@
 -- What a switch makes of a frame, beside its entry.
-use Rattle.std.specs.Prelude.{ℕ, ◌≡◌, List, [], ◌++◌}
+use Rattle.std.specs.Prelude.{ℕ, ◌≡◌, ◌&&◌, Bool, if◌then◌else◌, List, [], ◌++◌}
 use Rattle.mav_names.specs.declared.names.Name.{Name}
 use Rattle.mav_frame.specs.Packet.{Packet}
+use Rattle.mav_sign.specs.declared.admission.Admit.{Admit}
+use Rattle.mav_sign.specs.declared.admission.Admit.TheVariants.{Admitted}
 use Rattle.mav_sign.specs.History.{Entry as Tried, is_admitted}
-use Rattle.mav_sign.specs.Kept.{Kept, Represents}
+use Rattle.mav_sign.specs.Kept.{Kept, KeptByBlock, Represents, kept_answer_to}
 use Rattle.mav_sign.specs.Streams.{listed}
 use Rattle.link_table.specs.Routing.{Learned, ways_of, has_port}
 use Rattle.link_table.specs.Table.{Masks, Represents as StandsFor}
@@ -25,6 +27,15 @@ pub record Judges (rules : Rules) (port : ℕ) (packet : Packet) (target : Name)
   pub ports : taught.ports ≡ table.ports
   pub ways : (learned : List Learned) → StandsFor table learned → outcome.ways ≡ ways_by (is_admitted outcome.admit) (is_unsigned packet) rules.plain (ways_of table.ports learned port target)
   pub learned : (learned : List Learned) → StandsFor table learned → StandsFor taught (learned ++ listed (learned_at (is_admitted outcome.admit) port packet.from))
+
+-- the verdict on a frame at a port that is open or not, by what the verifier keeps
+abbrev pub verdict_by : List ℕ → Bool → Kept → Packet → Admit
+verdict_by key is_open kept packet = if is_open && is_unsigned packet then Admitted else kept_answer_to key kept packet
+
+-- and what it keeps after it
+pub record IsVerdictBy (key : List ℕ) (is_open : Bool) (old new : Kept) (packet : Packet) (answer : Admit) : Type 0 where
+  pub verdict : answer ≡ verdict_by key is_open old packet
+  pub kept : KeptByBlock packet.block packet answer old new
 
 -- a verifier and a table stand for a journal, which is one by the rules
 pub record IsAfter (rules : Rules) (stamps : Kept) (table : Masks) (journal : List Entry) : Type 0 where

@@ -35,7 +35,7 @@ pub record PartSoFar {A : Type 0} (state : A → LinkState) (rules : Rules) (fir
 
 -- the same of a port at which the switch didn't take a frame
 pub record PartStopped {A : Type 0} (state : A → LinkState) (rules : Rules) (first : LinkState) (part : Part A) : Type 0 where
-  pub input : StopsInput rules (entries_in part.seat.own) part.port first (state part.side.link)
+  pub input : StopsInput rules (entries_in part.seat.own) part.side.lane.turns part.port first (state part.side.link)
   pub output : Output (frames_to part.port (take part.side.taken (entries_in part.seat.seen))) first (state part.side.link) part.side.lane
 
 -- what holds of a thread's part still holds after what the thread does between two reads of its port
@@ -48,5 +48,6 @@ pub record KeepsOn {A : Type 0} (state : A → LinkState) (lock : Lock SwitchEve
 -- what a thread has done, by how it ended
 abbrev pub PartEnds : {A : Type 0} → Halt → (A → LinkState) → Rules → ℕ → LinkState → Part A → Type 0
 PartEnds Done state rules turns first part = PartSoFar state rules first part × HadTurns part.side.lane turns
-PartEnds Stopped state rules turns first part = PartSoFar state rules first part
-PartEnds (Fault why) state rules turns first part = PartStopped state rules first part × IsSwitchFault why (entries_in part.seat.seen)
+PartEnds Stopped state rules turns first part = PartSoFar state rules first part × part.side.lane.turns ≤ turns
+PartEnds (Fault why) state rules turns first part =
+    PartStopped state rules first part × (IsSwitchFault why (entries_in part.seat.seen) × part.side.lane.turns ≤ turns)

@@ -33,18 +33,18 @@ pub record HasRouted {A : Type 0} (state : A → LinkState) (rules : Rules) (mos
 
 -- it stopped before that, on one thread or with one for each port: the journal was full, or memory was out; there may be a
 -- frame more than those of the entries, with threads one at each port
-pub record HasStopped {A : Type 0} (one : Bool) (state : A → LinkState) (rules : Rules) (before after : List A) (why : SwitchFault) (journal : List Entry) : Type 0 where
+pub record HasStopped {A : Type 0} (one : Bool) (state : A → LinkState) (rules : Rules) (most : ℕ) (before after : List A) (why : SwitchFault) (journal : List Entry) : Type 0 where
   pub legal : IsJournal rules [] journal
-  pub stopped : StopsBy one state rules why journal before after
+  pub stopped : StopsBy one state rules most why journal before after
 
 -- what a run of one thread has done at its ports, by its switch's journal
 pub record PortsEnded {A : Type 0} (result : Result (Vec PortEnd) SwitchFault) (state : A → LinkState) (rules : Rules) (most : ℕ) (before after : List A) (journal : List Entry) : Type 0 where
   pub count : IfOk result (λ (ends : Vec PortEnd). length ends.items ≡ length before)
   pub each : IfOk result (λ (ends : Vec PortEnd). EachRan state rules most before after journal ends.items)
-  pub stopped : IfErr result (λ (why : SwitchFault). RouteStopped state rules why journal before after)
+  pub stopped : IfErr result (λ (why : SwitchFault). RouteStopped state rules most why journal before after)
 
 -- the run ended with this result, on one thread or with one for each port, and the links are where they were
 pub record HasEnded {A : Type 0} (result : Result RouteEnd RouteFault) (one : Bool) (state : A → LinkState) (rules : Rules) (most : ℕ) (before after : List A) : Type 0 where
   pub links : length after ≡ length before
   pub routed : IfOk result (λ (end : RouteEnd). HasRouted state rules most before after end.journal end.ports.items)
-  pub stopped : IfErr result (λ (fault : RouteFault). HasStopped one state rules before after fault.why fault.journal)
+  pub stopped : IfErr result (λ (fault : RouteFault). HasStopped one state rules most before after fault.why fault.journal)

@@ -83,6 +83,12 @@ pub record HadTurns (lane : Lane) (turns : ℕ) : Type 0 where
   pub fewer : lane.ended ≡ true → lane.turns < turns
   pub live : lane.ended ≡ false → lane.failed ≡ false → lane.turns ≡ turns
 
+-- a port had at most so many turns, one that has ended fewer, and one that is still read at least so many
+pub record HadBetween (low high : ℕ) (lane : Lane) : Type 0 where
+  pub most : lane.turns ≤ high
+  pub fewer : lane.ended ≡ true → lane.turns < high
+  pub least : lane.ended ≡ false → lane.failed ≡ false → low ≤ lane.turns
+
 -- the count of faults rose at a port that failed, and is the same at another
 abbrev pub FaultsBy : Bool → ℕ → ℕ → Type 0
 FaultsBy true before now = Rose before now
@@ -151,10 +157,19 @@ IsFresh rules port lane = IsNew (extras_of rules.known) (has_port rules.plain po
 abbrev pub AllFresh : Rules → List Lane → Type 0
 AllFresh rules lanes = (k : ℕ) (lane : Lane) → slice_get lanes k ≡ Some lane → IsFresh rules (k + 1) lane
 
--- within a round: the ports before this one had one turn more
-abbrev pub PartTurned : List Lane → ℕ → ℕ → Type 0
-PartTurned lanes turns at =
-    (k : ℕ) (lane : Lane) → slice_get lanes k ≡ Some lane → (k < at → HadTurns lane (turns + 1)) × (at ≤ k → HadTurns lane turns)
+-- one of the ports did
+abbrev pub DidBetween : (least most : ℕ) → List Lane → ℕ → Type 0
+DidBetween least most lanes k = (lane : Lane) → slice_get lanes k ≡ Some lane → HadBetween least most lane
+
+-- what holds of the turns of each port holds still
+abbrev pub KeepsTurns : ℕ → List Lane → List Lane → Type 0
+KeepsTurns most before after =
+    (least k : ℕ) → least ≤ most → DidBetween least most before k → DidBetween least most after k
+
+-- and one of them had one turn more, if it is still read
+abbrev pub TurnsOnce : ℕ → ℕ → List Lane → List Lane → Type 0
+TurnsOnce most k before after =
+    (least : ℕ) → least < most → DidBetween least most before k → DidBetween (least + 1) most after k
 
 abbrev pub AllTurned : List Lane → ℕ → Type 0
 AllTurned lanes turns = (k : ℕ) (lane : Lane) → slice_get lanes k ≡ Some lane → HadTurns lane turns

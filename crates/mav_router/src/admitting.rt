@@ -7,7 +7,7 @@ ghost use Rattle.mav_sign.specs.Signing.{verified};
 ghost use Rattle.link_table.specs.Routing.{Learned, ways_of};
 ghost use Rattle.link_table.specs.Table.{Represents as StandsFor};
 ghost use Rattle.mav_router.specs.Journal.{verdict_on, tried_as, is_unsigned, ways_by, learned_at};
-ghost use Rattle.mav_router.specs.Admitting.{AdmitsThese, Judges};
+ghost use Rattle.mav_router.specs.Admitting.{AdmitsThese, IsVerdictBy, Judges};
 ghost use Rattle.mav_router.specs.Found.{IsJudged, packets_of};
 ghost use Rattle.mav_router.specs.Spans.{AreFound, AreHeld, entries_of, judged_of};
 
@@ -23,8 +23,8 @@ use mav_frame::RawFrame;
 use mav_names::Name;
 use mav_sign::{Admit, Key, Stamps};
 
-// The verdict on a frame at a port that is open or not.
-fn verdict(
+/// The verdict on a frame at a port that is open or not.
+pub fn verdict(
     stamps: &mut Stamps,
     key: &Key,
     is_open: bool,
@@ -36,6 +36,7 @@ fn verdict(
         → result ≡ verdict_on key.now is_open history frame.now }
     ensures history { (history : List Tried) → Represents stamps.old history
         → Represents stamps.new (history ++ listed (tried_as frame.now result)) }
+    ensures kept { IsVerdictBy key.now is_open stamps.old stamps.new frame.now result }
 {
     if frame.has_block() {
         return stamps.admit_judged(key, frame, verifies);

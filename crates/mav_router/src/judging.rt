@@ -11,9 +11,9 @@ use mav_sign::verifies_raw;
 
 /// Whether the signature of a frame verifies, and the node that it is for.
 #[derive(Clone, Copy)]
-pub(crate) struct Judgement {
-    pub(crate) verifies: bool,
-    pub(crate) target: Name,
+pub struct Judgement {
+    pub verifies: bool,
+    pub target: Name,
 }
 
 // The node that a frame is for.
@@ -33,7 +33,7 @@ fn target(known: &Dialect, frame: &RawFrame<'_>) -> Name
 }
 
 /// Judges a frame by the rules of a router.
-pub(crate) fn judge(rules: &RouterRules<'_>, frame: &RawFrame<'_>) -> Judgement
+pub fn judge(rules: &RouterRules<'_>, frame: &RawFrame<'_>) -> Judgement
     ensures verifies { result.verifies ≡ verified rules.now.key frame.now frame.now.block }
     ensures target { result.target ≡ target_by rules.now frame.now }
 {

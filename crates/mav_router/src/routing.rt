@@ -9,7 +9,9 @@ ghost use Rattle.mav_router.specs.Routed.{CanRoute, HasEnded, PortsEnded};
 
 use crate::lane::Lane;
 use crate::parts::Room;
-use crate::rounds::{read_each, write_each};
+use crate::resting::join_rests;
+use crate::rounds::write_each;
+use crate::waiting::run_ports;
 use crate::{
     How, Journal, NoMemory, PortEnd, RouteEnd, RouteFault, RoutePlan, Switch, SwitchFault,
 };
@@ -29,19 +31,7 @@ pub(crate) fn is_live(lane: &Lane) -> bool
     !lane.ended && !lane.failed
 }
 
-// Whether no port is still read.
-fn is_done(lanes: &[Lane]) -> bool
-    ensures { result ≡ true → (turns more : ℕ) → turns ≤ more → AllTurned lanes.now turns → AllTurned lanes.now more }
-{
-    for at in 0..lanes.len() {
-        if is_live(&lanes[at]) {
-            return false;
-        }
-    }
-    true
-}
-
-// Reads and writes in rounds, until no port is still read or there were as many rounds as may be.
+// Reads each port as often as it may be read, and writes all that comes of it.
 fn run_rounds<L: Link>(
     switch: &mut Switch<'_>,
     lanes: &mut [Lane],
@@ -52,25 +42,20 @@ fn run_rounds<L: Link>(
     requires lanes { length lanes.old ≡ length links.old }
     requires ports { length links.old ≤ switch.old.rules.ports }
     requires few { length links.old ≤ 8 }
-    requires drained { (k : ℕ) → IsDrained switch.old lanes.old k }
     requires turned { AllTurned lanes.old 0 }
+    requires turns { turns ≤ 1_000_000_000 }
     ensures rules { switch.new.rules ≡ switch.old.rules }
     ensures so_far { OnOk result (RunGoesOn L.state switch.old switch.new links.old links.new lanes.old lanes.new) }
-    ensures stopped { OnErr result (RunStops L.state switch.old switch.new links.old links.new lanes.old) }
+    ensures stopped { OnErr result (RunStops L.state switch.old switch.new links.old links.new lanes.old turns) }
     ensures fault { IfErr result (λ fault. IsSwitchFault fault switch.new.journal) }
     ensures drained { OnOk result ((k : ℕ) → k < length lanes.new → IsDrained switch.new lanes.new k) }
     ensures turned { OnOk result (AllTurned lanes.new turns) }
 {
-    for turn in 0..turns {
-        let _ = turn;
-        if is_done(lanes) {
-            return Ok(());
-        }
-        if let Err(fault) = read_each(switch, lanes, links, &mut room.buffer, &mut room.found) {
-            return Err(fault);
-        }
-        write_each(switch, lanes, links, &mut room.batch);
+    join_rests(links, turns);
+    if let Err(fault) = run_ports(switch, lanes, links, room, turns) {
+        return Err(fault);
     }
+    write_each(switch, lanes, links, &mut room.batch);
     Ok(())
 }
 
@@ -239,9 +224,10 @@ pub fn route_links<L: Link>(
     }
 }
 
-/// Routes between the ports on one thread, and returns what came in and what became of each port. In each round every
-/// port that is still read is read once, in the order of the ports, and then all that is waiting is written. A run that
-/// stops because memory is out, or because the journal is full, gives back its journal so far.
+/// Routes between the ports on one thread, and returns what came in and what became of each port. A port is read
+/// whenever a read needn't wait, and then all is written that needn't wait either, in the order of the ports; where
+/// none is ready the thread rests. What is left in the end is written then, and waited for. A run that stops because
+/// memory is out, or because the journal is full, gives back its journal so far.
 pub fn route_one(
     alloc: Global,
     key: &Key,

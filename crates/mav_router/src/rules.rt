@@ -25,13 +25,15 @@ impl<'a> Model for RouterRules<'a> {
 }
 
 impl<'a> RouterRules<'a> {
-    pub(crate) fn key(&self) -> &Key
+    /// The key of its links.
+    pub fn key(&self) -> &Key
         ensures { result.now ≡ self.now.key }
     {
         &self.key
     }
 
-    pub(crate) fn plain(&self) -> Ways
+    /// The ports that are open to frames without a signature block.
+    pub fn plain(&self) -> Ways
         ensures { result ≡ self.now.plain }
     {
         self.plain

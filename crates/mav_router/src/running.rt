@@ -94,31 +94,50 @@ fn write_part<'a, R: Wait, L: Link>(rt: &R, crew: &Crew<'a, '_>, part: &mut Part
     unreachable!()
 }
 
+// Writes what waits for the port if something came in at any port since the last look.
+fn write_news<'a, R: Wait, L: Link>(
+    rt: &R,
+    crew: &Crew<'a, '_>,
+    part: &mut Part<'a, L>,
+    heard: &mut u64,
+)
+    requires ready { IsReady crew.now.turn.now crew.now.rules.now part.old }
+    ensures { KeepsOn L.state crew.now.turn.now crew.now.rules.now part.old part.new }
+{
+    let news = crew.signals.news();
+    if news == *heard {
+        return;
+    }
+    *heard = news;
+    write_part(rt, crew, part);
+}
+
 // Whether a read gave as many bytes as it asked for, by the counts of bytes before and after it: then more are likely there.
 fn is_whole_piece(before: u64, after: u64) -> bool {
     after - before.min(after) >= PIECE as u64
 }
 
-// Ends the rest of the other ports after a read that gave bytes, and writes what waits for the port, unless the read gave a
-// whole piece and not too many writes in a row were put off. `before` is the count of bytes before the read. Returns how
-// many writes in a row are put off now.
+// Ends the rest of the other ports after a read that gave bytes or the end, and writes what waits for the port,
+// unless the read gave a whole piece and not too many writes in a row were put off. `before` is the count of bytes
+// before the read. Returns how many writes in a row are put off now.
 fn write_or_put_off<'a, R: Wait, L: Link>(
     rt: &R,
     crew: &Crew<'a, '_>,
     part: &mut Part<'a, L>,
     before: u64,
     put_off: u32,
+    heard: &mut u64,
 ) -> u32
     requires ready { IsReady crew.now.turn.now crew.now.rules.now part.old }
     ensures { KeepsOn L.state crew.now.turn.now crew.now.rules.now part.old part.new }
 {
-    if part.side.lane.read > before {
+    if part.side.lane.read > before || part.side.lane.ended {
         crew.signals.ring_others(part.port);
     }
     if put_off < MOST_PUT_OFF && is_whole_piece(before, part.side.lane.read) {
         return put_off + 1;
     }
-    write_part(rt, crew, part);
+    write_news(rt, crew, part, heard);
     0
 }
 
@@ -142,7 +161,12 @@ fn rest<'a, L: Link>(crew: &Crew<'a, '_>, part: &mut Part<'a, L>)
 }
 
 // Writes what waits for the port until a read of it returns without waiting.
-fn write_until_ready<'a, R: Wait, L: Link>(rt: &R, crew: &Crew<'a, '_>, part: &mut Part<'a, L>)
+fn write_until_ready<'a, R: Wait, L: Link>(
+    rt: &R,
+    crew: &Crew<'a, '_>,
+    part: &mut Part<'a, L>,
+    heard: &mut u64,
+)
     requires ready { IsReady crew.now.turn.now crew.now.rules.now part.old }
     ensures { KeepsOn L.state crew.now.turn.now crew.now.rules.now part.old part.new }
 {
@@ -153,7 +177,7 @@ fn write_until_ready<'a, R: Wait, L: Link>(rt: &R, crew: &Crew<'a, '_>, part: &m
         if is_ready(crew, part) {
             return;
         }
-        write_part(rt, crew, part);
+        write_news(rt, crew, part, heard);
         rest(crew, part);
     }
     unreachable!()
@@ -166,9 +190,10 @@ fn read_turns<'a, R: Wait, L: Link>(rt: &R, crew: &Crew<'a, '_>, part: &mut Part
     ensures { HasRun result L.state crew.now.turn.now crew.now.rules.now crew.now.turns part.old part.new }
 {
     let mut put_off = 0;
+    let mut heard = 0;
     for turned in 0..crew.turns {
         let _ = turned;
-        write_until_ready(rt, crew, part);
+        write_until_ready(rt, crew, part, &mut heard);
         if !is_live(&part.side.lane) {
             return Halt::Done;
         }
@@ -180,7 +205,7 @@ fn read_turns<'a, R: Wait, L: Link>(rt: &R, crew: &Crew<'a, '_>, part: &mut Part
             crew.signals.stop();
             return Halt::Fault(fault);
         }
-        put_off = write_or_put_off(rt, crew, part, before, put_off);
+        put_off = write_or_put_off(rt, crew, part, before, put_off, &mut heard);
     }
     Halt::Done
 }
@@ -191,12 +216,13 @@ fn write_on<'a, R: Wait, L: Link>(rt: &R, crew: &Crew<'a, '_>, part: &mut Part<'
     ensures { KeepsOn L.state crew.now.turn.now crew.now.rules.now part.old part.new }
 {
     let mut looks = 0;
+    let mut heard = 0;
     for _ in rt.forever() {
         let is_last = crew.signals.is_over(looks);
         if crew.signals.is_stopped() || part.side.lane.failed {
             return;
         }
-        write_part(rt, crew, part);
+        write_news(rt, crew, part, &mut heard);
         if is_last {
             return;
         }

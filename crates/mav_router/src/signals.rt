@@ -10,13 +10,15 @@ const PAUSE_MICROS: u64 = 1000;
 // How many looks it waits for threads that haven't begun: where none can be made, they begin after it.
 const PATIENCE: u32 = 1000;
 
-/// How many threads have begun, how many of them still read, whether one had a fault, and what ends the rest of each port.
+/// How many threads have begun, how many of them still read, whether one had a fault, how often something came in,
+/// and what ends the rest of each port.
 #[derive(Drop)]
 pub(crate) struct Signals {
     threads: u64,
     begun: AtomicU64,
     reading: AtomicU64,
     stopped: AtomicBool,
+    news: AtomicU64,
     bells: [Option<Arc<Bell>>; 8],
 }
 
@@ -36,6 +38,7 @@ impl Signals {
             begun: AtomicU64::new(0),
             reading: AtomicU64::new(0),
             stopped: AtomicBool::new(false),
+            news: AtomicU64::new(0),
             bells: [
                 bell_at(ports, 0),
                 bell_at(ports, 1),
@@ -49,14 +52,20 @@ impl Signals {
         }
     }
 
-    /// Ends the rest of each port but one: something may wait for them.
+    /// Something came in at a port: ends the rest of each other one, for which it may wait.
     pub(crate) fn ring_others(&self, port: u8) {
+        self.news.fetch_add(1, Ordering::SeqCst);
         for (at, bell) in self.bells.iter().enumerate() {
             match bell {
                 Some(bell) if at != usize::from(port.saturating_sub(1)) => bell.ring(),
                 _ => {}
             }
         }
+    }
+
+    /// How often something came in at any port.
+    pub(crate) fn news(&self) -> u64 {
+        self.news.load(Ordering::SeqCst)
     }
 
     pub(crate) fn stop(&self) {

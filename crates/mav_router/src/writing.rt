@@ -34,8 +34,8 @@ fn write_run<L: Link>(lane: &mut Lane, link: &mut L, run: &[u8])
     }
 }
 
-// Writes what waits.
-fn flush<L: Link>(batch: &mut Batch, lane: &mut Lane, link: &mut L)
+/// Writes what waits.
+pub(crate) fn flush<L: Link>(batch: &mut Batch, lane: &mut Lane, link: &mut L)
     ensures empty { batch.new ≡ [] }
     ensures output { (frames : List Packet) (first : LinkState)
         → GivenBut frames first (L.state link.old) lane.old batch.old
@@ -59,8 +59,8 @@ fn make_room<L: Link>(batch: &mut Batch, lane: &mut Lane, link: &mut L)
     }
 }
 
-// Writes frames that stand together after what waits. If they weren't copied yet, they wait too.
-fn pass_on<L: Link>(batch: &mut Batch, lane: &mut Lane, link: &mut L, run: Run<'_>)
+/// Writes frames that stand together after what waits. If they weren't copied yet, they wait too.
+pub(crate) fn pass_on<L: Link>(batch: &mut Batch, lane: &mut Lane, link: &mut L, run: Run<'_>)
     ensures given { (frames more : List Packet) (first : LinkState) → Joins run.entry.bytes.now more
         → GivenBut frames first (L.state link.old) lane.old batch.old
         → GivenBut (frames ++ more) first (L.state link.new) lane.new batch.new }

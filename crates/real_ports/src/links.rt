@@ -108,11 +108,11 @@ impl Link for RealLink {
         }
     }
 
-    fn can_write(&mut self) -> bool {
+    fn room(&mut self) -> usize {
         self.open();
         match self {
-            RealLink::Stream(link) => link.can_write(),
-            _ => true,
+            RealLink::Stream(link) => link.room(),
+            _ => usize::MAX,
         }
     }
 
@@ -122,6 +122,15 @@ impl Link for RealLink {
             RealLink::Stream(link) => link.bell(),
             RealLink::Datagrams(link) => link.bell(),
             _ => None,
+        }
+    }
+
+    fn wakes(&mut self, bell: Arc<Bell>) {
+        self.open();
+        match self {
+            RealLink::Stream(link) => link.wakes(bell),
+            RealLink::Datagrams(link) => link.wakes(bell),
+            _ => {}
         }
     }
 }

@@ -186,7 +186,7 @@ module _ (p : Ports) (end : Option RunEnd) (rb ra : ℕ) (sb sa : Option (List �
 
   limit_by : (why : SwitchFault) (journal : List Entry) → Halted p why journal → end ≡ Some (end_of_fault why) → sa ≡ append_known sb (status_text (Some (end_of_fault why))) → code_of end ≡ 6 → Limited
   limit_by (Full entries) journal h e sent code =
-      let full = (as_halted p.one p.state p.rules (Full entries) journal p.before p.after h.run.stopped).cause in
+      let full = (as_halted p.one p.state p.rules p.most (Full entries) journal p.before p.after h.run.stopped).cause in
       (journal, subst (λ (n : ℕ). Halted p (Full n) journal) full.0 h, full.1, sent)
   limit_by NoRoom journal h e sent code = absurd (let seven : code_of (Some NoMemory) ≡ 6 = code_at end (Some NoMemory) 6 e code in omega (arith, seven))
 

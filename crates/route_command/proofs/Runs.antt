@@ -27,7 +27,7 @@ module _ {A : Type 0} (state : A → LinkState) (rules : Rules) (one : Bool) (mo
       })
 
   -- it stopped, and nothing was written
-  pub run_stops : (why : SwitchFault) (refusals : ℕ) (sent : Option (List ℕ)) → length after ≡ length before → HasStopped one state rules before after why journal
+  pub run_stops : (why : SwitchFault) (refusals : ℕ) (sent : Option (List ℕ)) → length after ≡ length before → HasStopped one state rules most before after why journal
       → RoutesBeforeStatus (ports_of state rules one most before after) (Some (end_of_fault why)) refusals refusals sent sent
   run_stops why refusals sent links run =
       inr (record {
@@ -38,8 +38,8 @@ module _ {A : Type 0} (state : A → LinkState) (rules : Rules) (one : Bool) (mo
       })
 
 -- a run on one thread that stopped, by a plan that may be for threads
-stopped_as : {A : Type 0} (one : Bool) (state : A → LinkState) (rules : Rules) (before after : List A) (why : SwitchFault) (journal : List Entry) → HasStopped true state rules before after why journal → HasStopped one state rules before after why journal
-stopped_as one state rules before after why journal s = record { legal = s.legal; stopped = stops_as one state rules why journal before after s.stopped }
+stopped_as : {A : Type 0} (one : Bool) (state : A → LinkState) (rules : Rules) (most : ℕ) (before after : List A) (why : SwitchFault) (journal : List Entry) → HasStopped true state rules most before after why journal → HasStopped one state rules most before after why journal
+stopped_as one state rules most before after why journal s = record { legal = s.legal; stopped = stops_as one state rules most why journal before after s.stopped }
 
 -- what holds of a run by a router that starts no thread, or else by its plan, holds by its plan
 pub by_plan : {A : Type 0} (alone one : Bool) (state : A → LinkState) (rules : Rules) (most : ℕ) (before after : List A) (end : Option RunEnd) (rb ra : ℕ) (sb sa : Option (List ℕ))
@@ -57,11 +57,11 @@ by_plan true one state rules most before after end rb ra sb sa (inr s) =
     inr (record {
       journal = s.journal;
       why = s.why;
-      halted = record { links = s.halted.links; run = stopped_as one state rules before after s.why s.journal s.halted.run };
+      halted = record { links = s.halted.links; run = stopped_as one state rules most before after s.why s.journal s.halted.run };
       wrote = s.wrote;
     })
 
 -- either way there may be a frame at each port
-pub as_halted : {A : Type 0} (one : Bool) (state : A → LinkState) (rules : Rules) (why : SwitchFault) (journal : List Entry) (before after : List A) → StopsBy one state rules why journal before after → RouteHalted state rules why journal before after
-as_halted true state rules why journal before after s = halted state rules why journal before after s
-as_halted false state rules why journal before after s = s
+pub as_halted : {A : Type 0} (one : Bool) (state : A → LinkState) (rules : Rules) (most : ℕ) (why : SwitchFault) (journal : List Entry) (before after : List A) → StopsBy one state rules most why journal before after → RouteHalted state rules most why journal before after
+as_halted true state rules most why journal before after s = halted state rules most why journal before after s
+as_halted false state rules most why journal before after s = s

@@ -51,7 +51,7 @@ pub record Routed (p : Ports) (journal : List Entry) (ends : List PortEnd) : Typ
 -- it stopped before that: the journal was full, or memory was out
 pub record Halted (p : Ports) (why : SwitchFault) (journal : List Entry) : Type 0 where
   pub links : length p.after ≡ length p.before
-  pub run : HasStopped p.one p.state p.rules p.before p.after why journal
+  pub run : HasStopped p.one p.state p.rules p.most p.before p.after why journal
 
 -- a port hadn't ended after as many reads as it may have
 abbrev pub is_turns : How → Bool

@@ -14,7 +14,7 @@ returns-in_default-clause-ended g c = λ key ports.
     record {
       count = tt;
       each = tt;
-      stopped = subst (λ (j : List Entry). RouteStopped g.L.Link.state rules NoMemory j c.args.links.now c.args.links.now) (sym c.requires.journal) (nothing_routed g.L.Link.state rules c.args.links.now);
+      stopped = subst (λ (j : List Entry). RouteStopped g.L.Link.state rules c.args.plan.turns NoMemory j c.args.links.now c.args.links.now) (sym c.requires.journal) (nothing_routed g.L.Link.state rules c.args.plan.turns c.args.links.now);
     }
 
 pub returns-clause-ended : goal.returns-clause-ended

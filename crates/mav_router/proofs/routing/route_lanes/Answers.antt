@@ -22,7 +22,7 @@ returns-in-Err-clause-ended g c = λ rules fresh.
     record {
       count = tt;
       each = tt;
-      stopped = route_stopped g.L.Link.state rules c.in-Err.fault c.run_rounds.new.switch.journal c.args.links.now c.run_rounds.new.links d c.in-Err.ensures.fault c.run_rounds.auto.links (c.in-Err.ensures.stopped rules _ start);
+      stopped = route_stopped g.L.Link.state rules c.args.turns c.in-Err.fault c.run_rounds.new.switch.journal c.args.links.now c.run_rounds.new.links d c.in-Err.ensures.fault c.run_rounds.auto.links (c.in-Err.ensures.stopped rules _ start);
     }
 
 pub returns-in_default-ends_of-clause-ended : goal.returns-in_default-ends_of-clause-ended
@@ -32,5 +32,5 @@ returns-in_default-ends_of-clause-ended g c = λ rules fresh.
     record {
       count = tt;
       each = tt;
-      stopped = route_halted g.L.Link.state rules c.run_rounds.new.switch c.args.links.now c.run_rounds.new.links c.run_rounds.new.lanes d (omega (arith, c.run_rounds.auto.links, c.run_rounds.auto.lanes, c.requires.lanes)) (c.in_default.ensures.so_far rules _ start);
+      stopped = route_halted g.L.Link.state rules c.args.turns c.run_rounds.new.switch c.args.links.now c.run_rounds.new.links c.run_rounds.new.lanes d (omega (arith, c.run_rounds.auto.links, c.run_rounds.auto.lanes, c.requires.lanes)) (omega (arith, c.requires.turns)) (λ k lane is. (c.in_default.ensures.turned k lane is).most) (c.in_default.ensures.so_far rules _ start);
     }

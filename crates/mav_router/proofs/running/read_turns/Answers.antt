@@ -22,7 +22,9 @@ returns-in-Err g c =
     record {
       ready = c.read_part.ensures.ready;
       port = c.read_part.ensures.port ∙ (u.port ∙ i.port);
-      ends = λ first p. (r.stopped first (u.so_far first (i.so_far first p)), r.fault);
+      ends = λ first p.
+          let had = (c.read_part.ensures.turned c.loop-turned.turned (search rules) (u.turned c.loop-turned.turned i.turned)).most in
+          (r.stopped first (u.so_far first (i.so_far first p)), (r.fault, omega (arith, had, c.loop-turned-test.true)));
     }
 
 pub returns-then-not-is_live : goal.returns-then-not-is_live
@@ -41,4 +43,15 @@ returns-then-not-is_live g c =
           live = λ live fine. absurd (c.is_live.ensures.over c.if-not-is_live.true live fine);
         },
       );
+    }
+
+pub returns-then-is_stopped : goal.returns-then-is_stopped
+returns-then-is_stopped g c =
+    let i = c.loop-turned.invariant in
+    let u = c.write_until_ready.ensures in
+    let had = (u.turned c.loop-turned.turned i.turned).most in
+    record {
+      ready = u.ready;
+      port = u.port ∙ i.port;
+      ends = λ first p. (u.so_far first (i.so_far first p), omega (arith, had, c.loop-turned-test.true));
     }

@@ -18,7 +18,7 @@ returns-in-Some g c = λ before closed.
     record {
       links = ap length c.give_links.ensures ∙ (length-map old (λ (side : Side g.row.L.Denot). side.link) ∙ closed_long g.L.Link.state c.args.switch.rules c.args.turns _ before old closed);
       routed = tt;
-      stopped = stopped g.L.Link.state c.args.switch.rules c.args.turns why c.into_journal.result before c.give_links.new.links.items old j.within j.legal
+      stopped = stopped g.L.Link.state c.args.switch.rules c.args.turns why c.into_journal.result before c.give_links.new.links.items old c.requires.turns j.within j.legal
           (subst (λ (l : List (Side g.row.L.Denot)). (why ≡ NoMemory) ⊎ HasFault l why) c.as_slice.ensures.value c.in-Some.ensures.some)
           c.give_links.ensures
           (subst (λ (l : List Entry). HasClosed g.L.Link.state c.args.switch.rules c.args.turns l before old) (sym j.journal) closed);
