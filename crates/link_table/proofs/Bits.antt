@@ -1,12 +1,14 @@
 -- Sets of ports as bytes with a bit for each.
-use Rattle.std.proofs.Common.{◌≡◌, ◌∙◌, ◌<◌, ◌≤◌, ◌⊎◌, inl, inr, ℕ, zero, suc, ◌-◌, ◌/◌, ◌^◌, ◌==◌, ◌&&◌, ◌||◌, not, Bool, true, false, if◌then◌else◌, List, [], ◌∷◌, set, bit_and, bit_or, nat_le, arith, refl, ap, sym}
+use Rattle.std.proofs.Common.{◌≡◌, ◌∙◌, ◌<◌, ◌≤◌, ◌⊎◌, inl, inr, ℕ, zero, suc, ◌-◌, ◌/◌, ◌^◌, ◌==◌, ◌&&◌, ◌||◌, not, Bool, true, false, if◌then◌else◌, List, [], ◌∷◌, set, bit_and, bit_or, nat_le, nat_lt, ◌+◌, ◌*◌, ◌%◌, arith, refl, ap, sym}
 use Rattle.std.specs.Int.{bit_at}
 use Rattle.std.proofs.lemmas.Bool.{cases_eq}
 use Rattle.std.proofs.lemmas.Grind.{common_steps}
+use Rattle.std.proofs.Math.Nat.{mod-eq_of_lt}
 use Rattle.std.proofs.lemmas.Nat.{pow_below}
-use Rattle.std.proofs.lemmas.Nat.Bits.{bit_at-lt, bit_at_and, bit_at_or, bit_at_not, bit_at_ones, bit_at_ones_above, ones_shr, bit_at-pow_same, bit_at-pow_other}
-use Rattle.std.proofs.Common.{w8}
+use Rattle.std.proofs.lemmas.Nat.Bits.{bit_at-lt, bit_at_and, bit_at_or, bit_at_not, bit_at_ones, bit_at_ones_above, ones_shr, bit_at-pow_same, bit_at-pow_other, bit_at-suc, bit_at_above}
+use Rattle.std.proofs.Common.{w8, w32}
 use Rattle.link_table.specs.Bits.{has_bit, flags_of, mask_of}
+use Rattle.link_table.specs.OpenLinks.{bit_without, has_link}
 use Rattle.link_table.specs.Routing.{has_port, common_ways, goes_out, ways_of, is_behind, Learned}
 use Rattle.mav_names.specs.declared.names.Name.{Name}
 
@@ -51,20 +53,36 @@ port_flag mask = by_port (λ port. has_port (flags_of mask) port ≡ has_bit mas
 
 -- ---- one bit more
 
--- a mask with one more bit
-pub bit_more : (mask at port : ℕ) → 1 ≤ at → 1 ≤ port → has_bit (bit_or mask (2 ^ (at - 1))) port ≡ ((at == port) || has_bit mask port)
-bit_more mask at port a p =
-    let either = bit_at_or mask (2 ^ (at - 1)) (port - 1) in
-    elim (same_or at port) [
+-- a word with one more bit
+pub link_more : (word at k : ℕ) → has_link (bit_or word (2 ^ at)) k ≡ ((at == k) || has_link word k)
+link_more word at k =
+    let either = bit_at_or word (2 ^ at) k in
+    elim (same_or at k) [
       | inl e ↦
-          let here : bit_at (2 ^ (at - 1)) (port - 1) ≡ 1 = ap (λ (n : ℕ). bit_at (2 ^ (at - 1)) (n - 1)) (sym e.0) ∙ bit_at-pow_same (at - 1) in
-          let is : bit_at (bit_or mask (2 ^ (at - 1))) (port - 1) ≡ 1 = omega (arith, either, here, bit_at-lt mask (port - 1)) in
-          ap (λ (n : ℕ). n == 1) is ∙ ap (λ (b : Bool). b || has_bit mask port) (sym e.1)
+          let here : bit_at (2 ^ at) k ≡ 1 = ap (λ (n : ℕ). bit_at (2 ^ at) n) (sym e.0) ∙ bit_at-pow_same at in
+          let is : bit_at (bit_or word (2 ^ at)) k ≡ 1 = omega (arith, either, here, bit_at-lt word k) in
+          ap (λ (n : ℕ). n == 1) is ∙ ap (λ (b : Bool). b || has_link word k) (sym e.1)
       | inr e ↦
-          let apart : bit_at (2 ^ (at - 1)) (port - 1) ≡ 0 = bit_at-pow_other (at - 1) (port - 1) (λ same. e.0 (omega (arith, same))) in
-          let is : bit_at (bit_or mask (2 ^ (at - 1))) (port - 1) ≡ bit_at mask (port - 1) = omega (arith, either, apart) in
-          ap (λ (n : ℕ). n == 1) is ∙ ap (λ (b : Bool). b || has_bit mask port) (sym e.1)
+          let apart : bit_at (2 ^ at) k ≡ 0 = bit_at-pow_other at k (λ same. e.0 (sym same)) in
+          let is : bit_at (bit_or word (2 ^ at)) k ≡ bit_at word k = omega (arith, either, apart) in
+          ap (λ (n : ℕ). n == 1) is ∙ ap (λ (b : Bool). b || has_link word k) (sym e.1)
     ]
+
+pub one_less : (m n : ℕ) → 1 ≤ m → 1 ≤ n → ((m - 1) == (n - 1)) ≡ (m == n)
+one_less m n a b = elim (same_or m n) [
+  | inl e ↦ same (m - 1) (n - 1) (omega (arith, e.0)) ∙ sym e.1
+  | inr e ↦ apart (m - 1) (n - 1) (λ f. e.0 (omega (arith, a, b, f))) ∙ sym e.1
+]
+  where
+    same : (i j : ℕ) → i ≡ j → (i == j) ≡ true
+    same i j e = grind (arith, common_steps)
+
+    apart : (i j : ℕ) → (i ≡ j → ⊥) → (i == j) ≡ false
+    apart i j e = grind (arith, common_steps)
+
+-- a mask of ports with one more bit
+pub bit_more : (mask at port : ℕ) → 1 ≤ at → 1 ≤ port → has_bit (bit_or mask (2 ^ (at - 1))) port ≡ ((at == port) || has_bit mask port)
+bit_more mask at port a p = link_more mask (at - 1) (port - 1) ∙ ap (λ (b : Bool). b || has_bit mask port) (one_less at port a p)
 
 flags_more : (mask at : ℕ) → 1 ≤ at → flags_of (bit_or mask (2 ^ (at - 1))) ≡ ((at == 1) || has_bit mask 1) ∷ ((at == 2) || has_bit mask 2) ∷ ((at == 3) || has_bit mask 3) ∷ ((at == 4) || has_bit mask 4) ∷ ((at == 5) || has_bit mask 5) ∷ ((at == 6) || has_bit mask 6) ∷ ((at == 7) || has_bit mask 7) ∷ ((at == 8) || has_bit mask 8) ∷ []
 flags_more mask at from =
@@ -159,3 +177,51 @@ ways_in_bits ports learned own target first other behind f o b =
     ∙ (ap (λ (x : Bool). has_bit first port && x) (bit_both other behind port)
     ∙ (λ i. f port from to i && (o port from to i && b port from to i))) in
     λ i. is 1 (omega arith) (omega arith) i ∷ is 2 (omega arith) (omega arith) i ∷ is 3 (omega arith) (omega arith) i ∷ is 4 (omega arith) (omega arith) i ∷ is 5 (omega arith) (omega arith) i ∷ is 6 (omega arith) (omega arith) i ∷ is 7 (omega arith) (omega arith) i ∷ is 8 (omega arith) (omega arith) i ∷ []
+
+pub below_or : (m n : ℕ) → ((m < n) × (nat_lt m n ≡ true)) ⊎ ((n ≤ m) × (nat_lt m n ≡ false))
+below_or m n = elim (cases m n) [ inl e ↦ inl (e, yes m n e) | inr e ↦ inr (e, no_more m n e) ]
+  where
+    cases : (m n : ℕ) → (m < n) ⊎ (n ≤ m)
+    cases m n = grind (arith, common_steps)
+
+    yes : (m n : ℕ) → m < n → nat_lt m n ≡ true
+    yes m n h = grind (arith, common_steps)
+
+    no_more : (m n : ℕ) → n ≤ m → nat_lt m n ≡ false
+    no_more m n h = grind (arith, common_steps)
+
+-- ---- a word without one link's bit
+
+pub without_bits : (word link k : ℕ) → word < 2 ^ 32 → link < 32 → has_link (bit_or (bit_and (word / 2) (4294967295 - (1 * 2 ^ link % 4294967296 - 1))) (bit_and word (1 * 2 ^ link % 4294967296 - 1))) k ≡ bit_without word link k
+without_bits word link k fits few =
+    let pow : 2 ^ link < 4294967296 = pow_below link 32 few in
+    let low : 1 * 2 ^ link % 4294967296 - 1 ≡ 2 ^ link - 1 = ap (λ (n : ℕ). n - 1) (mod-eq_of_lt (omega (arith, pow)) ∙ omega arith) in
+    ap (λ (m : ℕ). has_link (bit_or (bit_and (word / 2) (4294967295 - m)) (bit_and word m)) k) low ∙ (by_low word link k (2 ^ link - 1) (omega (arith, pow)) fits few (λ (i : ℕ) l. bit_at_ones link i l) (λ (i : ℕ) l. bit_at_ones_above link i l))
+  where
+    by_low : (word link k low : ℕ) → low < 2 ^ 32 → word < 2 ^ 32 → link < 32 → ((i : ℕ) → i < link → bit_at low i ≡ 1) → ((i : ℕ) → link ≤ i → bit_at low i ≡ 0) → has_link (bit_or (bit_and (word / 2) (4294967295 - low)) (bit_and word low)) k ≡ bit_without word link k
+    by_low word link k low low_fits fits few ones zeros =
+        let high = 4294967295 - low in
+        let either = bit_at_or (bit_and (word / 2) high) (bit_and word low) k in
+        let first = bit_at_and (word / 2) high k in
+        let second = bit_at_and word low k in
+        let next : bit_at word (k + 1) ≡ bit_at (word / 2) k = ap (bit_at word) (omega arith) ∙ bit_at-suc word k in
+        let x = bit_at-lt word k in
+        let y = bit_at-lt (word / 2) k in
+        elim (below_or k link) [
+          | inl e ↦
+              let one = ones k e.0 in
+              let none : bit_at high k ≡ 0 = bit_at_not w32 low k low_fits (omega (arith, e.0, few)) ∙ omega (arith, one) in
+              let is : bit_at (bit_or (bit_and (word / 2) high) (bit_and word low)) k ≡ bit_at word k = omega (arith, either, first, second, one, none, x, y) in
+              ap (λ (n : ℕ). n == 1) is ∙ ap (λ (b : Bool). if b then has_link word k else has_link word (k + 1)) (sym e.1)
+          | inr e ↦
+              let none = zeros k e.0 in
+              let is : bit_at (bit_or (bit_and (word / 2) high) (bit_and word low)) k ≡ bit_at word (k + 1) = elim (below_or k 32) [
+                | inl f ↦
+                    let one : bit_at high k ≡ 1 = bit_at_not w32 low k low_fits f.0 ∙ omega (arith, none) in
+                    omega (arith, either, first, second, one, none, next, x, y)
+                | inr f ↦
+                    let gone : bit_at word (k + 1) ≡ 0 = bit_at_above word 32 (k + 1) fits (omega (arith, f.0)) in
+                    omega (arith, either, first, second, none, gone, next, x, y)
+              ] in
+              ap (λ (n : ℕ). n == 1) is ∙ ap (λ (b : Bool). if b then has_link word k else has_link word (k + 1)) (sym e.1)
+        ]

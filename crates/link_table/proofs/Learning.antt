@@ -9,22 +9,23 @@ use Rattle.std.proofs.lemmas.Nat.{same_from_place}
 use Rattle.mav_names.specs.declared.names.Name.{Name}
 use Rattle.link_table.specs.Routing.{Learned}
 use Rattle.link_table.specs.Bits.{has_bit}
-use Rattle.link_table.proofs.Bits.{same_or, bit_more}
+use Rattle.link_table.specs.OpenLinks.{has_link}
+use Rattle.link_table.proofs.Bits.{same_or, link_more, one_less}
 use Rattle.link_table.specs.Table.{Masks, Represents}
 
--- the bytes with one more bit in one of them
-marked : (masks : List ℕ) (index other at port : ℕ) → index < length masks → 1 ≤ at → 1 ≤ port → has_bit (get_or (set masks index (bit_or (get_or masks index 0) (2 ^ (at - 1)))) other 0) port ≡ (((at == port) && (index == other)) || has_bit (get_or masks other 0) port)
-marked masks index other at port within a p =
+-- words with one more bit in one of them
+pub marked_link : (words : List ℕ) (index other at k : ℕ) → index < length words → has_link (get_or (set words index (bit_or (get_or words index 0) (2 ^ at))) other 0) k ≡ (((at == k) && (index == other)) || has_link (get_or words other 0) k)
+marked_link words index other at k within =
     elim (same_or index other) [
       | inl e ↦
-          ap (λ (n : ℕ). has_bit (get_or (set masks index (bit_or (get_or masks index 0) (2 ^ (at - 1)))) n 0) port) (sym e.0)
-          ∙ (ap (λ (n : ℕ). has_bit n port) (get_or-set_same masks index (bit_or (get_or masks index 0) (2 ^ (at - 1))) 0 within)
-          ∙ (bit_more (get_or masks index 0) at port a p
-          ∙ (ap (λ (n : ℕ). (at == port) || has_bit (get_or masks n 0) port) e.0
-          ∙ (and_true (at == port) (has_bit (get_or masks other 0) port) ∙ ap (λ (b : Bool). ((at == port) && b) || has_bit (get_or masks other 0) port) (sym e.1)))))
+          ap (λ (n : ℕ). has_link (get_or (set words index (bit_or (get_or words index 0) (2 ^ at))) n 0) k) (sym e.0)
+          ∙ (ap (λ (n : ℕ). has_link n k) (get_or-set_same words index (bit_or (get_or words index 0) (2 ^ at)) 0 within)
+          ∙ (link_more (get_or words index 0) at k
+          ∙ (ap (λ (n : ℕ). (at == k) || has_link (get_or words n 0) k) e.0
+          ∙ (and_true (at == k) (has_link (get_or words other 0) k) ∙ ap (λ (b : Bool). ((at == k) && b) || has_link (get_or words other 0) k) (sym e.1)))))
       | inr e ↦
-          ap (λ (n : ℕ). has_bit n port) (get_or-set_other masks index other (bit_or (get_or masks index 0) (2 ^ (at - 1))) 0 (λ same. e.0 (sym same)))
-          ∙ (and_false (at == port) (has_bit (get_or masks other 0) port) ∙ ap (λ (b : Bool). ((at == port) && b) || has_bit (get_or masks other 0) port) (sym e.1))
+          ap (λ (n : ℕ). has_link n k) (get_or-set_other words index other (bit_or (get_or words index 0) (2 ^ at)) 0 (λ same. e.0 (sym same)))
+          ∙ (and_false (at == k) (has_link (get_or words other 0) k) ∙ ap (λ (b : Bool). ((at == k) && b) || has_link (get_or words other 0) k) (sym e.1))
     ]
   where
     and_true : (a b : Bool) → (a || b) ≡ ((a && true) || b)
@@ -35,7 +36,13 @@ marked masks index other at port within a p =
     and_false true b = refl
     and_false false b = refl
 
-one_more : (p : Learned → Bool) (learned : List Learned) (last : Learned) → list_any p (learned ++ last ∷ []) ≡ (p last || list_any p learned)
+-- the bytes with one more bit
+marked : (masks : List ℕ) (index other at port : ℕ) → index < length masks → 1 ≤ at → 1 ≤ port → has_bit (get_or (set masks index (bit_or (get_or masks index 0) (2 ^ (at - 1)))) other 0) port ≡ (((at == port) && (index == other)) || has_bit (get_or masks other 0) port)
+marked masks index other at port within a p =
+    marked_link masks index other (at - 1) (port - 1) within
+    ∙ ap (λ (b : Bool). (b && (index == other)) || has_bit (get_or masks other 0) port) (one_less at port a p)
+
+pub one_more : {A : Type 0} (p : A → Bool) (learned : List A) (last : A) → list_any p (learned ++ last ∷ []) ≡ (p last || list_any p learned)
 one_more p learned last = list_any-append p learned (last ∷ []) ∙ turned (list_any p learned) (p last)
   where
     turned : (a b : Bool) → (a || (b || false)) ≡ (b || a)
@@ -44,7 +51,7 @@ one_more p learned last = list_any-append p learned (last ∷ []) ∙ turned (li
     turned false true = refl
     turned false false = refl
 
-same_node : (sys comp s c : ℕ) → comp < 256 → c < 256 → ((sys * 256 + comp) == (s * 256 + c)) ≡ ((sys == s) && (comp == c))
+pub same_node : (sys comp s c : ℕ) → comp < 256 → c < 256 → ((sys * 256 + comp) == (s * 256 + c)) ≡ ((sys == s) && (comp == c))
 same_node sys comp s c below also =
     elim (same_or (sys * 256 + comp) (s * 256 + c)) [
       | inl e ↦ let both = same_from_place sys comp s c 256 below also e.0 in e.1 ∙ sym (are_same sys s comp c both.0 both.1)

@@ -11,10 +11,10 @@ use mav_names::Name;
 use std::alloc::Global;
 use std::marker::Model;
 
-const SYSTEMS: usize = 256;
+pub(crate) const SYSTEMS: usize = 256;
 
 // Each system has 256 components.
-const NODES: usize = 65_536;
+pub(crate) const NODES: usize = 65_536;
 
 // The mask of all ports.
 const ALL_PORTS: u8 = 255;
@@ -58,7 +58,7 @@ fn mark(masks: &mut Vec<u8>, index: usize, port: u8)
     masks[index] |= bit_of(port);
 }
 
-fn node_index(node: Name) -> usize
+pub(crate) fn node_index(node: Name) -> usize
     ensures index { result ≡ node.sys * 256 + node.comp }
     ensures within { result < 65536 }
 {

@@ -4,3 +4,5 @@ pub mod Profiles
 mod Sending
 mod Hearing
 mod Streaming
+mod Forgetting
+mod ForgettingLaw

@@ -1,11 +1,12 @@
 -- What a verifier keeps of its history.
-use Rattle.std.specs.Prelude.{ℕ, ◌≡◌, ◌+◌, ◌*◌, ◌<◌, ◌==◌, nat_eq, max, is_some, if◌then◌else◌, false, List, [], ◌∷◌, ◌++◌, length, Option, Some}
+use Rattle.std.specs.Prelude.{ℕ, ◌≡◌, ◌+◌, ◌-◌, ◌*◌, ◌<◌, ◌==◌, nat_eq, nat_lt, not, max, is_some, if◌then◌else◌, Bool, false, List, [], ◌∷◌, ◌++◌, length, Option, Some, None}
+use Rattle.std.specs.List.{count_by}
 use Rattle.std.specs.Map.{lookup}
 use Rattle.mav_names.specs.declared.names.Stream.{Stream}
-use Rattle.mav_frame.specs.Packet.{Packet}
+use Rattle.mav_frame.specs.Packet.{Packet, SignatureBlock}
 use Rattle.mav_sign.specs.declared.admission.Admit.{Admit}
 use Rattle.mav_sign.specs.declared.admission.Admit.TheVariants.{Admitted}
-use Rattle.mav_sign.specs.History.{Entry, tried, answer_to, is_admitted, block_answer, answer_after, unless_below, low_of, last_of, streams_of, accepted_in, previous_in, sent_in, greatest}
+use Rattle.mav_sign.specs.History.{Entry, tried, stream_of, one_minute, stream_limit, answer_to, is_admitted, block_answer, answer_after, unless_below, low_of, last_of, streams_of, accepted_in, previous_in, sent_in, greatest}
 
 -- the persisted timestamp low bound that it was started with, the pairs of a stream's number and its last admitted timestamp, the greatest
 -- timestamp admitted, and the previous one sent
@@ -56,16 +57,6 @@ pub record IsVerdict (key : List ℕ) (kept : Kept) (packet : Packet) (answer : 
   pub by_kept : answer ≡ kept_answer_to key kept packet
   pub by_history : (history : List Entry) → Represents kept history → answer ≡ answer_to key history packet
 
--- a frame was tried with that verdict
-pub record HasTried (key : List ℕ) (old new : Kept) (packet : Packet) (answer : Admit) : Type 0 where
-  pub verdict : IsVerdict key old packet answer
-  pub unchanged : is_admitted answer ≡ false → new ≡ old
-  pub history : (history : List Entry) → Represents old history → Represents new (history ++ tried packet answer ∷ [])
-
--- the next timestamp by what is kept
-abbrev pub kept_next : Kept → ℕ → ℕ
-kept_next kept clock = max (kept.previous + 1) (max clock kept.accepted)
-
 -- an admitted timestamp is the last of its stream
 pub record Admits (stream : Stream) (stamp : ℕ) (old new : Kept) : Type 0 where
   pub last : (number : ℕ) → stamp_at number new.last ≡ (if stream_number stream == number then Some stamp else stamp_at number old.last)
@@ -78,3 +69,44 @@ pub record Admits (stream : Stream) (stamp : ℕ) (old new : Kept) : Type 0 wher
 abbrev pub KeptAfter : Admit → Stream → ℕ → Kept → Kept → Type 0
 KeptAfter Admitted stream stamp old new = Admits stream stamp old new
 KeptAfter _ stream stamp old new = new ≡ old
+
+-- what is kept after the verdict on a frame, by its signature block
+abbrev pub KeptByBlock : Option SignatureBlock → Packet → Admit → (old new : Kept) → Type 0
+KeptByBlock None packet answer old new = new ≡ old
+KeptByBlock (Some block) packet answer old new = KeptAfter answer (stream_of packet block) block.stamp old new
+
+-- a frame was tried with that verdict
+pub record HasTried (key : List ℕ) (old new : Kept) (packet : Packet) (answer : Admit) : Type 0 where
+  pub verdict : IsVerdict key old packet answer
+  pub unchanged : is_admitted answer ≡ false → new ≡ old
+  pub kept : KeptByBlock packet.block packet answer old new
+  pub history : (history : List Entry) → Represents old history → Represents new (history ++ tried packet answer ∷ [])
+
+-- the next timestamp by what is kept
+abbrev pub kept_next : Kept → ℕ → ℕ
+kept_next kept clock = max (kept.previous + 1) (max clock kept.accepted)
+
+-- a timestamp is more than a minute before the greatest one admitted
+abbrev pub is_past : ℕ → ℕ → Bool
+is_past accepted stamp = nat_lt stamp (accepted - one_minute)
+
+-- a last timestamp of which this isn't so, and how many there are
+abbrev pub present : ℕ → Option ℕ → Option ℕ
+present accepted None = None
+present accepted (Some stamp) = if is_past accepted stamp then None else Some stamp
+
+abbrev pub count_present : ℕ → List (ℕ × ℕ) → ℕ
+count_present accepted pairs = count_by (λ (pair : ℕ × ℕ). not (is_past accepted pair.1)) pairs
+
+-- the streams are forgotten whose last timestamp is past
+pub record Forgets (accepted : ℕ) (old new : List (ℕ × ℕ)) : Type 0 where
+  pub last : (number : ℕ) → stamp_at number new ≡ present accepted (stamp_at number old)
+  pub streams : length new ≡ count_present accepted old
+
+-- they are once as many streams are kept as may be
+pub record HasRoom (old new : Kept) : Type 0 where
+  pub last : (number : ℕ) → stamp_at number new.last ≡ (if nat_lt (length old.last) stream_limit then stamp_at number old.last else present old.accepted (stamp_at number old.last))
+  pub streams : length new.last ≡ (if nat_lt (length old.last) stream_limit then length old.last else count_present old.accepted old.last)
+  pub accepted : new.accepted ≡ old.accepted
+  pub previous : new.previous ≡ old.previous
+  pub low : new.low ≡ old.low

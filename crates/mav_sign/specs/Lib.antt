@@ -3,3 +3,4 @@ pub mod History
 pub mod Kept
 pub mod Endpoints
 pub mod Streams
+pub mod Forgetting

@@ -12,6 +12,7 @@ mod datagrams;
 mod endpoint;
 mod heard;
 mod keys;
+pub mod laws;
 mod reading;
 mod signed_frames;
 mod signing;

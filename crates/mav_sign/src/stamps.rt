@@ -1,20 +1,17 @@
 // What a verifier keeps: the timestamps that it admitted and sent.
-ghost use Rattle.std.specs.Prelude.{◌≡◌, ◌+◌, ◌<◌, ◌^◌, ◌++◌, ◌∷◌, [], List, max, Some, IfOk, OnErr};
+ghost use Rattle.std.specs.Prelude.{◌≡◌, ◌+◌, ◌<◌, ◌^◌, ◌++◌, ◌∷◌, [], List, max, Some, IfOk, OnOk, OnErr};
 ghost use Rattle.mav_sign.specs.declared.admission.Admit.TheVariants.{Admitted};
 ghost use Rattle.mav_sign.specs.Signing.{verified};
 ghost use Rattle.mav_sign.specs.History.{Entry, sent, started, last_of, local_of, next_in, stamp_given};
-ghost use Rattle.mav_sign.specs.Kept.{IsStream, Represents, KeptAfter, IsVerdict, HasTried, stream_number, stamp_at, local_kept, kept_answer, kept_answer_to, kept_next};
+ghost use Rattle.mav_sign.specs.Kept.{IsStream, Represents, KeptAfter, IsVerdict, HasTried, stream_number, stamp_at, local_kept, kept_answer, kept_answer_to, kept_next, HasRoom};
 
 use crate::signing::verifies_raw;
-use crate::table::{STREAM_LIMIT, Table};
+use crate::table::{ONE_MINUTE, STREAM_LIMIT, Table};
 use crate::{Admit, Key, NoMemory, StampsSpent};
 use mav_frame::{Frame, RawFrame, encode};
 use mav_names::{Name, Stream};
 use std::alloc::Global;
 use std::marker::Model;
-
-// A minute in units of 10 microseconds: a frame may be older by so much.
-const ONE_MINUTE: u64 = 6_000_000;
 
 // The greatest timestamp of 6 bytes.
 const GREATEST_STAMP: u64 = 0xFFFF_FFFF_FFFF;
@@ -188,6 +185,19 @@ impl Stamps {
         let answer = self.test_judged(key, frame, verifies);
         self.keep_verdict(key, frame, answer);
         answer
+    }
+
+    /// Forgets the streams whose last timestamp is more than a minute before the greatest one admitted, if there is no room
+    /// for another stream: their old frames would be too old all the same. Without memory nothing changes.
+    pub fn make_room(&mut self) -> Result<(), NoMemory>
+        ensures room { OnOk result (HasRoom self.old self.new) }
+        ensures unchanged { OnErr result (self.new ≡ self.old) }
+    {
+        if self.last.count() < STREAM_LIMIT {
+            return Ok(());
+        }
+        self.last.forget(self.accepted)?;
+        Ok(())
     }
 
     /// What is left to do of `admit_judged` once `test_judged` has returned this verdict: keeps the frame's timestamp if it is

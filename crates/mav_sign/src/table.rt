@@ -1,6 +1,6 @@
 // The last admitted timestamp of each stream.
-ghost use Rattle.std.specs.Prelude.{◌≡◌, ◌<◌, ◌+◌, ◌==◌, ℕ, [], length, Some, None, IfOk, is_some, if◌then◌else◌};
-ghost use Rattle.mav_sign.specs.Kept.{stream_number, stamp_at};
+ghost use Rattle.std.specs.Prelude.{◌≡◌, ◌<◌, ◌+◌, ◌==◌, ℕ, [], length, Some, None, IfOk, OnOk, OnErr, is_some, if◌then◌else◌};
+ghost use Rattle.mav_sign.specs.Kept.{Forgets, stream_number, stamp_at};
 
 use crate::NoMemory;
 use mav_names::Stream;
@@ -10,6 +10,9 @@ use std::marker::Model;
 
 /// The most streams of which a verifier keeps the last timestamp.
 pub(crate) const STREAM_LIMIT: usize = 256;
+
+/// A minute in units of 10 microseconds: a frame may be older by so much.
+pub(crate) const ONE_MINUTE: u64 = 6_000_000;
 
 /// The last timestamps by the streams' numbers, with room for the most streams. Contracts see the pairs of
 /// number and timestamp, in some order.
@@ -70,5 +73,17 @@ impl Table {
         }
         let inserted: Result<_, _> = self.by_stream.insert(number, stamp);
         let _none = inserted.unwrap();
+    }
+
+    /// Forgets each stream whose last timestamp is more than a minute before this one. Without memory nothing changes.
+    pub(crate) fn forget(&mut self, accepted: u64) -> Result<(), NoMemory>
+        ensures forgets { OnOk result (Forgets accepted self.old self.new) }
+        ensures unchanged { OnErr result (self.new ≡ self.old) }
+    {
+        let low = accepted.saturating_sub(ONE_MINUTE);
+        // So that there is room for as many streams once some are gone.
+        self.by_stream.reserve(STREAM_LIMIT)?;
+        self.by_stream.retain(|_, last| low <= *last);
+        Ok(())
     }
 }

@@ -3,7 +3,7 @@ use Rattle.mav_names.specs.declared.names.Stream.{Stream}
 use Rattle.mav_frame.specs.Packet.{SignatureBlock}
 use Rattle.mav_sign.specs.declared.admission.Admit.TheVariants.{Unsigned}
 use Rattle.mav_sign.specs.History.{is_admitted, stream_of, block_answer, stamp_answer}
-use Rattle.mav_sign.specs.Kept.{IsStream, KeptAfter, kept_answer}
+use Rattle.mav_sign.specs.Kept.{IsStream, KeptAfter, KeptByBlock, kept_answer}
 use Rattle.mav_sign.proofs.Keeping.{admitted_stamp, after_refused, after_tried, kept_same, verdict_same}
 use Rattle.mav_sign.proofs.stamps.Stamps.keep_verdict.Goals as goal
 
@@ -44,6 +44,7 @@ returns-in-Some c =
         by_history = λ history of. c.requires ∙ verdict_same c.args.key.now old history frame block signed (bytes c) of;
       };
       unchanged = λ refused. kept_same c.args.answer (stream_of frame block) block.stamp old new refused (kept c);
+      kept = subst (λ (o : Option SignatureBlock). KeptByBlock o frame c.args.answer old new) (sym signed) (kept c);
       history = λ history of. after_tried old new history frame block c.args.answer signed (bytes c)
           (λ is. admitted_stamp c.args.key.now old frame block signed (sym c.requires ∙ is)) (kept c) of;
     }
@@ -61,5 +62,6 @@ returns-in-None c =
         by_history = λ history of. unsigned ∙ sym (ap (λ (o : Option SignatureBlock). block_answer key (λ stream stamp. stamp_answer stream stamp history) frame o) none);
       };
       unchanged = λ refused. refl;
+      kept = subst (λ (o : Option SignatureBlock). KeptByBlock o frame c.args.answer old old) (sym none) refl;
       history = λ history of. after_refused old history frame c.args.answer (ap is_admitted unsigned) of;
     }

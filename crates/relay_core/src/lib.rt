@@ -1,0 +1,15 @@
+//! What waits for the links of a relay.
+//!
+//! A [`Queues`] has a queue of `relay_queue` for each link that is open, in the order of their opening, and counts for
+//! each how many of its frames were dropped. A frame waits at each link of a set at once. It reads and writes nothing
+//! itself.
+#![tactic(auto)]
+
+mod queues;
+mod waiting;
+
+pub use queues::Queues;
+use std::alloc::AllocError;
+
+/// There was no memory.
+pub type NoMemory = AllocError;
