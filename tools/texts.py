@@ -180,8 +180,10 @@ def program_words(words):
 
 
 def start_program(words, **pipes):
+    # What is wrong is said by the tool, so the launcher doesn't.
+    env = {**os.environ, "BEVUNTRI_OF_TOOL": "1"}
     try:
-        return subprocess.Popen(program_words(words), stdout=subprocess.PIPE, **pipes)
+        return subprocess.Popen(program_words(words), stdout=subprocess.PIPE, env=env, **pipes)
     except OSError as error:
         raise Mistake(1, f"{program_words([])[0]} can't be run: {error.strerror}") from None
 
@@ -220,33 +222,6 @@ FIELD = re.compile(f" ([A-Za-z0-9_]+)=({VALUE})")
 FRAME = re.compile(
     r"([0-9]+) (?:([0-9]+) )?([A-Z0-9_]+) ([0-9]+)\.([0-9]+) #([0-9]+)( v1)?"
     rf"((?: [A-Za-z0-9_]+=(?:{VALUE}))*)(?: signed ([0-9]+) ([0-9]+)(?: (good|bad))?)?")
-
-
-def log_blocks(path, definitions):
-    """Yields what `log show` prints of a telemetry log, as blocks of whole lines after a line end.
-
-    Patterns that begin with that line end find their lines soonest among many of skipped bytes.
-    """
-    try:
-        with open(path, "rb"):
-            pass
-    except (OSError, ValueError) as error:
-        reason = getattr(error, "strerror", error)
-        raise Mistake(UNREADABLE, f"{shown(path)} can't be read: {reason}") from None
-    defs = ["--defs=" + definitions] if definitions else []
-    process = start_program(["log", "show", *defs, "--", path])
-    rest = last = b""
-    while block := process.stdout.read(1 << 20):
-        whole, newline, rest = (rest + block).rpartition(b"\n")
-        last = whole[whole.rfind(b"\n") + 1:] if newline else last
-        yield b"\n" + whole + newline
-    if process.wait():
-        # The log could be opened, and no form of it is refused.
-        of_definitions = (b"bad definitions", b"limit bytes 16777216", b"read fault")
-        place = "--defs=" + definitions if defs and last.startswith(of_definitions) else path
-        raise Mistake(process.returncode, f"{place}: log show ends with {shown(last.decode())}")
-    if last.startswith(b"rows 0 "):
-        raise wrong_form(path, f"expected rows of a telemetry log, and not {shown(last.decode())}")
 
 
 def svg(width, height, title, elements):

@@ -6,6 +6,7 @@ Logs are made here, row by row, by the frames of scenarios/wire.py: 8 bytes of m
 
 import os
 import struct
+import subprocess
 import sys
 import tempfile
 import time
@@ -88,6 +89,7 @@ rows 6 seconds 2.000000 skipped 0
     def test(folder):
         for wanted, words in ((known, []), (more, ["--defs", COMMON])):
             same("log-stats", bevuntri("log-stats", *words, "log", folder=folder), (wanted, "", 0))
+            prints(wanted, "log-stats", *words, "-", stdin=FLIGHT)
     with_file(FLIGHT, test)
 
 
@@ -115,6 +117,7 @@ def test_track_as_table_and_gpx():
     def test(folder):
         for words in ([], ["--csv"], ["1"], ["--csv", "1"]):
             same("track", bevuntri("track", "log", *words, folder=folder), (table, "", 0))
+            prints(table, "track", "-", *words, stdin=FLIGHT)
         gpx = ElementTree.fromstring(bevuntri("track", "--gpx", "log", folder=folder)[0])
         points = [(point.get("lat"), point.get("lon"), point.find(GPX + "ele").text, point.find(GPX + "time").text)
                   for point in gpx.findall(f"{GPX}trk/{GPX}trkseg/{GPX}trkpt")]
@@ -125,6 +128,24 @@ def test_track_as_table_and_gpx():
         refuses(2, "'256'", "track", "log", "256", folder=folder)
         refuses(2, "--gpx and --svg", "track", "log", "--gpx", "--svg", folder=folder)
     with_file(FLIGHT, test)
+
+
+def test_gpx_has_no_longitude_of_180():
+    """GPX 1.1 has longitudes from -180 degrees to below 180, and latitudes from -90 to 90."""
+    ends = [(900_000_000, 1_800_000_000), (-900_000_000, -1_800_000_000), (0, 1_799_999_999)]
+    rows = b"".join(row(START, (1, 1), at, POSITION, position(at, *place)) for at, place in enumerate(ends))
+    gpx = ElementTree.fromstring(bevuntri("track", "--gpx", "-", stdin=rows)[0])
+    same("places", [(point.get("lat"), point.get("lon")) for point in gpx.iter(GPX + "trkpt")],
+         [("90", "-180"), ("-90", "-180"), ("0", "179.9999999")])
+    same("in a table", b",1,90,180," in bevuntri("track", "-", stdin=rows)[0], True)
+
+
+def test_standard_input_that_is_a_folder_or_closed():
+    for words in (["json"], ["log-stats", "-"], ["track", "-"], ["plan", "import", "-"]):
+        for redirection in ("< .", "<&-"):
+            line = f"'{TOP}/bin/bevuntri' {' '.join(words)} {redirection}"
+            done = subprocess.run(["bash", "-c", line], capture_output=True, check=False, timeout=60)
+            same(line, (done.returncode, done.stdout, done.stderr.count(b"\n")), (4, b"", 1))
 
 
 def test_track_as_picture():

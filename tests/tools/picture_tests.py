@@ -92,6 +92,15 @@ def test_charts_of_worked_scenarios():
     same("flight", "MISSION_ITEM_REACHED (lost)" in texts(bevuntri("chart", f"{WORKED}/flight.scenario")[0]), True)
 
 
+def test_chart_of_a_fence_tells_the_ticks_of_its_flight():
+    with open(FENCE, encoding="utf-8") as file:
+        text = file.read()
+    for ticks, told in ((5, "and ends within its 5"), (3, "and `ticks 3` ended it in the air"), (0, "`ticks 0` flies")):
+        flown = text.replace("ticks 5", f"ticks {ticks}").encode()
+        picture = bevuntri("chart", "--fence", "-", stdin=flown)[0].decode()
+        same(f"ticks {ticks}", ("the flight needs 4 ticks" in picture, told in picture), (True, True))
+
+
 def test_chart_of_a_fence():
     picture, told, status = bevuntri("chart", "--fence", FENCE)
     same("status", (told, status), ("", 0))
