@@ -1,7 +1,7 @@
 """The grammar of the program's words: the first word that is wrong, and what was expected there.
 
 The program refuses words as `usage` by the same rules, which the manual tells; a test compares the
-two over all words of scenarios/cases.
+two over all words of tests/cases.
 """
 
 import difflib

@@ -8,7 +8,7 @@ import struct
 import sys
 
 TOP = os.path.dirname(os.path.dirname(os.path.dirname(os.path.realpath(__file__))))
-sys.path.insert(0, os.path.join(TOP, "scenarios"))
+sys.path.insert(0, os.path.join(TOP, "tests"))
 from slots import contents_of
 from wire import KEY
 

@@ -12,7 +12,7 @@ import tempfile
 
 from bench import TOP, golden, prints, refuses, same
 
-sys.path.insert(0, os.path.join(TOP, "scenarios"))
+sys.path.insert(0, os.path.join(TOP, "tests"))
 from wire import CRC_EXTRA, checksum
 
 COMMON = os.path.join(TOP, "defs", "common")

@@ -11,16 +11,16 @@ import tempfile
 
 from bench import TOP
 
-sys.path[:0] = [os.path.join(TOP, "tools"), os.path.join(TOP, "scenarios")]
+sys.path[:0] = [os.path.join(TOP, "tools"), os.path.join(TOP, "tests")]
 SECONDS = 120
 
 
 def cases():
-    """Returns the script scenarios/check, and all cases of scenarios/cases."""
-    loader = importlib.machinery.SourceFileLoader("check", os.path.join(TOP, "scenarios", "check"))
+    """Returns the script tests/check, and all cases of tests/cases."""
+    loader = importlib.machinery.SourceFileLoader("check", os.path.join(TOP, "tests", "check"))
     check = importlib.util.module_from_spec(importlib.util.spec_from_loader("check", loader))
     loader.exec_module(check)
-    folder = os.path.join(TOP, "scenarios", "cases")
+    folder = os.path.join(TOP, "tests", "cases")
     return check, [case for name in sorted(os.listdir(folder)) for case in check.cases_of(os.path.join(folder, name))]
 
 

@@ -1,6 +1,6 @@
 """Telemetry logs and texts of the program: `json`, `log-stats` and `track`.
 
-Logs are made here, row by row, by the frames of scenarios/wire.py: 8 bytes of microseconds, highest first, and a frame
+Logs are made here, row by row, by the frames of tests/wire.py: 8 bytes of microseconds, highest first, and a frame
 (documentation of pymavlink's mavlogdump). The golden JSON lines were written by hand.
 """
 
@@ -14,7 +14,7 @@ import xml.etree.ElementTree as ElementTree
 
 from bench import TOP, bevuntri, golden, prints, refuses, same
 
-sys.path.insert(0, os.path.join(TOP, "scenarios"))
+sys.path.insert(0, os.path.join(TOP, "tests"))
 from wire import POSITION, checksum, frame_of
 
 START = 1_700_000_000_000_000

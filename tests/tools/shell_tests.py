@@ -10,7 +10,7 @@ from layouts import cases
 
 import commands
 
-cases()  # The folders of tools/ and scenarios/ are on the path from here on.
+cases()  # The folders tools/ and tests/ are on the path from here on.
 COMPLETE = """
 . "$1"
 COMP_WORDS=("${@:2}") COMP_CWORD=$(($# - 2))

@@ -43,14 +43,6 @@ impl Connection {
         }
     }
 
-    /// Whether a write takes some kilobytes at once, or fails.
-    pub(crate) fn has_room(&mut self, watch: &mut Watch) -> bool {
-        match self {
-            Connection::Listening(_) => false,
-            Connection::Connected(stream) => watch.has_room(stream),
-        }
-    }
-
     // The client, if it has come.
     fn client(&self, watch: &mut Watch) -> io::Result<Option<TcpStream>> {
         let Connection::Listening(listener) = self else {

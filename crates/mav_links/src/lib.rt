@@ -10,6 +10,7 @@
 //! Nothing here allocates but the constructors.
 #![tactic(auto)]
 
+mod backlog;
 mod bells;
 mod boxed;
 mod connection;

@@ -1,7 +1,11 @@
 // A TCP connection whose reads wait for bytes until Idle is due.
+ghost use Rattle.std.specs.Prelude.{◌≤◌, length};
+ghost use Rattle.std.specs.Io.{WritesAtMost};
 
+use crate::backlog::Backlog;
 use crate::watch::would_wait;
 use crate::{Bell, Connection, Pace, Waits, Watch};
+use std::alloc::Global;
 use std::io;
 use std::io::{Error, ErrorKind, Read, Write};
 use std::sync::Arc;
@@ -10,18 +14,32 @@ use std::time::{Clock, Duration};
 /// A call looks so often whether it can be made.
 pub(crate) const MOST_LOOKS: u32 = 1_000_000;
 
-// The system has room for so many bytes, with what it keeps beside them, once a third of its room is free.
+// A writer that asks for room before it writes is told so many bytes: what the system doesn't take of them at once is kept.
 const ROOM: usize = 8192;
 
-/// A TCP connection. A read in which no byte comes until Idle is due gives `WouldBlock`, and a write of which the peer
-/// takes no byte for five seconds fails, or one after looks that found no room for so long; while its one client
-/// hasn't come, a write waits for it. It shuts its writing side down before it closes, so that its peer reads the end
-/// after all that was written.
+const MOST_KEPT: usize = 16_384;
+
+// A peer that reads slowly may take bytes without a sign of it: it is looked so often, in milliseconds.
+const MOST_MILLIS_UNSEEN: u64 = 50;
+
+/// A TCP connection. A read in which no byte comes until Idle is due gives `WouldBlock`. A write waits for the peer, and
+/// fails once the peer has taken no byte for five seconds; while its one client hasn't come, it waits for it. A writer
+/// that asks for room first never waits: what the peer hasn't taken is kept, and passed on at later calls. It shuts its
+/// writing side down before it closes, so that its peer reads the end after all that was written.
 pub struct WaitingStream<C: Clock + Drop> {
     connection: Connection,
     watch: Watch,
     pace: Pace<C>,
-    full_since: Option<Duration>,
+    backlog: Backlog,
+    untaken_since: Option<Duration>,
+    failed: bool,
+    asks: bool,
+}
+
+// Waits until something happens, at most so long, and not until a peer takes bytes without a sign of it.
+fn look_after(watch: &mut Watch, most: Duration) {
+    let unseen = Duration::from_millis(MOST_MILLIS_UNSEEN);
+    watch.wait(most.min(unseen));
 }
 
 impl<C: Clock + Drop> WaitingStream<C> {
@@ -29,6 +47,7 @@ impl<C: Clock + Drop> WaitingStream<C> {
         connection: Connection,
         watch: Watch,
         pace: Pace<C>,
+        alloc: Global,
     ) -> io::Result<WaitingStream<C>> {
         let mut connection = connection;
         let mut watch = watch;
@@ -37,7 +56,10 @@ impl<C: Clock + Drop> WaitingStream<C> {
             connection,
             watch,
             pace,
-            full_since: None,
+            backlog: Backlog::new(alloc, MOST_KEPT)?,
+            untaken_since: None,
+            failed: false,
+            asks: false,
         })
     }
 
@@ -53,6 +75,98 @@ impl<C: Clock + Drop> WaitingStream<C> {
                 return;
             }
             self.watch.wait(self.pace.most_to_write());
+        }
+    }
+
+    // How long the peer may go on to take nothing of what waits for it.
+    fn left_to_take(&self) -> Duration {
+        let since = self.untaken_since.unwrap_or(self.pace.now());
+        self.pace.left_to_write(since)
+    }
+
+    // Passes on what the peer takes now of what waits for it.
+    fn pass_on(&mut self) {
+        if self.backlog.is_empty() {
+            return;
+        }
+        let call = self.backlog.pass_on(&mut self.connection);
+        if would_wait(&call) {
+            self.failed = self.left_to_take().is_zero();
+            return;
+        }
+        self.failed = call.is_err();
+        self.untaken_since = if self.backlog.is_empty() {
+            None
+        } else {
+            Some(self.pace.now())
+        };
+    }
+
+    // Keeps some of the bytes for the peer, and returns how many.
+    fn keep(&mut self, bytes: &[u8]) -> usize
+        ensures { result ≤ length bytes.now }
+    {
+        let count = self.backlog.keep(bytes);
+        if self.untaken_since.is_none() {
+            self.untaken_since = Some(self.pace.now());
+        }
+        count
+    }
+
+    // Writes after what waits for the peer, if that needn't wait.
+    fn write_now(&mut self, bytes: &[u8]) -> io::Result<usize>
+        ensures bound { WritesAtMost result bytes.now }
+    {
+        self.pass_on();
+        if self.failed {
+            return Err(Error::from(ErrorKind::TimedOut));
+        }
+        if self.backlog.is_empty() {
+            return self.connection.write(bytes);
+        }
+        Err(Error::from(ErrorKind::WouldBlock))
+    }
+
+    // The same, once the peer takes bytes.
+    fn write_waiting(&mut self, bytes: &[u8]) -> io::Result<usize>
+        ensures bound { WritesAtMost result bytes.now }
+    {
+        let since = self.pace.now();
+        for _look in 0..MOST_LOOKS {
+            let call = self.write_now(bytes);
+            if !would_wait(&call) {
+                return call;
+            }
+            let left = self.pace.left_to_write(since);
+            if left.is_zero() {
+                break;
+            }
+            look_after(&mut self.watch, left);
+        }
+        Err(Error::from(ErrorKind::TimedOut))
+    }
+}
+
+// Waits until the peer has taken what waits for it, as long as it takes some.
+fn drain<C: Clock + Drop>(
+    backlog: &mut Backlog,
+    connection: &mut Connection,
+    watch: &mut Watch,
+    pace: &Pace<C>,
+) {
+    let mut since = pace.now();
+    for _look in 0..MOST_LOOKS {
+        let left = pace.left_to_write(since);
+        if backlog.is_empty() || left.is_zero() {
+            return;
+        }
+        let call = backlog.pass_on(connection);
+        if would_wait(&call) {
+            look_after(watch, left);
+        } else if call.is_err() {
+            return;
+        } else {
+            since = pace.now();
         }
     }
 }
@@ -83,23 +197,17 @@ impl<C: Clock + Drop> Read for WaitingStream<C> {
 impl<C: Clock + Drop> Write for WaitingStream<C> {
     fn write(&mut self, bytes: &[u8]) -> io::Result<usize> {
         self.await_client();
-        let now = self.pace.now();
-        let since = self.full_since.take().unwrap_or(now);
-        if self.pace.left_to_write(since).is_zero() {
-            return Err(Error::from(ErrorKind::TimedOut));
+        if !self.asks {
+            return self.write_waiting(bytes);
         }
-        for _look in 0..MOST_LOOKS {
-            let call = self.connection.write(bytes);
-            if !would_wait(&call) {
-                return call;
-            }
-            let left = self.pace.left_to_write(since);
-            if left.is_zero() {
-                break;
-            }
-            self.watch.wait(left);
+        let call = self.write_now(bytes);
+        if !would_wait(&call) {
+            return call;
         }
-        Err(Error::from(ErrorKind::TimedOut))
+        match self.keep(bytes) {
+            0 => self.write_waiting(bytes),
+            count => Ok(count),
+        }
     }
 
     fn flush(&mut self) -> io::Result<()> {
@@ -109,6 +217,7 @@ impl<C: Clock + Drop> Write for WaitingStream<C> {
 
 impl<C: Clock + Drop> Waits for WaitingStream<C> {
     fn is_ready(&mut self) -> bool {
+        self.pass_on();
         if self.pace.left().is_zero() {
             return true;
         }
@@ -124,16 +233,12 @@ impl<C: Clock + Drop> Waits for WaitingStream<C> {
     }
 
     fn room(&mut self) -> usize {
+        self.asks = true;
         if !self.is_connected() {
             return 0;
         }
-        if self.connection.has_room(&mut self.watch) {
-            self.full_since = None;
-            return ROOM;
-        }
-        let now = self.pace.now();
-        let since = *self.full_since.get_or_insert(now);
-        if self.pace.left_to_write(since).is_zero() {
+        self.pass_on();
+        if self.backlog.is_empty() || self.failed {
             ROOM
         } else {
             0
@@ -154,10 +259,15 @@ impl<C: Clock + Drop> Drop for WaitingStream<C> {
     fn drop(self) {
         let WaitingStream {
             connection,
-            watch: _watch,
-            pace: _pace,
-            full_since: _full_since,
+            watch,
+            pace,
+            backlog,
+            untaken_since: _,
+            failed: _,
+            asks: _,
         } = self;
+        let (mut backlog, mut connection, mut watch) = (backlog, connection, watch);
+        drain(&mut backlog, &mut connection, &mut watch, &pace);
         connection.end_writing();
     }
 }

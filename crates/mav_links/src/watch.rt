@@ -28,7 +28,6 @@ const MOST_OTHERS: usize = 8;
 #[derive(Drop)]
 pub struct Watch {
     poll: Poll,
-    room: Poll,
     events: Events,
     bell: Arc<Bell>,
     others: Vec<Arc<Bell>>,
@@ -42,7 +41,6 @@ impl Watch {
         let bell = Bell::new(poll.registry(), BELL)?;
         Ok(Watch {
             poll,
-            room: Poll::new(net)?,
             events: Events::with_capacity(alloc, MOST_EVENTS)?,
             bell: Arc::new(alloc, bell)?,
             others: Vec::with_capacity(alloc, MOST_OTHERS)?,
@@ -58,25 +56,12 @@ impl Watch {
         self.poll.registry().register(source, SOURCE, interest)
     }
 
-    /// Looks at whether a stream has room too, and has the waits of the others end by it.
+    /// Watches a stream, by which the waits of the others end too.
     pub(crate) fn add_stream(&mut self, stream: &mut TcpStream) -> io::Result<()> {
-        self.room
-            .registry()
-            .register(stream, SOURCE, Interest::WRITABLE)?;
         for bell in &self.others {
             bell.hears(stream);
         }
         self.add(stream)
-    }
-
-    /// Whether a write to the stream takes some bytes at once, or fails.
-    pub(crate) fn has_room(&mut self, stream: &mut TcpStream) -> bool {
-        let looks = self
-            .room
-            .registry()
-            .reregister(stream, SOURCE, Interest::WRITABLE);
-        let looked = self.room.poll(&mut self.events, Some(Duration::ZERO));
-        looks.is_err() || looked.is_err() || !self.events.is_empty()
     }
 
     /// What happens at its socket ends the waits of the bell's port too, also if the socket comes later.

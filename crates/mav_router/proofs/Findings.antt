@@ -121,6 +121,6 @@ heard result rules port journal after unread first now lane left later frames u 
     u.heard after left later ended (finds.reads rules port u.bytes journal after u.reading (t.took ∙ ap (λ (l : List Packet). frames_from port journal ++ l) whole))
 
 -- or only some of them
-pub unheard : {A E : Type 0} (result : Result A E) (rules : Rules) (port : ℕ) (journal after : List Entry) (unread : List ℕ) (first now : LinkState) (lane : Lane) (left : Held) (later : ℕ) (frames : List Packet) → Unheard rules journal port unread first now lane → FindsAll (record lane.scanner { bytes = unread }) lane.skipped left later frames → (t : Takes result port journal after frames) → t.count < length frames → StopsInput rules after lane.turns port first now
+pub unheard : {A E : Type 0} (result : Result A E) (rules : Rules) (port : ℕ) (journal after : List Entry) (unread : List ℕ) (first now : LinkState) (lane : Lane) (left : Held) (later : ℕ) (frames : List Packet) → Unheard rules journal port unread first now lane → FindsAll (record lane.scanner { bytes = unread }) lane.skipped left later frames → (t : Takes result port journal after frames) → t.count < length frames → StopsInput rules after lane.turns lane.failed port first now
 unheard result rules port journal after unread first now lane left later frames u finds t some =
     u.stops after (finds.stops rules port u.bytes journal after t.count u.reading some t.took)

@@ -27,7 +27,7 @@ use Rattle.mav_router.specs.declared.parts.Side.{Side}
 use Rattle.mav_router.specs.Crews.{HasFault}
 use Rattle.mav_router.specs.Journal.{Rules, SwitchState, frame_from, frames_from, frames_to, given_to}
 use Rattle.mav_router.specs.History.{history_of, entries_in, label_of}
-use Rattle.mav_router.specs.Runs.{Input, Output, HadTurns, IsFresh}
+use Rattle.mav_router.specs.Runs.{Input, Output, FaultsBy, HadTurns, IsFresh}
 use Rattle.mav_router.specs.Ends.{PortRun, end_by}
 use Rattle.mav_router.specs.Faults.{IsSwitchFault, PartOutput, PartRun, RouteHalted, HaltedBy}
 use Rattle.mav_router.specs.Parts.{IsSeated, IsReady, PartSoFar, PartStopped, PartEnds}
@@ -146,9 +146,9 @@ taken_as rules journal port taken = record { rules = rules; journal = journal; s
 given_as : (rules : Rules) (journal : List Entry) (port taken : ℕ) → given_to (taken_as rules journal port taken) port ≡ frames_to port (take taken journal)
 given_as rules journal port taken = ap (λ (n : ℕ). frames_to port (take n journal)) (get_or-replicate (port + 1) (port - 1) taken 0 (omega arith))
 
-part_output_of : (rules : Rules) (journal seen : List Entry) (port taken : ℕ) (first now : LinkState) (lane : Lane) → taken ≤ length seen → IsPrefix seen journal → Output (frames_to port (take taken seen)) first now lane → PartOutput (frames_to port journal) first now
-part_output_of rules journal seen port taken first now lane within begins o =
-    part_output (taken_as rules journal port taken) port first now lane
+part_output_of : (rules : Rules) (journal seen : List Entry) (port taken : ℕ) (first now : LinkState) (lane : Lane) → taken ≤ length seen → IsPrefix seen journal → FaultsBy lane.failed first.faults now.faults → Output (frames_to port (take taken seen)) first now lane → PartOutput (frames_to port journal) first now
+part_output_of rules journal seen port taken first now lane within begins faults o =
+    part_output (taken_as rules journal port taken) port first now lane faults
     (subst (λ (f : List Packet). Output f first now lane) (sym (given_as rules journal port taken)) (output_longer port taken seen journal first now lane within begins o))
 
 none_taken : (port n : ℕ) → frames_to port (take n []) ≡ []
@@ -175,7 +175,7 @@ part_done state rules turns journal first part side few small within begins same
 pub part_run_so_far : {A : Type 0} (state : A → LinkState) (rules : Rules) (most : ℕ) (journal : List Entry) (first : LinkState) (part : Part A) → part.side.lane.turns ≤ most → most + 1 < 2 ^ 64 → part.side.taken ≤ length (entries_in part.seat.seen) → IsPrefix (entries_in part.seat.seen) journal → frames_from part.port journal ≡ frames_from part.port (entries_in part.seat.own) → PartSoFar state rules first part → PartRun rules journal most part.port [] first (state part.side.link)
 part_run_so_far state rules most journal first part few small within begins same p = record {
   input = part_input rules journal most part.port first (state part.side.link) part.side.lane few small (input_kept rules (entries_in part.seat.own) journal part.port first (state part.side.link) part.side.lane same p.input);
-  output = part_output_of rules journal (entries_in part.seat.seen) part.port part.side.taken first (state part.side.link) part.side.lane within begins p.output;
+  output = part_output_of rules journal (entries_in part.seat.seen) part.port part.side.taken first (state part.side.link) part.side.lane within begins p.input.faults p.output;
 }
 
 -- where the switch didn't take a frame
@@ -198,7 +198,7 @@ part_run_stopped state rules most journal first part few small within begins sam
           begun = record { events = i.begun.events; rest = i.begun.rest; begins = i.begun.begins; entries = ap (λ (l : List Packet). l ++ s.frame ∷ []) same ∙ i.begun.entries };
           spent = i.spent;
         };
-        output = part_output_of rules journal (entries_in part.seat.seen) part.port part.side.taken first (state part.side.link) part.side.lane within begins p.output;
+        output = part_output_of rules journal (entries_in part.seat.seen) part.port part.side.taken first (state part.side.link) part.side.lane within begins s.faults p.output;
       },
     )
 

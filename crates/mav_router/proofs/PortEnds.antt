@@ -285,7 +285,7 @@ nothing_routed {A} state rules most links = record {
         begun = record { events = []; rest = []; begins = refl; entries = refl };
         spent = λ e. absurd (let wrong : ◌≡◌ {A = Bool} true false = sym e in cc);
       };
-      output = record { written = []; rest = []; sent = append_known_nil first.sent; front = refl };
+      output = record { written = []; rest = []; sent = append_known_nil first.sent; front = refl; whole = inr (record { done = []; more = []; are = refl; same = refl }) };
     }
 
 -- there was no memory before that

@@ -171,9 +171,10 @@ on_err (Ok a) f p = p
 on_err (Err e) f p = f p
 
 -- a frame among the bytes read wasn't taken
-pub stopped_read : (rules : Rules) (before after : List Entry) (port turns : ℕ) (first now new : LinkState) (lane : Lane) (got : List ℕ) (ended : Bool) → ended ≡ false → (i : Input rules before port first now lane) → 0 < length got → length got ≤ 4096 → turns ≡ min (lane.turns + 1) (2 ^ 64 - 1) → new.idles ≡ now.idles → now.left ≡ prepend_known got new.left → StopsReading ended rules port (i.bytes ++ got) after → StopsInput rules after turns port first new
-stopped_read rules before after port turns first now new lane got ended live i some few turn idle left stop = record {
+pub stopped_read : (rules : Rules) (before after : List Entry) (port turns : ℕ) (first now new : LinkState) (lane : Lane) (got : List ℕ) (ended : Bool) → ended ≡ false → (i : Input rules before port first now lane) → 0 < length got → length got ≤ 4096 → turns ≡ min (lane.turns + 1) (2 ^ 64 - 1) → new.idles ≡ now.idles → now.left ≡ prepend_known got new.left → new.faults ≡ now.faults → StopsReading ended rules port (i.bytes ++ got) after → StopsInput rules after turns lane.failed port first new
+stopped_read rules before after port turns first now new lane got ended live i some few turn idle left faults stop = record {
   frame = stop.frame;
+  faults = subst (FaultsBy lane.failed first.faults) (sym faults) i.faults;
   input = λ most within small. record {
     bytes = i.bytes ++ got;
     turns = i.turns ++ got ∷ [];
@@ -188,9 +189,10 @@ stopped_read rules before after port turns first now new lane got ended live i s
   };
 }
 
-pub stopped_ended : (rules : Rules) (before after : List Entry) (port : ℕ) (first now new : LinkState) (lane : Lane) (ended : Bool) → (i : Input rules before port first now lane) → new.idles ≡ now.idles → now.left ≡ prepend_known [] new.left → IsSpent new.left → StopsReading ended rules port i.bytes after → StopsInput rules after lane.turns port first new
-stopped_ended rules before after port first now new lane ended i idle left spent stop = record {
+pub stopped_ended : (rules : Rules) (before after : List Entry) (port : ℕ) (first now new : LinkState) (lane : Lane) (ended : Bool) → (i : Input rules before port first now lane) → new.idles ≡ now.idles → now.left ≡ prepend_known [] new.left → IsSpent new.left → new.faults ≡ now.faults → StopsReading ended rules port i.bytes after → StopsInput rules after lane.turns lane.failed port first new
+stopped_ended rules before after port first now new lane ended i idle left spent faults stop = record {
   frame = stop.frame;
+  faults = subst (FaultsBy lane.failed first.faults) (sym faults) i.faults;
   input = λ most within small. record {
     bytes = i.bytes;
     turns = i.turns;

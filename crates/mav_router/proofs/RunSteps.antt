@@ -5,14 +5,15 @@ use Rattle.std.proofs.lemmas.List.{append-nil}
 use Rattle.std.proofs.lemmas.List.Elements.{filter_map-append}
 use Rattle.std.proofs.lemmas.Grind.{common_steps}
 use Rattle.mav_frame.specs.Packet.{Packet}
+use Rattle.mav_ports.specs.Counts.{Rose}
 use Rattle.mav_links.specs.Links.{LinkState}
 use Rattle.mav_router.specs.declared.entries.Entry.{Entry}
 use Rattle.mav_router.specs.declared.lane.Lane.{Lane}
 use Rattle.mav_router.specs.Journal.{Rules, SwitchState, Grows, frames_from, frame_to, frames_to, given_to, bytes_of}
-use Rattle.mav_router.specs.Faults.{PartInput, PartOutput, PartRun, StopsInput, StopsRound, Untaken, beyond_at}
+use Rattle.mav_router.specs.Faults.{AreWhole, PartInput, PartOutput, PartRun, StopsInput, StopsRound, Untaken, beyond_at}
 use Rattle.mav_router.proofs.Journals.{element}
 use Rattle.mav_router.proofs.Readings.{begins_by}
-use Rattle.mav_router.specs.Runs.{Input, Output, PortSoFar, RunSoFar, IsDrained, HadTurns, AllTurned}
+use Rattle.mav_router.specs.Runs.{FaultsBy, Input, Output, PortSoFar, RunSoFar, IsDrained, HadTurns, AllTurned}
 
 pub get_set_other : {A : Type 0} (xs : List A) (at k : ℕ) (x : A) → (k ≡ at → ⊥) → slice_get (set xs at x) k ≡ slice_get xs k
 get_set_other [] at k x apart = refl
@@ -142,10 +143,20 @@ given_and_waiting switch port =
     ap bytes_of (ap (frames_to port) (sym (take-append-drop seen switch.journal)) ∙ filter_map-append (frame_to port) (take seen switch.journal) (drop seen switch.journal))
     ∙ bytes_joined (given_to switch port) (frames_to port (drop seen switch.journal))
 
-pub part_output : (switch : SwitchState) (port : ℕ) (first now : LinkState) (lane : Lane) → Output (given_to switch port) first now lane → PartOutput (frames_to port switch.journal) first now
-part_output switch port first now lane o =
-    let waiting = bytes_of (frames_to port (drop (slice_index switch.seen (port - 1)) switch.journal)) in
+-- nothing is left of the frames that were given for a port whose calls didn't fail
+whole_unless : (failed : Bool) (first now : LinkState) (frames given more : List Packet) (written rest : List ℕ) → FaultsBy failed first.faults now.faults → (failed ≡ false → rest ≡ []) → written ++ rest ≡ bytes_of given → frames ≡ given ++ more → Rose first.faults now.faults ⊎ AreWhole frames written
+whole_unless true first now frames given more written rest faults all front are = inl faults
+whole_unless false first now frames given more written rest faults all front are =
+    inr (record { done = given; more = more; are = are; same = sym (append-nil written) ∙ (ap (λ (r : List ℕ). written ++ r) (sym (all refl)) ∙ front) })
+
+pub part_output : (switch : SwitchState) (port : ℕ) (first now : LinkState) (lane : Lane) → FaultsBy lane.failed first.faults now.faults → Output (given_to switch port) first now lane → PartOutput (frames_to port switch.journal) first now
+part_output switch port first now lane faults o =
+    let seen = slice_index switch.seen (port - 1) in
+    let more = frames_to port (drop seen switch.journal) in
+    let waiting = bytes_of more in
     record {
+      whole = whole_unless lane.failed first now (frames_to port switch.journal) (given_to switch port) more o.written o.rest faults o.all o.front
+          (ap (frames_to port) (sym (take-append-drop seen switch.journal)) ∙ filter_map-append (frame_to port) (take seen switch.journal) (drop seen switch.journal));
       written = o.written;
       rest = o.rest ++ waiting;
       sent = o.sent;
@@ -155,11 +166,11 @@ part_output switch port first now lane o =
 pub part_run : (rules : Rules) (switch : SwitchState) (most port : ℕ) (first now : LinkState) (lane : Lane) → lane.turns ≤ most → most + 1 < 2 ^ 64 → PortSoFar rules switch port first now lane → PartRun rules switch.journal most port [] first now
 part_run rules switch most port first now lane within small p = record {
   input = part_input rules switch.journal most port first now lane within small p.input;
-  output = part_output switch port first now lane p.output;
+  output = part_output switch port first now lane p.input.faults p.output;
 }
 
 -- the switch didn't take a frame at one port
-pub stopped_round : {A : Type 0} (state : A → LinkState) (rules : Rules) (old new : SwitchState) (first : ℕ → LinkState) (links : List A) (lanes : List Lane) (most at : ℕ) (link : A) (lane : Lane) → length lanes ≡ length links → at < length links → most + 1 < 2 ^ 64 → AllWithin lanes most → lane.turns ≤ most → RunSoFar state rules old first links lanes → Grows (at + 1) old new → Output (given_to new (at + 1)) (first at) (state link) lane → (s : StopsInput rules new.journal lane.turns (at + 1) (first at) (state link)) → StopsRound state rules new.journal most first (set links at link)
+pub stopped_round : {A : Type 0} (state : A → LinkState) (rules : Rules) (old new : SwitchState) (first : ℕ → LinkState) (links : List A) (lanes : List Lane) (most at : ℕ) (link : A) (lane : Lane) → length lanes ≡ length links → at < length links → most + 1 < 2 ^ 64 → AllWithin lanes most → lane.turns ≤ most → RunSoFar state rules old first links lanes → Grows (at + 1) old new → Output (given_to new (at + 1)) (first at) (state link) lane → (s : StopsInput rules new.journal lane.turns lane.failed (at + 1) (first at) (state link)) → StopsRound state rules new.journal most first (set links at link)
 stopped_round {A} state rules old new first links lanes most at link lane long within small all own_turns run grows out stop =
     let untaken : Untaken = record { port = at + 1; frame = stop.frame } in
     let own : (at + 1 == at + 1) ≡ true = same (at + 1) in
@@ -174,7 +185,7 @@ stopped_round {A} state rules old new first links lanes most at link lane long w
                 subst (λ (j : ℕ). PartRun rules new.journal most (j + 1) (beyond_at (Some untaken) (j + 1)) (first j) (state l)) (sym e)
                 (subst (λ (x : A). PartRun rules new.journal most (at + 1) (beyond_at (Some untaken) (at + 1)) (first at) (state x)) to_link
                 (subst (λ (b : Bool). PartRun rules new.journal most (at + 1) (if b then stop.frame ∷ [] else []) (first at) (state link)) (sym own)
-                (record { input = stop.input most own_turns small; output = part_output new (at + 1) (first at) (state link) lane out })))
+                (record { input = stop.input most own_turns small; output = part_output new (at + 1) (first at) (state link) lane stop.faults out })))
             | inr apart ↦
                 let is_link = sym (get_set_other links at k link apart) ∙ is in
                 let other = element lanes k (omega (arith, long, index_within links k l is_link)) in

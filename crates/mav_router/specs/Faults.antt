@@ -1,6 +1,7 @@
 -- What holds when a run stops because its switch takes no more frames.
-use Rattle.std.specs.Prelude.{ℕ, ◌≡◌, ◌≤◌, ◌<◌, ◌+◌, ◌^◌, ◌==◌, Bool, true, false, if◌then◌else◌, List, [], ◌∷◌, ◌++◌, length, slice_get, Option, Some, None, IsSome, ⊤}
+use Rattle.std.specs.Prelude.{ℕ, ◌≡◌, ◌≤◌, ◌<◌, ◌+◌, ◌^◌, ◌==◌, ◌⊎◌, Bool, true, false, if◌then◌else◌, List, [], ◌∷◌, ◌++◌, length, slice_get, Option, Some, None, IsSome, ⊤}
 use Rattle.std.specs.Io.KnownBytes.{append_known, prepend_known}
+use Rattle.mav_ports.specs.Counts.{Rose}
 use Rattle.mav_ports.specs.Gets.{IsSpent}
 use Rattle.mav_links.specs.Links.{LinkState}
 use Rattle.mav_frame.specs.Packet.{Packet}
@@ -10,7 +11,7 @@ use Rattle.mav_router.specs.declared.entries.SwitchFault.{SwitchFault}
 use Rattle.mav_router.specs.declared.entries.SwitchFault.TheVariants.{Full, NoMemory}
 use Rattle.mav_router.specs.declared.lane.Lane.{Lane}
 use Rattle.mav_router.specs.Journal.{Rules, SwitchState, frames_to, bytes_of}
-use Rattle.mav_router.specs.Runs.{Begun, RunSoFar, ArePieces, joined_turns, idles_over}
+use Rattle.mav_router.specs.Runs.{Begun, RunSoFar, FaultsBy, ArePieces, joined_turns, idles_over}
 
 -- the fault of a switch with this journal: Full only if it has as many entries as it may have
 abbrev pub IsSwitchFault : SwitchFault → List Entry → Type 0
@@ -37,20 +38,29 @@ pub record PartInput (rules : Rules) (journal : List Entry) (most port : ℕ) (b
   pub begun : Begun ended rules port bytes beyond journal
   pub spent : ended ≡ true → IsSpent now.left
 
--- what was written to a port is a prefix of these frames' bytes
+-- some bytes are those of the first of these frames, each whole
+pub record AreWhole (frames : List Packet) (bytes : List ℕ) : Type 0 where
+  pub done : List Packet
+  pub more : List Packet
+  pub are : frames ≡ done ++ more
+  pub same : bytes ≡ bytes_of done
+
+-- what was written to a port is a prefix of these frames' bytes: whole frames, unless a call of the port failed
 pub record PartOutput (frames : List Packet) (first now : LinkState) : Type 0 where
   pub written : List ℕ
   pub rest : List ℕ
   pub sent : now.sent ≡ append_known first.sent written
   pub front : written ++ rest ≡ bytes_of frames
+  pub whole : Rose first.faults now.faults ⊎ AreWhole frames written
 
 pub record PartRun (rules : Rules) (journal : List Entry) (most port : ℕ) (beyond : List Packet) (first now : LinkState) : Type 0 where
   pub input : PartInput rules journal most port beyond first now
   pub output : PartOutput (frames_to port journal) first now
 
--- at one port, which had so many turns, the switch didn't take this frame
-pub record StopsInput (rules : Rules) (journal : List Entry) (turns port : ℕ) (first now : LinkState) : Type 0 where
+-- at one port, which had so many turns and failed or not, the switch didn't take this frame
+pub record StopsInput (rules : Rules) (journal : List Entry) (turns : ℕ) (failed : Bool) (port : ℕ) (first now : LinkState) : Type 0 where
   pub frame : Packet
+  pub faults : FaultsBy failed first.faults now.faults
   pub input : (most : ℕ) → turns ≤ most → most + 1 < 2 ^ 64 → PartInput rules journal most port (frame ∷ []) first now
 
 -- a frame that came in at a port, and that the switch didn't take

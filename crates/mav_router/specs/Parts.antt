@@ -35,7 +35,7 @@ pub record PartSoFar {A : Type 0} (state : A → LinkState) (rules : Rules) (fir
 
 -- the same of a port at which the switch didn't take a frame
 pub record PartStopped {A : Type 0} (state : A → LinkState) (rules : Rules) (first : LinkState) (part : Part A) : Type 0 where
-  pub input : StopsInput rules (entries_in part.seat.own) part.side.lane.turns part.port first (state part.side.link)
+  pub input : StopsInput rules (entries_in part.seat.own) part.side.lane.turns part.side.lane.failed part.port first (state part.side.link)
   pub output : Output (frames_to part.port (take part.side.taken (entries_in part.seat.seen))) first (state part.side.link) part.side.lane
 
 -- what holds of a thread's part still holds after what the thread does between two reads of its port

@@ -14,4 +14,4 @@ pub record Unheard (rules : Rules) (journal : List Entry) (port : ℕ) (unread :
   pub bytes : List ℕ
   pub reading : Reading rules port bytes (record lane.scanner { bytes = unread }) lane.skipped journal
   pub heard : (after : List Entry) (held : Held) (skips : ℕ) → held.ended ≡ lane.scanner.ended → AllRead rules port bytes held skips after → Input rules after port first now (record lane { scanner = held; skipped = skips })
-  pub stops : (after : List Entry) → StopsReading lane.scanner.ended rules port bytes after → StopsInput rules after lane.turns port first now
+  pub stops : (after : List Entry) → StopsReading lane.scanner.ended rules port bytes after → StopsInput rules after lane.turns lane.failed port first now

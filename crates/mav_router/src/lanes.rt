@@ -71,7 +71,7 @@ pub(crate) fn read_port<L: Link>(
         → Input rules switch.new.journal port first (L.state link.new) lane.new) }
     ensures stopped { OnErr result ((rules : Rules) (first : LinkState)
         → Input rules switch.old.journal port first (L.state link.old) lane.old
-        → StopsInput rules switch.new.journal lane.new.turns port first (L.state link.new)) }
+        → StopsInput rules switch.new.journal lane.new.turns lane.new.failed port first (L.state link.new)) }
     ensures fault { IfErr result (λ fault. IsSwitchFault fault switch.new.journal) }
     ensures output { (frames : List Packet) (first : LinkState)
         → Output frames first (L.state link.old) lane.old → Output frames first (L.state link.new) lane.new }

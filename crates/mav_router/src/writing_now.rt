@@ -68,7 +68,8 @@ fn write_entries_now<L: Link>(
     flush(batch, lane, link);
 }
 
-/// Writes what is waiting for a port, unless it failed or fails, as long as that needn't wait.
+/// Writes what is waiting for a port, unless it failed or fails, as long as that needn't wait. The port is asked for room
+/// also where nothing is: what it keeps of earlier writes it passes on then.
 pub(crate) fn write_port_now<L: Link>(
     switch: &mut Switch<'_>,
     lane: &mut Lane,
@@ -85,9 +86,6 @@ pub(crate) fn write_port_now<L: Link>(
         → Output (given_to switch.new port) first (L.state link.new) lane.new }
 {
     let mut seen = switch.seen(port);
-    if seen == switch.journal().len() {
-        return;
-    }
     write_entries_now(switch.journal(), port, &mut seen, batch, lane, link);
     switch.pass(port, seen);
 }

@@ -25,7 +25,7 @@ fn stream(
     watch: Watch,
     pace: Pace<HostRuntime>,
 ) -> io::Result<WaitingStream<HostRuntime>> {
-    WaitingStream::new(connection(rt, socket)?, watch, pace)
+    WaitingStream::new(connection(rt, socket)?, watch, pace, rt.alloc())
 }
 
 /// Over a TCP connection.

@@ -26,7 +26,7 @@ returns-in-Bytes-clause-some g c = λ rules journal port first i.
       heard = λ after held skips ended all.
           input_read rules journal after port first now new lane _ got c.requires.live i (omega (arith, long, c.in-Bytes.ensures.within.0)) (omega (arith, long, within)) (omega (arith, c.saturating_add-lane.ensures)) c.in-Bytes.ensures.idles c.in-Bytes.ensures.bytes c.in-Bytes.ensures.faults refl refl ended (omega (arith, c.saturating_add-lane-in-Bytes.ensures, long)) all;
       stops = λ after stop.
-          stopped_read rules journal after port _ first now new lane got _ live i (omega (arith, long, c.in-Bytes.ensures.within.0)) (omega (arith, long, within)) (omega (arith, c.saturating_add-lane.ensures)) c.in-Bytes.ensures.idles c.in-Bytes.ensures.bytes stop;
+          stopped_read rules journal after port _ first now new lane got _ live i (omega (arith, long, c.in-Bytes.ensures.within.0)) (omega (arith, long, within)) (omega (arith, c.saturating_add-lane.ensures)) c.in-Bytes.ensures.idles c.in-Bytes.ensures.bytes c.in-Bytes.ensures.faults stop;
     }
 
 pub returns-in-Idle-clause-none : goal.returns-in-Idle-clause-none
@@ -51,5 +51,5 @@ returns-in-End-clause-some g c = λ rules journal port first i.
       heard = λ after held skips ended all.
           input_ended rules journal after port first now new lane _ i refl c.in-End.ensures.idles c.in-End.ensures.bytes spent (c.in-End.ensures.ended refl) c.in-End.ensures.faults refl refl (ended ∙ ap (λ (h : Held). h.ended) c.end.ensures.held) refl all;
       stops = λ after stop.
-          stopped_ended rules journal after port first now new lane over.ended i c.in-End.ensures.idles c.in-End.ensures.bytes spent stop;
+          stopped_ended rules journal after port first now new lane over.ended i c.in-End.ensures.idles c.in-End.ensures.bytes spent c.in-End.ensures.faults stop;
     }

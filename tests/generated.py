@@ -1,5 +1,5 @@
 #!/usr/bin/env python3
-"""Writes the scenario that `make N` plays: `scenarios/generated.py N > FILE`, for `fleet FILE`.
+"""Writes the scenario that `make N` plays: `tests/generated.py N > FILE`, for `fleet FILE`.
 
 It is written from the rules of the generator, and not from the program's code, so that the sums of `make` can be compared
 with those of what `fleet` prints of it.
