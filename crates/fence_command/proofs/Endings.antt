@@ -2,8 +2,8 @@
 use Rattle.std.proofs.Common.{◌≡◌, ℕ, List, false, refl, subst, Option, Some}
 use Rattle.run_status.specs.declared.run_ends.RunEnd.{RunEnd}
 use Rattle.run_status.specs.Runs.{port_outcome, RunBeforeStatus}
-use Rattle.line_input.specs.Takers.{HaltsLines, HoldsLines}
-use Rattle.line_input.proofs.Endings.{Follows, halts_before_status}
+use Rattle.command_inputs.specs.Takers.{HaltsLines, HoldsLines}
+use Rattle.command_inputs.proofs.LineEndings.{Follows, halts_before_status}
 use Rattle.fence_command.specs.FenceFile.{FileState, empty_file, line_says}
 use Rattle.fence_command.specs.Spec.{fence_read, fence_spec, HoldsState}
 use Rattle.fence_command.proofs.Stays.{stop_some, stop_open}

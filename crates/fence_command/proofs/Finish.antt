@@ -9,7 +9,7 @@ use Rattle.run_status.specs.declared.input_errors.InputError.{InputError}
 use Rattle.run_status.specs.declared.run_ends.RunEnd.{RunEnd}
 use Rattle.run_status.specs.declared.run_ends.RunEnd.TheVariants.{Stopped, WriteFault, NoMemory}
 use Rattle.run_status.specs.Runs.{PortOutcome, port_outcome, end_of, RunBeforeStatus}
-use Rattle.line_input.specs.Takers.{Read}
+use Rattle.command_inputs.specs.Takers.{Read}
 use Rattle.fence_command.specs.FenceFile.{FileState}
 use Rattle.fence_command.specs.FenceText.{fence_text}
 use Rattle.fence_command.specs.Spec.{fence_read, stop_of, plans_stop, fence_spec, HoldsState}

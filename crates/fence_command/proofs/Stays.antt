@@ -2,8 +2,8 @@
 use Rattle.std.proofs.Common.{◌≡◌, ◌∙◌, Bool, false, ◌++◌, refl, ap, Option, Some, None}
 use Rattle.run_status.specs.declared.input_errors.InputError.{InputError}
 use Rattle.run_status.specs.Runs.{Steady}
-use Rattle.line_input.specs.Takers.{Read}
-use Rattle.line_input.proofs.Stays.{file_for_good}
+use Rattle.command_inputs.specs.Takers.{Read}
+use Rattle.command_inputs.proofs.LineStays.{file_for_good}
 use Rattle.fence_command.specs.FenceFile.{FileState, empty_file, line_says}
 use Rattle.fence_command.specs.Spec.{stop_after, stop_of, fence_read, fence_spec}
 

@@ -10,8 +10,8 @@ use Rattle.scenario_lines.specs.Words.{words_of, word_at}
 use Rattle.scenario_lines.specs.Grammar.{line_of}
 use Rattle.scenario_lines.specs.Readings.{and_then, whole, signed}
 use Rattle.scenario_lines.specs.Reasons.{item_reason_against}
-use Rattle.line_input.specs.Takers.{Says}
-use Rattle.plan_file.specs.Spec.{items_in}
+use Rattle.command_inputs.specs.Takers.{Says}
+use Rattle.command_inputs.specs.ItemFiles.{items_in}
 
 -- where the flight starts, the most units of a tick, how many ticks it has, both lists of items, and whether item lines
 -- join the fence

@@ -8,7 +8,7 @@ use Rattle.run_status.specs.declared.input_errors.Reason.TheVariants.{Plan}
 use Rattle.run_status.specs.declared.input_errors.InputError.{InputError}
 use Rattle.run_status.specs.declared.input_errors.InputError.TheVariants.{Bad}
 use Rattle.run_status.specs.Runs.{CommandSpec}
-use Rattle.line_input.specs.Takers.{Read, file_read, HoldsLines}
+use Rattle.command_inputs.specs.Takers.{Read, file_read, HoldsLines}
 use Rattle.fence_command.specs.FenceFile.{FileState, empty_file, line_says}
 use Rattle.fence_command.specs.declared.files.FenceFile.{FenceFile}
 use Rattle.fence_command.specs.Files.{state_of}

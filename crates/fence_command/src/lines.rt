@@ -6,12 +6,12 @@ ghost use Rattle.fence_command.specs.FenceFile.{home_says, step_says, ticks_says
 ghost use Rattle.scenario_lines.specs.declared.faults.Reason.{Reason};
 ghost use Rattle.fence_command.specs.FenceFile.{FileState};
 ghost use Rattle.fence_command.specs.Files.{state_of};
-ghost use Rattle.line_input.specs.Takers.{FaultSays};
+ghost use Rattle.command_inputs.specs.Takers.{FaultSays};
 ghost use Rattle.fence_command.specs.Saying.{Says, renamed};
 
 use crate::FenceFile;
+use command_inputs::add_line;
 use drone_sim::Point;
-use plan_file::add_line;
 use scenario_lines::{LineFault, Reason, Words, is_word};
 use std::alloc::Global;
 

@@ -8,7 +8,7 @@ ghost use Rattle.fence_command.specs.Spec.{HoldsFile, fence_spec};
 
 use crate::FenceFile;
 use crate::lines::read_text;
-use line_input::{LineTaker, read_lines};
+use command_inputs::{LineTaker, read_lines};
 use mav_ports::Source;
 use run_status::RunEnd;
 use scenario_lines::LineFault;

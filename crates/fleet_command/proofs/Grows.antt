@@ -9,10 +9,10 @@ use Rattle.fleet_report.specs.Events.{Event, event_text, events_text}
 use Rattle.fleet_world.specs.WorldState.{context_of}
 use Rattle.fleet_world.specs.Steps.{Step, StepError, after_line}
 use Rattle.fleet_world.specs.Scenario.{Played, ScenarioError, goes_on, judged, at_start, played, report_of}
-use Rattle.line_input.specs.LineRules.{unless_stopped}
+use Rattle.command_inputs.specs.LineRules.{unless_stopped}
 use Rattle.fleet_command.specs.Plays.{scenario_rules, plays}
-use Rattle.line_input.proofs.Keeps.{reads_keep}
-use Rattle.line_input.proofs.Stays.{stopped_for_good}
+use Rattle.command_inputs.proofs.LineKeeps.{reads_keep}
+use Rattle.command_inputs.proofs.LineStays.{stopped_for_good}
 use Rattle.fleet_command.proofs.Lines.{scenario_stops, played_read}
 
 -- whether reports print frames whole

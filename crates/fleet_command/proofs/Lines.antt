@@ -3,8 +3,8 @@ use Rattle.std.proofs.Common.{◌≡◌, ◌∙◌, ℕ, ◌+◌, Bool, true, fa
 use Rattle.scenario_lines.specs.declared.faults.Reason.TheVariants.{Long}
 use Rattle.fleet_world.specs.Scenario.{Played, ScenarioError, Bad, Too_many_lines, line_played, lines_played, last_played, rest_played, unless_stopped, at_start, played}
 use Rattle.scenario_lines.specs.FileLines.{whole_lines, unfinished}
-use Rattle.line_input.specs.LineRules.{unless_stopped as unless, lines_read, last_read, rest_read, bytes_read}
-use Rattle.line_input.proofs.Lines.{Stopping, bytes_read_reads}
+use Rattle.command_inputs.specs.LineRules.{unless_stopped as unless, lines_read, last_read, rest_read, bytes_read}
+use Rattle.command_inputs.proofs.Lines.{Stopping, bytes_read_reads}
 use Rattle.fleet_command.specs.Plays.{scenario_rules, plays}
 
 unless_same : (stop : Option ScenarioError) (p next : Played) → unless_stopped stop p next ≡ unless stop p next

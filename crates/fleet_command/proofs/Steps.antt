@@ -24,9 +24,9 @@ use Rattle.run_status.specs.declared.input_errors.InputError.{InputError}
 use Rattle.fleet_world.proofs.Contexts.{context_is}
 use Rattle.fleet_command.specs.Spec.{reported_error}
 use Rattle.fleet_command.specs.Plays.{scenario_rules, plays, long_line_end, Holds, Reading, StoppedBy, HaltedAt, Finished, Leads, FailsAs}
-use Rattle.line_input.specs.LineRules.{unless_stopped}
-use Rattle.line_input.proofs.Lines.{part_short, too_long}
-use Rattle.line_input.proofs.Steps.{reads_held, reads_long}
+use Rattle.command_inputs.specs.LineRules.{unless_stopped}
+use Rattle.command_inputs.proofs.Lines.{part_short, too_long}
+use Rattle.command_inputs.proofs.LineSteps.{reads_held, reads_long}
 use Rattle.fleet_command.proofs.Lines.{scenario_stops, played_plays}
 use Rattle.fleet_command.proofs.Grows.{Grows, events_text-append, grows_judged, grows_plays, grows_unless, front_grown, front_whole}
 

@@ -9,8 +9,8 @@ use Rattle.scenario_lines.specs.Reasons.{reason_against}
 use Rattle.fleet_world.specs.WorldState.{context_of}
 use Rattle.fleet_world.specs.Scenario.{whole_report, Played, ScenarioError, Bad, Too_many_lines, stopped, judged, played, report_of}
 use Rattle.scenario_lines.specs.FileLines.{most_lines}
-use Rattle.line_input.specs.LineRules.{LineRules}
-use Rattle.line_input.specs.ByteByByte.{reads}
+use Rattle.command_inputs.specs.LineRules.{LineRules}
+use Rattle.command_inputs.specs.ByteByByte.{reads}
 use Rattle.run_status.specs.declared.run_ends.RunEnd.{RunEnd}
 use Rattle.run_status.specs.declared.run_ends.RunEnd.TheVariants.{Usage, Stopped, ReadFault, WriteFault, NoMemory, TurnsSpent, Live}
 use Rattle.run_status.specs.declared.input_errors.InputError.{InputError}

@@ -9,7 +9,7 @@ use Rattle.run_status.specs.declared.input_errors.Bound.TheVariants.{Lines, Fram
 use Rattle.run_status.specs.declared.input_errors.InputError.{InputError}
 use Rattle.run_status.specs.declared.input_errors.InputError.TheVariants.{AtLimit, StampsSpent}
 use Rattle.run_status.specs.Runs.{CommandSpec}
-use Rattle.line_input.specs.Takers.{bad_line}
+use Rattle.command_inputs.specs.Takers.{bad_line}
 
 -- a bound of the world, as a run's status has it
 abbrev pub reported_bound : Bound → StatusBound

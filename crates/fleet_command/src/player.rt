@@ -11,8 +11,8 @@ ghost use Rattle.fleet_world.specs.Scenario.{report_of, whole_report};
 ghost use Rattle.fleet_command.specs.Spec.{reported_bound};
 ghost use Rattle.fleet_command.specs.Plays.{Holds, Reading, HaltedAt, Finished, Leads, FailsAs, budget, long_line_end};
 
+use command_inputs::{bad_line, without_cr};
 use fleet_world::{Bound, World, WorldFault};
-use line_input::{bad_line, without_cr};
 use mav_nodes::NodeFault;
 use mav_ports::{NoMemory, Sink, write_all};
 use mav_sign::Key;

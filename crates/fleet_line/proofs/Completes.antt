@@ -6,9 +6,9 @@ use Rattle.hex.specs.Hex.{decode_sized}
 use Rattle.hex.specs.declared.error.FromHexError.{FromHexError}
 use Rattle.mav_ports.specs.Gets.{IsSpent}
 use Rattle.run_status.proofs.Ends.{whole_taken}
-use Rattle.key_file.specs.KeyText.{is_line_end, key_with, key_or_default}
-use Rattle.key_file.specs.Spec.{most_key_bytes, refusal_of, key_spec}
-use Rattle.key_file.proofs.Stays.{goes_on}
+use Rattle.command_inputs.specs.KeyText.{is_line_end, key_with, key_or_default}
+use Rattle.command_inputs.specs.KeyInputs.{most_key_bytes, refusal_of, key_spec}
+use Rattle.command_inputs.proofs.KeyStays.{goes_on}
 use Rattle.fleet_command.specs.Spec.{fleet_spec}
 use Rattle.fleet_theorem.proofs.Completeness.{completed}
 use Rattle.run_status.specs.Seen.{Input, Output, around, promised_over}

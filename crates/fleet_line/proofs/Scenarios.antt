@@ -3,17 +3,17 @@ use Rattle.std.proofs.Common.{◌≡◌, ◌≢◌, inl, inr, ℕ, Bool, true, f
 use Rattle.mav_ports.specs.Gets.{IsSpent}
 use Rattle.run_status.specs.declared.run_ends.RunEnd.TheVariants.{NoMemory}
 use Rattle.run_status.specs.Runs.{CommandSpec, Steady}
-use Rattle.key_file.specs.Spec.{key_spec}
-use Rattle.key_file.specs.KeyText.{default_key, key_or_default}
-use Rattle.key_file.proofs.Stays.{key_steady}
+use Rattle.command_inputs.specs.KeyInputs.{key_spec}
+use Rattle.command_inputs.specs.KeyText.{default_key, key_or_default}
+use Rattle.command_inputs.proofs.KeyStays.{key_steady}
 use Rattle.fleet_command.specs.Spec.{fleet_spec}
 use Rattle.fleet_command.proofs.Stays.{fleet_steady}
 use Rattle.fleet_theorem.proofs.Theorem.{carried}
 use Rattle.run_status.specs.Seen.{Input, Output, input_of, around, before_status_over, promised_over}
-use Rattle.line_key.specs.Named.{KeyIs}
+use Rattle.command_inputs.specs.NamedKeys.{KeyIs}
 use Rattle.fleet_line.specs.Fleets.{or_default, Fleets, CarriesOver, FleetsCarry}
-use Rattle.line_key.proofs.Named.{after_key, took_nothing}
-use Rattle.line_key.proofs.Runs.{unmade}
+use Rattle.command_inputs.proofs.KeyNames.{after_key, took_nothing}
+use Rattle.command_inputs.proofs.NamedRuns.{unmade}
 
 -- the key was read, or none was named, and then the main input was played
 pub fleets_behind : (named_key frames : Bool) (runs : CommandSpec → Input → Type 0) (halted : Type 0) (key main : Input) (k : Option (List ℕ)) (used : List ℕ) (printed : Bool) → KeyIs named_key key k → used ≡ or_default k → printed ≡ frames → runs (fleet_spec used printed) main → Fleets named_key frames runs halted key main

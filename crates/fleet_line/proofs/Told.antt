@@ -14,7 +14,7 @@ use Rattle.command_line.specs.declared.commands.OptionName.TheVariants.{Frames, 
 use Rattle.command_line.specs.Built.{built}
 use Rattle.command_line.specs.Forms.{has_given}
 use Rattle.command_line.specs.Grammar.{Asked, Asks}
-use Rattle.line_key.proofs.Runs.{reported_over}
+use Rattle.command_inputs.proofs.NamedRuns.{reported_over}
 use Rattle.fleet_line.specs.Fleets.{Fleets}
 use Rattle.fleet_line.specs.Promised.{AskNoFleet, FleetPromises}
 use Rattle.fleet_line.proofs.Completes.{fleets_complete}

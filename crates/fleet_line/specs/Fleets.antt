@@ -1,13 +1,13 @@
 -- What is read of the inputs that a line of `fleet` names, what holds of that run, and when it is done.
 use Rattle.std.specs.Prelude.{◌≡◌, ◌≢◌, ℕ, Bool, true, false, List, None, Some}
 use Rattle.std.specs.declared.option.Option.{Option}
-use Rattle.key_file.specs.KeyText.{default_key, key_or_default}
+use Rattle.command_inputs.specs.KeyText.{default_key, key_or_default}
 use Rattle.run_status.specs.Runs.{CommandSpec}
 use Rattle.fleet_command.specs.Spec.{fleet_spec}
 use Rattle.fleet_theorem.specs.Theorem.{Carries}
 use Rattle.fleet_theorem.specs.Completeness.{NoFault, Completes}
 use Rattle.run_status.specs.Seen.{Input, Output, around, promised_over}
-use Rattle.line_key.specs.Named.{WithKey}
+use Rattle.command_inputs.specs.NamedKeys.{WithKey}
 
 -- the key of all nodes: the one that is named, or the default
 abbrev pub or_default : Option (List ℕ) → List ℕ

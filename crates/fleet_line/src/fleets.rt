@@ -6,10 +6,9 @@ ghost use Rattle.command_line.specs.Lines.{given_of};
 ghost use Rattle.fleet_line.specs.Fleets.{Fleets, or_default};
 ghost use Rattle.run_status.specs.Seen.{input_of, output_of, before_status_over};
 
+use command_inputs::{default_key, named_key};
 use command_line::{Line, OptionName};
 use fleet_command::fleet;
-use key_file::default_key;
-use line_key::named_key;
 use mav_ports::{Sink, Source};
 use mav_sign::Key;
 use run_status::RunEnd;

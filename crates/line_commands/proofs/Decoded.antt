@@ -5,16 +5,16 @@ use Rattle.field_layout.specs.Definition.{Definition}
 use Rattle.mav_profile.specs.Profile.{profile_definitions}
 use Rattle.run_status.specs.declared.run_ends.RunEnd.TheVariants.{NoMemory}
 use Rattle.run_status.specs.Runs.{CommandSpec, Steady}
-use Rattle.key_file.specs.KeyText.{key_or_default}
-use Rattle.key_file.specs.Spec.{key_spec}
-use Rattle.key_file.proofs.Stays.{key_steady}
+use Rattle.command_inputs.specs.KeyText.{key_or_default}
+use Rattle.command_inputs.specs.KeyInputs.{key_spec}
+use Rattle.command_inputs.proofs.KeyStays.{key_steady}
 use Rattle.dialect_command.specs.Spec.{definitions_spec}
 use Rattle.dialect_command.proofs.Stays.{reading_steady}
 use Rattle.decode_command.specs.Spec.{decode_spec}
 use Rattle.decode_command.proofs.Stays.{decode_steady}
 use Rattle.run_status.specs.Seen.{Input, input_of, before_status_over}
-use Rattle.line_key.proofs.Named.{took_nothing}
-use Rattle.line_key.proofs.Runs.{unmade}
+use Rattle.command_inputs.proofs.KeyNames.{took_nothing}
+use Rattle.command_inputs.proofs.NamedRuns.{unmade}
 use Rattle.line_commands.specs.Decoding.{WithDefinitions, DecodesWith, Decodes, KnownIs}
 
 -- the definitions were read, or they are the profile's, and then the run goes on

@@ -11,9 +11,9 @@ use Rattle.run_status.specs.declared.run_ends.RunEnd.TheVariants.{Usage, Stopped
 use Rattle.run_status.specs.Runs.{CommandSpec, PortOutcome, RunBeforeStatus, Cause, Steady}
 use Rattle.run_status.specs.Endings.{code_of}
 use Rattle.run_status.specs.StatusText.{WritesStatus}
-use Rattle.key_file.specs.KeyText.{key_of}
-use Rattle.key_file.specs.Spec.{given_key_spec}
-use Rattle.key_file.proofs.Stays.{key_steady}
+use Rattle.command_inputs.specs.KeyText.{key_of}
+use Rattle.command_inputs.specs.KeyInputs.{given_key_spec}
+use Rattle.command_inputs.proofs.KeyStays.{key_steady}
 use Rattle.command_line.specs.declared.commands.Command.{Command}
 use Rattle.command_line.specs.declared.commands.Command.TheVariants.{Drone}
 use Rattle.command_line.specs.declared.commands.OptionName.TheVariants.{Store}

@@ -12,7 +12,7 @@ use Rattle.command_line.specs.PortTexts.{port_text}
 use Rattle.line_commands.specs.declared.wants.Wanted.{Wanted}
 use Rattle.line_commands.specs.Routing.{AreAsked}
 use Rattle.line_commands.specs.Wants.{Wants, keepers_asked}
-use Rattle.line_key.proofs.Same.{same_asked}
+use Rattle.command_inputs.proofs.NamedSame.{same_asked}
 
 pub links_asked : (words : List (List ℕ)) (w : Wanted) (links : ℕ) → Wants words w → links ≡ length w.ports.items → (asked : Asked) → Asks built words asked → AreAsked links asked
 links_asked words w links wants same asked asks =

@@ -20,7 +20,7 @@ use Rattle.mav_log.specs.Spec.{show_telling, filter_telling, make_telling}
 use Rattle.decode_command.proofs.Stays.{telling_steady}
 use Rattle.run_status.specs.Seen.{Input, input_of, before_status_over}
 use Rattle.line_commands.specs.Logging.{log_spec, Logs}
-use Rattle.line_key.proofs.Runs.{unmade}
+use Rattle.command_inputs.proofs.NamedRuns.{unmade}
 
 -- the same line
 pub logs_asked : (asked other : Asked) (runs : CommandSpec → Input → Type 0) (halted : Type 0) (defs main : Input) → asked ≡ other → Logs asked.command asked.plain (has_given Defs asked.settings) runs halted defs main → Logs other.command other.plain (has_given Defs other.settings) runs halted defs main

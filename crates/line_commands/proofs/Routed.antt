@@ -12,9 +12,9 @@ use Rattle.mav_router.proofs.PortEnds.{nothing_routed}
 use Rattle.run_status.specs.declared.run_ends.RunEnd.{RunEnd}
 use Rattle.run_status.specs.declared.run_ends.RunEnd.TheVariants.{NoMemory}
 use Rattle.run_status.specs.Runs.{CommandSpec, Steady}
-use Rattle.key_file.specs.KeyText.{key_of}
-use Rattle.key_file.specs.Spec.{given_key_spec, TookAtMost}
-use Rattle.key_file.proofs.Stays.{key_steady}
+use Rattle.command_inputs.specs.KeyText.{key_of}
+use Rattle.command_inputs.specs.KeyInputs.{given_key_spec, TookAtMost}
+use Rattle.command_inputs.proofs.KeyStays.{key_steady}
 use Rattle.dialect_command.specs.Spec.{definitions_spec}
 use Rattle.dialect_command.proofs.Stays.{reading_steady}
 use Rattle.command_line.specs.declared.commands.Command.{Command}
@@ -34,8 +34,8 @@ use Rattle.mav_router.proofs.Halts.{stops_as}
 use Rattle.run_status.specs.Seen.{Input, input_of, before_status_over}
 use Rattle.line_commands.specs.Decoding.{WithDefinitions}
 use Rattle.line_commands.specs.Routing.{Routing, pad, router_of, AllEnded}
-use Rattle.line_key.proofs.Named.{took_nothing}
-use Rattle.line_key.proofs.Runs.{unmade}
+use Rattle.command_inputs.proofs.KeyNames.{took_nothing}
+use Rattle.command_inputs.proofs.NamedRuns.{unmade}
 
 -- which ports are open
 abbrev pub flags : List Port → List Bool

@@ -7,17 +7,17 @@ use Rattle.mav_names.specs.Addresses.{drone_stream}
 use Rattle.mav_ports.specs.Gets.{IsSpent}
 use Rattle.mav_links.specs.Links.{LinkState}
 use Rattle.std.specs.Str.{bytes_eq}
-use Rattle.plan_file.specs.Spec.{plan_spec}
-use Rattle.plan_file.proofs.Endings.{plan_steady}
-use Rattle.put_file.specs.Spec.{put_spec}
-use Rattle.put_file.proofs.Stays.{put_steady}
+use Rattle.command_inputs.specs.ItemFiles.{plan_spec}
+use Rattle.command_inputs.proofs.ItemEndings.{plan_steady}
+use Rattle.command_inputs.specs.PutFiles.{put_spec}
+use Rattle.command_inputs.proofs.PutStays.{put_steady}
 use Rattle.mav_nodes.specs.declared.orders.Order.{Order}
 use Rattle.run_status.specs.declared.run_ends.RunEnd.{RunEnd}
 use Rattle.run_status.specs.declared.run_ends.RunEnd.TheVariants.{Usage}
 use Rattle.run_status.specs.Runs.{CommandSpec, Steady}
-use Rattle.key_file.specs.KeyText.{key_of}
-use Rattle.key_file.specs.Spec.{given_key_spec}
-use Rattle.key_file.proofs.Stays.{key_steady}
+use Rattle.command_inputs.specs.KeyText.{key_of}
+use Rattle.command_inputs.specs.KeyInputs.{given_key_spec}
+use Rattle.command_inputs.proofs.KeyStays.{key_steady}
 use Rattle.command_line.specs.declared.commands.Command.{Command as CommandName}
 use Rattle.command_line.specs.declared.commands.Command.TheVariants.{Station}
 use Rattle.command_line.specs.declared.commands.OptionName.TheVariants.{File}

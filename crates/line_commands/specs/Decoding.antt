@@ -8,7 +8,7 @@ use Rattle.dialect_command.specs.Reads.{Holds}
 use Rattle.dialect_command.specs.Spec.{definitions_spec}
 use Rattle.decode_command.specs.Spec.{decode_spec}
 use Rattle.run_status.specs.Seen.{Input}
-use Rattle.line_key.specs.Named.{WithKey}
+use Rattle.command_inputs.specs.NamedKeys.{WithKey}
 
 -- then definitions that are named: the run halts at them, nothing is written of them, and the main input isn't read; or it
 -- goes on with them; without them the profile is used

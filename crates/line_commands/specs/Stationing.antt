@@ -3,9 +3,9 @@ use Rattle.std.specs.Prelude.{◌≡◌, ◌≤◌, ◌⊎◌, ℕ, Bool, true, 
 use Rattle.std.specs.Fmt.{decimal}
 use Rattle.std.specs.Str.{bytes_eq}
 use Rattle.mav_names.specs.Addresses.{drone_stream}
-use Rattle.plan_file.specs.Spec.{plan_spec, HoldsItems}
-use Rattle.key_file.specs.Spec.{TookAtMost}
-use Rattle.put_file.specs.Spec.{put_spec, HoldsFile}
+use Rattle.command_inputs.specs.ItemFiles.{plan_spec, HoldsItems}
+use Rattle.command_inputs.specs.KeyInputs.{TookAtMost}
+use Rattle.command_inputs.specs.PutFiles.{put_spec, HoldsFile}
 use Rattle.mav_nodes.specs.declared.orders.Order.{Order}
 use Rattle.run_status.specs.declared.run_ends.RunEnd.{RunEnd}
 use Rattle.run_status.specs.Runs.{CommandSpec}

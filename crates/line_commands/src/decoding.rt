@@ -8,9 +8,9 @@ ghost use Rattle.run_status.specs.Seen.{input_of, output_of, before_status_over}
 
 use crate::definitions::known_messages;
 use crate::wants::Inputs;
+use command_inputs::named_key;
 use command_line::{Line, OptionName};
 use decode_command::{Known, decode_by};
-use line_key::named_key;
 use mav_ports::{Sink, Source};
 use run_status::RunEnd;
 use std::alloc::Global;

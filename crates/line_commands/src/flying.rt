@@ -10,8 +10,8 @@ ghost use Rattle.line_commands.specs.Routing.{WithGivenKey};
 ghost use Rattle.run_status.specs.Seen.{input_of, output_of, before_status_over};
 
 use crate::wants::Store;
+use command_inputs::read_given_key;
 use command_line::{Line, OptionName};
-use key_file::read_given_key;
 use live_node::{DronePlan, run_drone as run_stored_drone, run_new_drone};
 use mav_links::Link;
 use mav_ports::{Clock, Sink, Source};

@@ -10,8 +10,8 @@ ghost use Rattle.run_status.specs.Seen.{input_of, output_of, before_status_over}
 
 use crate::definitions::known_messages;
 use crate::wants::Inputs;
+use command_inputs::read_given_key;
 use command_line::{Line, OptionName, Port};
-use key_file::read_given_key;
 use link_table::Ways;
 use mav_links::Link;
 use mav_ports::{Sink, Source};

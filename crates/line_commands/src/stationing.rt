@@ -14,16 +14,14 @@ ghost use Rattle.run_status.specs.Seen.{input_of, output_of, before_status_over}
 
 use crate::ordering::{Contents, order_of};
 use crate::wants::{Inputs, Store};
+use command_inputs::{read_file, read_given_key, read_plan};
 use command_line::{Line, OptionName, Task};
-use key_file::read_given_key;
 use live_node::{StationPlan, run_station as run_live_station};
 use mav_links::Link;
 use mav_names::drone_stream;
 use mav_ports::{Clock, Sink, Source};
-use plan_file::read_plan;
 use plan_items::Plan;
 use plan_store::Keeper;
-use put_file::read_file;
 use run_status::RunEnd;
 use std::alloc::Global;
 

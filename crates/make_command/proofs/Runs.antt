@@ -4,7 +4,7 @@ use Rattle.std.specs.Io.KnownBytes.{append_known, prepend_known}
 use Rattle.mav_ports.specs.Counts.{Rose}
 use Rattle.mav_ports.specs.Gets.{IsSpent}
 use Rattle.mav_ports.specs.Puts.{SentPrefix}
-use Rattle.key_file.specs.KeyText.{default_key}
+use Rattle.command_inputs.specs.KeyText.{default_key}
 use Rattle.run_status.specs.declared.input_errors.InputError.{InputError}
 use Rattle.run_status.specs.declared.live_ends.LiveEnd.{LiveEnd}
 use Rattle.run_status.specs.declared.run_ends.RunEnd.{RunEnd}

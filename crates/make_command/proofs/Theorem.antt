@@ -1,6 +1,6 @@
 -- The main theorem holds of each generated scenario.
 use Rattle.std.proofs.Common.{ℕ, true}
-use Rattle.key_file.specs.KeyText.{default_key}
+use Rattle.command_inputs.specs.KeyText.{default_key}
 use Rattle.fleet_theorem.proofs.Theorem.{main_theorem}
 use Rattle.scenario_maker.specs.Generator.{scenario_text}
 use Rattle.scenario_maker.proofs.Generated.{generated_authentic, generated_done}

@@ -1,6 +1,6 @@
 -- What holds of each generated scenario.
 use Rattle.std.specs.Prelude.{ℕ, ◌≡◌, true, None}
-use Rattle.key_file.specs.KeyText.{default_key}
+use Rattle.command_inputs.specs.KeyText.{default_key}
 use Rattle.fleet_world.specs.Authentic.{Authentic}
 use Rattle.fleet_theorem.specs.Theorem.{MainTheorem}
 use Rattle.scenario_maker.specs.Generator.{scenario_text}

@@ -9,8 +9,8 @@ ghost use Rattle.make_command.specs.Spec.{make_spec};
 ghost use Rattle.make_command.specs.Theorem.{GeneratedTheorem};
 
 use crate::report_sink::ReportSink;
+use command_inputs::default_key;
 use fleet_command::fleet;
-use key_file::default_key;
 use mav_ports::{NoMemory, Sink, SureSource, write_all};
 use run_status::RunEnd;
 use scenario_maker::{scenario_text, sums_text};

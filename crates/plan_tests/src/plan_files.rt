@@ -1,6 +1,6 @@
 // A small file as a caller reads it: a comment, CR LF, an empty line, and a last line without LF.
+use command_inputs::read_plan;
 use mav_ports::SureSource;
-use plan_file::read_plan;
 use plan_items::Item;
 use std::alloc::{AllocError, Global};
 use std::test::Fail;

@@ -12,7 +12,7 @@ use Rattle.command_line.specs.Forms.{stdin_files, ArePlain, IsFile}
 use Rattle.command_line.specs.Grammar.{Asked, Asks, Bare}
 use Rattle.run_status.specs.Runs.{CommandSpec, end_of, output_of as output_by}
 use Rattle.run_status.specs.Endings.{code_of}
-use Rattle.key_file.specs.KeyText.{default_key}
+use Rattle.command_inputs.specs.KeyText.{default_key}
 use Rattle.fleet_examples.specs.OneItem.{one_item, the_key, IsInstalledOnce}
 use Rattle.fleet_theorem.proofs.Theorem.{theorem_of}
 use Rattle.fleet_examples.proofs.OneItem.{one_item_authentic, installed_once}
@@ -20,7 +20,7 @@ use Rattle.fleet_examples.proofs.Playable.{one_item_playable}
 use Rattle.command_line.specs.Names.{port_words}
 use Rattle.line_commands.specs.Routing.{AreAsked}
 use Rattle.line_commands.specs.Wants.{keepers_asked}
-use Rattle.line_key.proofs.Same.{same_asked}
+use Rattle.command_inputs.proofs.NamedSame.{same_asked}
 use Rattle.run_status.specs.Seen.{Input, Output, input_of, output_of, around, promised_over}
 use Rattle.fleet_line.specs.Fleets.{CarriesOver, FleetsComplete}
 

@@ -3,7 +3,7 @@ use Rattle.std.proofs.Common.{◌≡◌, ◌∙◌, inl, inr, ℕ, zero, suc, �
 use Rattle.std.specs.List.{list_all, slice_split}
 use Rattle.std.proofs.lemmas.List.Elements.{All-nil, All-cons}
 use Rattle.std.proofs.lemmas.List.Splits.{slice_split_at}
-use Rattle.key_file.specs.KeyText.{default_key}
+use Rattle.command_inputs.specs.KeyText.{default_key}
 use Rattle.node_reports.specs.Nodes.{Node}
 use Rattle.fleet_world.specs.Authentic.{AuthenticDone, HoldsOfLines, Authentic}
 use Rattle.fleet_world.specs.Scenario.{Played, unless_stopped, lines_played, at_start, rest_played}

@@ -1,6 +1,6 @@
 -- A generated scenario, played.
 use Rattle.std.specs.Prelude.{ℕ, true}
-use Rattle.key_file.specs.KeyText.{default_key}
+use Rattle.command_inputs.specs.KeyText.{default_key}
 use Rattle.fleet_world.specs.Scenario.{Played, played}
 use Rattle.scenario_maker.specs.Generator.{scenario_text}
 

@@ -34,13 +34,13 @@ use Rattle.line_commands.specs.Routing.{AllEnded, router_of}
 use Rattle.run_status.specs.Seen.{Input, Output, input_of, no_input, before_status_over, promised_over}
 use Rattle.line_commands.specs.Stationing.{Stationed, file_asked}
 use Rattle.fleet_line.proofs.Completes.{fleets_complete}
-use Rattle.line_key.proofs.Runs.{unmade, reported_over}
+use Rattle.command_inputs.proofs.NamedRuns.{unmade, reported_over}
 use Rattle.line_commands.proofs.Decoded.{decodes_reported, decodes_unread}
 use Rattle.line_commands.proofs.Flown.{drone_reported, ran_reported}
 use Rattle.line_commands.proofs.Logged.{logs_reported, logs_unread}
 use Rattle.station_cli.proofs.Made.{make_steady, makes_on, unmade_number}
 use Rattle.line_commands.proofs.Routed.{routing_reported, ports_wait, key_unread}
-use Rattle.line_key.proofs.Same.{same_asked}
+use Rattle.command_inputs.proofs.NamedSame.{same_asked}
 use Rattle.fleet_line.proofs.Scenarios.{fleets_reported, fleets_carry, fleets_unread}
 use Rattle.line_commands.proofs.Stationed.{station_reported}
 use Rattle.fleet_line.proofs.Usages.{words_reported, halted_code, usage_ended, five_only}

@@ -5,7 +5,7 @@ use Rattle.command_line.specs.declared.commands.OptionName.TheVariants.{Frames, 
 use Rattle.command_line.specs.Forms.{has_given}
 use Rattle.command_line.specs.Lines.{given_of}
 use Rattle.run_status.specs.Seen.{input_of, output_of, before_status_over}
-use Rattle.line_key.proofs.Named.{at_key}
+use Rattle.command_inputs.proofs.KeyNames.{at_key}
 use Rattle.fleet_line.proofs.Scenarios.{fleets_behind}
 use Rattle.fleet_line.proofs.fleets.run_fleet.Goals as goal
 

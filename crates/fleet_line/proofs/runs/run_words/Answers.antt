@@ -1,7 +1,7 @@
 use Rattle.std.proofs.Common.{refl}
 use Rattle.command_line.specs.declared.commands.OptionName.TheVariants.{Frames, Key}
 use Rattle.command_line.specs.Forms.{has_given}
-use Rattle.line_key.proofs.Same.{same_asked}
+use Rattle.command_inputs.proofs.NamedSame.{same_asked}
 use Rattle.fleet_line.proofs.Scenarios.{fleets_unread}
 use Rattle.fleet_line.proofs.runs.run_words.Goals as goal
 

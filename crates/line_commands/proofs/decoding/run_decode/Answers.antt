@@ -4,8 +4,8 @@ use Rattle.mav_profile.specs.Profile.{profile_definitions}
 use Rattle.dialect_command.specs.Spec.{definitions_spec}
 use Rattle.dialect_command.proofs.Endings.{untold_unread}
 use Rattle.decode_command.specs.Spec.{decode_spec}
-use Rattle.line_key.proofs.Named.{after_key, at_key}
-use Rattle.line_key.proofs.Runs.{unmade_as}
+use Rattle.command_inputs.proofs.KeyNames.{after_key, at_key}
+use Rattle.command_inputs.proofs.NamedRuns.{unmade_as}
 use Rattle.line_commands.proofs.Decoded.{after_definitions, at_definitions}
 use Rattle.line_commands.proofs.decoding.run_decode.Goals as goal
 

@@ -4,7 +4,7 @@ use Rattle.mav_profile.specs.Profile.{profile_definitions}
 use Rattle.dialect_command.specs.Spec.{definitions_spec}
 use Rattle.dialect_command.proofs.Endings.{untold_unread}
 use Rattle.line_commands.specs.Logging.{log_spec}
-use Rattle.line_key.proofs.Runs.{unmade_as}
+use Rattle.command_inputs.proofs.NamedRuns.{unmade_as}
 use Rattle.line_commands.proofs.Decoded.{after_definitions, at_definitions}
 use Rattle.line_commands.proofs.logging.run_log.Goals as goal
 

@@ -1,5 +1,5 @@
 use Rattle.std.proofs.Common.{refl}
-use Rattle.line_key.proofs.Same.{same_asked}
+use Rattle.command_inputs.proofs.NamedSame.{same_asked}
 use Rattle.station_cli.proofs.Told.{leaves_same, undone, nothing_moved}
 use Rattle.station_cli.proofs.runs.run_words.Goals as goal
 

@@ -5,7 +5,7 @@ use Rattle.std.proofs.lemmas.List.{take_more, take_all}
 use Rattle.mav_ports.specs.Counts.{Rose}
 use Rattle.std.proofs.lemmas.Result.{err_from_is_err_and}
 use Rattle.fleet_command.specs.Plays.{Reading, budget}
-use Rattle.line_input.proofs.Steps.{piece_after}
+use Rattle.command_inputs.proofs.LineSteps.{piece_after}
 use Rattle.fleet_command.proofs.Steps.{HaltedBy}
 use Rattle.fleet_command.proofs.player.Player.feed.Goals as goal
 

@@ -1,0 +1,15 @@
+pub mod FewItems
+pub mod ItemEndings
+pub mod KeyNames
+pub mod KeyRuns
+pub mod KeyStays
+pub mod LineEndings
+pub mod LineKeeps
+pub mod LineStays
+pub mod LineSteps
+pub mod Lines
+pub mod NamedRuns
+pub mod NamedSame
+pub mod NoKeys
+pub mod PutHalts
+pub mod PutStays

@@ -1,3 +1,0 @@
-pub mod NoKeys
-pub mod Stays
-pub mod RunsBeforeStatus

@@ -1,2 +1,0 @@
-pub mod KeyText
-pub mod Spec

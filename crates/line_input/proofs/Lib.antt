@@ -1,5 +1,0 @@
-pub mod Lines
-pub mod Steps
-pub mod Stays
-pub mod Keeps
-pub mod Endings

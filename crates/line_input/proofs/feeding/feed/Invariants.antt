@@ -1,6 +1,0 @@
-use Rattle.std.proofs.Common.{take}
-use Rattle.line_input.specs.ByteByByte.{Fed}
-use Rattle.line_input.proofs.feeding.feed.Given as goal
-
-abbrev pub invariant-loop-byte : goal.invariant-loop-byte
-invariant-loop-byte g l = Fed g.T.LineTaker.says (take l.byte-index l.piece) l.initial.taker l.initial.held l.taker l.held

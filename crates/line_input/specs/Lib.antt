@@ -1,3 +1,0 @@
-pub mod LineRules
-pub mod Takers
-pub mod ByteByByte

@@ -1,5 +1,0 @@
-use Rattle.plan_file.proofs.Few.{line_permitted}
-use Rattle.plan_file.proofs.item_lines.add_line.Goals as goal
-
-pub add-requires : goal.add-requires
-add-requires c = line_permitted _ _ c.args.text.now c.in-Ok.line c.len.ensures c.in-Ok.ensures.ok

@@ -1,2 +1,0 @@
-pub mod Stays
-pub mod Halts
