@@ -2,7 +2,7 @@
 #![tactic(auto)]
 
 ghost use Rattle.std.specs.Prelude.{◌≡◌, map, string_bytes, length, IfOk, option_map};
-ghost use Rattle.line_commands.specs.Wants.{AreThere, Wants};
+ghost use Rattle.station_cli.specs.Wants.{AreThere, Wants};
 ghost use Rattle.real_files.specs.Named.{names_stdin, reads_stdin};
 
 use mav_links::Link;

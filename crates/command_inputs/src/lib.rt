@@ -15,6 +15,7 @@
 mod bad_lines;
 mod feeding;
 mod held;
+mod inputs;
 mod item_files;
 mod item_lines;
 mod key_inputs;
@@ -26,6 +27,7 @@ mod takers;
 
 pub use bad_lines::bad_line;
 pub use feeding::without_cr;
+pub use inputs::Inputs;
 pub use item_files::read_plan;
 pub use item_lines::add_line;
 pub use key_inputs::{read_given_key, read_key};

@@ -7,4 +7,5 @@ pub mod Telling
 pub mod Ends
 mod Starts
 pub mod Stays
+pub mod Decoded
 pub mod Worked

@@ -6,5 +6,6 @@ pub mod Tellings
 pub mod Spec
 pub mod Halts
 pub mod Decodes
+pub mod Decoding
 pub mod TellingLaws
 pub mod Examples

@@ -3,4 +3,5 @@ pub mod Readings
 pub mod Writings
 pub mod Endings
 pub mod Refusals
+pub mod Known
 pub mod Worked

@@ -2,12 +2,17 @@
 //!
 //! [`dialect`] writes those of the definitions that an input holds, [`profile`] those of the
 //! built-in profile; `specs/Spec.antt` says what stops them and what they write. The text of a
-//! halt isn't written here. [`read_definitions`] serves each command that takes definitions.
+//! halt isn't written here. [`run_dialect`] does one or the other for the words of a command line. [`read_definitions`]
+//! and [`known_messages`] serve each command that takes definitions.
 #![tactic(auto)]
 
 mod commands;
 mod definitions;
+mod dialect_asked;
+mod known;
 mod layouts;
 
 pub use commands::{dialect, profile};
 pub use definitions::read_definitions;
+pub use dialect_asked::run_dialect;
+pub use known::known_messages;

@@ -22,3 +22,5 @@ pub mod Ordering
 pub mod Watching
 pub mod StationRuns
 pub mod Giving
+pub mod DroneAsked
+pub mod StationAsked

@@ -11,3 +11,7 @@ pub mod Drones
 pub mod Orders
 pub mod Stations
 pub mod Waiting
+pub mod DroneAsked
+pub mod OrderWords
+pub mod Reported
+pub mod StationAsked

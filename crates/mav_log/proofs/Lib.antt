@@ -1,3 +1,4 @@
+pub mod Logged
 pub mod Steps
 mod StatusTold
 mod Worked

@@ -1,4 +1,5 @@
 pub mod LogText
+pub mod Logging
 pub mod RowsMade
 pub mod Spec
 pub mod Tellers

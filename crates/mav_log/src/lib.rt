@@ -5,17 +5,20 @@
 //! read, in constant memory. `specs/Spec.antt` says what stops a run and what it writes. [`run_show`], [`run_filter`] and
 //! [`run_make`] leave the text of a halt to their caller; [`show`], [`filter`] and [`make`](fn@make) write it too, and
 //! return the status. Rows, their parse and the reader of small pieces come from `log_rows`, and a log that is played as
-//! a link from `log_replay`.
+//! a link from `log_replay`. [`run_log`] runs one of them for the words of a command line, with the definitions that these
+//! name.
 #![tactic(auto)]
 
 mod commands;
 mod filter_teller;
+mod log_asked;
 mod make_teller;
 mod scanner;
 mod show_teller;
 mod statuses;
 
 pub use commands::{run_filter, run_make, run_show};
+pub use log_asked::run_log;
 pub use log_replay::Replay;
 pub use log_rows::{LogNext, LogReader, Row, put_row};
 pub use statuses::{filter, make, show};

@@ -3,4 +3,5 @@ mod PortTexts
 pub mod Pieces
 pub mod Runs
 pub mod Reports
+pub mod Routed
 pub mod Worked

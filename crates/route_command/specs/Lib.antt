@@ -1,3 +1,4 @@
 pub mod Texts
 pub mod Routes
 pub mod Promises
+pub mod Routing

@@ -18,8 +18,7 @@ use Rattle.fleet_theorem.proofs.Theorem.{theorem_of}
 use Rattle.fleet_examples.proofs.OneItem.{one_item_authentic, installed_once}
 use Rattle.fleet_examples.proofs.Playable.{one_item_playable}
 use Rattle.command_line.specs.Names.{port_words}
-use Rattle.line_commands.specs.Routing.{AreAsked}
-use Rattle.line_commands.specs.Wants.{keepers_asked}
+use Rattle.station_cli.specs.Wants.{AreAsked, keepers_asked}
 use Rattle.command_inputs.proofs.NamedSame.{same_asked}
 use Rattle.run_status.specs.Seen.{Input, Output, input_of, output_of, around, promised_over}
 use Rattle.fleet_line.specs.Fleets.{CarriesOver, FleetsComplete}

@@ -2,8 +2,7 @@
 ghost use Rattle.std.specs.Prelude.{◌≡◌, true, false, is_some, length, map, string_bytes};
 ghost use Rattle.command_line.specs.Built.{built};
 ghost use Rattle.command_line.specs.Grammar.{Asked, Asks};
-ghost use Rattle.line_commands.specs.Routing.{AreAsked};
-ghost use Rattle.line_commands.specs.Wants.{keepers_asked};
+ghost use Rattle.station_cli.specs.Wants.{AreAsked, keepers_asked};
 
 use mav_ports::{Got, MemClock, Sink, Source, StdSink, StdSource, SureSink};
 use station_cli::{Inputs, Wanted, WantedFault, run_alone, wanted};

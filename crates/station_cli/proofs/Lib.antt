@@ -1,2 +1,3 @@
+pub mod Links
 pub mod Made
 pub mod Told

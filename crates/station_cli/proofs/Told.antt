@@ -24,25 +24,25 @@ use Rattle.make_command.proofs.Theorem.{generated_theorem}
 use Rattle.route_command.specs.Promises.{RoutePromises}
 use Rattle.route_command.specs.Routes.{RoutesBeforeStatus}
 use Rattle.route_command.proofs.Reports.{reported as route_reported}
-use Rattle.line_commands.specs.Dialects.{Dialects}
+use Rattle.dialect_command.specs.Dialects.{Dialects}
 use Rattle.station_cli.specs.Doing.{Surroundings, Does, LeavesAlone, before_status, once_told}
 use Rattle.fleet_line.specs.Fleets.{Fleets}
-use Rattle.line_commands.specs.Flying.{Devices, Flown}
+use Rattle.live_node.specs.DroneAsked.{Devices, Flown}
 use Rattle.station_cli.specs.Promised.{RunPromises}
-use Rattle.line_commands.specs.Reported.{Reported}
-use Rattle.line_commands.specs.Routing.{AllEnded, router_of}
+use Rattle.live_node.specs.Reported.{Reported}
+use Rattle.route_command.specs.Routing.{AllEnded, router_of}
 use Rattle.run_status.specs.Seen.{Input, Output, input_of, no_input, before_status_over, promised_over}
-use Rattle.line_commands.specs.Stationing.{Stationed, file_asked}
+use Rattle.live_node.specs.StationAsked.{Stationed, file_asked}
 use Rattle.fleet_line.proofs.Completes.{fleets_complete}
 use Rattle.command_inputs.proofs.NamedRuns.{unmade, reported_over}
-use Rattle.line_commands.proofs.Decoded.{decodes_reported, decodes_unread}
-use Rattle.line_commands.proofs.Flown.{drone_reported, ran_reported}
-use Rattle.line_commands.proofs.Logged.{logs_reported, logs_unread}
+use Rattle.decode_command.proofs.Decoded.{decodes_reported, decodes_unread}
+use Rattle.live_node.proofs.DroneAsked.{drone_reported, ran_reported}
+use Rattle.mav_log.proofs.Logged.{logs_reported, logs_unread}
 use Rattle.station_cli.proofs.Made.{make_steady, makes_on, unmade_number}
-use Rattle.line_commands.proofs.Routed.{routing_reported, ports_wait, key_unread}
+use Rattle.route_command.proofs.Routed.{routing_reported, ports_wait, key_unread}
 use Rattle.command_inputs.proofs.NamedSame.{same_asked}
 use Rattle.fleet_line.proofs.Scenarios.{fleets_reported, fleets_carry, fleets_unread}
-use Rattle.line_commands.proofs.Stationed.{station_reported}
+use Rattle.live_node.proofs.StationAsked.{station_reported}
 use Rattle.fleet_line.proofs.Usages.{words_reported, halted_code, usage_ended, five_only}
 
 -- the same words leave the same alone

@@ -15,18 +15,19 @@ use Rattle.fence_command.specs.Spec.{fence_spec}
 use Rattle.make_command.specs.Spec.{make_spec}
 use Rattle.route_command.specs.Promises.{RoutePromises}
 use Rattle.route_command.specs.Routes.{Ports, RoutesBeforeStatus}
-use Rattle.line_commands.specs.Decoding.{Decodes}
-use Rattle.line_commands.specs.Dialects.{Dialects}
+use Rattle.decode_command.specs.Decoding.{Decodes}
+use Rattle.dialect_command.specs.Dialects.{Dialects}
 use Rattle.fleet_line.specs.Fleets.{Fleets}
-use Rattle.line_commands.specs.Flying.{Devices, devices, Flown}
-use Rattle.line_commands.specs.Logging.{Logs}
+use Rattle.live_node.specs.DroneAsked.{Devices, devices, Flown}
+use Rattle.mav_log.specs.Logging.{Logs}
 use Rattle.station_cli.specs.Making.{Makes}
-use Rattle.line_commands.specs.Reported.{Reported}
-use Rattle.line_commands.specs.Routing.{Routing, WithGivenKey, router_of}
+use Rattle.live_node.specs.Reported.{Reported}
+use Rattle.route_command.specs.Routing.{Routing, router_of}
+use Rattle.command_inputs.specs.NamedKeys.{WithGivenKey}
 use Rattle.run_status.specs.Seen.{Input, Output, input_of, no_input, before_status_over, promised_over}
-use Rattle.line_commands.specs.Stationing.{Stationed, Stationing, file_asked}
-use Rattle.line_commands.specs.Wants.{keepers_asked}
-use Rattle.line_commands.specs.declared.wants.Inputs.{Inputs}
+use Rattle.live_node.specs.StationAsked.{Stationed, Stationing, file_asked}
+use Rattle.station_cli.specs.Wants.{keepers_asked}
+use Rattle.command_inputs.specs.declared.inputs.Inputs.{Inputs}
 
 -- how a run is told: before the text of its status is written, or after it
 pub record Telling : Type 1 where

@@ -1,3 +1,4 @@
+pub mod Wants
 pub mod Making
 pub mod Doing
 pub mod Promised

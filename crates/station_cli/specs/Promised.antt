@@ -9,7 +9,7 @@ use Rattle.make_command.specs.Theorem.{GeneratedTheorem}
 use Rattle.station_cli.specs.Doing.{Surroundings, Does, LeavesAlone, once_told}
 use Rattle.fleet_line.specs.Fleets.{FleetsCarry, FleetsComplete}
 use Rattle.station_cli.specs.Making.{Makes}
-use Rattle.line_commands.specs.Routing.{AllEnded}
+use Rattle.route_command.specs.Routing.{AllEnded}
 use Rattle.run_status.specs.Seen.{Output}
 use Rattle.fleet_line.specs.Usage.{UsageReported}
 

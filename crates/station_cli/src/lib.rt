@@ -8,7 +8,12 @@
 
 mod making;
 mod runs;
+mod wants;
+mod words;
 
+pub use command_inputs::Inputs;
 pub use command_line::{Files, FilesKind, Port, Socket, SocketKind, Target, WantedFault};
-pub use line_commands::{Inputs, Store, Wanted, wanted};
+pub use live_node::Store;
 pub use runs::{run, run_alone};
+pub use wants::Wanted;
+pub use words::wanted;

@@ -8,21 +8,22 @@ ghost use Rattle.command_line.specs.Nodes.{NodeSays};
 ghost use Rattle.live_node.specs.Runs.{stores_of};
 ghost use Rattle.station_cli.specs.Doing.{Does, LeavesAlone, before_status, surroundings};
 ghost use Rattle.station_cli.specs.Promised.{RunPromises};
-ghost use Rattle.line_commands.specs.Routing.{AreAsked};
+ghost use Rattle.station_cli.specs.Wants.{AreAsked, AreThere, keepers_asked};
 ghost use Rattle.run_status.specs.Seen.{output_of};
-ghost use Rattle.line_commands.specs.Wants.{AreThere, keepers_asked};
 
 use crate::making::run_make;
+use command_inputs::Inputs;
 use command_line::{Command, Line, OptionName, Task, WantedFault, read};
+use decode_command::run_decode;
+use dialect_command::run_dialect;
 use fence_command::fence;
 use fleet_line::run_fleet;
-use line_commands::{
-    Inputs, Store, run_decode, run_dialect, run_drone, run_log, run_route, run_station,
-};
+use live_node::{Store, run_asked_drone, run_asked_station};
 use mav_links::Link;
+use mav_log::run_log;
 use mav_ports::{Clock, Sink, Source};
 use plan_store::Keeper;
-use route_command::{Alone, Router, Threaded};
+use route_command::{Alone, Router, Threaded, run_route};
 use run_status::{RunEnd, code_of, write_status};
 use std::alloc::Global;
 use std::sync::Wait;
@@ -71,9 +72,9 @@ fn run_line<T: Router, S: Source, K: Sink, C: Clock>(
         Command::LogShow => run_log(alloc, line, inputs, out),
         Command::LogFilter => run_log(alloc, line, inputs, out),
         Command::LogMake => run_log(alloc, line, inputs, out),
-        Command::Drone => run_drone(alloc, line, &mut inputs.key, ports, keepers, out, clock),
+        Command::Drone => run_asked_drone(alloc, line, &mut inputs.key, ports, keepers, out, clock),
         Command::Station => match task.take() {
-            Some(task) => run_station(alloc, line, task, inputs, ports, keepers, out, clock),
+            Some(task) => run_asked_station(alloc, line, task, inputs, ports, keepers, out, clock),
             None => unreachable!("a station has a task"),
         },
     }

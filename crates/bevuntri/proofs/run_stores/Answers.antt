@@ -1,5 +1,5 @@
 use Rattle.std.proofs.Common.{refl, map, string_bytes}
-use Rattle.line_commands.proofs.Links.{links_asked, stores_asked}
+use Rattle.station_cli.proofs.Links.{links_asked, stores_asked}
 use Rattle.bevuntri.proofs.run_stores.Goals as goal
 
 pub run_over-requires : goal.run_over-requires

@@ -1,5 +1,5 @@
 use Rattle.std.proofs.Common.{refl, sym, map, string_bytes}
-use Rattle.line_commands.proofs.Links.{links_asked, stores_asked}
+use Rattle.station_cli.proofs.Links.{links_asked, stores_asked}
 use Rattle.run_tests.proofs.faults.status_of.Goals as goal
 
 pub run_unlinked-requires : goal.run_unlinked-requires

@@ -1,5 +1,5 @@
 use Rattle.std.proofs.Common.{◌≡◌, arith, length, refl, map, string_bytes}
-use Rattle.line_commands.proofs.Links.{links_asked, stores_asked}
+use Rattle.station_cli.proofs.Links.{links_asked, stores_asked}
 use Rattle.run_tests.proofs.live.status_over.Goals as goal
 
 pub run_linked-requires : goal.run_linked-requires

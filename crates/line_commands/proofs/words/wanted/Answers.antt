@@ -1,4 +1,0 @@
-use Rattle.line_commands.proofs.words.wanted.Goals as goal
-
-pub returns-clause-usage_only : goal.returns-clause-usage_only
-returns-clause-usage_only c = λ nothing. absurd (nothing _ c.in_ok-line.ensures.asks)

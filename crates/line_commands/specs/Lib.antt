@@ -1,9 +1,0 @@
-pub mod Wants
-pub mod Decoding
-pub mod Dialects
-pub mod Routing
-pub mod Logging
-pub mod Flying
-pub mod Reported
-pub mod Ordering
-pub mod Stationing
