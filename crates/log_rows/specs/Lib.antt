@@ -1,3 +1,5 @@
+pub mod Frames
+pub mod Replays
 pub mod Rows
 pub mod LogParse
 pub mod LogEvents

@@ -4,7 +4,7 @@ ghost use Rattle.real_ports.specs.Opened.{just_opened, is_open, is_of_files};
 
 use crate::RealLink;
 use command_line::{Files, FilesKind};
-use log_replay::Replay;
+use log_rows::Replay;
 use mav_links::{FileLink, Link};
 use mav_profile::profile_extras;
 use std::fs::{File, OpenOptions};

@@ -3,7 +3,7 @@ ghost use Rattle.std.specs.Prelude.{◌≡◌, true};
 ghost use Rattle.real_ports.specs.Opened.{is_open, IsOpenedFrom};
 
 use crate::Opening;
-use log_replay::Replay;
+use log_rows::Replay;
 use mav_links::{Bell, FileLink, Link, TcpLink, UdpLink, WaitingStream};
 use mav_ports::{Got, Put};
 use std::fs::File;

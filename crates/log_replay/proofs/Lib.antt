@@ -1,2 +1,0 @@
-mod LeftFrames
-mod Turns
