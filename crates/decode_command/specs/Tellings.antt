@@ -16,6 +16,10 @@ pub record Telling : Type 0 where
 abbrev pub most_input_bytes : ℕ
 most_input_bytes = 268435456
 
+-- what a teller counts of an input, at most three for each byte
+abbrev pub most_load : ℕ
+most_load = 805306368
+
 -- too many bytes stop a run, and then only those up to the limit are told
 abbrev pub telling_spec : Telling → CommandSpec
 telling_spec t = record {

@@ -7,7 +7,7 @@ ghost use Rattle.mav_ports.specs.Puts.{SentPrefix};
 ghost use Rattle.mav_stream.specs.Spans.{IfEvent};
 ghost use Rattle.run_status.specs.Seen.{before_status_over, input_of, output_of};
 ghost use Rattle.decode_command.specs.Halts.{CountsHalt};
-ghost use Rattle.decode_command.specs.Tellings.{telling_spec, TellsSpan, Tells, ToldAll};
+ghost use Rattle.decode_command.specs.Tellings.{most_load, telling_spec, TellsSpan, Tells, ToldAll};
 
 use crate::tellers::Teller;
 use mav_ports::{Got, NoMemory, Sink, Source};
@@ -26,7 +26,7 @@ const MOST_BYTES: usize = 49_152;
 // Tells what is at the start of the bytes held.
 #[inline]
 fn tell_span<T: Teller>(teller: &mut T, span: NextSpan, text: &mut Vec<u8>) -> Result<(), NoMemory>
-    requires load { T.load teller.old ≤ 805306368 }
+    requires load { T.load teller.old ≤ most_load }
     requires begins { T.begins teller.old span }
     ensures { TellsSpan T.telling T.has_told T.held T.load span teller.old teller.new
         text.old.items text.new.items result }
@@ -46,7 +46,7 @@ fn tell_more<T: Teller, K: Sink>(
     text: &mut Vec<u8>,
     out: &mut K,
 ) -> Result<(), RunEnd>
-    requires load { T.load teller.old ≤ 805306368 }
+    requires load { T.load teller.old ≤ most_load }
     requires begins { T.begins teller.old span }
     ensures same { T.telling teller.new ≡ T.telling teller.old }
     ensures load { T.load teller.new ≤ T.load teller.old }
@@ -69,7 +69,7 @@ fn tell_all<T: Teller, K: Sink>(
     text: &mut Vec<u8>,
     out: &mut K,
 ) -> Result<(), RunEnd>
-    requires { T.load teller.old ≤ 805306368 }
+    requires { T.load teller.old ≤ most_load }
     ensures same { T.telling teller.new ≡ T.telling teller.old }
     ensures load { T.load teller.new ≤ T.load teller.old }
     ensures told { (ended : Bool) (taken : List ℕ) (before : Option (List ℕ))
@@ -100,7 +100,7 @@ fn take<T: Teller, K: Sink>(
 ) -> Result<(), RunEnd>
     requires room { T.held teller.old < 288 }
     requires piece { length piece.now ≤ 65536 }
-    requires load { T.load teller.old + 3 * length piece.now ≤ 805306368 }
+    requires load { T.load teller.old + 3 * length piece.now ≤ most_load }
     ensures same { T.telling teller.new ≡ T.telling teller.old }
     ensures load { T.load teller.new ≤ T.load teller.old + 3 * length piece.now }
     ensures room { OnOk result (T.held teller.new < 288) }
@@ -120,7 +120,7 @@ fn take<T: Teller, K: Sink>(
 
 // The input ended: writes what is told of what is held, and what comes after it.
 fn finish<T: Teller, K: Sink>(teller: &mut T, text: &mut Vec<u8>, out: &mut K) -> Result<(), RunEnd>
-    requires { T.load teller.old ≤ 805306368 }
+    requires { T.load teller.old ≤ most_load }
     ensures done { (taken : List ℕ) (before : Option (List ℕ))
         → Tells (T.has_told teller.old) false taken text.old.items before (K.sent out.old)
         → OnOk result (K.sent out.new ≡ append_known before ((T.telling teller.old).told true taken ++ (T.telling teller.old).closing taken)) }

@@ -7,7 +7,7 @@ use mav_stream::NextSpan;
 
 /// A text that is made of the bytes of an input as they come.
 pub trait Teller {
-    ghost use Rattle.decode_command.specs.Tellings.{Telling, Leads, TellsSpan};
+    ghost use Rattle.decode_command.specs.Tellings.{Telling, Leads, TellsSpan, most_load};
     ghost use Rattle.mav_stream.specs.Spans.{IfNeed};
     ghost use Rattle.mav_stream.specs.declared.spans.NextSpan.{NextSpan};
 
@@ -53,14 +53,14 @@ pub trait Teller {
 
     /// Appends the text of the event there, and removes its bytes, which are so many.
     fn tell_event(&mut self, size: usize, text: &mut Vec<u8>) -> Result<(), NoMemory>
-        requires load { load self.old ≤ 805306368 }
+        requires load { load self.old ≤ most_load }
         requires begins { begins self.old (NextSpan.Frame size) }
         ensures { TellsSpan telling has_told held load (NextSpan.Frame size) self.old self.new
             text.old.items text.new.items result };
 
     /// Appends the text of so many bytes there that are skipped, and removes them.
     fn tell_skips(&mut self, why: Why, count: usize, text: &mut Vec<u8>) -> Result<(), NoMemory>
-        requires load { load self.old ≤ 805306368 }
+        requires load { load self.old ≤ most_load }
         requires begins { begins self.old (NextSpan.Skipped why count) }
         ensures { TellsSpan telling has_told held load (NextSpan.Skipped why count) self.old self.new
             text.old.items text.new.items result };

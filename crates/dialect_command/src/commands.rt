@@ -13,8 +13,7 @@ use mav_ports::{Sink, Source};
 use run_status::{Bound, InputError, Place, Reason, RunEnd};
 use std::alloc::Global;
 
-/// Writes the layouts of the definitions that an input holds. Why the run halted, if it did, isn't
-/// written.
+/// Writes the layouts of the definitions that an input holds. Writes no status line.
 pub fn dialect<S: Source, K: Sink>(
     alloc: Global,
     definitions: &mut S,

@@ -17,8 +17,7 @@ use mav_ports::{Sink, Source, write_all};
 use run_status::RunEnd;
 use std::alloc::Global;
 
-/// Reads a file to its end, and writes what its fence says of its mission and of the flight. Why the run halted, if it did,
-/// isn't written.
+/// Reads a file to its end, and writes what its fence says of its mission and of the flight. Writes no status line.
 pub fn fence<S: Source, K: Sink>(alloc: Global, main: &mut S, out: &mut K) -> Result<(), RunEnd>
     ensures before_status { before_status_over (output_of K.faults K.sent out.old out.new) (result_err result)
         fence_spec (input_of S.has_ended S.faults S.idles S.left main.old main.new) }

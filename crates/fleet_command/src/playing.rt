@@ -15,8 +15,7 @@ use std::alloc::Global;
 const PIECE_BYTES: usize = 65_536;
 
 /// Plays the scenario of the input, under a key that all nodes have; `frames` says whether the
-/// report prints frames whole. The report of each line is written before more is read. Why the run
-/// halted, if it did, isn't written.
+/// report prints frames whole. The report of each line is written before more is read. Writes no status line.
 pub fn fleet<S: Source, K: Sink>(
     alloc: Global,
     key: Key,

@@ -23,7 +23,7 @@ fn or_default(key: Option<Key>) -> Key
     }
 }
 
-/// Plays the main input under the key. Why the run halted, if it did, isn't written.
+/// Plays the main input under the key. Writes no status line.
 pub fn run_fleet<S: Source, K: Sink>(
     alloc: Global,
     line: &Line,

@@ -14,7 +14,7 @@ use mav_ports::{Sink, Source};
 use run_status::{RunEnd, code_of, write_status};
 use std::alloc::Global;
 
-// Plays what the words name. Why it halted, if it did, isn't written.
+// Plays what the words name. Writes no status line.
 fn run_words<S: Source, K: Sink>(
     alloc: Global,
     words: &[String],

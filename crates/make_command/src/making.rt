@@ -16,8 +16,7 @@ use run_status::RunEnd;
 use scenario_maker::{scenario_text, sums_text};
 use std::alloc::{AllocError, Global};
 
-/// Plays the scenario that a number gives, and writes the sums of its report. Why the run halted, if it did, isn't
-/// written.
+/// Plays the scenario that a number gives, and writes the sums of its report. Writes no status line.
 pub fn make<K: Sink>(alloc: Global, number: u32, out: &mut K) -> Result<(), RunEnd>
     ensures before_status { before_status_over (output_of K.faults K.sent out.old out.new) (result_err result)
         (make_spec number) no_input }

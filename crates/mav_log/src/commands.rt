@@ -14,7 +14,7 @@ use run_status::RunEnd;
 use std::alloc::Global;
 
 /// Prints the rows of a log, whose frames have these messages, and the bytes that are in none. What is printed of what
-/// was read is written before more is read. Why the run halted, if it did, isn't written.
+/// was read is written before more is read. Writes no status line.
 pub fn run_show<S: Source, K: Sink>(
     alloc: Global,
     known: Dialect,

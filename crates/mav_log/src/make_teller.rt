@@ -5,6 +5,7 @@ ghost use Rattle.mav_frame.specs.Encoding.{encoding};
 ghost use Rattle.mav_stream.specs.Spans.{first_packet};
 ghost use Rattle.mav_stream.specs.Held.{nothing_held};
 ghost use Rattle.log_rows.specs.Rows.{row_encoding};
+ghost use Rattle.decode_command.specs.Tellings.{most_load};
 
 use crate::scanner::discard;
 use decode_command::{Teller, scanner_of};
@@ -64,7 +65,7 @@ impl Make {
     fn make_row(&mut self, size: usize, text: &mut Vec<u8>) -> Result<(), NoMemory>
         requires size { size ≤ length self.old.reader.bytes }
         requires frame { take size self.old.reader.bytes ≡ encoding (first_packet self.old.reader) }
-        requires few { self.old.rows ≤ 805306368 }
+        requires few { self.old.rows ≤ most_load }
         ensures text { OnOk result (text.new.items ≡ text.old.items ++ row_encoding (record { micros = self.old.start + 1000 * self.old.rows; frame = first_packet self.old.reader })) }
         ensures made { OnOk result (self.new ≡ record self.old { reader = record self.old.reader { bytes = drop size self.old.reader.bytes }; rows = self.old.rows + 1 }) }
         ensures unmade { OnErr result (self.new ≡ self.old) }

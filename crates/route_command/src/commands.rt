@@ -59,8 +59,8 @@ fn end_of_fault(fault: &RouteFault) -> RunEnd
 }
 
 /// Routes between the ports by the router, with a thread for each or with one, and writes what came in and what became of
-/// each port. Nothing is written of a run that stops because its journal is full, or because memory is out. Why the run
-/// ended so isn't written.
+/// each port. Nothing is written of a run that stops because its journal is full, or because memory is out.
+/// Writes no status line.
 pub fn route<T: Router, K: Sink>(
     router: &T,
     alloc: Global,

@@ -12,7 +12,7 @@ use mav_ports::Sink;
 use run_status::RunEnd;
 use std::alloc::Global;
 
-/// Plays the scenario of the line's number. Why the run halted, if it did, isn't written.
+/// Plays the scenario of the line's number. Writes no status line.
 pub(crate) fn run_make<K: Sink>(alloc: Global, line: &Line, out: &mut K) -> Result<(), RunEnd>
     requires command { line.now.command ≡ Command.Make }
     requires says { LineSays line.now }

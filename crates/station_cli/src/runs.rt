@@ -29,7 +29,7 @@ use std::alloc::Global;
 use std::sync::Wait;
 use std::thread::Threads;
 
-// Runs the command of a line, `route` by this router; a station takes the task. Why it halted, if it did, isn't written.
+// Runs the command of a line, `route` by this router; a station takes the task. Writes no status line.
 fn run_line<T: Router, S: Source, K: Sink, C: Clock>(
     router: &T,
     alloc: Global,
@@ -80,7 +80,7 @@ fn run_line<T: Router, S: Source, K: Sink, C: Clock>(
     }
 }
 
-// Runs the command that the words name. Why it halted, if it did, isn't written.
+// Runs the command that the words name. Writes no status line.
 fn run_words<T: Router, S: Source, K: Sink, C: Clock>(
     router: &T,
     alloc: Global,

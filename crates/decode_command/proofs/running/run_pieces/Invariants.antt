@@ -1,12 +1,12 @@
 use Rattle.std.proofs.Common.{◌≡◌, ◌<◌, ◌≤◌, ◌+◌, ◌*◌, [], ℕ, List, length, false}
 use Rattle.std.specs.Io.KnownBytes.{prepend_known}
-use Rattle.decode_command.specs.Tellings.{most_input_bytes, ToldAll}
+use Rattle.decode_command.specs.Tellings.{most_input_bytes, most_load, ToldAll}
 use Rattle.decode_command.proofs.running.run_pieces.Given as goal
 
 abbrev pub invariant-loop-count : goal.invariant-loop-count
 invariant-loop-count g l = record {
   same : g.T.Teller.telling l.teller ≡ g.T.Teller.telling l.initial.teller;
-  load : g.T.Teller.load l.teller + 3 * l.left ≤ 805306368;
+  load : g.T.Teller.load l.teller + 3 * l.left ≤ most_load;
   room : g.T.Teller.held l.teller < 288;
   empty : l.text.items ≡ [];
   buf : length l.buf ≡ 65536;
